@@ -1,0 +1,6 @@
+pub mod Table
+pub mod Lines
+pub mod Layout
+pub mod Ranges
+pub mod Facts
+pub mod Made

@@ -1,0 +1,9 @@
+// Operations.
+ghost use Rattle.std.specs.Prelude.{◌<◌};
+
+/// An operation: the number of its row in the instruction table, which begins at 0.
+#[derive(Clone, Copy, PartialEq, Eq)]
+pub struct Op {
+    pub number: u16,
+    ghost known: { number < 188 },
+}
