@@ -2,6 +2,7 @@
 ghost use Rattle.std.specs.Prelude.{◌≡◌, ◌<◌, ◌≤◌, ℕ, IfSome, IfNone};
 ghost use Rattle.z_instr.specs.Table.{entry_at};
 ghost use Rattle.z_instr.specs.Layout.{place, room};
+ghost use Rattle.z_instr.specs.declared.table.TheConstants.{ROWS};
 ghost use Rattle.z_instr.specs.Lines.{entry_of, row_of};
 
 use crate::name::Name;
@@ -35,7 +36,7 @@ pub fn row(op: Op) -> Row
 /// The operation of a mnemonic, in upper case; None exactly where no row has that name.
 pub fn find(name: &[u8]) -> Option<Op>
     ensures found { IfSome result (λ op. (entry_at op.number).name ≡ name.now) }
-    ensures none { IfNone result ((n : ℕ) → n < 188 → (entry_at n).name ≡ name.now → ⊥) }
+    ensures none { IfNone result ((n : ℕ) → n < ROWS → (entry_at n).name ≡ name.now → ⊥) }
 {
     for number in 0..ROWS {
         let line = line(Op { number });
