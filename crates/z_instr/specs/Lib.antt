@@ -4,3 +4,5 @@ pub mod Layout
 pub mod Ranges
 pub mod Facts
 pub mod Made
+pub mod Reading
+pub mod Operands
