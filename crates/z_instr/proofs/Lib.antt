@@ -1,3 +1,4 @@
 pub mod Tests
 pub mod TableFacts
 pub mod Within
+pub mod OneSpelling

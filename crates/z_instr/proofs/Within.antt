@@ -5,8 +5,9 @@ use Rattle.std.proofs.lemmas.Bool.{ltb-true}
 use Rattle.z_instr.specs.declared.limits.Limits.{Limits}
 use Rattle.z_instr.specs.declared.format.Format.{Format}
 use Rattle.z_instr.specs.declared.format.Format.TheVariants.{RR, I, RX, RRE, RRFa, RRFc, RXY, RI, RIL, RS, RSY, SI, SIY, SIL, S, SS, RIEb, RIEc}
-use Rattle.z_instr.specs.Ranges.{are_within, are_registers_within, are_numbers_within, limits_in, limits_of, AreBelowSixteen, unless, given}
-use Rattle.z_instr.specs.Table.{Entry}
+use Rattle.z_instr.specs.Ranges.{are_within, are_registers_within, are_numbers_within, is_within, limits_in, limits_of, AreBelowSixteen, unless, given}
+use Rattle.z_instr.specs.Table.{Entry, entry_at}
+use Rattle.z_instr.specs.declared.instr.Instr.{Instr}
 use Rattle.z_instr.proofs.Tests.{and_left, and_right}
 
 pub record RegistersWithin (l : Limits) (r1 r2 r3 x b b2 mask : ℕ) : Type 0 where
@@ -92,3 +93,32 @@ below_sixteen l e r1 r2 r3 x b d b2 d2 imm mask same h =
       b2_in = omega (arith, w.b2_in, n.b2_at_most);
       mask_in = omega (arith, w.mask_in, n.mask_at_most);
     }
+
+-- the displacements and the immediate are within their bounds
+pub record NumbersWithin (l : Limits) (d d2 imm : ℤ) : Type 0 where
+  pub d_in : is_within l.d d ≡ true
+  pub d2_in : is_within l.d2 d2 ≡ true
+  pub imm_in : is_within l.imm imm ≡ true
+
+pub numbers_within : (l : Limits) (d d2 imm : ℤ) → are_numbers_within l d d2 imm ≡ true → NumbersWithin l d d2 imm
+numbers_within l d d2 imm h =
+    let after_d = and_right _ _ h in
+    record { d_in = and_left _ _ h; d2_in = and_left _ _ after_d; imm_in = and_right _ _ after_d }
+
+-- an instruction's fields are within some limits
+abbrev pub Fits : Limits → Instr → Type 0
+Fits l i = are_within l i.r1 i.r2 i.r3 i.x i.b i.d i.b2 i.d2 i.imm i.mask ≡ true
+
+pub registers_of : (l : Limits) (i : Instr) → Fits l i → RegistersWithin l i.r1 i.r2 i.r3 i.x i.b i.b2 i.mask
+registers_of l i h = registers_within l i.r1 i.r2 i.r3 i.x i.b i.b2 i.mask (and_left _ _ h)
+
+pub numbers_of : (l : Limits) (i : Instr) → Fits l i → NumbersWithin l i.d i.d2 i.imm
+numbers_of l i h = numbers_within l i.d i.d2 i.imm (and_right _ _ h)
+
+holds : (b : Bool) → IsTrue b → b ≡ true
+holds true h = refl
+holds false h = absurd (grind arith)
+
+-- what the type of instructions keeps
+pub instr_fits : (i : Instr) → Fits (limits_of (entry_at i.op.number)) i
+instr_fits i = holds _ i.shaped

@@ -6,3 +6,4 @@ pub mod Facts
 pub mod Made
 pub mod Reading
 pub mod Operands
+pub mod Places
