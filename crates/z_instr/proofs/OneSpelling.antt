@@ -1,13 +1,13 @@
 -- Two instructions of one row that have the same bytes are the same.
-use Rattle.std.proofs.Common.{◌≡◌, ℕ, ◌<◌, ◌≤◌, ◌+◌, ◌-◌, ◌*◌, ◌/◌, ◌%◌, ◌^◌, true, false, Bool, List, get_or, arith, sym, ap, ◌∙◌, refl}
+use Rattle.std.proofs.Common.{◌≡◌, ℕ, ◌<◌, ◌≤◌, ◌+◌, ◌-◌, ◌/◌, ◌%◌, ◌^◌, true, false, Bool, List, get_or, arith, sym, ap, ◌∙◌}
 use Rattle.std.proofs.Math.Nat.{mod-eq_of_lt}
 use Rattle.std.specs.Prelude.{ℤ, pos, negsuc}
 use Rattle.z_instr.specs.declared.instr.Instr.{Instr}
 use Rattle.z_instr.specs.declared.format.Format.{Format}
 use Rattle.z_instr.specs.declared.format.Format.TheVariants.{RR, I, RX, RRE, RRFa, RRFc, RXY, RI, RIL, RS, RSY, SI, SIY, SIL, S, SS, RIEb, RIEc}
-use Rattle.z_instr.specs.Ranges.{limits_in, is_within, bounds, zero_alone, short, long, byte, signed_byte, half, full, unless, given}
-use Rattle.z_instr.specs.Reading.{spelled, modulo, halves, short_address, long_address, halfword, word}
-use Rattle.z_instr.proofs.Within.{Fits, RegistersWithin, NumbersWithin, registers_of, numbers_of}
+use Rattle.z_instr.specs.Ranges.{limits_in, is_within, bounds, zero_alone, short, long, half, full, unless, given}
+use Rattle.z_instr.specs.Reading.{spelled, modulo, halves}
+use Rattle.z_instr.proofs.Within.{Fits, registers_of, numbers_of}
 
 -- ---- signed numbers by their bits
 
@@ -131,7 +131,7 @@ numbers i j d d2 imm = record { d = d; d2 = d2; imm = imm }
 at : (k : ℕ) {s t : List ℕ} → s ≡ t → get_or s k 0 ≡ get_or t k 0
 at k e = ap (λ (t : List ℕ). get_or t k 0) e
 
-same_registers : (f : Format) (s m o : Bool) (c : ℕ) (i j : Instr) → Fits (limits_in f s m o) i → Fits (limits_in f s m o) j →
+pub same_registers : (f : Format) (s m o : Bool) (c : ℕ) (i j : Instr) → Fits (limits_in f s m o) i → Fits (limits_in f s m o) j →
     spelled f c i ≡ spelled f c j → SameRegisters i j
 same_registers RR s m o c i j p q e =
     let v = registers_of (limits_in RR s m o) i p in
@@ -266,7 +266,7 @@ same_registers RIEc s m o c i j p q e =
     let e1 = at 1 e in
     registers i j (omega arith) (omega arith) (omega arith) (omega arith) (omega arith) (omega arith) (omega arith)
 
-same_numbers : (f : Format) (s m o : Bool) (c : ℕ) (i j : Instr) → Fits (limits_in f s m o) i → Fits (limits_in f s m o) j →
+pub same_numbers : (f : Format) (s m o : Bool) (c : ℕ) (i j : Instr) → Fits (limits_in f s m o) i → Fits (limits_in f s m o) j →
     spelled f c i ≡ spelled f c j → SameNumbers i j
 same_numbers RR s m o c i j p q e =
     let v = numbers_of (limits_in RR s m o) i p in

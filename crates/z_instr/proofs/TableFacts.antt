@@ -8,7 +8,7 @@ use Rattle.z_instr.specs.declared.table.TheConstants.{TABLE, ROWS}
 use Rattle.z_instr.specs.Table.{Entry, table, entry_at, no_entry}
 use Rattle.z_instr.specs.Lines.{entry_of}
 use Rattle.z_instr.specs.Layout.{place, room, lead, length_by, format_length}
-use Rattle.z_instr.specs.Facts.{has_fitting_opcode, has_fitting_count}
+use Rattle.z_instr.specs.Facts.{has_fitting_opcode, has_fitting_count, has_fitting_name, is_refused_alike}
 use Rattle.z_instr.proofs.Tests.{passes, and_left, and_right}
 
 pub same_table : map entry_of TABLE ≡ table
@@ -37,3 +37,9 @@ opcode_room n h = ltb-true _ _ (and_left _ _ (fitting_opcode n h))
 
 pub opcode_length : (n : ℕ) → n < ROWS → length_by (lead (place (entry_at n).format) (entry_at n).opcode) ≡ format_length (entry_at n).format
 opcode_length n h = eqb-true _ _ (and_right _ _ (fitting_opcode n h))
+
+pub fitting_name : (n : ℕ) → n < ROWS → has_fitting_name (entry_at n) ≡ true
+fitting_name = passes_row has_fitting_name refl
+
+pub refused_alike : (n : ℕ) → n < ROWS → is_refused_alike (entry_at n) ≡ true
+refused_alike = passes_row is_refused_alike refl

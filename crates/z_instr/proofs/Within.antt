@@ -1,5 +1,5 @@
 -- What the ranges of a format say of each field.
-use Rattle.std.proofs.Common.{◌≡◌, ℕ, ◌<◌, ◌≤◌, true, false, Bool, ◌&&◌, IsTrue, nat_lt, arith, refl, lit≤, subst, sym}
+use Rattle.std.proofs.Common.{◌≡◌, ℕ, ◌<◌, ◌≤◌, true, false, Bool, IsTrue, arith, refl, lit≤, subst, sym}
 use Rattle.std.specs.Prelude.{ℤ}
 use Rattle.std.proofs.lemmas.Bool.{ltb-true}
 use Rattle.z_instr.specs.declared.limits.Limits.{Limits}

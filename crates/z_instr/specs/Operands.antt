@@ -1,5 +1,5 @@
 -- The operands in storage of an instruction, and the tests that it has to pass before it is executed.
-use Rattle.std.specs.Prelude.{ℕ, ◌+◌, ◌*◌, ◌-◌, ◌/◌, ◌%◌, zero, suc, ℤ, pos, ◌+ℤ◌, Bool, true, false, ◌&&◌, ◌||◌, not, cond, nat_eq, nat_lt, nat_le, List, [], ◌∷◌, get_or, Option, Some, None}
+use Rattle.std.specs.Prelude.{ℕ, ◌+◌, ◌*◌, ◌-◌, ◌/◌, ◌%◌, zero, suc, ℤ, pos, ◌+ℤ◌, Bool, true, false, ◌&&◌, ◌||◌, not, cond, nat_eq, nat_lt, List, [], ◌∷◌, get_or, Option, Some, None}
 use Rattle.std.specs.List.{list_any, list_all}
 use Rattle.z_instr.specs.declared.instr.Instr.{Instr}
 use Rattle.z_instr.specs.declared.operand.Size.{Size}
@@ -157,8 +157,8 @@ unfoldable pub inaccessible_in : Entry → Instr → List ℕ → ℕ → ℕ �
 inaccessible_in e i general code depth accessible text =
     let tested = tested_spans e.demand (spans_in e.operands i general code) i general depth in
     where_wrong (not (list_all (is_inside accessible) tested)) addressing
-      (where_wrong (list_any (is_stored_into text) tested) protection
-        (where_wrong (is_refused_service e.demand i) operation None))
+    (where_wrong (list_any (is_stored_into text) tested) protection
+    (where_wrong (is_refused_service e.demand i) operation None))
 
 abbrev pub inaccessible : Instr → List ℕ → ℕ → ℕ → List ℕ → List ℕ → Option ℕ
 inaccessible i general code depth accessible text = inaccessible_in (entry_at i.op.number) i general code depth accessible text

@@ -3,6 +3,7 @@
 
 pub mod format;
 pub mod instr;
+pub mod laws;
 pub mod limits;
 pub mod lookup;
 pub mod name;
