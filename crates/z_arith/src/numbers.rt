@@ -49,6 +49,13 @@ pub fn doubleword(number: i64) -> u64
     number.cast_unsigned()
 }
 
+// The rightmost word of that doubleword.
+pub fn word(number: i64) -> u32
+    ensures { result ≡ modulo 32 number }
+{
+    low(Width::Word, doubleword(number)) as u32
+}
+
 // The answer with this value; its code is that of the value's sign, or 3 where there is overflow.
 pub fn settled(w: Width, value: u64, overflow: bool) -> Answer
     requires { value < 2 ^ bits w }

@@ -2,7 +2,7 @@
 ghost use Rattle.std.specs.Prelude.{◌≡◌};
 ghost use Rattle.z_arith.specs.Quotient.{divide_word_of, divide_double_of, divide_logical_of};
 
-use crate::numbers::{doubleword, number};
+use crate::numbers::{doubleword, number, word};
 use crate::{DivideFault, Width};
 
 /// Remainder and quotient.
@@ -13,9 +13,10 @@ pub fn divide_word(dividend: u64, divisor: u32) -> Result<(u32, u32), DivideFaul
     let n = number(Width::Double, dividend);
     let d = i64::from(divisor.cast_signed());
     let quotient = n.checked_div(d).ok_or(DivideFault)?;
-    let quotient = i32::try_from(quotient).map_err(|_| DivideFault)?;
-    let remainder = (n % d) as i32;
-    Ok((remainder.cast_unsigned(), quotient.cast_unsigned()))
+    if i32::try_from(quotient).is_err() {
+        return Err(DivideFault);
+    }
+    Ok((word(n % d), word(quotient)))
 }
 
 /// Remainder and quotient.
