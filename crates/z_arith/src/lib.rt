@@ -5,11 +5,14 @@
 // a call reads it with a sign. Each answer is the exact whole number, brought into range once.
 #![tactic(auto)]
 
+mod comparisons;
 mod numbers;
 mod products;
 mod quotients;
+pub mod shifts;
 mod sums;
 
+pub use comparisons::{compare_logical, compare_signed};
 pub use products::{multiply_logical, multiply_low, multiply_word};
 pub use quotients::{divide_double, divide_logical, divide_word};
 pub use sums::{add, add_logical, complement, negative, positive, subtract, subtract_logical};
@@ -35,3 +38,13 @@ pub struct Answer {
 /// The fixed-point divide exception: the divisor is 0, or the quotient does not fit its place.
 #[derive(Clone, Copy, PartialEq, Eq, Debug)]
 pub struct DivideFault;
+
+/// The five kinds of shift.
+#[derive(Clone, Copy, PartialEq, Eq, Debug)]
+pub enum Shift {
+    LeftLogical,
+    RightLogical,
+    LeftSigned,
+    RightSigned,
+    Rotate,
+}

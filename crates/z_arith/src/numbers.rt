@@ -24,6 +24,16 @@ pub fn sign_bit(w: Width) -> u64
     }
 }
 
+// How many bits an operand has.
+pub fn size(w: Width) -> u32
+    ensures { result ≡ bits w }
+{
+    match w {
+        Width::Word => 32,
+        Width::Double => 64,
+    }
+}
+
 // Whether the leftmost bit is one.
 pub fn has_sign(w: Width, pattern: u64) -> bool
     ensures { IsTrue result ↔ (2 ^ (bits w - 1) ≤ pattern) }
