@@ -1,5 +1,5 @@
 // Shifts and rotations.
-ghost use Rattle.std.specs.Prelude.{◌≡◌, ◌≢◌, ◌<◌, ◌≤◌, ◌^◌, ◌↔◌, ◌*◌, ◌/◌, ◌%◌, IsTrue, false};
+ghost use Rattle.std.specs.Prelude.{◌≡◌, ◌≢◌, ◌<◌, ◌≤◌, ◌^◌, ◌↔◌, ◌*◌, ◌/◌, ◌%◌, IsTrue, false, not, nat_eq, nat_lt, ◌+◌, ◌-◌, if◌then◌else◌};
 ghost use Rattle.z_arith.specs.Whole.{bits};
 ghost use Rattle.z_arith.specs.Shifted.{shift_of, left_signed_of, right_signed_of, rotated, lost_bits, sign_copies};
 
@@ -50,7 +50,7 @@ fn moved(value: u64, amount: u32) -> u128
 fn loses(w: Width, value: u64, amount: u32) -> bool
     requires value_in { value < 2 ^ bits w }
     requires amount_in { amount < 64 }
-    ensures { IsTrue result ↔ (lost_bits (bits w) value amount ≢ sign_copies (bits w) value amount) }
+    ensures { result ≡ not (nat_eq (lost_bits (bits w) value amount) (sign_copies (bits w) value amount)) }
 {
     let sign = sign_bit(w);
     let lost = moved(value % sign, amount) / u128::from(sign);
@@ -62,7 +62,22 @@ fn loses(w: Width, value: u64, amount: u32) -> bool
     lost != alike
 }
 
-#[tactic(auto, unfolding(crate::specs::Shifted::left_signed_of))]
+// The sign bit as it is, and beside it what a shift to the left keeps of the other bits.
+fn kept(w: Width, value: u64, amount: u32) -> u64
+    requires value_in { value < 2 ^ bits w }
+    requires amount_in { amount < 64 }
+    ensures value { result ≡ (if nat_lt value (2 ^ (bits w - 1)) then 0 else 2 ^ (bits w - 1)) + value * 2 ^ amount % 2 ^ (bits w - 1) }
+    ensures fits { result < 2 ^ bits w }
+{
+    let sign = sign_bit(w);
+    let others = (moved(value, amount) % u128::from(sign)) as u64;
+    if has_sign(w, value) {
+        sign + others
+    } else {
+        others
+    }
+}
+
 fn left_signed(w: Width, value: u64, amount: u32) -> Answer
     requires value_in { value < 2 ^ bits w }
     requires amount_in { amount < 64 }
@@ -70,15 +85,7 @@ fn left_signed(w: Width, value: u64, amount: u32) -> Answer
     ensures fits { result.value < 2 ^ bits w }
     ensures code { result.condition < 4 }
 {
-    let overflow = loses(w, value, amount);
-    let sign = sign_bit(w);
-    let kept = (moved(value, amount) % u128::from(sign)) as u64;
-    let value = if has_sign(w, value) {
-        sign + kept
-    } else {
-        kept
-    };
-    settled(w, value, overflow)
+    settled(w, kept(w, value, amount), loses(w, value, amount))
 }
 
 #[tactic(auto, unfolding(crate::specs::Shifted::right_signed_of))]
