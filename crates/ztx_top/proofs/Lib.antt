@@ -1,0 +1,5 @@
+-- Lemmas of texts.
+pub mod Numbers
+pub mod Cuts
+pub mod Lines
+pub mod Programs

@@ -1,0 +1,7 @@
+//! The top call of the program: words and bytes in, a text and a status out.
+#![tactic(auto)]
+
+mod form;
+mod instruction;
+mod machine;
+mod texts;
