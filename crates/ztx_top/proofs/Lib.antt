@@ -3,3 +3,4 @@ pub mod Numbers
 pub mod Cuts
 pub mod Lines
 pub mod Programs
+pub mod Turns

@@ -1,5 +1,5 @@
 -- The instructions that a first form may have: their lines, their lengths, and what each does.
-use Rattle.std.specs.Prelude.{◌≡◌, ℕ, ◌+◌, ◌<◌, ◌%◌, ◌^◌, ◌&&◌, Bool, true, false, nat_lt, List, ◌∷◌, ◌++◌, get_or, slice_set, codes}
+use Rattle.std.specs.Prelude.{◌≡◌, ℕ, ◌+◌, ◌<◌, ◌%◌, ◌^◌, ◌&&◌, Bool, true, false, nat_lt, List, [], ◌∷◌, ◌++◌, get_or, slice_set, codes}
 use Rattle.std.specs.Fmt.{decimal}
 use Rattle.z_arith.specs.declared.Answer.{Answer}
 use Rattle.z_arith.specs.declared.Width.TheVariants as width
@@ -34,6 +34,10 @@ abbrev pub length_of : Instruction → ℕ
 length_of (LoadHalfwordImmediate r1 value) = 4
 length_of (Add r1 r2) = 4
 length_of SupervisorCall = 2
+
+abbrev pub total_length : List Instruction → ℕ
+total_length [] = 0
+total_length (i ∷ is) = length_of i + total_length is
 
 -- the next address
 abbrev pub after : Instruction → Cpu → ℕ

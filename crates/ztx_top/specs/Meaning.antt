@@ -57,3 +57,7 @@ meaning image limits events = fold (next image limits) start events
 -- every CPU is finished after these entries
 abbrev pub all_finished : Image → List Entry → Bool
 all_finished image history = list_all is_finished (flat_of image history).cpus
+
+-- the limits of a run that names none
+abbrev pub default_limits : Limits
+default_limits = record { turns = 200000 }

@@ -4,4 +4,5 @@
 mod form;
 mod instruction;
 mod machine;
+mod run;
 mod texts;

@@ -1,4 +1,7 @@
-//! The private machine of the first path: one CPU, a given schedule.
+//! The private machine of the first path: one CPU that runs a first form under the schedule that the form gives.
+ghost use Rattle.std.specs.Prelude.{◌≤◌};
+
+use z_regs::CpuImage;
 
 /// What happens to the machine.
 #[derive(Clone, Copy, Debug, PartialEq, Eq)]
@@ -19,4 +22,20 @@ pub enum Entry {
 pub struct Limits {
     /// The most counted turns of a CPU.
     pub turns: u32,
+}
+
+/// The limits of a run that names none.
+pub const DEFAULT_LIMITS: Limits = Limits { turns: 200_000 };
+
+/// The CPU of a run, and the counts and records of the run so far.
+#[derive(Drop)]
+pub struct Machine {
+    pub cpu: CpuImage,
+    /// The index of the instruction that the CPU stands at, while it runs.
+    pub next: usize,
+    /// Counted turns of the CPU.
+    pub turns: u32,
+    pub history: Vec<Entry>,
+    pub events: Vec<Event>,
+    ghost within: { turns ≤ 200000 },
 }
