@@ -16,7 +16,7 @@ use Rattle.ztx_top.specs.declared.machine.Event.TheVariants.{Turn}
 use Rattle.ztx_top.specs.declared.machine.Limits.{Limits}
 use Rattle.ztx_top.specs.Image.{Image}
 use Rattle.ztx_top.specs.Serial.{Flat}
-use Rattle.ztx_top.specs.Meaning.{State, meaning, flat_of, all_finished}
+use Rattle.ztx_top.specs.Meaning.{State, meaning, flat_of, all_finished, is_finished}
 
 -- 0 where every CPU is finished, else 6
 abbrev pub status_of : Image → List Entry → ℕ
@@ -41,14 +41,23 @@ head_text i c =
     codes "CPU " ++ (decimal i ++ (codes " " ++ (state_text c.state ++ (codes "\nPSW " ++ (encode_lower (to_be_bytes w64 c.address)
     ++ (codes " CC " ++ (decimal c.condition ++ (codes " MASK " ++ (digits 16 false c.mask ++ codes "\n")))))))))
 
+-- a row of registers behind its label
+abbrev pub general_row : List ℕ → List ℕ → List ℕ
+general_row label values = label ++ (general_text values ++ codes "\n")
+
+abbrev pub access_row : List ℕ → List ℕ → List ℕ
+access_row label values = label ++ (access_text values ++ codes "\n")
+
+abbrev pub general_rows : List ℕ → List ℕ
+general_rows general =
+    general_row (codes "GR 00") (take 4 general) ++ (general_row (codes "GR 04") (take 4 (drop 4 general))
+    ++ (general_row (codes "GR 08") (take 4 (drop 8 general)) ++ general_row (codes "GR 12") (take 4 (drop 12 general))))
+
+abbrev pub access_rows : List ℕ → List ℕ
+access_rows access = access_row (codes "AR 00") (take 8 access) ++ access_row (codes "AR 08") (take 8 (drop 8 access))
+
 abbrev pub registers_text : Cpu → List ℕ
-registers_text c =
-    codes "GR 00" ++ (general_text (take 4 c.general)
-    ++ (codes "\nGR 04" ++ (general_text (take 4 (drop 4 c.general))
-    ++ (codes "\nGR 08" ++ (general_text (take 4 (drop 8 c.general))
-    ++ (codes "\nGR 12" ++ (general_text (take 4 (drop 12 c.general))
-    ++ (codes "\nAR 00" ++ (access_text (take 8 c.access)
-    ++ (codes "\nAR 08" ++ (access_text (take 8 (drop 8 c.access)) ++ codes "\n")))))))))))
+registers_text c = general_rows c.general ++ access_rows c.access
 
 -- what the CPU has under way, and its counts
 abbrev pub counts_text : ℕ → List ℕ
@@ -66,27 +75,34 @@ cpus_text s i (c ∷ cs) = cpu_text i c (s.turns i) ++ cpus_text s (suc i) cs
 -- ---- history and schedule
 
 abbrev pub entry_text : Entry → List ℕ
-entry_text (Step i) = codes "S " ++ (decimal i ++ codes "\n")
+entry_text (Step i) = codes "S " ++ decimal i
+
+abbrev pub entries_text : List Entry → List ℕ
+entries_text history = flat_map (λ (e : Entry). entry_text e ++ codes "\n") history
 
 abbrev pub history_text : List Entry → List ℕ
-history_text history = codes "HISTORY " ++ (decimal (length history) ++ (codes "\n" ++ flat_map entry_text history))
+history_text history = codes "HISTORY " ++ (decimal (length history) ++ (codes "\n" ++ entries_text history))
 
 abbrev pub event_text : Event → List ℕ
 event_text (Turn i) = decimal i
 
+-- events, each behind a comma
+abbrev pub further_text : List Event → List ℕ
+further_text events = flat_map (λ (e : Event). 44 ∷ event_text e) events
+
 -- events with commas between them
 abbrev pub events_text : List Event → List ℕ
 events_text [] = []
-events_text (e ∷ es) = event_text e ++ flat_map (λ (f : Event). 44 ∷ event_text f) es
+events_text (e ∷ es) = event_text e ++ further_text es
 
--- sixteen events, or the rest, as a line of the listing
-abbrev pub schedule_row : List Event → ℕ → List ℕ
-schedule_row events k = codes " SCHED " ++ (events_text (take 16 (drop (16 * k) events)) ++ codes "\n")
+-- events as a line of the listing
+abbrev pub schedule_row : List Event → List ℕ
+schedule_row events = codes " SCHED " ++ (events_text events ++ codes "\n")
 
--- the first so many rows
+-- the first so many rows of sixteen events each, or the rest in the last
 abbrev pub rows_text : List Event → ℕ → List ℕ
 rows_text events zero = []
-rows_text events (suc k) = rows_text events k ++ schedule_row events k
+rows_text events (suc k) = rows_text events k ++ schedule_row (take 16 (drop (16 * k) events))
 
 abbrev pub schedule_text : List Event → List ℕ
 schedule_text events =
@@ -100,5 +116,15 @@ text_of_state image s =
     ++ (cpus_text s 0 (flat_of image s.history).cpus ++ (history_text s.history ++ (schedule_text s.events ++ codes "END\n")))))
 
 -- the report of the state after the events
-abbrev pub report_of : Image → Limits → List Event → List ℕ
+unfoldable pub report_of : Image → Limits → List Event → List ℕ
 report_of image limits events = text_of_state image (meaning image limits events)
+
+-- ---- the same where there is one CPU
+
+abbrev pub status_of_one : Cpu → ℕ
+status_of_one c = if is_finished c then 0 else 6
+
+abbrev pub text_of_one : Cpu → ℕ → List Entry → List Event → List ℕ
+text_of_one c turns history events =
+    codes "ZTX REPORT\nSTATUS " ++ (decimal (status_of_one c) ++ (codes "\n"
+    ++ (cpu_text 0 c turns ++ (history_text history ++ (schedule_text events ++ codes "END\n")))))

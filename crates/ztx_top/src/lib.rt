@@ -4,5 +4,6 @@
 mod form;
 mod instruction;
 mod machine;
+mod report;
 mod run;
 mod texts;

@@ -1,6 +1,7 @@
 //! The private machine of the first path: one CPU that runs a first form under the schedule that the form gives.
 ghost use Rattle.std.specs.Prelude.{◌≤◌};
 
+use std::fmt;
 use z_regs::CpuImage;
 
 /// What happens to the machine.
@@ -10,11 +11,35 @@ pub enum Event {
     Turn(u32),
 }
 
+impl fmt::Display for Event {
+    ghost use Rattle.std.specs.Prelude.{Some};
+    ghost use Rattle.ztx_top.specs.Report.{event_text};
+
+    ghost output = { λ e. Some (event_text e) };
+
+    fn fmt<W: fmt::Write>(&self, f: &mut fmt::Formatter<W>) -> fmt::Result {
+        let Event::Turn(cpu) = self;
+        write!(f, "{cpu}")
+    }
+}
+
 /// An entry of the serial history.
 #[derive(Clone, Copy, Debug, PartialEq, Eq)]
 pub enum Entry {
     /// One instruction of a CPU outside transactions.
     Step(u32),
+}
+
+impl fmt::Display for Entry {
+    ghost use Rattle.std.specs.Prelude.{Some};
+    ghost use Rattle.ztx_top.specs.Report.{entry_text};
+
+    ghost output = { λ e. Some (entry_text e) };
+
+    fn fmt<W: fmt::Write>(&self, f: &mut fmt::Formatter<W>) -> fmt::Result {
+        let Entry::Step(cpu) = self;
+        write!(f, "S {cpu}")
+    }
 }
 
 /// How far a run may go.
