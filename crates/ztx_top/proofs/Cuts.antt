@@ -1,5 +1,5 @@
 -- Texts that are cut at the first place of a byte.
-use Rattle.std.proofs.Common.{◌≡◌, ◌≢◌, ℕ, ◌<◌, ◌+◌, zero, suc, List, [], ◌∷◌, ◌++◌, length, get_or, arith, rules, sym, ap, ◌∙◌, refl}
+use Rattle.std.proofs.Common.{◌≡◌, ◌≢◌, ℕ, ◌<◌, ◌≤◌, ◌+◌, zero, suc, List, [], ◌∷◌, ◌++◌, length, get_or, arith, rules, sym, ap, ◌∙◌, refl}
 use Rattle.ztx_top.specs.Texts.{Lacks}
 
 pub lacks_rest : (c d : ℕ) (xs : List ℕ) → Lacks c (d ∷ xs) → Lacks c xs
@@ -23,3 +23,9 @@ same_cut c (x ∷ xs) (y ∷ xs') ys ys' lacks lacks' is =
     let tail : xs ++ c ∷ ys ≡ xs' ++ c ∷ ys' = cc in
     let rest = same_cut c xs xs' ys ys' (lacks_rest c x xs lacks) (lacks_rest c y xs' lacks') tail in
     record { front = let f = rest.front in cc; behind = rest.behind }
+
+-- a list of one item
+pub one_item : {X : Type 0} (xs : List X) (x : X) → 1 ≤ length xs → length xs < 2 → x ≡ get_or xs 0 x → xs ≡ x ∷ []
+one_item [] x some few is = absurd (omega arith)
+one_item (y ∷ []) x some few is = ap (λ z. z ∷ []) (sym is)
+one_item (y ∷ z ∷ rest) x some few is = absurd (omega arith)

@@ -4,3 +4,5 @@ pub mod Cuts
 pub mod Lines
 pub mod Programs
 pub mod Turns
+pub mod Reports
+pub mod Inputs

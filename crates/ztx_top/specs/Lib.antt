@@ -7,4 +7,5 @@ pub mod Serial
 pub mod Meaning
 pub mod Shown
 pub mod Report
+pub mod Answers
 

@@ -110,10 +110,14 @@ schedule_text events =
 
 -- ---- the whole
 
+-- the report of its parts
+abbrev pub report_text : ℕ → List ℕ → List ℕ → List ℕ → List ℕ
+report_text status cpus history schedule =
+    codes "ZTX REPORT\nSTATUS " ++ (decimal status ++ (codes "\n" ++ (cpus ++ (history ++ (schedule ++ codes "END\n")))))
+
 abbrev pub text_of_state : Image → State → List ℕ
 text_of_state image s =
-    codes "ZTX REPORT\nSTATUS " ++ (decimal (status_of image s.history) ++ (codes "\n"
-    ++ (cpus_text s 0 (flat_of image s.history).cpus ++ (history_text s.history ++ (schedule_text s.events ++ codes "END\n")))))
+    report_text (status_of image s.history) (cpus_text s 0 (flat_of image s.history).cpus) (history_text s.history) (schedule_text s.events)
 
 -- the report of the state after the events
 unfoldable pub report_of : Image → Limits → List Event → List ℕ
@@ -125,6 +129,4 @@ abbrev pub status_of_one : Cpu → ℕ
 status_of_one c = if is_finished c then 0 else 6
 
 abbrev pub text_of_one : Cpu → ℕ → List Entry → List Event → List ℕ
-text_of_one c turns history events =
-    codes "ZTX REPORT\nSTATUS " ++ (decimal (status_of_one c) ++ (codes "\n"
-    ++ (cpu_text 0 c turns ++ (history_text history ++ (schedule_text events ++ codes "END\n")))))
+text_of_one c turns history events = report_text (status_of_one c) (cpu_text 0 c turns) (history_text history) (schedule_text events)

@@ -7,3 +7,6 @@ mod machine;
 mod report;
 mod run;
 mod texts;
+mod top;
+
+pub use top::{sure_top, ztx_top};
