@@ -1,5 +1,5 @@
 -- Texts that are cut at the first place of a byte.
-use Rattle.std.proofs.Common.{◌≡◌, ◌≢◌, ℕ, ◌<◌, ◌≤◌, ◌+◌, zero, suc, List, [], ◌∷◌, ◌++◌, length, get_or, arith, rules, sym, ap, ◌∙◌, refl}
+use Rattle.std.proofs.Common.{◌≡◌, ℕ, ◌<◌, ◌≤◌, suc, List, [], ◌∷◌, ◌++◌, length, get_or, arith, sym, ap, refl}
 use Rattle.ztx_top.specs.Texts.{Lacks}
 
 pub lacks_rest : (c d : ℕ) (xs : List ℕ) → Lacks c (d ∷ xs) → Lacks c xs

@@ -1,7 +1,6 @@
 -- What a whole input, or one that is too long, says of the bytes that the source had left.
-use Rattle.std.proofs.Common.{◌≡◌, ◌∙◌, ℕ, ◌<◌, ◌≤◌, ◌⊎◌, List, ◌++◌, length, Option, Some, None, IfSome, sym, ap, subst, arith, inl, inr, append-nil, zero, suc, refl}
+use Rattle.std.proofs.Common.{◌≡◌, ◌∙◌, ℕ, ◌≤◌, ◌⊎◌, List, ◌++◌, length, Option, Some, None, IfSome, sym, ap, subst, arith, inl, inr, append-nil, zero, suc, refl}
 use Rattle.std.proofs.lemmas.List.{length-append}
-use Rattle.std.specs.Io.KnownBytes.{Appends, Keeps}
 use Rattle.ztx_io.specs.Faults.{Rose}
 use Rattle.ztx_io.specs.Reads.{PassesLimit, ReadsWhole}
 use Rattle.ztx_io.specs.Writes.{AppendsPrefix}

@@ -1,5 +1,5 @@
 -- The lines of instructions: no line end stands in them, and no two instructions have one line.
-use Rattle.std.proofs.Common.{◌≡◌, ◌≢◌, ℕ, ◌<◌, ◌≤◌, ◌^◌, ◌+◌, ◌*◌, nat_eq, zero, suc, List, [], ◌∷◌, ◌++◌, length, get_or, true, false, Bool, not, arith, rules, sym, ap, ◌∙◌, refl}
+use Rattle.std.proofs.Common.{◌≡◌, ◌≢◌, ℕ, ◌<◌, ◌≤◌, ◌^◌, ◌+◌, ◌*◌, nat_eq, zero, suc, List, [], ◌∷◌, ◌++◌, length, get_or, true, false, Bool, not, arith, sym, ap, ◌∙◌, refl}
 use Rattle.std.specs.Prelude.{◌==◌, codes}
 use Rattle.std.specs.List.{list_all}
 use Rattle.std.specs.Fmt.{decimal}
@@ -11,7 +11,7 @@ use Rattle.ztx_top.specs.declared.instruction.Instruction.TheVariants.{LoadHalfw
 use Rattle.ztx_top.specs.Texts.{Lacks}
 use Rattle.ztx_top.specs.Instruction.{line_of, pair_text, is_in_range}
 use Rattle.ztx_top.proofs.Numbers.{lacks_decimal}
-use Rattle.ztx_top.proofs.Cuts.{SameCut, same_cut, lacks_rest}
+use Rattle.ztx_top.proofs.Cuts.{same_cut, lacks_rest}
 
 abbrev pub none_is : ℕ → List ℕ → Bool
 none_is c text = list_all (λ b. not (b == c)) text
@@ -34,7 +34,7 @@ lacks-append c (x ∷ xs) ys left right =
 lacks_pair : (a b : ℕ) → a < 2 ^ 64 → b < 2 ^ 64 → Lacks 10 (pair_text a b)
 lacks_pair a b small_a small_b =
     lacks-append 10 (decimal a) (44 ∷ decimal b) (lacks_decimal 10 a small_a (omega arith))
-        (lacks-append 10 (44 ∷ []) (decimal b) (lacks_literal 10 (44 ∷ []) refl) (lacks_decimal 10 b small_b (omega arith)))
+    (lacks-append 10 (44 ∷ []) (decimal b) (lacks_literal 10 (44 ∷ []) refl) (lacks_decimal 10 b small_b (omega arith)))
 
 pub lacks_line : (i : Instruction) → is_in_range i ≡ true → Lacks 10 (line_of i)
 lacks_line (LoadHalfwordImmediate r1 value) within =
@@ -97,7 +97,7 @@ pub same_number_line : (prefix rest digits behind end : List ℕ) (n : ℕ) → 
 same_number_line prefix rest digits behind end n few is cut_is lacks =
     let small : n < 2 ^ 64 = omega arith in
     let cut = same_cut 10 digits (decimal n) behind end lacks (lacks_decimal 10 n small (omega arith))
-        (sym cut_is ∙ append_cancel_left prefix rest (decimal n ++ 10 ∷ end) is) in
+    (sym cut_is ∙ append_cancel_left prefix rest (decimal n ++ 10 ∷ end) is) in
     record { number = cut.front; end_is = cut.behind }
 
 pub not_zero : (digits : List ℕ) (n : ℕ) → digits ≡ decimal 0 → digits ≡ decimal n → 1 ≤ n → n ≤ 1000 → ⊥

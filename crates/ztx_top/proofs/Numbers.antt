@@ -1,5 +1,5 @@
 -- Numbers in decimal, and what the library's parser says of them.
-use Rattle.std.proofs.Common.{◌≡◌, ◌≢◌, ℕ, ◌<◌, ◌≤◌, ◌^◌, ◌+◌, zero, suc, List, [], ◌∷◌, ◌++◌, length, get_or, Result, Ok, Err, true, false, arith, rules, sym, ap, ◌∙◌, refl, subst}
+use Rattle.std.proofs.Common.{◌≡◌, ◌≢◌, ℕ, ◌<◌, ◌^◌, zero, suc, List, [], ◌∷◌, length, get_or, Ok, Err, true, false, arith, sym, ap, ◌∙◌, refl, subst}
 use Rattle.std.specs.Fmt.{decimal}
 use Rattle.std.specs.Str.{IsUtf8}
 use Rattle.std.specs.Str.Parse.{ParsesUnsigned, AllDigits, digits_value}

@@ -1,5 +1,5 @@
 -- Reading a program line by line: what was read is the front of it, and where a program stands there, its rest is left.
-use Rattle.std.proofs.Common.{◌≡◌, ◌≢◌, ℕ, ◌<◌, ◌≤◌, ◌+◌, ◌-◌, List, [], ◌∷◌, ◌++◌, length, true, false, Bool, not, ◌&&◌, arith, rules, sym, ap, ◌∙◌, refl, subst, append_assoc}
+use Rattle.std.proofs.Common.{◌≡◌, ◌≢◌, ℕ, ◌<◌, ◌+◌, List, [], ◌∷◌, ◌++◌, length, true, false, Bool, not, ◌&&◌, arith, sym, ap, ◌∙◌, refl, subst, append_assoc}
 use Rattle.std.specs.List.{list_all}
 use Rattle.std.proofs.lemmas.Grind.{common_steps}
 use Rattle.std.proofs.lemmas.List.{length-append}
@@ -7,7 +7,7 @@ use Rattle.ztx_top.specs.declared.instruction.Instruction.{Instruction}
 use Rattle.ztx_top.specs.Texts.{Lacks}
 use Rattle.ztx_top.specs.Instruction.{line_of, is_in_range, is_call}
 use Rattle.ztx_top.specs.Form.{IsProgram, program_text, following_text, ends_with_call}
-use Rattle.ztx_top.proofs.Cuts.{SameCut, same_cut, lacks_not_there}
+use Rattle.ztx_top.proofs.Cuts.{same_cut, lacks_not_there}
 use Rattle.ztx_top.proofs.Lines.{lacks_line, line_injective}
 
 -- what stands in front of the rest is the text of the front
@@ -177,7 +177,7 @@ same_program (i ∷ k ∷ is) (j ∷ []) a b p q same =
     let plain : is_call i ≡ false = not_alone_is_plain i k is p in absurd (cc (call, plain))
 same_program (i ∷ k ∷ is) (j ∷ l ∷ js) a b p q same =
     let cut = same_cut 10 (line_of i) (line_of j) (following_text (k ∷ is) a) (following_text (l ∷ js) b) (lacks_line i (first_in_range i (k ∷ is) p))
-        (lacks_line j (first_in_range j (l ∷ js) q)) same in
+    (lacks_line j (first_in_range j (l ∷ js) q)) same in
     let equal = line_injective i j (first_in_range i (k ∷ is) p) (first_in_range j (l ∷ js) q) cut.front in
     let behind : program_text (k ∷ is) a ≡ program_text (l ∷ js) b = let e = cut.behind in cc in
     let others = same_program (k ∷ is) (l ∷ js) a b (tail_program i k is p) (tail_program j l js q) behind in

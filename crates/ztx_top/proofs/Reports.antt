@@ -1,6 +1,6 @@
 -- The report of the state, from what the machine of the code shows.
-use Rattle.std.proofs.Common.{◌≡◌, ℕ, List, [], ◌∷◌, ◌++◌, true, false, Bool, Option, Some, None, sym, ap, ◌∙◌, refl, append-nil}
-use Rattle.std.specs.Prelude.{◌&&◌, if◌then◌else◌, codes, IsSome, replicate}
+use Rattle.std.proofs.Common.{◌≡◌, ℕ, List, [], ◌∷◌, true, false, Bool, sym, ap, ◌∙◌, refl, append-nil}
+use Rattle.std.specs.Prelude.{◌&&◌, if◌then◌else◌, replicate}
 use Rattle.std.specs.List.{list_all}
 use Rattle.z_regs.specs.Cpu.{Cpu}
 use Rattle.ztx_top.specs.declared.instruction.Instruction.{Instruction}
@@ -9,9 +9,9 @@ use Rattle.ztx_top.specs.declared.machine.Event.{Event}
 use Rattle.ztx_top.specs.declared.machine.Event.TheVariants.{Turn}
 use Rattle.ztx_top.specs.declared.machine.Limits.{Limits}
 use Rattle.ztx_top.specs.Form.{FirstForm, IsFirstForm, text_of}
-use Rattle.ztx_top.specs.Image.{Image, image_of, Stands}
-use Rattle.ztx_top.specs.Serial.{Flat, replay, IsLegal}
-use Rattle.ztx_top.specs.Meaning.{State, meaning, flat_of, flat_or_start, is_finished, all_finished, default_limits}
+use Rattle.ztx_top.specs.Image.{Image, image_of}
+use Rattle.ztx_top.specs.Serial.{replay, IsLegal}
+use Rattle.ztx_top.specs.Meaning.{meaning, flat_of, flat_or_start, is_finished, default_limits}
 use Rattle.ztx_top.specs.Shown.{Shows}
 use Rattle.ztx_top.specs.Report.{report_of, report_text, text_of_one, status_of, status_of_one, cpus_text, cpu_text, history_text, schedule_text}
 use Rattle.ztx_top.specs.Answers.{IsReport}
@@ -49,9 +49,9 @@ unfolding report_of
 report_shown image limits events history recorded turns c shows =
     let s = meaning image limits events in
     same_parts (status_of_one c) (status_of image s.history) (cpu_text 0 c turns) (cpus_text s 0 (flat_of image s.history).cpus)
-        (history_text history) (history_text s.history) (schedule_text recorded) (schedule_text s.events)
-        (status_shown image limits events history recorded turns c shows) (cpus_shown image limits events history recorded turns c shows)
-        (ap history_text shows.history_is) (ap schedule_text shows.events_are)
+    (history_text history) (history_text s.history) (schedule_text recorded) (schedule_text s.events)
+    (status_shown image limits events history recorded turns c shows) (cpus_shown image limits events history recorded turns c shows)
+    (ap history_text shows.history_is) (ap schedule_text shows.events_are)
 
 pub legal_shown : (image : Image) (limits : Limits) (events : List Event) (history : List Entry) (recorded : List Event) (turns : ℕ) (c : Cpu)
     → Shows image limits events history recorded turns c → IsLegal image (meaning image limits events).history

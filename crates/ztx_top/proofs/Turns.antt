@@ -1,7 +1,6 @@
 -- Turns of the one CPU: the state after one more event, and what the machine of the code shows of it.
-use Rattle.std.proofs.Common.{◌≡◌, ◌≢◌, ℕ, ◌<◌, ◌≤◌, ◌+◌, ◌-◌, ◌*◌, ◌%◌, ◌^◌, zero, suc, List, [], ◌∷◌, ◌++◌, length, get_or, take, add-one, lit<, lit≤, length-take-le, mod-eq_of_lt, true, false, Bool, not, cond, Option, Some, None, arith, rules, sym, ap, ◌∙◌, refl, subst, append_assoc}
-use Rattle.std.specs.Prelude.{◌==◌, if◌then◌else◌, slice_set, replicate}
-use Rattle.std.specs.List.{fold, find}
+use Rattle.std.proofs.Common.{◌≡◌, ◌≢◌, ℕ, ◌<◌, ◌≤◌, ◌+◌, ◌*◌, ◌%◌, ◌^◌, zero, suc, List, [], ◌∷◌, ◌++◌, length, get_or, take, add-one, lit<, lit≤, length-take-le, mod-eq_of_lt, true, false, Some, arith, sym, ap, ◌∙◌, refl, subst}
+use Rattle.std.specs.Prelude.{◌==◌, if◌then◌else◌, replicate}
 use Rattle.std.proofs.lemmas.List.Sums.{fold-append}
 use Rattle.std.proofs.lemmas.List.{take_more}
 use Rattle.std.proofs.lemmas.Grind.{common_steps}
@@ -17,8 +16,8 @@ use Rattle.z_regs.specs.declared.image.RunState.TheVariants as state
 use Rattle.ztx_top.specs.declared.instruction.Instruction.TheVariants.{LoadHalfwordImmediate, Add, SupervisorCall}
 use Rattle.ztx_top.specs.Instruction.{effect, length_of, total_length, is_call}
 use Rattle.ztx_top.specs.Form.{IsProgram, ends_with_call}
-use Rattle.ztx_top.specs.Image.{Image, Placed, placed_from, origin, image_of}
-use Rattle.ztx_top.specs.Serial.{Flat, apply, apply_next, replay, instruction_at, is_running, stepped, cpu_at}
+use Rattle.ztx_top.specs.Image.{Image, placed_from, origin, image_of}
+use Rattle.ztx_top.specs.Serial.{Flat, apply, apply_next, replay, instruction_at, is_running, cpu_at}
 use Rattle.ztx_top.specs.Meaning.{State, meaning, next, turn, counted, start, flat_of, flat_or_start, is_finished, default_limits}
 use Rattle.ztx_top.specs.Shown.{Shows, IsBefore, address_of}
 

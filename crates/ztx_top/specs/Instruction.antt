@@ -1,7 +1,6 @@
 -- The instructions that a first form may have: their lines, their lengths, and what each does.
-use Rattle.std.specs.Prelude.{◌≡◌, ℕ, ◌+◌, ◌<◌, ◌%◌, ◌^◌, ◌&&◌, Bool, true, false, nat_lt, List, [], ◌∷◌, ◌++◌, get_or, slice_set, codes}
+use Rattle.std.specs.Prelude.{ℕ, ◌+◌, ◌%◌, ◌^◌, ◌&&◌, Bool, true, false, nat_lt, List, [], ◌∷◌, ◌++◌, get_or, slice_set, codes}
 use Rattle.std.specs.Fmt.{decimal}
-use Rattle.z_arith.specs.declared.Answer.{Answer}
 use Rattle.z_arith.specs.declared.Width.TheVariants as width
 use Rattle.z_arith.specs.Sum.{add_of}
 use Rattle.z_regs.specs.Cpu.{Cpu}

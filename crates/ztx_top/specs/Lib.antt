@@ -8,4 +8,3 @@ pub mod Meaning
 pub mod Shown
 pub mod Report
 pub mod Answers
-

@@ -1,5 +1,5 @@
 -- The machine over events. It keeps the serial history and a few counts; the CPUs are computed again from the history.
-use Rattle.std.specs.Prelude.{◌≡◌, ℕ, ◌+◌, ◌==◌, ◌&&◌, nat_lt, Bool, not, if◌then◌else◌, List, [], ◌∷◌, ◌++◌, Option, Some, None}
+use Rattle.std.specs.Prelude.{ℕ, ◌+◌, ◌==◌, Bool, not, if◌then◌else◌, List, [], ◌∷◌, ◌++◌, Option, Some, None}
 use Rattle.std.specs.List.{fold, list_all}
 use Rattle.z_regs.specs.Cpu.{Cpu}
 use Rattle.ztx_top.specs.declared.machine.Entry.{Entry}

@@ -2,7 +2,6 @@
 use Rattle.std.specs.Prelude.{ℕ, zero, suc, ◌+◌, ◌*◌, ◌/◌, if◌then◌else◌, List, [], ◌∷◌, ◌++◌, length, take, drop, false, codes}
 use Rattle.std.specs.List.{flat_map}
 use Rattle.std.specs.Fmt.{decimal, digits}
-
 use Rattle.std.specs.Int.{to_be_bytes}
 use Rattle.hex.specs.Hex.{encode_lower}
 use mir.Syntax.{w16, w32, w64}
@@ -15,7 +14,6 @@ use Rattle.ztx_top.specs.declared.machine.Event.{Event}
 use Rattle.ztx_top.specs.declared.machine.Event.TheVariants.{Turn}
 use Rattle.ztx_top.specs.declared.machine.Limits.{Limits}
 use Rattle.ztx_top.specs.Image.{Image}
-use Rattle.ztx_top.specs.Serial.{Flat}
 use Rattle.ztx_top.specs.Meaning.{State, meaning, flat_of, all_finished, is_finished}
 
 -- 0 where every CPU is finished, else 6

@@ -1,5 +1,5 @@
 -- The serial history on flat storage: each entry is one step, and a history is legal where every entry fits.
-use Rattle.std.specs.Prelude.{◌≡◌, ℕ, ◌==◌, Bool, true, false, if◌then◌else◌, List, [], get_or, slice_set, Option, Some, None, IsSome}
+use Rattle.std.specs.Prelude.{ℕ, ◌==◌, Bool, true, false, if◌then◌else◌, List, get_or, slice_set, Option, Some, None, IsSome}
 use Rattle.std.specs.List.{fold, find}
 use Rattle.std.specs.Option.{option_map}
 use Rattle.z_regs.specs.Cpu.{Cpu, started}

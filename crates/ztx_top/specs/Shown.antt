@@ -1,5 +1,5 @@
 -- What the machine of the code shows of the state after some events.
-use Rattle.std.specs.Prelude.{◌≡◌, ℕ, ◌+◌, ◌<◌, List, [], ◌∷◌, length, take, Option, Some, true}
+use Rattle.std.specs.Prelude.{◌≡◌, ℕ, ◌+◌, ◌<◌, List, [], ◌∷◌, length, take, Some, true}
 use Rattle.z_regs.specs.Cpu.{Cpu, cpu_of}
 use Rattle.ztx_top.specs.declared.instruction.Instruction.{Instruction}
 use Rattle.ztx_top.specs.declared.machine.Entry.{Entry}

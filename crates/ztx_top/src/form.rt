@@ -164,5 +164,8 @@ pub fn read_form(alloc: Global, text: &[u8]) -> Result<Option<Form>, AllocError>
     let Some(turns) = schedule(rest) else {
         return Ok(None);
     };
-    Ok(Some(Form { instructions, turns }))
+    Ok(Some(Form {
+        instructions,
+        turns,
+    }))
 }

@@ -10,3 +10,6 @@ mod texts;
 mod top;
 
 pub use top::{sure_top, ztx_top};
+
+#[cfg(test)]
+mod tests;

@@ -55,11 +55,19 @@ fn add_head(alloc: Global, text: &mut String, number: u32, cpu: &CpuImage) -> Re
     let address = hex::encode(alloc, cpu.address.to_be_bytes())?;
     let condition = cpu.condition;
     let mask = cpu.mask;
-    write!(text, "CPU {number} {state}\nPSW {address} CC {condition} MASK {mask:x}\n")
+    write!(
+        text,
+        "CPU {number} {state}\nPSW {address} CC {condition} MASK {mask:x}\n"
+    )
 }
 
 /// Adds a row of general registers behind its label.
-fn add_general_row(alloc: Global, text: &mut String, label: &str, values: &[u64]) -> Result<(), AllocError>
+fn add_general_row(
+    alloc: Global,
+    text: &mut String,
+    label: &str,
+    values: &[u64],
+) -> Result<(), AllocError>
     ensures { OnOk result (string_bytes text.new ≡ string_bytes text.old ++ general_row label.now values.now) }
 {
     text.push_str(label)?;
@@ -68,7 +76,12 @@ fn add_general_row(alloc: Global, text: &mut String, label: &str, values: &[u64]
 }
 
 /// Adds a row of access registers behind its label.
-fn add_access_row(alloc: Global, text: &mut String, label: &str, values: &[u32]) -> Result<(), AllocError>
+fn add_access_row(
+    alloc: Global,
+    text: &mut String,
+    label: &str,
+    values: &[u32],
+) -> Result<(), AllocError>
     ensures { OnOk result (string_bytes text.new ≡ string_bytes text.old ++ access_row label.now values.now) }
 {
     text.push_str(label)?;
@@ -158,7 +171,10 @@ fn add_cpu(alloc: Global, text: &mut String, machine: &Machine) -> Result<(), Al
     add_general_rows(alloc, text, &machine.cpu.general)?;
     add_access_rows(alloc, text, &machine.cpu.access)?;
     let turns = machine.turns;
-    write!(text, "TX NONE\nPENDING NONE\nCOUNTS TURNS {turns} ASKED 0 REJECTED 0 COMMITS 0 ABORTS 0\n")
+    write!(
+        text,
+        "TX NONE\nPENDING NONE\nCOUNTS TURNS {turns} ASKED 0 REJECTED 0 COMMITS 0 ABORTS 0\n"
+    )
 }
 
 /// The status of a machine that has run: 0 where its CPU is finished, else 6.

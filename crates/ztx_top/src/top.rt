@@ -100,7 +100,12 @@ fn run_listing<S: Source, K: Sink>(alloc: Global, source: &mut S, sink: &mut K) 
 ///
 /// The words are looked at first, then the source is read to its end, and writing comes last; the first that fails gives the
 /// status, so 4, 5, 0 and 6 come where the writing succeeded.
-pub fn ztx_top<S: Source, K: Sink>(alloc: Global, words: &[String], source: &mut S, sink: &mut K) -> u8
+pub fn ztx_top<S: Source, K: Sink>(
+    alloc: Global,
+    words: &[String],
+    source: &mut S,
+    sink: &mut K,
+) -> u8
     ensures statuses { result ≤ 6 }
     ensures done { result ≡ 0 → (map string_bytes words.now ≡ command)
         × IfSome (S.left source.old) (λ input. WritesReport input 0 (K.held sink.old) (K.held sink.new)) }

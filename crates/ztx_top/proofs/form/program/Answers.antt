@@ -2,7 +2,7 @@ use Rattle.std.proofs.Common.{rules, arith, ◌≡◌, ◌∙◌, ap, sym, subst
 use Rattle.ztx_top.specs.declared.instruction.Instruction.{Instruction}
 use Rattle.ztx_top.specs.Instruction.{is_call}
 use Rattle.ztx_top.specs.Form.{IsProgram}
-use Rattle.ztx_top.proofs.Programs.{IsFrontOf, LeavesRest, Remains, is_before_call, front_grows, before_call_grows, program_ends, no_line_end, no_instruction, follows, no_blank, rest_follows}
+use Rattle.ztx_top.proofs.Programs.{IsFrontOf, Remains, is_before_call, front_grows, before_call_grows, program_ends, no_line_end, no_instruction, follows, no_blank, rest_follows}
 use Rattle.ztx_top.proofs.form.program.Goals as goal
 
 pub returns-in_default-clause-none : goal.returns-in_default-clause-none
@@ -12,7 +12,7 @@ returns-in_default-clause-none c = λ is end program text.
 pub returns-in_default-instruction-clause-none : goal.returns-in_default-instruction-clause-none
 returns-in_default-instruction-clause-none c = λ is end program text.
     no_instruction _ c.lines.rest.now end c.in-Some.line.now c.in-Some.after.now (c.lines.invariant.leaves is end program text)
-        c.in-Some.ensures.some c.in-Some.ensures.first c.in_default-instruction.ensures.none
+    c.in-Some.ensures.some c.in-Some.ensures.first c.in_default-instruction.ensures.none
 
 pub returns-then-is_call-clause-within : goal.returns-then-is_call-clause-within
 returns-then-is_call-clause-within c =
@@ -29,9 +29,9 @@ returns-in_default-strip-clause-none c = λ is end program text.
     subst (λ (n : ℕ). Remains n c.lines.rest.now end) (omega arith) (c.lines.invariant.leaves is end program text) in
     let plain : is_call c.in-Some-instruction.read ≡ false = search rules in
     no_blank most c.in-Some.after.now end
-        (follows most c.lines.rest.now end c.in-Some.line.now c.in-Some.after.now c.in-Some-instruction.read left c.in-Some.ensures.some
-        c.in-Some.ensures.first c.in-Some-instruction.ensures.some c.in-Some-instruction.ensures.within plain)
-        c.in_default-strip.ensures
+    (follows most c.lines.rest.now end c.in-Some.line.now c.in-Some.after.now c.in-Some-instruction.read left c.in-Some.ensures.some
+    c.in-Some.ensures.first c.in-Some-instruction.ensures.some c.in-Some-instruction.ensures.within plain)
+    c.in_default-strip.ensures
 
 pub lines-preserved : goal.lines-preserved
 lines-preserved c =
@@ -50,8 +50,8 @@ lines-preserved c =
           let left : Remains (most + 1) c.lines.rest.now end =
           subst (λ (n : ℕ). Remains n c.lines.rest.now end) (omega arith) (c.lines.invariant.leaves is end program text) in
           let next = rest_follows most c.in-Some.after.now end c.in-Some-strip.next.now
-              (follows most c.lines.rest.now end c.in-Some.line.now c.in-Some.after.now read left c.in-Some.ensures.some
-              c.in-Some.ensures.first c.in-Some-instruction.ensures.some c.in-Some-instruction.ensures.within plain)
-              c.in-Some-strip.ensures in
+          (follows most c.lines.rest.now end c.in-Some.line.now c.in-Some.after.now read left c.in-Some.ensures.some
+          c.in-Some.ensures.first c.in-Some-instruction.ensures.some c.in-Some-instruction.ensures.within plain)
+          c.in-Some-strip.ensures in
           subst (λ (n : ℕ). Remains n c.in-Some-strip.next.now end) (search rules) next;
     }

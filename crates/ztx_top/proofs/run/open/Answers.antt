@@ -1,4 +1,3 @@
-use Rattle.std.proofs.Common.{rules, refl, ◌≡◌, subst, List, [], ◌∷◌, sym, ap, ◌∙◌}
 use Rattle.ztx_top.proofs.Turns.{shows_opened}
 use Rattle.ztx_top.proofs.run.open.Goals as goal
 

@@ -1,5 +1,4 @@
-use Rattle.std.proofs.Common.{rules, arith, ◌≡◌, ◌∙◌, ℕ, ◌<◌, ◌≤◌, ◌^◌, true, false, sym}
-use Rattle.std.specs.Fmt.{decimal}
+use Rattle.std.proofs.Common.{rules, arith, ◌≡◌, ◌∙◌, ◌<◌, ◌^◌, true, false, sym}
 use Rattle.ztx_top.specs.Texts.{has_needless_start}
 use Rattle.ztx_top.proofs.Numbers.{not_needless, decimal_is_text, decimal_is_parsed, decimal_is_value, parsed_is_decimal}
 use Rattle.ztx_top.proofs.texts.number.Goals as goal

@@ -7,4 +7,4 @@ pub returns-clause-some : goal.returns-clause-some
 returns-clause-some c =
     let machine = c.in_ok-machine.machine in
     is_report c.args.bytes.now c.form.inside.instructions.items c.form.inside.turns machine.history.items machine.events.items machine.turns (cpu_of machine.cpu) _ _
-        (search rules) (search rules) (search rules) (search rules) (search rules)
+    (search rules) (search rules) (search rules) (search rules) (search rules)

@@ -1,6 +1,6 @@
-use Rattle.std.proofs.Common.{rules, ◌≡◌, IfSome, sym, subst, string_bytes}
+use Rattle.std.proofs.Common.{rules, subst, string_bytes}
 use Rattle.ztx_io.specs.Writes.{AppendsPrefix}
-use Rattle.ztx_top.specs.Answers.{IsReport, IsRefused, StandsForNothing, not_built}
+use Rattle.ztx_top.specs.Answers.{IsReport, StandsForNothing}
 use Rattle.ztx_top.proofs.Inputs.{cut_report, cut_refusal, whole_refused}
 use Rattle.ztx_top.proofs.top.run_listing.Goals as goal
 
