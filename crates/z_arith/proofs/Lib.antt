@@ -1,2 +1,3 @@
 pub mod ProductLemmas
 pub mod ShiftLemmas
+pub mod BitLemmas

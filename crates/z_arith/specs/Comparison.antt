@@ -42,6 +42,6 @@ unfoldable pub zeros_left : ℕ → ℕ → ℕ
 zeros_left zero a = 0
 zeros_left (suc k) a = if nat_eq (bit_at a k) 0 then suc (zeros_left k a) else 0
 
--- that number, the doubleword without its first one, and the code
+-- That number, the doubleword without its first one, and the code; 64 and code 0 where there is no one.
 unfoldable pub leftmost_one_of : ℕ → ℕ × ℕ × ℕ
-leftmost_one_of a = let zeros = zeros_left 64 a in if nat_eq a 0 then (zeros, 0, 0) else (zeros, a - 2 ^ (63 - zeros), 2)
+leftmost_one_of a = if nat_eq a 0 then (64, 0, 0) else let zeros = zeros_left 64 a in (zeros, a - 2 ^ (63 - zeros), 2)

@@ -1,5 +1,5 @@
 -- Shifts and rotations by n places, with n below 64.
-use Rattle.std.specs.Prelude.{ℕ, ◌+◌, ◌-◌, ◌*◌, ◌/◌, ◌%◌, ◌^◌, ℤ, pos, ◌*ℤ◌, not, nat_lt, if◌then◌else◌}
+use Rattle.std.specs.Prelude.{ℕ, ◌+◌, ◌-◌, ◌*◌, ◌/◌, ◌%◌, ◌^◌, ◌≢◌, ℤ, pos, ◌*ℤ◌, not, nat_lt, if◌then◌else◌}
 use Rattle.std.specs.Int.{int_div_euclid}
 use Rattle.z_arith.specs.declared.Width.{Width}
 use Rattle.z_arith.specs.declared.Answer.{Answer}
@@ -42,3 +42,7 @@ lost_bits k a n = a % 2 ^ (k - 1) * 2 ^ n / 2 ^ (k - 1)
 -- n copies of the leftmost of k bits
 abbrev pub sign_copies : ℕ → ℕ → ℕ → ℕ
 sign_copies k a n = if nat_lt a (2 ^ (k - 1)) then 0 else 2 ^ n - 1
+
+-- a shift of k bits to the left by n places loses a bit that is unlike the sign
+unfoldable pub LosesUnlike : ℕ → ℕ → ℕ → Type 0
+LosesUnlike k a n = lost_bits k a n ≢ sign_copies k a n

@@ -42,3 +42,66 @@ pub fn compare_logical(w: Width, a: u64, b: u64) -> u8
         2
     }
 }
+
+/// Tests a byte.
+#[tactic(auto, using(crate::proofs::BitLemmas::test_by_and), unfolding(crate::specs::Comparison::test_under_mask_of))]
+pub fn test_under_mask(byte: u8, mask: u8) -> u8
+    ensures answer { result ≡ test_under_mask_of byte mask }
+    ensures code { result < 4 }
+{
+    let ones = byte & mask;
+    if ones == 0 {
+        0
+    } else if ones == mask {
+        3
+    } else {
+        1
+    }
+}
+
+/// Tests a halfword.
+#[tactic(auto, using(crate::proofs::BitLemmas::test_by_and, crate::proofs::BitLemmas::leftmost_is), unfolding(crate::specs::Comparison::test_halfword_of))]
+pub fn test_halfword(value: u16, mask: u16) -> u8
+    ensures answer { result ≡ test_halfword_of value mask }
+    ensures code { result < 4 }
+{
+    let ones = value & mask;
+    if ones == 0 {
+        0
+    } else if ones == mask {
+        3
+    } else {
+        1 + bit(value, mask.ilog2())
+    }
+}
+
+// The bit in a place, counted from the right.
+fn bit(value: u16, place: u32) -> u8
+    requires { place < 16 }
+    ensures value { result ≡ bit_at value place }
+    ensures below { result < 2 }
+{
+    ((value >> place) % 2) as u8
+}
+
+/// Finds the leftmost one.
+#[tactic(auto, using(crate::proofs::BitLemmas::zeros_left_is), unfolding(crate::specs::Comparison::leftmost_one_of))]
+pub fn leftmost_one(value: u64) -> (u64, u64, u8)
+    ensures answer { result ≡ leftmost_one_of value }
+    ensures code { result.2 < 4 }
+    ensures one { 0 < value → 2 ^ (63 - result.0) + result.1 ≡ value }
+    ensures rest { 0 < value → result.1 < 2 ^ (63 - result.0) }
+{
+    if value == 0 {
+        return (64, 0, 0);
+    }
+    let place = value.ilog2();
+    (u64::from(63 - place), value - power(place), 2)
+}
+
+fn power(place: u32) -> u64
+    requires { place < 64 }
+    ensures { result ≡ 2 ^ place }
+{
+    1 << place
+}

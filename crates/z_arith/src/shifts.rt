@@ -1,7 +1,7 @@
 // Shifts and rotations.
 ghost use Rattle.std.specs.Prelude.{◌≡◌, ◌≢◌, ◌<◌, ◌≤◌, ◌^◌, ◌↔◌, ◌*◌, ◌/◌, ◌%◌, IsTrue, false, not, nat_eq, nat_lt, ◌+◌, ◌-◌, if◌then◌else◌};
 ghost use Rattle.z_arith.specs.Whole.{bits};
-ghost use Rattle.z_arith.specs.Shifted.{shift_of, left_signed_of, right_signed_of, rotated, lost_bits, sign_copies};
+ghost use Rattle.z_arith.specs.Shifted.{shift_of, left_signed_of, right_signed_of, rotated, lost_bits, sign_copies, LosesUnlike};
 
 use crate::numbers::{doubleword, has_sign, low, number, settled, sign_bit, size};
 use crate::{Answer, Shift, Width};
@@ -12,6 +12,7 @@ pub fn shift(kind: Shift, w: Width, value: u64, amount: u32) -> Answer
     requires value_in { value < 2 ^ bits w }
     requires amount_in { amount < 64 }
     ensures answer { result ≡ shift_of kind w value amount }
+    ensures lost { kind ≡ Shift.LeftSigned → (IsTrue result.overflow ↔ LosesUnlike (bits w) value amount) }
     ensures fits { result.value < 2 ^ bits w }
     ensures code { result.condition < 4 }
 {
@@ -78,10 +79,12 @@ fn kept(w: Width, value: u64, amount: u32) -> u64
     }
 }
 
+#[tactic(auto, unfolding(crate::specs::Shifted::LosesUnlike))]
 fn left_signed(w: Width, value: u64, amount: u32) -> Answer
     requires value_in { value < 2 ^ bits w }
     requires amount_in { amount < 64 }
     ensures answer { result ≡ left_signed_of (bits w) value amount }
+    ensures lost { IsTrue result.overflow ↔ LosesUnlike (bits w) value amount }
     ensures fits { result.value < 2 ^ bits w }
     ensures code { result.condition < 4 }
 {
