@@ -1,3 +1,4 @@
 pub mod ProductLemmas
 pub mod ShiftLemmas
 pub mod BitLemmas
+pub mod QuotientLemmas

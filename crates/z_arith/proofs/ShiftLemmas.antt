@@ -58,7 +58,7 @@ wide h d r p y e q f =
     ]
 
 -- k bits are worth twice their leftmost one
-halves : (k : ℕ) → 0 < k → 2 ^ k ≡ 2 ^ (k - 1) + 2 ^ (k - 1)
+pub halves : (k : ℕ) → 0 < k → 2 ^ k ≡ 2 ^ (k - 1) + 2 ^ (k - 1)
 halves k h = let e : k ≡ suc (k - 1) = omega arith in let t : 2 ^ suc (k - 1) ≡ 2 ^ (k - 1) * 2 = pow-suc 2 (k - 1) in omega (arith, ap (λ i. 2 ^ i) e, t)
 
 -- of k bits with the leftmost one, the others

@@ -1,7 +1,15 @@
 -- Quotients and remainders.
-use Rattle.std.specs.Prelude.{ℕ, ◌+◌, ◌*◌, ◌/◌, ◌%◌, ◌^◌, ◌<◌, ◌≡◌, ℤ, pos, ◌+ℤ◌, ◌*ℤ◌, ◌≤ℤ◌, int_div, int_rem, unsigned_abs, Bool, not, ◌||◌, nat_eq, nat_lt, if◌then◌else◌, Result, Ok, Err}
+use Rattle.std.specs.Prelude.{ℕ, ◌+◌, ◌*◌, ◌/◌, ◌%◌, ◌^◌, ◌<◌, ◌≡◌, ℤ, pos, ◌+ℤ◌, ◌*ℤ◌, ◌≤ℤ◌, int_div, int_rem, unsigned_abs, Bool, not, ◌||◌, ◌⊎◌, nat_eq, nat_lt, if◌then◌else◌, Result, Ok, Err}
+use Rattle.std.specs.Int.{is_negative}
 use Rattle.z_arith.specs.declared.DivideFault.{DivideFault}
 use Rattle.z_arith.specs.Whole.{signed, modulo, fits_signed}
+
+-- The quotient is rounded toward zero, and the remainder is what is then left of the dividend: it is
+-- nearer to zero than the divisor, and is zero or has the dividend's sign.
+pub record IsDivision (dividend divisor quotient remainder : ℤ) : Type 0 where
+  pub whole : quotient *ℤ divisor +ℤ remainder ≡ dividend
+  pub below : unsigned_abs remainder < unsigned_abs divisor
+  pub sign : (remainder ≡ pos 0) ⊎ (is_negative remainder ≡ is_negative dividend)
 
 -- Remainder and quotient of numbers with a sign, in k bits each. The quotient is rounded toward zero
 -- and the remainder has the dividend's sign. The fault comes where the divisor is 0 or the quotient
