@@ -1,5 +1,5 @@
 -- What remainder and quotient are in whole numbers.
-use Rattle.std.proofs.Common.{◌≡◌, ℕ, zero, suc, ◌<◌, ◌≤◌, ◌+◌, ◌-◌, ◌*◌, ◌/◌, ◌%◌, ◌^◌, ◌⊎◌, inl, inr, Bool, true, false, nat_eq, nat_lt, ◌||◌, ◌≢◌, refl, sym, subst, ap, ◌∙◌, arith, zero-le}
+use Rattle.std.proofs.Common.{◌≡◌, ℕ, zero, suc, ◌<◌, ◌≤◌, ◌+◌, ◌-◌, ◌*◌, ◌/◌, ◌%◌, ◌^◌, ◌⊎◌, inl, inr, Bool, true, false, nat_eq, nat_lt, ◌||◌, ◌≢◌, refl, sym, subst, ap, ◌∙◌, arith, zero-le, lit<}
 use Rattle.std.specs.Prelude.{ℤ, pos, negsuc, neg_ℤ, ◌+ℤ◌, ◌*ℤ◌, int_div, int_rem, unsigned_abs, if◌then◌else◌, not, Result, Ok, Err, IfOk}
 use Rattle.std.specs.Int.{is_negative}
 use Rattle.std.proofs.lemmas.Int.{quot-rem, rem_below}
@@ -8,7 +8,7 @@ use Rattle.std.proofs.Math.Nat.{mod-eq_of_lt}
 use Rattle.z_arith.specs.declared.DivideFault.{DivideFault}
 use Rattle.z_arith.proofs.ShiftLemmas.{halves}
 use Rattle.z_arith.specs.Whole.{signed, modulo, fits_signed}
-use Rattle.z_arith.specs.Quotient.{IsDivision, divide_signed_of}
+use Rattle.z_arith.specs.Quotient.{IsDivision, divide_signed_of, divide_word_of, divide_double_of}
 
 -- a number that fits is what its bits stand for
 stands : (k : ℕ) (z : ℤ) → 0 < k → fits_signed k z ≡ true → signed k (modulo k z) ≡ z
@@ -58,10 +58,23 @@ divides k b n h l =
     let d : ℤ = signed k b in
     let P : ℕ × ℕ → Type 0 = λ r. IsDivision n d (signed k r.1) (signed k r.0) in
     by_tests (nat_eq (unsigned_abs d) 0) (fits_signed k (int_div n d)) (modulo k (int_rem n d), modulo k (int_div n d)) P (λ e f.
-      let some : 0 < unsigned_abs d = (let ne : unsigned_abs d ≢ 0 = eqb-false (unsigned_abs d) 0 e in omega arith) in
-      let below : unsigned_abs (int_rem n d) < unsigned_abs d = rem_below n d some in
-      let q : signed k (modulo k (int_div n d)) ≡ int_div n d = stands k (int_div n d) h f in
-      let r : signed k (modulo k (int_rem n d)) ≡ int_rem n d = stands k (int_rem n d) h (nearer k (unsigned_abs d) (int_rem n d) (distance k b h l) below) in
-      let plain : IsDivision n d (int_div n d) (int_rem n d) = record { whole = quot-rem n d; below = below; sign = rem_sign n d } in
-      let half : IsDivision n d (signed k (modulo k (int_div n d))) (int_rem n d) = subst (λ (x : ℤ). IsDivision n d x (int_rem n d)) (sym q) plain in
-      subst (λ (x : ℤ). IsDivision n d (signed k (modulo k (int_div n d))) x) (sym r) half)
+    let some : 0 < unsigned_abs d = (let ne : unsigned_abs d ≢ 0 = eqb-false (unsigned_abs d) 0 e in omega arith) in
+    let below : unsigned_abs (int_rem n d) < unsigned_abs d = rem_below n d some in
+    let q : signed k (modulo k (int_div n d)) ≡ int_div n d = stands k (int_div n d) h f in
+    let r : signed k (modulo k (int_rem n d)) ≡ int_rem n d = stands k (int_rem n d) h (nearer k (unsigned_abs d) (int_rem n d) (distance k b h l) below) in
+    let plain : IsDivision n d (int_div n d) (int_rem n d) = record { whole = quot-rem n d; below = below; sign = rem_sign n d } in
+    let half : IsDivision n d (signed k (modulo k (int_div n d))) (int_rem n d) = subst (λ (x : ℤ). IsDivision n d x (int_rem n d)) (sym q) plain in
+    subst (λ (x : ℤ). IsDivision n d (signed k (modulo k (int_div n d))) x) (sym r) half)
+
+-- the same of the words and doublewords that the calls give
+pub divides_word : (n b : ℕ) (x : ℕ × ℕ) → b < 2 ^ 32 → Ok x ≡ divide_word_of n b → IsDivision (signed 64 n) (signed 32 b) (signed 32 x.1) (signed 32 x.0)
+unfolding divide_word_of
+divides_word n b x l e =
+    let P : Result (ℕ × ℕ) DivideFault → Type 0 = λ r. IfOk r (λ y. IsDivision (signed 64 n) (signed 32 b) (signed 32 y.1) (signed 32 y.0)) in
+    subst P (sym e) (divides 32 b (signed 64 n) (lit< tt) l)
+
+pub divides_double : (n b : ℕ) (x : ℕ × ℕ) → b < 2 ^ 64 → Ok x ≡ divide_double_of n b → IsDivision (signed 64 n) (signed 64 b) (signed 64 x.1) (signed 64 x.0)
+unfolding divide_double_of
+divides_double n b x l e =
+    let P : Result (ℕ × ℕ) DivideFault → Type 0 = λ r. IfOk r (λ y. IsDivision (signed 64 n) (signed 64 b) (signed 64 y.1) (signed 64 y.0)) in
+    subst P (sym e) (divides 64 b (signed 64 n) (lit< tt) l)

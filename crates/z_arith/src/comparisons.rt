@@ -7,7 +7,9 @@ ghost use Rattle.z_arith.specs.Comparison.{compare_signed_of, compare_logical_of
 use crate::Width;
 use crate::numbers::number;
 
-/// Compares.
+/// Compares two numbers with a sign. Words: CR, C, CH, CHI, CFI, CHSI, CRJ. Doublewords: CGR, CG, CGHI,
+/// CGFI, CGHSI, CGRJ, CGIJ. The code is 0 where they are equal, 1 where the first is low, and 2 where the
+/// first is high.
 #[tactic(auto, unfolding(crate::specs::Comparison::compare_signed_of))]
 pub fn compare_signed(w: Width, a: u64, b: u64) -> u8
     requires a_in { a < 2 ^ bits w }
@@ -25,7 +27,8 @@ pub fn compare_signed(w: Width, a: u64, b: u64) -> u8
     }
 }
 
-/// Compares.
+/// Compares two numbers without a sign, with the codes of [`compare_signed`]. Words: CLR, CL, and the
+/// bytes of CLI and CLC. Doublewords: CLGR, CLG, CLGFI, CLGRJ.
 #[tactic(auto, unfolding(crate::specs::Comparison::compare_logical_of))]
 pub fn compare_logical(w: Width, a: u64, b: u64) -> u8
     requires a_in { a < 2 ^ bits w }
@@ -43,7 +46,8 @@ pub fn compare_logical(w: Width, a: u64, b: u64) -> u8
     }
 }
 
-/// Tests a byte.
+/// Tests the bits of a byte in the places where the mask has a one: TM. The code is 0 where all of them are
+/// zeros or the mask is zero, 3 where all are ones, and else 1.
 #[tactic(auto, using(crate::proofs::BitLemmas::test_by_and), unfolding(crate::specs::Comparison::test_under_mask_of))]
 pub fn test_under_mask(byte: u8, mask: u8) -> u8
     ensures answer { result ≡ test_under_mask_of byte mask }
@@ -59,7 +63,9 @@ pub fn test_under_mask(byte: u8, mask: u8) -> u8
     }
 }
 
-/// Tests a halfword.
+/// Tests the bits of a halfword in the places where the mask has a one: TMLL. The code is 0 where all of
+/// them are zeros or the mask is zero, and 3 where all are ones. With both kinds it is 1 where the leftmost
+/// of them is a zero, and 2 where it is a one.
 #[tactic(auto, using(crate::proofs::BitLemmas::test_by_and, crate::proofs::BitLemmas::leftmost_is), unfolding(crate::specs::Comparison::test_halfword_of))]
 pub fn test_halfword(value: u16, mask: u16) -> u8
     ensures answer { result ≡ test_halfword_of value mask }
@@ -84,7 +90,8 @@ fn bit(value: u16, place: u32) -> u8
     ((value >> place) % 2) as u8
 }
 
-/// Finds the leftmost one.
+/// How many zeros stand left of the first one, the value without that one, and the condition code, in this
+/// order: FLOGR. The code is 2 where there is a one; else it is 0, and the number is 64.
 #[tactic(auto, using(crate::proofs::BitLemmas::zeros_left_is), unfolding(crate::specs::Comparison::leftmost_one_of))]
 pub fn leftmost_one(value: u64) -> (u64, u64, u8)
     ensures answer { result ≡ leftmost_one_of value }
@@ -99,6 +106,7 @@ pub fn leftmost_one(value: u64) -> (u64, u64, u8)
     (u64::from(63 - place), value - power(place), 2)
 }
 
+// The worth of a bit, by its place from the right.
 fn power(place: u32) -> u64
     requires { place < 64 }
     ensures { result ≡ 2 ^ place }

@@ -6,7 +6,15 @@ ghost use Rattle.z_arith.specs.Shifted.{shift_of, left_signed_of, right_signed_o
 use crate::numbers::{doubleword, has_sign, low, number, settled, sign_bit, size};
 use crate::{Answer, Shift, Width};
 
-/// Shifts.
+/// The value moved by `amount` places, below 64, as `kind` says.
+///
+/// `LeftLogical`: SLL, and for doublewords SLLG. `RightLogical`: SRL and SRLG. `Rotate`: RLL and RLLG; a
+/// word is rotated by the amount modulo 32. These leave the condition code of the CPU unchanged, and the
+/// answer's is 0.
+///
+/// `LeftSigned`: SLA and SLAG. There is overflow exactly where some bit is lost that is unlike the sign;
+/// the value keeps its sign all the same. `RightSigned`: SRA and SRAG. The code of these two is 0 for a
+/// value of zero, 1 below zero, 2 above, and 3 with overflow.
 #[tactic(auto, unfolding(crate::specs::Shifted::shift_of))]
 pub fn shift(kind: Shift, w: Width, value: u64, amount: u32) -> Answer
     requires value_in { value < 2 ^ bits w }
