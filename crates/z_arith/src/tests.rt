@@ -8,6 +8,13 @@ use super::*;
 use Shift::*;
 use Width::*;
 
+// As a doubleword with a sign -1, the highest number and the lowest.
+const ONES: u64 = 0xffff_ffff_ffff_ffff;
+
+const HIGHEST: u64 = 0x7fff_ffff_ffff_ffff;
+
+const LOWEST: u64 = 0x8000_0000_0000_0000;
+
 // Whether a pattern is an operand of this width.
 fn fits(w: Width, pattern: u64) -> bool
     ensures { IsTrue result ↔ (pattern < 2 ^ bits w) }
@@ -39,10 +46,12 @@ fn plain(value: u64, condition: u8) -> Answer {
 #[test]
 fn known_answers(rt: HostRuntime) {
     assert_eq!(rt; add(Word, 0x7fff_ffff, 1), signed(0x8000_0000, 3));
-    assert_eq!(rt; add_logical(Double, u64::MAX, 1, false), plain(0, 2));
-    assert_eq!(rt; subtract_logical(Double, 0, 1, false), plain(u64::MAX, 1));
-    let divided = divide_word((-7i64).cast_unsigned(), 2);
-    assert_eq!(rt; divided, Ok((0xffff_ffff, 0xffff_fffd)));
+    assert_eq!(rt; add_logical(Double, ONES, 1, false), plain(0, 2));
+    assert_eq!(rt; subtract_logical(Double, 0, 1, false), plain(ONES, 1));
+    assert_eq!(rt;
+        divide_word(0xffff_ffff_ffff_fff9, 2),
+        Ok((0xffff_ffff, 0xffff_fffd))
+    );
     assert_eq!(rt; shift(LeftSigned, Word, 0x4000_0000, 1), signed(0, 3));
     assert_eq!(rt; leftmost_one(0), (64, 0, 0));
     assert_eq!(rt; leftmost_one(1), (63, 0, 2));
@@ -50,924 +59,564 @@ fn known_answers(rt: HostRuntime) {
 }
 
 #[test]
-fn sums(rt: HostRuntime) {
-    for (w, a, b, value, condition) in [
-        (Word, 0, 0, 0, 0),
-        (Word, 0, 1, 1, 2),
-        (Word, 1, 0xffff_ffff, 0, 0),
-        (Word, 0xffff_ffff, 0xffff_ffff, 0xffff_fffe, 1),
-        (Word, 0x7fff_ffff, 1, 0x8000_0000, 3),
-        (Word, 0x7fff_ffff, 0x7fff_ffff, 0xffff_fffe, 3),
-        (Word, 0x8000_0000, 0xffff_ffff, 0x7fff_ffff, 3),
-        (Word, 0x8000_0000, 0x8000_0000, 0, 3),
-        (Word, 0x8000_0000, 1, 0x8000_0001, 1),
-        (Word, 0, 0x8000_0000, 0x8000_0000, 1),
-        (Word, 0x7fff_ffff, 0x8000_0000, 0xffff_ffff, 1),
-        (Word, 0xffff_ffff, 0x7fff_ffff, 0x7fff_fffe, 2),
-        (Double, 0, 0, 0, 0),
-        (Double, 0, 1, 1, 2),
-        (Double, 1, 0xffff_ffff_ffff_ffff, 0, 0),
-        (
-            Double,
-            0xffff_ffff_ffff_ffff,
-            0xffff_ffff_ffff_ffff,
-            0xffff_ffff_ffff_fffe,
-            1,
-        ),
-        (Double, 0x7fff_ffff_ffff_ffff, 1, 0x8000_0000_0000_0000, 3),
-        (
-            Double,
-            0x7fff_ffff_ffff_ffff,
-            0x7fff_ffff_ffff_ffff,
-            0xffff_ffff_ffff_fffe,
-            3,
-        ),
-        (
-            Double,
-            0x8000_0000_0000_0000,
-            0xffff_ffff_ffff_ffff,
-            0x7fff_ffff_ffff_ffff,
-            3,
-        ),
-        (Double, 0x8000_0000_0000_0000, 0x8000_0000_0000_0000, 0, 3),
-        (Double, 0x8000_0000_0000_0000, 1, 0x8000_0000_0000_0001, 1),
-        (Double, 0, 0x8000_0000_0000_0000, 0x8000_0000_0000_0000, 1),
-        (
-            Double,
-            0x7fff_ffff_ffff_ffff,
-            0x8000_0000_0000_0000,
-            0xffff_ffff_ffff_ffff,
-            1,
-        ),
-        (
-            Double,
-            0xffff_ffff_ffff_ffff,
-            0x7fff_ffff_ffff_ffff,
-            0x7fff_ffff_ffff_fffe,
-            2,
-        ),
-    ] {
-        assert!(rt; fits(w, a) && fits(w, b));
-        assert_eq!(rt; add(w, a, b), signed(value, condition), "{a:x} + {b:x}");
+fn corner_cases(rt: HostRuntime) {
+    let calls = [
+        ("add", sums()),
+        ("subtract", differences()),
+        ("add_logical", logical_sums()),
+        ("subtract_logical", logical_differences()),
+        ("positive, negative, complement", signs()),
+        ("compare_signed, compare_logical", orders()),
+        ("multiply_low", low_products()),
+        ("multiply_word", word_products()),
+        ("multiply_logical", logical_products()),
+        ("divide_word", word_quotients()),
+        ("divide_double", quotients()),
+        ("divide_logical", logical_quotients()),
+        ("shift", shifted()),
+        ("test_under_mask", byte_tests()),
+        ("test_halfword", halfword_tests()),
+        ("leftmost_one", first_ones()),
+    ];
+    for (call, right) in calls {
+        assert!(rt; right, "{call}");
     }
 }
 
-#[test]
-fn differences(rt: HostRuntime) {
-    for (w, a, b, value, condition) in [
-        (Word, 0, 0, 0, 0),
-        (Word, 0, 1, 0xffff_ffff, 1),
-        (Word, 1, 0xffff_ffff, 2, 2),
-        (Word, 0xffff_ffff, 0xffff_ffff, 0, 0),
-        (Word, 0x7fff_ffff, 1, 0x7fff_fffe, 2),
-        (Word, 0x7fff_ffff, 0x7fff_ffff, 0, 0),
-        (Word, 0x8000_0000, 0xffff_ffff, 0x8000_0001, 1),
-        (Word, 0x8000_0000, 0x8000_0000, 0, 0),
-        (Word, 0x8000_0000, 1, 0x7fff_ffff, 3),
-        (Word, 0, 0x8000_0000, 0x8000_0000, 3),
-        (Word, 0x7fff_ffff, 0x8000_0000, 0xffff_ffff, 3),
-        (Word, 0xffff_ffff, 0x7fff_ffff, 0x8000_0000, 1),
-        (Double, 0, 0, 0, 0),
-        (Double, 0, 1, 0xffff_ffff_ffff_ffff, 1),
-        (Double, 1, 0xffff_ffff_ffff_ffff, 2, 2),
-        (Double, 0xffff_ffff_ffff_ffff, 0xffff_ffff_ffff_ffff, 0, 0),
-        (Double, 0x7fff_ffff_ffff_ffff, 1, 0x7fff_ffff_ffff_fffe, 2),
-        (Double, 0x7fff_ffff_ffff_ffff, 0x7fff_ffff_ffff_ffff, 0, 0),
-        (
-            Double,
-            0x8000_0000_0000_0000,
-            0xffff_ffff_ffff_ffff,
-            0x8000_0000_0000_0001,
-            1,
-        ),
-        (Double, 0x8000_0000_0000_0000, 0x8000_0000_0000_0000, 0, 0),
-        (Double, 0x8000_0000_0000_0000, 1, 0x7fff_ffff_ffff_ffff, 3),
-        (Double, 0, 0x8000_0000_0000_0000, 0x8000_0000_0000_0000, 3),
-        (
-            Double,
-            0x7fff_ffff_ffff_ffff,
-            0x8000_0000_0000_0000,
-            0xffff_ffff_ffff_ffff,
-            3,
-        ),
-        (
-            Double,
-            0xffff_ffff_ffff_ffff,
-            0x7fff_ffff_ffff_ffff,
-            0x8000_0000_0000_0000,
-            1,
-        ),
-    ] {
-        assert!(rt; fits(w, a) && fits(w, b));
-        assert_eq!(rt;
-            subtract(w, a, b),
-            signed(value, condition),
-            "{a:x} - {b:x}"
-        );
-    }
+// Operands, value and code.
+static SUMS: [(Width, u64, u64, u64, u8); 24] = [
+    (Word, 0, 0, 0, 0),
+    (Word, 0, 1, 1, 2),
+    (Word, 1, 0xffff_ffff, 0, 0),
+    (Word, 0xffff_ffff, 0xffff_ffff, 0xffff_fffe, 1),
+    (Word, 0x7fff_ffff, 1, 0x8000_0000, 3),
+    (Word, 0x7fff_ffff, 0x7fff_ffff, 0xffff_fffe, 3),
+    (Word, 0x8000_0000, 0xffff_ffff, 0x7fff_ffff, 3),
+    (Word, 0x8000_0000, 0x8000_0000, 0, 3),
+    (Word, 0x8000_0000, 1, 0x8000_0001, 1),
+    (Word, 0, 0x8000_0000, 0x8000_0000, 1),
+    (Word, 0x7fff_ffff, 0x8000_0000, 0xffff_ffff, 1),
+    (Word, 0xffff_ffff, 0x7fff_ffff, 0x7fff_fffe, 2),
+    (Double, 0, 0, 0, 0),
+    (Double, 0, 1, 1, 2),
+    (Double, 1, ONES, 0, 0),
+    (Double, ONES, ONES, 0xffff_ffff_ffff_fffe, 1),
+    (Double, HIGHEST, 1, LOWEST, 3),
+    (Double, HIGHEST, HIGHEST, 0xffff_ffff_ffff_fffe, 3),
+    (Double, LOWEST, ONES, HIGHEST, 3),
+    (Double, LOWEST, LOWEST, 0, 3),
+    (Double, LOWEST, 1, 0x8000_0000_0000_0001, 1),
+    (Double, 0, LOWEST, LOWEST, 1),
+    (Double, HIGHEST, LOWEST, ONES, 1),
+    (Double, ONES, HIGHEST, 0x7fff_ffff_ffff_fffe, 2),
+];
+
+fn sums() -> bool {
+    SUMS.iter().all(|&(w, a, b, value, code)| {
+        fits(w, a) && fits(w, b) && add(w, a, b) == signed(value, code)
+    })
 }
 
-#[test]
-fn sums_without_sign(rt: HostRuntime) {
-    for (w, a, b, carry, value, condition) in [
-        (Word, 0, 0, false, 0, 0),
-        (Word, 0, 0, true, 1, 1),
-        (Word, 0xffff_ffff, 1, false, 0, 2),
-        (Word, 0xffff_ffff, 0xffff_ffff, true, 0xffff_ffff, 3),
-        (Word, 0xffff_ffff, 0, true, 0, 2),
-        (Word, 0x7fff_ffff, 0x8000_0000, false, 0xffff_ffff, 1),
-        (Word, 0x7fff_ffff, 0x8000_0000, true, 0, 2),
-        (Word, 0x8000_0000, 0x8000_0000, false, 0, 2),
-        (Word, 1, 0x7fff_ffff, false, 0x8000_0000, 1),
-        (Word, 0xffff_ffff, 0xffff_ffff, false, 0xffff_fffe, 3),
-        (Double, 0, 0, false, 0, 0),
-        (Double, 0, 0, true, 1, 1),
-        (Double, 0xffff_ffff_ffff_ffff, 1, false, 0, 2),
-        (
-            Double,
-            0xffff_ffff_ffff_ffff,
-            0xffff_ffff_ffff_ffff,
-            true,
-            0xffff_ffff_ffff_ffff,
-            3,
-        ),
-        (Double, 0xffff_ffff_ffff_ffff, 0, true, 0, 2),
-        (
-            Double,
-            0x7fff_ffff_ffff_ffff,
-            0x8000_0000_0000_0000,
-            false,
-            0xffff_ffff_ffff_ffff,
-            1,
-        ),
-        (
-            Double,
-            0x7fff_ffff_ffff_ffff,
-            0x8000_0000_0000_0000,
-            true,
-            0,
-            2,
-        ),
-        (
-            Double,
-            0x8000_0000_0000_0000,
-            0x8000_0000_0000_0000,
-            false,
-            0,
-            2,
-        ),
-        (
-            Double,
-            1,
-            0x7fff_ffff_ffff_ffff,
-            false,
-            0x8000_0000_0000_0000,
-            1,
-        ),
-        (
-            Double,
-            0xffff_ffff_ffff_ffff,
-            0xffff_ffff_ffff_ffff,
-            false,
-            0xffff_ffff_ffff_fffe,
-            3,
-        ),
-    ] {
-        assert!(rt; fits(w, a) && fits(w, b));
-        let sum = add_logical(w, a, b, carry);
-        assert_eq!(rt; sum, plain(value, condition), "{a:x} + {b:x}, {carry}");
-    }
+// Operands, value and code.
+static DIFFERENCES: [(Width, u64, u64, u64, u8); 24] = [
+    (Word, 0, 0, 0, 0),
+    (Word, 0, 1, 0xffff_ffff, 1),
+    (Word, 1, 0xffff_ffff, 2, 2),
+    (Word, 0xffff_ffff, 0xffff_ffff, 0, 0),
+    (Word, 0x7fff_ffff, 1, 0x7fff_fffe, 2),
+    (Word, 0x7fff_ffff, 0x7fff_ffff, 0, 0),
+    (Word, 0x8000_0000, 0xffff_ffff, 0x8000_0001, 1),
+    (Word, 0x8000_0000, 0x8000_0000, 0, 0),
+    (Word, 0x8000_0000, 1, 0x7fff_ffff, 3),
+    (Word, 0, 0x8000_0000, 0x8000_0000, 3),
+    (Word, 0x7fff_ffff, 0x8000_0000, 0xffff_ffff, 3),
+    (Word, 0xffff_ffff, 0x7fff_ffff, 0x8000_0000, 1),
+    (Double, 0, 0, 0, 0),
+    (Double, 0, 1, ONES, 1),
+    (Double, 1, ONES, 2, 2),
+    (Double, ONES, ONES, 0, 0),
+    (Double, HIGHEST, 1, 0x7fff_ffff_ffff_fffe, 2),
+    (Double, HIGHEST, HIGHEST, 0, 0),
+    (Double, LOWEST, ONES, 0x8000_0000_0000_0001, 1),
+    (Double, LOWEST, LOWEST, 0, 0),
+    (Double, LOWEST, 1, HIGHEST, 3),
+    (Double, 0, LOWEST, LOWEST, 3),
+    (Double, HIGHEST, LOWEST, ONES, 3),
+    (Double, ONES, HIGHEST, LOWEST, 1),
+];
+
+fn differences() -> bool {
+    DIFFERENCES.iter().all(|&(w, a, b, value, code)| {
+        fits(w, a) && fits(w, b) && subtract(w, a, b) == signed(value, code)
+    })
 }
 
-#[test]
-fn differences_without_sign(rt: HostRuntime) {
-    for (w, a, b, borrow, value, condition) in [
-        (Word, 0, 0, false, 0, 2),
-        (Word, 0, 0, true, 0xffff_ffff, 1),
-        (Word, 0, 1, false, 0xffff_ffff, 1),
-        (Word, 0, 0xffff_ffff, true, 0, 0),
-        (Word, 0xffff_ffff, 0xffff_ffff, true, 0xffff_ffff, 1),
-        (Word, 0xffff_ffff, 0xffff_ffff, false, 0, 2),
-        (Word, 0xffff_ffff, 0, true, 0xffff_fffe, 3),
-        (Word, 0x8000_0000, 0x7fff_ffff, true, 0, 2),
-        (Word, 0x7fff_ffff, 0x8000_0000, false, 0xffff_ffff, 1),
-        (Word, 0, 0xffff_ffff, false, 1, 1),
-        (Word, 0x8000_0000, 0x8000_0000, false, 0, 2),
-        (Double, 0, 0, false, 0, 2),
-        (Double, 0, 0, true, 0xffff_ffff_ffff_ffff, 1),
-        (Double, 0, 1, false, 0xffff_ffff_ffff_ffff, 1),
-        (Double, 0, 0xffff_ffff_ffff_ffff, true, 0, 0),
-        (
-            Double,
-            0xffff_ffff_ffff_ffff,
-            0xffff_ffff_ffff_ffff,
-            true,
-            0xffff_ffff_ffff_ffff,
-            1,
-        ),
-        (
-            Double,
-            0xffff_ffff_ffff_ffff,
-            0xffff_ffff_ffff_ffff,
-            false,
-            0,
-            2,
-        ),
-        (
-            Double,
-            0xffff_ffff_ffff_ffff,
-            0,
-            true,
-            0xffff_ffff_ffff_fffe,
-            3,
-        ),
-        (
-            Double,
-            0x8000_0000_0000_0000,
-            0x7fff_ffff_ffff_ffff,
-            true,
-            0,
-            2,
-        ),
-        (
-            Double,
-            0x7fff_ffff_ffff_ffff,
-            0x8000_0000_0000_0000,
-            false,
-            0xffff_ffff_ffff_ffff,
-            1,
-        ),
-        (Double, 0, 0xffff_ffff_ffff_ffff, false, 1, 1),
-        (
-            Double,
-            0x8000_0000_0000_0000,
-            0x8000_0000_0000_0000,
-            false,
-            0,
-            2,
-        ),
-    ] {
-        assert!(rt; fits(w, a) && fits(w, b));
-        let difference = subtract_logical(w, a, b, borrow);
-        assert_eq!(rt;
-            difference,
-            plain(value, condition),
-            "{a:x} - {b:x}, {borrow}"
-        );
-    }
+// Operands, carry, value and code.
+static LOGICAL_SUMS: [(Width, u64, u64, bool, u64, u8); 20] = [
+    (Word, 0, 0, false, 0, 0),
+    (Word, 0, 0, true, 1, 1),
+    (Word, 0xffff_ffff, 1, false, 0, 2),
+    (Word, 0xffff_ffff, 0xffff_ffff, true, 0xffff_ffff, 3),
+    (Word, 0xffff_ffff, 0, true, 0, 2),
+    (Word, 0x7fff_ffff, 0x8000_0000, false, 0xffff_ffff, 1),
+    (Word, 0x7fff_ffff, 0x8000_0000, true, 0, 2),
+    (Word, 0x8000_0000, 0x8000_0000, false, 0, 2),
+    (Word, 1, 0x7fff_ffff, false, 0x8000_0000, 1),
+    (Word, 0xffff_ffff, 0xffff_ffff, false, 0xffff_fffe, 3),
+    (Double, 0, 0, false, 0, 0),
+    (Double, 0, 0, true, 1, 1),
+    (Double, ONES, 1, false, 0, 2),
+    (Double, ONES, ONES, true, ONES, 3),
+    (Double, ONES, 0, true, 0, 2),
+    (Double, HIGHEST, LOWEST, false, ONES, 1),
+    (Double, HIGHEST, LOWEST, true, 0, 2),
+    (Double, LOWEST, LOWEST, false, 0, 2),
+    (Double, 1, HIGHEST, false, LOWEST, 1),
+    (Double, ONES, ONES, false, 0xffff_ffff_ffff_fffe, 3),
+];
+
+fn logical_sums() -> bool {
+    LOGICAL_SUMS.iter().all(|&(w, a, b, carry, value, code)| {
+        fits(w, a) && fits(w, b) && add_logical(w, a, b, carry) == plain(value, code)
+    })
 }
 
-// Absolute value, its negative, and the negative.
-#[test]
-fn signs(rt: HostRuntime) {
-    for (w, a, above, below, other) in [
-        (Word, 0, (0, 0), (0, 0), (0, 0)),
-        (Word, 1, (1, 2), (0xffff_ffff, 1), (0xffff_ffff, 1)),
-        (Word, 0xffff_ffff, (1, 2), (0xffff_ffff, 1), (1, 2)),
-        (
-            Word,
-            0x7fff_ffff,
-            (0x7fff_ffff, 2),
-            (0x8000_0001, 1),
-            (0x8000_0001, 1),
-        ),
-        (
-            Word,
-            0x8000_0000,
-            (0x8000_0000, 3),
-            (0x8000_0000, 1),
-            (0x8000_0000, 3),
-        ),
-        (Double, 0, (0, 0), (0, 0), (0, 0)),
-        (
-            Double,
-            1,
-            (1, 2),
-            (0xffff_ffff_ffff_ffff, 1),
-            (0xffff_ffff_ffff_ffff, 1),
-        ),
-        (
-            Double,
-            0xffff_ffff_ffff_ffff,
-            (1, 2),
-            (0xffff_ffff_ffff_ffff, 1),
-            (1, 2),
-        ),
-        (
-            Double,
-            0x7fff_ffff_ffff_ffff,
-            (0x7fff_ffff_ffff_ffff, 2),
-            (0x8000_0000_0000_0001, 1),
-            (0x8000_0000_0000_0001, 1),
-        ),
-        (
-            Double,
-            0x8000_0000_0000_0000,
-            (0x8000_0000_0000_0000, 3),
-            (0x8000_0000_0000_0000, 1),
-            (0x8000_0000_0000_0000, 3),
-        ),
-    ] {
-        assert!(rt; fits(w, a));
-        assert_eq!(rt; positive(w, a), signed(above.0, above.1), "{a:x}");
-        assert_eq!(rt; negative(w, a), signed(below.0, below.1), "{a:x}");
-        assert_eq!(rt; complement(w, a), signed(other.0, other.1), "{a:x}");
-    }
+// Operands, borrow, value and code.
+static LOGICAL_DIFFERENCES: [(Width, u64, u64, bool, u64, u8); 22] = [
+    (Word, 0, 0, false, 0, 2),
+    (Word, 0, 0, true, 0xffff_ffff, 1),
+    (Word, 0, 1, false, 0xffff_ffff, 1),
+    (Word, 0, 0xffff_ffff, true, 0, 0),
+    (Word, 0xffff_ffff, 0xffff_ffff, true, 0xffff_ffff, 1),
+    (Word, 0xffff_ffff, 0xffff_ffff, false, 0, 2),
+    (Word, 0xffff_ffff, 0, true, 0xffff_fffe, 3),
+    (Word, 0x8000_0000, 0x7fff_ffff, true, 0, 2),
+    (Word, 0x7fff_ffff, 0x8000_0000, false, 0xffff_ffff, 1),
+    (Word, 0, 0xffff_ffff, false, 1, 1),
+    (Word, 0x8000_0000, 0x8000_0000, false, 0, 2),
+    (Double, 0, 0, false, 0, 2),
+    (Double, 0, 0, true, ONES, 1),
+    (Double, 0, 1, false, ONES, 1),
+    (Double, 0, ONES, true, 0, 0),
+    (Double, ONES, ONES, true, ONES, 1),
+    (Double, ONES, ONES, false, 0, 2),
+    (Double, ONES, 0, true, 0xffff_ffff_ffff_fffe, 3),
+    (Double, LOWEST, HIGHEST, true, 0, 2),
+    (Double, HIGHEST, LOWEST, false, ONES, 1),
+    (Double, 0, ONES, false, 1, 1),
+    (Double, LOWEST, LOWEST, false, 0, 2),
+];
+
+fn logical_differences() -> bool {
+    LOGICAL_DIFFERENCES.iter().all(|&(w, a, b, borrow, value, code)| {
+        fits(w, a) && fits(w, b) && subtract_logical(w, a, b, borrow) == plain(value, code)
+    })
 }
 
-// With a sign, and without.
-#[test]
-fn comparisons_of_numbers(rt: HostRuntime) {
-    for (w, a, b, number, pattern) in [
-        (Word, 0, 0, 0, 0),
-        (Word, 0, 1, 1, 1),
-        (Word, 1, 0xffff_ffff, 2, 1),
-        (Word, 0xffff_ffff, 0xffff_ffff, 0, 0),
-        (Word, 0x7fff_ffff, 1, 2, 2),
-        (Word, 0x7fff_ffff, 0x7fff_ffff, 0, 0),
-        (Word, 0x8000_0000, 0xffff_ffff, 1, 1),
-        (Word, 0x8000_0000, 0x8000_0000, 0, 0),
-        (Word, 0x8000_0000, 1, 1, 2),
-        (Word, 0, 0x8000_0000, 2, 1),
-        (Word, 0x7fff_ffff, 0x8000_0000, 2, 1),
-        (Word, 0xffff_ffff, 0x7fff_ffff, 1, 2),
-        (Double, 0, 0, 0, 0),
-        (Double, 0, 1, 1, 1),
-        (Double, 1, 0xffff_ffff_ffff_ffff, 2, 1),
-        (Double, 0xffff_ffff_ffff_ffff, 0xffff_ffff_ffff_ffff, 0, 0),
-        (Double, 0x7fff_ffff_ffff_ffff, 1, 2, 2),
-        (Double, 0x7fff_ffff_ffff_ffff, 0x7fff_ffff_ffff_ffff, 0, 0),
-        (Double, 0x8000_0000_0000_0000, 0xffff_ffff_ffff_ffff, 1, 1),
-        (Double, 0x8000_0000_0000_0000, 0x8000_0000_0000_0000, 0, 0),
-        (Double, 0x8000_0000_0000_0000, 1, 1, 2),
-        (Double, 0, 0x8000_0000_0000_0000, 2, 1),
-        (Double, 0x7fff_ffff_ffff_ffff, 0x8000_0000_0000_0000, 2, 1),
-        (Double, 0xffff_ffff_ffff_ffff, 0x7fff_ffff_ffff_ffff, 1, 2),
-    ] {
-        assert!(rt; fits(w, a) && fits(w, b));
-        assert_eq!(rt; compare_signed(w, a, b), number, "{a:x} {b:x}");
-        assert_eq!(rt; compare_logical(w, a, b), pattern, "{a:x} {b:x}");
-    }
+// Operand, and value and code of its absolute value, of the negative of that, and of its negative.
+static SIGNS: [(Width, u64, (u64, u8), (u64, u8), (u64, u8)); 10] = [
+    (Word, 0, (0, 0), (0, 0), (0, 0)),
+    (Word, 1, (1, 2), (0xffff_ffff, 1), (0xffff_ffff, 1)),
+    (Word, 0xffff_ffff, (1, 2), (0xffff_ffff, 1), (1, 2)),
+    (
+        Word,
+        0x7fff_ffff,
+        (0x7fff_ffff, 2),
+        (0x8000_0001, 1),
+        (0x8000_0001, 1),
+    ),
+    (
+        Word,
+        0x8000_0000,
+        (0x8000_0000, 3),
+        (0x8000_0000, 1),
+        (0x8000_0000, 3),
+    ),
+    (Double, 0, (0, 0), (0, 0), (0, 0)),
+    (Double, 1, (1, 2), (ONES, 1), (ONES, 1)),
+    (Double, ONES, (1, 2), (ONES, 1), (1, 2)),
+    (
+        Double,
+        HIGHEST,
+        (HIGHEST, 2),
+        (0x8000_0000_0000_0001, 1),
+        (0x8000_0000_0000_0001, 1),
+    ),
+    (Double, LOWEST, (LOWEST, 3), (LOWEST, 1), (LOWEST, 3)),
+];
+
+fn signs() -> bool {
+    SIGNS.iter().all(|&(w, a, above, below, other)| {
+        fits(w, a)
+            && positive(w, a) == signed(above.0, above.1)
+            && negative(w, a) == signed(below.0, below.1)
+            && complement(w, a) == signed(other.0, other.1)
+    })
 }
 
-#[test]
-fn low_products(rt: HostRuntime) {
-    for (w, a, b, product) in [
-        (Word, 0, 0, 0),
-        (Word, 0, 1, 0),
-        (Word, 1, 0xffff_ffff, 0xffff_ffff),
-        (Word, 0xffff_ffff, 0xffff_ffff, 1),
-        (Word, 0x7fff_ffff, 1, 0x7fff_ffff),
-        (Word, 0x7fff_ffff, 0x7fff_ffff, 1),
-        (Word, 0x8000_0000, 0xffff_ffff, 0x8000_0000),
-        (Word, 0x8000_0000, 0x8000_0000, 0),
-        (Word, 0x8000_0000, 1, 0x8000_0000),
-        (Word, 0, 0x8000_0000, 0),
-        (Word, 0x7fff_ffff, 0x8000_0000, 0x8000_0000),
-        (Word, 0xffff_ffff, 0x7fff_ffff, 0x8000_0001),
-        (Double, 0, 0, 0),
-        (Double, 0, 1, 0),
-        (Double, 1, 0xffff_ffff_ffff_ffff, 0xffff_ffff_ffff_ffff),
-        (Double, 0xffff_ffff_ffff_ffff, 0xffff_ffff_ffff_ffff, 1),
-        (Double, 0x7fff_ffff_ffff_ffff, 1, 0x7fff_ffff_ffff_ffff),
-        (Double, 0x7fff_ffff_ffff_ffff, 0x7fff_ffff_ffff_ffff, 1),
-        (
-            Double,
-            0x8000_0000_0000_0000,
-            0xffff_ffff_ffff_ffff,
-            0x8000_0000_0000_0000,
-        ),
-        (Double, 0x8000_0000_0000_0000, 0x8000_0000_0000_0000, 0),
-        (Double, 0x8000_0000_0000_0000, 1, 0x8000_0000_0000_0000),
-        (Double, 0, 0x8000_0000_0000_0000, 0),
-        (
-            Double,
-            0x7fff_ffff_ffff_ffff,
-            0x8000_0000_0000_0000,
-            0x8000_0000_0000_0000,
-        ),
-        (
-            Double,
-            0xffff_ffff_ffff_ffff,
-            0x7fff_ffff_ffff_ffff,
-            0x8000_0000_0000_0001,
-        ),
-    ] {
-        assert!(rt; fits(w, a) && fits(w, b));
-        assert_eq!(rt; multiply_low(w, a, b), product, "{a:x} * {b:x}");
-    }
+// Operands, and the codes with a sign and without.
+static ORDERS: [(Width, u64, u64, u8, u8); 24] = [
+    (Word, 0, 0, 0, 0),
+    (Word, 0, 1, 1, 1),
+    (Word, 1, 0xffff_ffff, 2, 1),
+    (Word, 0xffff_ffff, 0xffff_ffff, 0, 0),
+    (Word, 0x7fff_ffff, 1, 2, 2),
+    (Word, 0x7fff_ffff, 0x7fff_ffff, 0, 0),
+    (Word, 0x8000_0000, 0xffff_ffff, 1, 1),
+    (Word, 0x8000_0000, 0x8000_0000, 0, 0),
+    (Word, 0x8000_0000, 1, 1, 2),
+    (Word, 0, 0x8000_0000, 2, 1),
+    (Word, 0x7fff_ffff, 0x8000_0000, 2, 1),
+    (Word, 0xffff_ffff, 0x7fff_ffff, 1, 2),
+    (Double, 0, 0, 0, 0),
+    (Double, 0, 1, 1, 1),
+    (Double, 1, ONES, 2, 1),
+    (Double, ONES, ONES, 0, 0),
+    (Double, HIGHEST, 1, 2, 2),
+    (Double, HIGHEST, HIGHEST, 0, 0),
+    (Double, LOWEST, ONES, 1, 1),
+    (Double, LOWEST, LOWEST, 0, 0),
+    (Double, LOWEST, 1, 1, 2),
+    (Double, 0, LOWEST, 2, 1),
+    (Double, HIGHEST, LOWEST, 2, 1),
+    (Double, ONES, HIGHEST, 1, 2),
+];
+
+fn orders() -> bool {
+    ORDERS.iter().all(|&(w, a, b, number, pattern)| {
+        fits(w, a)
+            && fits(w, b)
+            && compare_signed(w, a, b) == number
+            && compare_logical(w, a, b) == pattern
+    })
 }
 
-#[test]
-fn products_of_words(rt: HostRuntime) {
-    for (a, b, product) in [
-        (0, 0xffff_ffff, 0),
-        (1, 1, 1),
-        (1, 0xffff_ffff, 0xffff_ffff_ffff_ffff),
-        (0xffff_ffff, 0xffff_ffff, 1),
-        (0x7fff_ffff, 0x7fff_ffff, 0x3fff_ffff_0000_0001),
-        (0x7fff_ffff, 0x8000_0000, 0xc000_0000_8000_0000),
-        (0x8000_0000, 0x8000_0000, 0x4000_0000_0000_0000),
-        (0x8000_0000, 0xffff_ffff, 0x8000_0000),
-        (0x8000_0000, 1, 0xffff_ffff_8000_0000),
-    ] {
-        assert_eq!(rt; multiply_word(a, b), product, "{a:x} * {b:x}");
-    }
+// Operands and product.
+static LOW_PRODUCTS: [(Width, u64, u64, u64); 24] = [
+    (Word, 0, 0, 0),
+    (Word, 0, 1, 0),
+    (Word, 1, 0xffff_ffff, 0xffff_ffff),
+    (Word, 0xffff_ffff, 0xffff_ffff, 1),
+    (Word, 0x7fff_ffff, 1, 0x7fff_ffff),
+    (Word, 0x7fff_ffff, 0x7fff_ffff, 1),
+    (Word, 0x8000_0000, 0xffff_ffff, 0x8000_0000),
+    (Word, 0x8000_0000, 0x8000_0000, 0),
+    (Word, 0x8000_0000, 1, 0x8000_0000),
+    (Word, 0, 0x8000_0000, 0),
+    (Word, 0x7fff_ffff, 0x8000_0000, 0x8000_0000),
+    (Word, 0xffff_ffff, 0x7fff_ffff, 0x8000_0001),
+    (Double, 0, 0, 0),
+    (Double, 0, 1, 0),
+    (Double, 1, ONES, ONES),
+    (Double, ONES, ONES, 1),
+    (Double, HIGHEST, 1, HIGHEST),
+    (Double, HIGHEST, HIGHEST, 1),
+    (Double, LOWEST, ONES, LOWEST),
+    (Double, LOWEST, LOWEST, 0),
+    (Double, LOWEST, 1, LOWEST),
+    (Double, 0, LOWEST, 0),
+    (Double, HIGHEST, LOWEST, LOWEST),
+    (Double, ONES, HIGHEST, 0x8000_0000_0000_0001),
+];
+
+fn low_products() -> bool {
+    LOW_PRODUCTS.iter().all(|&(w, a, b, product)| {
+        fits(w, a) && fits(w, b) && multiply_low(w, a, b) == product
+    })
 }
 
-#[test]
-fn products_without_sign(rt: HostRuntime) {
-    for (a, b, high, low) in [
-        (0, 0xffff_ffff_ffff_ffff, 0, 0),
-        (1, 1, 0, 1),
-        (1, 0xffff_ffff_ffff_ffff, 0, 0xffff_ffff_ffff_ffff),
-        (
-            0xffff_ffff_ffff_ffff,
-            0xffff_ffff_ffff_ffff,
-            0xffff_ffff_ffff_fffe,
-            1,
-        ),
-        (
-            0x7fff_ffff_ffff_ffff,
-            0x7fff_ffff_ffff_ffff,
-            0x3fff_ffff_ffff_ffff,
-            1,
-        ),
-        (
-            0x7fff_ffff_ffff_ffff,
-            0x8000_0000_0000_0000,
-            0x3fff_ffff_ffff_ffff,
-            0x8000_0000_0000_0000,
-        ),
-        (
-            0x8000_0000_0000_0000,
-            0x8000_0000_0000_0000,
-            0x4000_0000_0000_0000,
-            0,
-        ),
-        (
-            0x8000_0000_0000_0000,
-            0xffff_ffff_ffff_ffff,
-            0x7fff_ffff_ffff_ffff,
-            0x8000_0000_0000_0000,
-        ),
-    ] {
-        assert_eq!(rt; multiply_logical(a, b), (high, low), "{a:x} * {b:x}");
-    }
+// Operands and product.
+static WORD_PRODUCTS: [(u32, u32, u64); 9] = [
+    (0, 0xffff_ffff, 0),
+    (1, 1, 1),
+    (1, 0xffff_ffff, ONES),
+    (0xffff_ffff, 0xffff_ffff, 1),
+    (0x7fff_ffff, 0x7fff_ffff, 0x3fff_ffff_0000_0001),
+    (0x7fff_ffff, 0x8000_0000, 0xc000_0000_8000_0000),
+    (0x8000_0000, 0x8000_0000, 0x4000_0000_0000_0000),
+    (0x8000_0000, 0xffff_ffff, 0x8000_0000),
+    (0x8000_0000, 1, 0xffff_ffff_8000_0000),
+];
+
+fn word_products() -> bool {
+    WORD_PRODUCTS
+        .iter()
+        .all(|&(a, b, product)| multiply_word(a, b) == product)
 }
 
-#[test]
-fn quotients_of_words(rt: HostRuntime) {
-    for (dividend, divisor, expected) in [
-        (0, 0, Err(DivideFault)),
-        (0, 1, Ok((0, 0))),
-        (1, 0, Err(DivideFault)),
-        (1, 0xffff_ffff, Ok((0, 0xffff_ffff))),
-        (0xffff_ffff_ffff_fff9, 2, Ok((0xffff_ffff, 0xffff_fffd))),
-        (7, 0xffff_fffe, Ok((1, 0xffff_fffd))),
-        (0xffff_ffff_ffff_fff9, 0xffff_fffe, Ok((0xffff_ffff, 3))),
-        (0x7fff_ffff, 1, Ok((0, 0x7fff_ffff))),
-        (0x8000_0000, 1, Err(DivideFault)),
-        (0xffff_ffff_8000_0000, 1, Ok((0, 0x8000_0000))),
-        (0xffff_ffff_7fff_ffff, 1, Err(DivideFault)),
-        (0xffff_ffff_8000_0000, 0xffff_ffff, Err(DivideFault)),
-        (0x7fff_ffff, 0xffff_ffff, Ok((0, 0x8000_0001))),
-        (0x7fff_ffff_ffff_ffff, 0x7fff_ffff, Err(DivideFault)),
-        (0x8000_0000_0000_0000, 0x8000_0000, Err(DivideFault)),
-        (0x3fff_ffff_ffff_ffff, 0x7fff_ffff, Err(DivideFault)),
-        (0x8000_0000_0000_0000, 1, Err(DivideFault)),
-        (0x7fff_ffff_ffff_ffff, 0x8000_0000, Err(DivideFault)),
-        (
-            0x3fff_ffff_ffff_ffff,
-            0x8000_0000,
-            Ok((0x7fff_ffff, 0x8000_0001)),
-        ),
-        (
-            0xc000_0000_7fff_ffff,
-            0x7fff_ffff,
-            Ok((0xffff_ffff, 0x8000_0000)),
-        ),
-    ] {
-        let divided = divide_word(dividend, divisor);
-        assert_eq!(rt; divided, expected, "{dividend:x} / {divisor:x}");
-    }
+// Operands, and the left and right doubleword of the product.
+static LOGICAL_PRODUCTS: [(u64, u64, u64, u64); 8] = [
+    (0, ONES, 0, 0),
+    (1, 1, 0, 1),
+    (1, ONES, 0, ONES),
+    (ONES, ONES, 0xffff_ffff_ffff_fffe, 1),
+    (HIGHEST, HIGHEST, 0x3fff_ffff_ffff_ffff, 1),
+    (HIGHEST, LOWEST, 0x3fff_ffff_ffff_ffff, LOWEST),
+    (LOWEST, LOWEST, 0x4000_0000_0000_0000, 0),
+    (LOWEST, ONES, HIGHEST, LOWEST),
+];
+
+fn logical_products() -> bool {
+    LOGICAL_PRODUCTS
+        .iter()
+        .all(|&(a, b, high, low)| multiply_logical(a, b) == (high, low))
 }
 
-#[test]
-fn quotients_of_doublewords(rt: HostRuntime) {
-    for (dividend, divisor, expected) in [
-        (0, 0, Err(DivideFault)),
-        (0, 1, Ok((0, 0))),
-        (1, 0, Err(DivideFault)),
-        (1, 0xffff_ffff_ffff_ffff, Ok((0, 0xffff_ffff_ffff_ffff))),
-        (
-            0xffff_ffff_ffff_fff9,
-            2,
-            Ok((0xffff_ffff_ffff_ffff, 0xffff_ffff_ffff_fffd)),
-        ),
-        (7, 0xffff_ffff_ffff_fffe, Ok((1, 0xffff_ffff_ffff_fffd))),
-        (
-            0xffff_ffff_ffff_fff9,
-            0xffff_ffff_ffff_fffe,
-            Ok((0xffff_ffff_ffff_ffff, 3)),
-        ),
-        (0x7fff_ffff_ffff_ffff, 1, Ok((0, 0x7fff_ffff_ffff_ffff))),
-        (
-            0x7fff_ffff_ffff_ffff,
-            0xffff_ffff_ffff_ffff,
-            Ok((0, 0x8000_0000_0000_0001)),
-        ),
-        (0x8000_0000_0000_0000, 1, Ok((0, 0x8000_0000_0000_0000))),
-        (
-            0x8000_0000_0000_0000,
-            0xffff_ffff_ffff_ffff,
-            Err(DivideFault),
-        ),
-        (
-            0x8000_0000_0000_0000,
-            0x7fff_ffff_ffff_ffff,
-            Ok((0xffff_ffff_ffff_ffff, 0xffff_ffff_ffff_ffff)),
-        ),
-        (
-            0x7fff_ffff_ffff_ffff,
-            0x8000_0000_0000_0000,
-            Ok((0x7fff_ffff_ffff_ffff, 0)),
-        ),
-        (0x8000_0000_0000_0000, 0x8000_0000_0000_0000, Ok((0, 1))),
-        (0x8000_0000_0000_0000, 0, Err(DivideFault)),
-        (
-            0xffff_ffff_ffff_ffff,
-            0x8000_0000_0000_0000,
-            Ok((0xffff_ffff_ffff_ffff, 0)),
-        ),
-    ] {
-        let divided = divide_double(dividend, divisor);
-        assert_eq!(rt; divided, expected, "{dividend:x} / {divisor:x}");
-    }
+// Dividend and divisor, and remainder and quotient.
+static WORD_QUOTIENTS: [(u64, u32, Result<(u32, u32), DivideFault>); 20] = [
+    (0, 0, Err(DivideFault)),
+    (0, 1, Ok((0, 0))),
+    (1, 0, Err(DivideFault)),
+    (1, 0xffff_ffff, Ok((0, 0xffff_ffff))),
+    (0xffff_ffff_ffff_fff9, 2, Ok((0xffff_ffff, 0xffff_fffd))),
+    (7, 0xffff_fffe, Ok((1, 0xffff_fffd))),
+    (0xffff_ffff_ffff_fff9, 0xffff_fffe, Ok((0xffff_ffff, 3))),
+    (0x7fff_ffff, 1, Ok((0, 0x7fff_ffff))),
+    (0x8000_0000, 1, Err(DivideFault)),
+    (0xffff_ffff_8000_0000, 1, Ok((0, 0x8000_0000))),
+    (0xffff_ffff_7fff_ffff, 1, Err(DivideFault)),
+    (0xffff_ffff_8000_0000, 0xffff_ffff, Err(DivideFault)),
+    (0x7fff_ffff, 0xffff_ffff, Ok((0, 0x8000_0001))),
+    (HIGHEST, 0x7fff_ffff, Err(DivideFault)),
+    (LOWEST, 0x8000_0000, Err(DivideFault)),
+    (0x3fff_ffff_ffff_ffff, 0x7fff_ffff, Err(DivideFault)),
+    (LOWEST, 1, Err(DivideFault)),
+    (HIGHEST, 0x8000_0000, Err(DivideFault)),
+    (
+        0x3fff_ffff_ffff_ffff,
+        0x8000_0000,
+        Ok((0x7fff_ffff, 0x8000_0001)),
+    ),
+    (
+        0xc000_0000_7fff_ffff,
+        0x7fff_ffff,
+        Ok((0xffff_ffff, 0x8000_0000)),
+    ),
+];
+
+fn word_quotients() -> bool {
+    WORD_QUOTIENTS.iter().all(|&(dividend, divisor, expected)| divide_word(dividend, divisor)
+        == expected)
 }
 
-#[test]
-fn quotients_without_sign(rt: HostRuntime) {
-    for (high, low, divisor, expected) in [
-        (0, 0, 0, Err(DivideFault)),
-        (0, 0, 1, Ok((0, 0))),
-        (0, 0xffff_ffff_ffff_ffff, 1, Ok((0, 0xffff_ffff_ffff_ffff))),
-        (1, 0, 1, Err(DivideFault)),
-        (0, 7, 2, Ok((1, 3))),
-        (1, 0, 2, Ok((0, 0x8000_0000_0000_0000))),
-        (1, 0xffff_ffff_ffff_ffff, 2, Ok((1, 0xffff_ffff_ffff_ffff))),
-        (2, 0, 2, Err(DivideFault)),
-        (
-            0xffff_ffff_ffff_fffe,
-            0xffff_ffff_ffff_ffff,
-            0xffff_ffff_ffff_ffff,
-            Ok((0xffff_ffff_ffff_fffe, 0xffff_ffff_ffff_ffff)),
-        ),
-        (
-            0xffff_ffff_ffff_ffff,
-            0,
-            0xffff_ffff_ffff_ffff,
-            Err(DivideFault),
-        ),
-        (
-            0xffff_ffff_ffff_ffff,
-            0xffff_ffff_ffff_ffff,
-            0xffff_ffff_ffff_ffff,
-            Err(DivideFault),
-        ),
-        (
-            0xffff_ffff_ffff_ffff,
-            0xffff_ffff_ffff_ffff,
-            0,
-            Err(DivideFault),
-        ),
-        (0, 0xffff_ffff_ffff_ffff, 0xffff_ffff_ffff_ffff, Ok((0, 1))),
-        (
-            0x7fff_ffff_ffff_ffff,
-            0xffff_ffff_ffff_ffff,
-            0x8000_0000_0000_0000,
-            Ok((0x7fff_ffff_ffff_ffff, 0xffff_ffff_ffff_ffff)),
-        ),
-        (
-            0x8000_0000_0000_0000,
-            0,
-            0x8000_0000_0000_0000,
-            Err(DivideFault),
-        ),
-        (0, 1, 0xffff_ffff_ffff_ffff, Ok((1, 0))),
-    ] {
-        let divided = divide_logical(high, low, divisor);
-        assert_eq!(rt; divided, expected, "{high:x} {low:x} / {divisor:x}");
-    }
+// Dividend and divisor, and remainder and quotient.
+static QUOTIENTS: [(u64, u64, Result<(u64, u64), DivideFault>); 16] = [
+    (0, 0, Err(DivideFault)),
+    (0, 1, Ok((0, 0))),
+    (1, 0, Err(DivideFault)),
+    (1, ONES, Ok((0, ONES))),
+    (0xffff_ffff_ffff_fff9, 2, Ok((ONES, 0xffff_ffff_ffff_fffd))),
+    (7, 0xffff_ffff_ffff_fffe, Ok((1, 0xffff_ffff_ffff_fffd))),
+    (0xffff_ffff_ffff_fff9, 0xffff_ffff_ffff_fffe, Ok((ONES, 3))),
+    (HIGHEST, 1, Ok((0, HIGHEST))),
+    (HIGHEST, ONES, Ok((0, 0x8000_0000_0000_0001))),
+    (LOWEST, 1, Ok((0, LOWEST))),
+    (LOWEST, ONES, Err(DivideFault)),
+    (LOWEST, HIGHEST, Ok((ONES, ONES))),
+    (HIGHEST, LOWEST, Ok((HIGHEST, 0))),
+    (LOWEST, LOWEST, Ok((0, 1))),
+    (LOWEST, 0, Err(DivideFault)),
+    (ONES, LOWEST, Ok((ONES, 0))),
+];
+
+fn quotients() -> bool {
+    QUOTIENTS.iter().all(|&(dividend, divisor, expected)| divide_double(dividend, divisor)
+        == expected)
 }
 
-#[test]
-fn shifts_and_rotations(rt: HostRuntime) {
-    for (kind, w, value, amount, moved, condition) in [
-        (LeftLogical, Word, 0xffff_ffff, 0, 0xffff_ffff, 0),
-        (LeftLogical, Word, 0xffff_ffff, 1, 0xffff_fffe, 0),
-        (LeftLogical, Word, 1, 31, 0x8000_0000, 0),
-        (LeftLogical, Word, 0x8000_0000, 1, 0, 0),
-        (LeftLogical, Word, 0x7fff_ffff, 16, 0xffff_0000, 0),
-        (LeftLogical, Word, 0xffff_ffff, 32, 0, 0),
-        (LeftLogical, Word, 0xffff_ffff, 63, 0, 0),
-        (RightLogical, Word, 0xffff_ffff, 0, 0xffff_ffff, 0),
-        (RightLogical, Word, 0xffff_ffff, 1, 0x7fff_ffff, 0),
-        (RightLogical, Word, 0x8000_0000, 31, 1, 0),
-        (RightLogical, Word, 0x7fff_ffff, 1, 0x3fff_ffff, 0),
-        (RightLogical, Word, 1, 1, 0, 0),
-        (RightLogical, Word, 0xffff_ffff, 32, 0, 0),
-        (RightLogical, Word, 0xffff_ffff, 63, 0, 0),
-        (LeftSigned, Word, 0, 0, 0, 0),
-        (LeftSigned, Word, 0, 63, 0, 0),
-        (LeftSigned, Word, 1, 30, 0x4000_0000, 2),
-        (LeftSigned, Word, 1, 31, 0, 3),
-        (LeftSigned, Word, 0x4000_0000, 1, 0, 3),
-        (LeftSigned, Word, 0xc000_0000, 1, 0x8000_0000, 1),
-        (LeftSigned, Word, 0xc000_0000, 2, 0x8000_0000, 3),
-        (LeftSigned, Word, 0xffff_ffff, 31, 0x8000_0000, 1),
-        (LeftSigned, Word, 0x8000_0000, 0, 0x8000_0000, 1),
-        (LeftSigned, Word, 0x8000_0000, 1, 0x8000_0000, 3),
-        (LeftSigned, Word, 0x7fff_ffff, 1, 0x7fff_fffe, 3),
-        (LeftSigned, Word, 0xffff_ffff, 1, 0xffff_fffe, 1),
-        (LeftSigned, Word, 0xffff_ffff, 32, 0x8000_0000, 3),
-        (LeftSigned, Word, 1, 63, 0, 3),
-        (RightSigned, Word, 0, 1, 0, 0),
-        (RightSigned, Word, 1, 1, 0, 0),
-        (RightSigned, Word, 0x7fff_ffff, 1, 0x3fff_ffff, 2),
-        (RightSigned, Word, 0x7fff_ffff, 30, 1, 2),
-        (RightSigned, Word, 0x8000_0000, 1, 0xc000_0000, 1),
-        (RightSigned, Word, 0x8000_0000, 31, 0xffff_ffff, 1),
-        (RightSigned, Word, 0xffff_ffff, 1, 0xffff_ffff, 1),
-        (RightSigned, Word, 0x8000_0000, 32, 0xffff_ffff, 1),
-        (RightSigned, Word, 0x7fff_ffff, 63, 0, 0),
-        (Rotate, Word, 0x8000_0000, 0, 0x8000_0000, 0),
-        (Rotate, Word, 0x8000_0000, 1, 1, 0),
-        (Rotate, Word, 1, 31, 0x8000_0000, 0),
-        (Rotate, Word, 0x7fff_ffff, 16, 0xffff_7fff, 0),
-        (Rotate, Word, 0x1234_5678, 8, 0x3456_7812, 0),
-        (Rotate, Word, 1, 63, 0x8000_0000, 0),
-        (Rotate, Word, 1, 32, 1, 0),
-        (Rotate, Word, 0x8000_0000, 33, 1, 0),
-        (
-            LeftLogical,
-            Double,
-            0xffff_ffff_ffff_ffff,
-            0,
-            0xffff_ffff_ffff_ffff,
-            0,
-        ),
-        (
-            LeftLogical,
-            Double,
-            0xffff_ffff_ffff_ffff,
-            1,
-            0xffff_ffff_ffff_fffe,
-            0,
-        ),
-        (LeftLogical, Double, 1, 63, 0x8000_0000_0000_0000, 0),
-        (LeftLogical, Double, 0x8000_0000_0000_0000, 1, 0, 0),
-        (
-            LeftLogical,
-            Double,
-            0x7fff_ffff_ffff_ffff,
-            32,
-            0xffff_ffff_0000_0000,
-            0,
-        ),
-        (
-            LeftLogical,
-            Double,
-            0xffff_ffff_ffff_ffff,
-            63,
-            0x8000_0000_0000_0000,
-            0,
-        ),
-        (
-            RightLogical,
-            Double,
-            0xffff_ffff_ffff_ffff,
-            0,
-            0xffff_ffff_ffff_ffff,
-            0,
-        ),
-        (
-            RightLogical,
-            Double,
-            0xffff_ffff_ffff_ffff,
-            1,
-            0x7fff_ffff_ffff_ffff,
-            0,
-        ),
-        (RightLogical, Double, 0x8000_0000_0000_0000, 63, 1, 0),
-        (
-            RightLogical,
-            Double,
-            0x7fff_ffff_ffff_ffff,
-            1,
-            0x3fff_ffff_ffff_ffff,
-            0,
-        ),
-        (RightLogical, Double, 1, 1, 0, 0),
-        (RightLogical, Double, 0xffff_ffff_ffff_ffff, 63, 1, 0),
-        (LeftSigned, Double, 0, 0, 0, 0),
-        (LeftSigned, Double, 0, 63, 0, 0),
-        (LeftSigned, Double, 1, 62, 0x4000_0000_0000_0000, 2),
-        (LeftSigned, Double, 1, 63, 0, 3),
-        (LeftSigned, Double, 0x4000_0000_0000_0000, 1, 0, 3),
-        (
-            LeftSigned,
-            Double,
-            0xc000_0000_0000_0000,
-            1,
-            0x8000_0000_0000_0000,
-            1,
-        ),
-        (
-            LeftSigned,
-            Double,
-            0xc000_0000_0000_0000,
-            2,
-            0x8000_0000_0000_0000,
-            3,
-        ),
-        (
-            LeftSigned,
-            Double,
-            0xffff_ffff_ffff_ffff,
-            63,
-            0x8000_0000_0000_0000,
-            1,
-        ),
-        (
-            LeftSigned,
-            Double,
-            0x8000_0000_0000_0000,
-            0,
-            0x8000_0000_0000_0000,
-            1,
-        ),
-        (
-            LeftSigned,
-            Double,
-            0x8000_0000_0000_0000,
-            1,
-            0x8000_0000_0000_0000,
-            3,
-        ),
-        (
-            LeftSigned,
-            Double,
-            0x7fff_ffff_ffff_ffff,
-            1,
-            0x7fff_ffff_ffff_fffe,
-            3,
-        ),
-        (
-            LeftSigned,
-            Double,
-            0xffff_ffff_ffff_ffff,
-            1,
-            0xffff_ffff_ffff_fffe,
-            1,
-        ),
-        (RightSigned, Double, 0, 1, 0, 0),
-        (RightSigned, Double, 1, 1, 0, 0),
-        (
-            RightSigned,
-            Double,
-            0x7fff_ffff_ffff_ffff,
-            1,
-            0x3fff_ffff_ffff_ffff,
-            2,
-        ),
-        (RightSigned, Double, 0x7fff_ffff_ffff_ffff, 62, 1, 2),
-        (
-            RightSigned,
-            Double,
-            0x8000_0000_0000_0000,
-            1,
-            0xc000_0000_0000_0000,
-            1,
-        ),
-        (
-            RightSigned,
-            Double,
-            0x8000_0000_0000_0000,
-            63,
-            0xffff_ffff_ffff_ffff,
-            1,
-        ),
-        (
-            RightSigned,
-            Double,
-            0xffff_ffff_ffff_ffff,
-            1,
-            0xffff_ffff_ffff_ffff,
-            1,
-        ),
-        (
-            RightSigned,
-            Double,
-            0x8000_0000_0000_0000,
-            63,
-            0xffff_ffff_ffff_ffff,
-            1,
-        ),
-        (
-            Rotate,
-            Double,
-            0x8000_0000_0000_0000,
-            0,
-            0x8000_0000_0000_0000,
-            0,
-        ),
-        (Rotate, Double, 0x8000_0000_0000_0000, 1, 1, 0),
-        (Rotate, Double, 1, 63, 0x8000_0000_0000_0000, 0),
-        (
-            Rotate,
-            Double,
-            0x7fff_ffff_ffff_ffff,
-            32,
-            0xffff_ffff_7fff_ffff,
-            0,
-        ),
-        (
-            Rotate,
-            Double,
-            0x1234_5678_9abc_def0,
-            8,
-            0x3456_789a_bcde_f012,
-            0,
-        ),
-        (Rotate, Double, 1, 63, 0x8000_0000_0000_0000, 0),
-    ] {
-        assert!(rt; fits(w, value) && amount < 64);
-        let answer = shift(kind, w, value, amount);
-        assert_eq!(rt;
-            answer,
-            signed(moved, condition),
-            "{kind:?} {value:x} {amount}"
-        );
-    }
+// The two doublewords of the dividend and the divisor, and remainder and quotient.
+static LOGICAL_QUOTIENTS: [(u64, u64, u64, Result<(u64, u64), DivideFault>); 16] = [
+    (0, 0, 0, Err(DivideFault)),
+    (0, 0, 1, Ok((0, 0))),
+    (0, ONES, 1, Ok((0, ONES))),
+    (1, 0, 1, Err(DivideFault)),
+    (0, 7, 2, Ok((1, 3))),
+    (1, 0, 2, Ok((0, LOWEST))),
+    (1, ONES, 2, Ok((1, ONES))),
+    (2, 0, 2, Err(DivideFault)),
+    (
+        0xffff_ffff_ffff_fffe,
+        ONES,
+        ONES,
+        Ok((0xffff_ffff_ffff_fffe, ONES)),
+    ),
+    (ONES, 0, ONES, Err(DivideFault)),
+    (ONES, ONES, ONES, Err(DivideFault)),
+    (ONES, ONES, 0, Err(DivideFault)),
+    (0, ONES, ONES, Ok((0, 1))),
+    (HIGHEST, ONES, LOWEST, Ok((HIGHEST, ONES))),
+    (LOWEST, 0, LOWEST, Err(DivideFault)),
+    (0, 1, ONES, Ok((1, 0))),
+];
+
+fn logical_quotients() -> bool {
+    LOGICAL_QUOTIENTS.iter().all(|&(high, low, divisor, expected)| divide_logical(
+        high, low, divisor,
+    ) == expected)
 }
 
-#[test]
-fn tests_of_bytes(rt: HostRuntime) {
-    for (byte, mask, code) in [
-        (0, 0, 0),
-        (0xff, 0, 0),
-        (0, 0xff, 0),
-        (0xff, 0xff, 3),
-        (0x7f, 0x80, 0),
-        (0x80, 0x80, 3),
-        (0x80, 0xff, 1),
-        (0x7f, 0xff, 1),
-        (1, 0x81, 1),
-        (1, 1, 3),
-        (0xfe, 1, 0),
-    ] {
-        assert_eq!(rt; test_under_mask(byte, mask), code, "{byte:x} {mask:x}");
-    }
+// Kind, operand, amount, value and code.
+static SHIFTS: [(Shift, Width, u64, u32, u64, u8); 83] = [
+    (LeftLogical, Word, 0xffff_ffff, 0, 0xffff_ffff, 0),
+    (LeftLogical, Word, 0xffff_ffff, 1, 0xffff_fffe, 0),
+    (LeftLogical, Word, 1, 31, 0x8000_0000, 0),
+    (LeftLogical, Word, 0x8000_0000, 1, 0, 0),
+    (LeftLogical, Word, 0x7fff_ffff, 16, 0xffff_0000, 0),
+    (LeftLogical, Word, 0xffff_ffff, 32, 0, 0),
+    (LeftLogical, Word, 0xffff_ffff, 63, 0, 0),
+    (RightLogical, Word, 0xffff_ffff, 0, 0xffff_ffff, 0),
+    (RightLogical, Word, 0xffff_ffff, 1, 0x7fff_ffff, 0),
+    (RightLogical, Word, 0x8000_0000, 31, 1, 0),
+    (RightLogical, Word, 0x7fff_ffff, 1, 0x3fff_ffff, 0),
+    (RightLogical, Word, 1, 1, 0, 0),
+    (RightLogical, Word, 0xffff_ffff, 32, 0, 0),
+    (RightLogical, Word, 0xffff_ffff, 63, 0, 0),
+    (LeftSigned, Word, 0, 0, 0, 0),
+    (LeftSigned, Word, 0, 63, 0, 0),
+    (LeftSigned, Word, 1, 30, 0x4000_0000, 2),
+    (LeftSigned, Word, 1, 31, 0, 3),
+    (LeftSigned, Word, 0x4000_0000, 1, 0, 3),
+    (LeftSigned, Word, 0xc000_0000, 1, 0x8000_0000, 1),
+    (LeftSigned, Word, 0xc000_0000, 2, 0x8000_0000, 3),
+    (LeftSigned, Word, 0xffff_ffff, 31, 0x8000_0000, 1),
+    (LeftSigned, Word, 0x8000_0000, 0, 0x8000_0000, 1),
+    (LeftSigned, Word, 0x8000_0000, 1, 0x8000_0000, 3),
+    (LeftSigned, Word, 0x7fff_ffff, 1, 0x7fff_fffe, 3),
+    (LeftSigned, Word, 0xffff_ffff, 1, 0xffff_fffe, 1),
+    (LeftSigned, Word, 0xffff_ffff, 32, 0x8000_0000, 3),
+    (LeftSigned, Word, 1, 63, 0, 3),
+    (RightSigned, Word, 0, 1, 0, 0),
+    (RightSigned, Word, 1, 1, 0, 0),
+    (RightSigned, Word, 0x7fff_ffff, 1, 0x3fff_ffff, 2),
+    (RightSigned, Word, 0x7fff_ffff, 30, 1, 2),
+    (RightSigned, Word, 0x8000_0000, 1, 0xc000_0000, 1),
+    (RightSigned, Word, 0x8000_0000, 31, 0xffff_ffff, 1),
+    (RightSigned, Word, 0xffff_ffff, 1, 0xffff_ffff, 1),
+    (RightSigned, Word, 0x8000_0000, 32, 0xffff_ffff, 1),
+    (RightSigned, Word, 0x7fff_ffff, 63, 0, 0),
+    (Rotate, Word, 0x8000_0000, 0, 0x8000_0000, 0),
+    (Rotate, Word, 0x8000_0000, 1, 1, 0),
+    (Rotate, Word, 1, 31, 0x8000_0000, 0),
+    (Rotate, Word, 0x7fff_ffff, 16, 0xffff_7fff, 0),
+    (Rotate, Word, 0x1234_5678, 8, 0x3456_7812, 0),
+    (Rotate, Word, 1, 63, 0x8000_0000, 0),
+    (Rotate, Word, 1, 32, 1, 0),
+    (Rotate, Word, 0x8000_0000, 33, 1, 0),
+    (LeftLogical, Double, ONES, 0, ONES, 0),
+    (LeftLogical, Double, ONES, 1, 0xffff_ffff_ffff_fffe, 0),
+    (LeftLogical, Double, 1, 63, LOWEST, 0),
+    (LeftLogical, Double, LOWEST, 1, 0, 0),
+    (LeftLogical, Double, HIGHEST, 32, 0xffff_ffff_0000_0000, 0),
+    (LeftLogical, Double, ONES, 63, LOWEST, 0),
+    (RightLogical, Double, ONES, 0, ONES, 0),
+    (RightLogical, Double, ONES, 1, HIGHEST, 0),
+    (RightLogical, Double, LOWEST, 63, 1, 0),
+    (RightLogical, Double, HIGHEST, 1, 0x3fff_ffff_ffff_ffff, 0),
+    (RightLogical, Double, 1, 1, 0, 0),
+    (RightLogical, Double, ONES, 63, 1, 0),
+    (LeftSigned, Double, 0, 0, 0, 0),
+    (LeftSigned, Double, 0, 63, 0, 0),
+    (LeftSigned, Double, 1, 62, 0x4000_0000_0000_0000, 2),
+    (LeftSigned, Double, 1, 63, 0, 3),
+    (LeftSigned, Double, 0x4000_0000_0000_0000, 1, 0, 3),
+    (LeftSigned, Double, 0xc000_0000_0000_0000, 1, LOWEST, 1),
+    (LeftSigned, Double, 0xc000_0000_0000_0000, 2, LOWEST, 3),
+    (LeftSigned, Double, ONES, 63, LOWEST, 1),
+    (LeftSigned, Double, LOWEST, 0, LOWEST, 1),
+    (LeftSigned, Double, LOWEST, 1, LOWEST, 3),
+    (LeftSigned, Double, HIGHEST, 1, 0x7fff_ffff_ffff_fffe, 3),
+    (LeftSigned, Double, ONES, 1, 0xffff_ffff_ffff_fffe, 1),
+    (RightSigned, Double, 0, 1, 0, 0),
+    (RightSigned, Double, 1, 1, 0, 0),
+    (RightSigned, Double, HIGHEST, 1, 0x3fff_ffff_ffff_ffff, 2),
+    (RightSigned, Double, HIGHEST, 62, 1, 2),
+    (RightSigned, Double, LOWEST, 1, 0xc000_0000_0000_0000, 1),
+    (RightSigned, Double, LOWEST, 63, ONES, 1),
+    (RightSigned, Double, ONES, 1, ONES, 1),
+    (RightSigned, Double, LOWEST, 63, ONES, 1),
+    (Rotate, Double, LOWEST, 0, LOWEST, 0),
+    (Rotate, Double, LOWEST, 1, 1, 0),
+    (Rotate, Double, 1, 63, LOWEST, 0),
+    (Rotate, Double, HIGHEST, 32, 0xffff_ffff_7fff_ffff, 0),
+    (
+        Rotate,
+        Double,
+        0x1234_5678_9abc_def0,
+        8,
+        0x3456_789a_bcde_f012,
+        0,
+    ),
+    (Rotate, Double, 1, 63, LOWEST, 0),
+];
+
+fn shifted() -> bool {
+    SHIFTS.iter().all(|&(kind, w, value, amount, moved, code)| {
+        fits(w, value) && amount < 64 && shift(kind, w, value, amount) == signed(moved, code)
+    })
 }
 
-#[test]
-fn tests_of_halfwords(rt: HostRuntime) {
-    for (value, mask, code) in [
-        (0, 0, 0),
-        (0xffff, 0, 0),
-        (0, 0xffff, 0),
-        (0xffff, 0xffff, 3),
-        (0x8000, 0xffff, 2),
-        (0x7fff, 0xffff, 1),
-        (0x4000, 0xc000, 1),
-        (0x8000, 0xc000, 2),
-        (1, 3, 1),
-        (2, 3, 2),
-        (0xfffd, 3, 1),
-        (0x8001, 0x101, 1),
-        (0x100, 0x101, 2),
-        (1, 1, 3),
-        (0x8000, 0x8000, 3),
-        (0x7fff, 0x8000, 0),
-    ] {
-        assert_eq!(rt; test_halfword(value, mask), code, "{value:x} {mask:x}");
-    }
+// Byte, mask and code.
+static BYTE_TESTS: [(u8, u8, u8); 11] = [
+    (0, 0, 0),
+    (0xff, 0, 0),
+    (0, 0xff, 0),
+    (0xff, 0xff, 3),
+    (0x7f, 0x80, 0),
+    (0x80, 0x80, 3),
+    (0x80, 0xff, 1),
+    (0x7f, 0xff, 1),
+    (1, 0x81, 1),
+    (1, 1, 3),
+    (0xfe, 1, 0),
+];
+
+fn byte_tests() -> bool {
+    BYTE_TESTS
+        .iter()
+        .all(|&(byte, mask, code)| test_under_mask(byte, mask) == code)
 }
 
-#[test]
-fn first_ones(rt: HostRuntime) {
-    for (value, found) in [
-        (0, (64, 0, 0)),
-        (1, (63, 0, 2)),
-        (2, (62, 0, 2)),
-        (3, (62, 1, 2)),
-        (0x7fff_ffff_ffff_ffff, (1, 0x3fff_ffff_ffff_ffff, 2)),
-        (0x8000_0000_0000_0000, (0, 0, 2)),
-        (0xffff_ffff_ffff_ffff, (0, 0x7fff_ffff_ffff_ffff, 2)),
-        (0x1_0000_0000, (31, 0, 2)),
-        (0x1234_0000_0000, (19, 0x234_0000_0000, 2)),
-    ] {
-        assert_eq!(rt; leftmost_one(value), found, "{value:x}");
-    }
+// Halfword, mask and code.
+static HALFWORD_TESTS: [(u16, u16, u8); 16] = [
+    (0, 0, 0),
+    (0xffff, 0, 0),
+    (0, 0xffff, 0),
+    (0xffff, 0xffff, 3),
+    (0x8000, 0xffff, 2),
+    (0x7fff, 0xffff, 1),
+    (0x4000, 0xc000, 1),
+    (0x8000, 0xc000, 2),
+    (1, 3, 1),
+    (2, 3, 2),
+    (0xfffd, 3, 1),
+    (0x8001, 0x101, 1),
+    (0x100, 0x101, 2),
+    (1, 1, 3),
+    (0x8000, 0x8000, 3),
+    (0x7fff, 0x8000, 0),
+];
+
+fn halfword_tests() -> bool {
+    HALFWORD_TESTS
+        .iter()
+        .all(|&(value, mask, code)| test_halfword(value, mask) == code)
+}
+
+// Operand, and what is found.
+static FIRST_ONES: [(u64, (u64, u64, u8)); 9] = [
+    (0, (64, 0, 0)),
+    (1, (63, 0, 2)),
+    (2, (62, 0, 2)),
+    (3, (62, 1, 2)),
+    (HIGHEST, (1, 0x3fff_ffff_ffff_ffff, 2)),
+    (LOWEST, (0, 0, 2)),
+    (ONES, (0, HIGHEST, 2)),
+    (0x1_0000_0000, (31, 0, 2)),
+    (0x1234_0000_0000, (19, 0x234_0000_0000, 2)),
+];
+
+fn first_ones() -> bool {
+    FIRST_ONES
+        .iter()
+        .all(|&(value, found)| leftmost_one(value) == found)
 }
