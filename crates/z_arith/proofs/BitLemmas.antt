@@ -1,15 +1,14 @@
 -- The bits that a mask selects, and the first one of a number.
-use Rattle.std.proofs.Common.{◌≡◌, ◌≢◌, ℕ, zero, suc, ◌<◌, ◌≤◌, ◌+◌, ◌-◌, ◌*◌, ◌/◌, ◌%◌, ◌^◌, ◌⊎◌, inl, inr, Bool, true, false, nat_eq, nat_lt, List, [], ◌∷◌, min, refl, sym, subst, ap, ◌∙◌, arith}
-use Rattle.std.specs.Prelude.{bit_and, if◌then◌else◌, not}
+use Rattle.std.proofs.Common.{◌≡◌, ◌≢◌, ℕ, zero, suc, ◌<◌, ◌≤◌, ◌+◌, ◌*◌, ◌/◌, ◌%◌, ◌^◌, inl, inr, Bool, true, false, nat_eq, min, refl, sym, ap, ◌∙◌, arith}
+use Rattle.std.specs.Prelude.{bit_and, if◌then◌else◌}
 use Rattle.std.specs.Int.{bit_at}
 use Rattle.std.specs.List.{list_all}
-use Rattle.std.specs.Int.Count.{count_leading_zeros}
-use Rattle.std.proofs.lemmas.Nat.{leading_top, pow_pos, and_le_r}
+use Rattle.std.proofs.lemmas.Nat.{pow_pos, and_le_r}
 use Rattle.std.proofs.lemmas.Nat.Bits.{bit_at_and, bit_at-lt, bit_at-zero, bit_at_above, same_from_bits_below}
-use Rattle.std.proofs.lemmas.Bool.{cases_lt, eq-eqb, ne_eqb, eqb-true, and_parts, and_from}
+use Rattle.std.proofs.lemmas.Bool.{cases_lt, eq-eqb, eqb-true, and_parts, and_from}
 use Rattle.std.proofs.lemmas.Bool.Decides.{eqb_tells}
-use Rattle.std.proofs.Math.Nat.{pow-suc, pow-le-pow_right, mod-eq_of_lt, div-eq_of_lt-le}
-use Rattle.z_arith.specs.Comparison.{selected, leftmost, test_code, zeros_left, test_under_mask_of, test_halfword_of, leftmost_one_of}
+use Rattle.std.proofs.Math.Nat.{pow-suc, div-eq_of_lt-le}
+use Rattle.z_arith.specs.Comparison.{selected, leftmost, test_code, zeros_left}
 
 -- what holds below k and at k holds below k + 1
 below_or_at : (k i : ℕ) {P : Type 0} → i < suc k → (i < k → P) → (i ≡ k → P) → P

@@ -1,26 +1,13 @@
 -- What remainder and quotient are in whole numbers.
-use Rattle.std.proofs.Common.{◌≡◌, ℕ, zero, suc, ◌<◌, ◌≤◌, ◌+◌, ◌-◌, ◌*◌, ◌/◌, ◌%◌, ◌^◌, ◌⊎◌, inl, inr, Bool, true, false, nat_eq, nat_lt, ◌||◌, ◌≢◌, refl, sym, subst, ap, ◌∙◌, arith, zero-le, lit<}
-use Rattle.std.specs.Prelude.{ℤ, pos, negsuc, neg_ℤ, ◌+ℤ◌, ◌*ℤ◌, int_div, int_rem, unsigned_abs, if◌then◌else◌, not, Result, Ok, Err, IfOk}
+use Rattle.std.proofs.Common.{◌≡◌, ℕ, zero, suc, ◌<◌, ◌%◌, ◌^◌, ◌⊎◌, inl, inr, Bool, true, false, nat_eq, ◌||◌, ◌≢◌, refl, sym, subst, ◌∙◌, arith, zero-le, lit<}
+use Rattle.std.specs.Prelude.{ℤ, pos, negsuc, neg_ℤ, int_div, int_rem, unsigned_abs, if◌then◌else◌, not, Result, Ok, Err, IfOk}
 use Rattle.std.specs.Int.{is_negative}
 use Rattle.std.proofs.lemmas.Int.{quot-rem, rem_below}
-use Rattle.std.proofs.lemmas.Bool.{cases_lt, lt-ltb, le-ltb, ltb-true, eqb-false}
-use Rattle.std.proofs.Math.Nat.{mod-eq_of_lt}
+use Rattle.std.proofs.lemmas.Bool.{le-ltb, eqb-false}
 use Rattle.z_arith.specs.declared.DivideFault.{DivideFault}
-use Rattle.z_arith.proofs.ShiftLemmas.{halves}
+use Rattle.z_arith.proofs.WholeLemmas.{stands, distance, nearer}
 use Rattle.z_arith.specs.Whole.{signed, modulo, fits_signed}
 use Rattle.z_arith.specs.Quotient.{IsDivision, divide_signed_of, divide_word_of, divide_double_of}
-
--- a number that fits is what its bits stand for
-stands : (k : ℕ) (z : ℤ) → 0 < k → fits_signed k z ≡ true → signed k (modulo k z) ≡ z
-stands k (pos n) h t =
-    let below : n < 2 ^ (k - 1) = ltb-true n (2 ^ (k - 1)) t in
-    let whole : n % 2 ^ k ≡ n = mod-eq_of_lt (let l : n < 2 ^ k = omega (arith, halves k h) in l) in
-    rw (whole, t) refl
-stands k (negsuc n) h t =
-    let below : n < 2 ^ (k - 1) = ltb-true n (2 ^ (k - 1)) t in
-    let whole : n % 2 ^ k ≡ n = mod-eq_of_lt (let l : n < 2 ^ k = omega (arith, halves k h) in l) in
-    let high : nat_lt (2 ^ k - 1 - n) (2 ^ (k - 1)) ≡ false = le-ltb (2 ^ k - 1 - n) (2 ^ (k - 1)) (omega (arith, halves k h)) in
-    rw (whole, high) (ap negsuc (let e : 2 ^ k - 1 - (2 ^ k - 1 - n) ≡ n = omega (arith, halves k h) in e))
 
 -- the negative of a natural number is zero or below it
 negative_sign : (x : ℕ) → (neg_ℤ (pos x) ≡ pos 0) ⊎ (is_negative (neg_ℤ (pos x)) ≡ true)
@@ -31,19 +18,6 @@ negative_sign (suc x) = inr refl
 rem_sign : (a d : ℤ) → (int_rem a d ≡ pos 0) ⊎ (is_negative (int_rem a d) ≡ is_negative a)
 rem_sign (pos n) d = inr (le-ltb (n % unsigned_abs d) 0 zero-le ∙ sym (le-ltb n 0 zero-le))
 rem_sign (negsuc n) d = negative_sign (suc n % unsigned_abs d)
-
--- how far from zero k bits reach
-distance : (k b : ℕ) → 0 < k → b < 2 ^ k → unsigned_abs (signed k b) ≤ 2 ^ (k - 1)
-distance k b h l =
-    elim (cases_lt b (2 ^ (k - 1))) [
-      | inl s ↦ (let e : nat_lt b (2 ^ (k - 1)) ≡ true = lt-ltb b (2 ^ (k - 1)) s in rw e (omega arith))
-      | inr s ↦ (let e : nat_lt b (2 ^ (k - 1)) ≡ false = le-ltb b (2 ^ (k - 1)) s in rw e (omega (arith, halves k h)))
-    ]
-
--- a number nearer to zero than they reach fits
-nearer : (k m : ℕ) (z : ℤ) → m ≤ 2 ^ (k - 1) → unsigned_abs z < m → fits_signed k z ≡ true
-nearer k m (pos n) h s = lt-ltb n (2 ^ (k - 1)) (omega arith)
-nearer k m (negsuc n) h s = lt-ltb n (2 ^ (k - 1)) (omega arith)
 
 -- the fault comes by either test
 by_tests : (z f : Bool) (x : ℕ × ℕ) (P : ℕ × ℕ → Type 0) → (z ≡ false → f ≡ true → P x)

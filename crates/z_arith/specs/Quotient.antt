@@ -1,5 +1,5 @@
 -- Quotients and remainders.
-use Rattle.std.specs.Prelude.{ℕ, ◌+◌, ◌*◌, ◌/◌, ◌%◌, ◌^◌, ◌<◌, ◌≡◌, ℤ, pos, ◌+ℤ◌, ◌*ℤ◌, ◌≤ℤ◌, int_div, int_rem, unsigned_abs, Bool, not, ◌||◌, ◌⊎◌, nat_eq, nat_lt, if◌then◌else◌, Result, Ok, Err}
+use Rattle.std.specs.Prelude.{ℕ, ◌+◌, ◌*◌, ◌/◌, ◌%◌, ◌^◌, ◌<◌, ◌≡◌, ℤ, pos, ◌+ℤ◌, ◌*ℤ◌, int_div, int_rem, unsigned_abs, not, ◌||◌, ◌⊎◌, nat_eq, nat_lt, if◌then◌else◌, Result, Ok, Err}
 use Rattle.std.specs.Int.{is_negative}
 use Rattle.z_arith.specs.declared.DivideFault.{DivideFault}
 use Rattle.z_arith.specs.Whole.{signed, modulo, fits_signed}

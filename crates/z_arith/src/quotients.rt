@@ -18,11 +18,11 @@ pub fn divide_word(dividend: u64, divisor: u32) -> Result<(u32, u32), DivideFaul
 {
     let n = number(Width::Double, dividend);
     let d = i64::from(divisor.cast_signed());
-    let quotient = n.checked_div(d).ok_or(DivideFault)?;
-    if i32::try_from(quotient).is_err() {
+    let exact = n.checked_div(d).ok_or(DivideFault)?;
+    if i32::try_from(exact).is_err() {
         return Err(DivideFault);
     }
-    Ok((word(n % d), word(quotient)))
+    Ok((word(n % d), word(exact)))
 }
 
 /// Remainder and quotient, in this order, of two doublewords with a sign: DSGR. The quotient is rounded

@@ -16,7 +16,7 @@ const HIGHEST: u64 = 0x7fff_ffff_ffff_ffff;
 const LOWEST: u64 = 0x8000_0000_0000_0000;
 
 // Whether a pattern is an operand of this width.
-fn fits(w: Width, pattern: u64) -> bool
+fn is_operand(w: Width, pattern: u64) -> bool
     ensures { IsTrue result ↔ (pattern < 2 ^ bits w) }
 {
     match w {
@@ -43,44 +43,50 @@ fn plain(value: u64, condition: u8) -> Answer {
     }
 }
 
+// An addition that overflows, one that carries, a subtraction that borrows, -7 by 2, a bit lost that is
+// unlike the sign, no first one and the last, and a leftmost selected bit of zero.
 #[test]
 fn known_answers(rt: HostRuntime) {
-    assert_eq!(rt; add(Word, 0x7fff_ffff, 1), signed(0x8000_0000, 3));
-    assert_eq!(rt; add_logical(Double, ONES, 1, false), plain(0, 2));
-    assert_eq!(rt; subtract_logical(Double, 0, 1, false), plain(ONES, 1));
-    assert_eq!(rt;
-        divide_word(0xffff_ffff_ffff_fff9, 2),
-        Ok((0xffff_ffff, 0xffff_fffd))
-    );
-    assert_eq!(rt; shift(LeftSigned, Word, 0x4000_0000, 1), signed(0, 3));
-    assert_eq!(rt; leftmost_one(0), (64, 0, 0));
-    assert_eq!(rt; leftmost_one(1), (63, 0, 2));
-    assert_eq!(rt; test_halfword(0x4000, 0xc000), 1);
+    assert!(rt; answers());
+}
+
+fn answers() -> bool {
+    add(Word, 0x7fff_ffff, 1) == signed(0x8000_0000, 3)
+        && add_logical(Double, ONES, 1, false) == plain(0, 2)
+        && subtract_logical(Double, 0, 1, false) == plain(ONES, 1)
+        && divide_word(0xffff_ffff_ffff_fff9, 2) == Ok((0xffff_ffff, 0xffff_fffd))
+        && shift(LeftSigned, Word, 0x4000_0000, 1) == signed(0, 3)
+        && leftmost_one(0) == (64, 0, 0)
+        && leftmost_one(1) == (63, 0, 2)
+        && test_halfword(0x4000, 0xc000) == 1
 }
 
 #[test]
-fn corner_cases(rt: HostRuntime) {
-    let calls = [
-        ("add", sums()),
-        ("subtract", differences()),
-        ("add_logical", logical_sums()),
-        ("subtract_logical", logical_differences()),
-        ("positive, negative, complement", signs()),
-        ("compare_signed, compare_logical", orders()),
-        ("multiply_low", low_products()),
-        ("multiply_word", word_products()),
-        ("multiply_logical", logical_products()),
-        ("divide_word", word_quotients()),
-        ("divide_double", quotients()),
-        ("divide_logical", logical_quotients()),
-        ("shift", shifted()),
-        ("test_under_mask", byte_tests()),
-        ("test_halfword", halfword_tests()),
-        ("leftmost_one", first_ones()),
-    ];
-    for (call, right) in calls {
-        assert!(rt; right, "{call}");
-    }
+fn corners_of_sums(rt: HostRuntime) {
+    assert!(rt; sums());
+    assert!(rt; differences());
+    assert!(rt; logical_sums());
+    assert!(rt; logical_differences());
+    assert!(rt; signs());
+}
+
+#[test]
+fn corners_of_products(rt: HostRuntime) {
+    assert!(rt; low_products());
+    assert!(rt; word_products());
+    assert!(rt; logical_products());
+    assert!(rt; word_quotients());
+    assert!(rt; quotients());
+    assert!(rt; logical_quotients());
+}
+
+#[test]
+fn corners_of_bits(rt: HostRuntime) {
+    assert!(rt; orders());
+    assert!(rt; shifted());
+    assert!(rt; byte_tests());
+    assert!(rt; halfword_tests());
+    assert!(rt; first_ones());
 }
 
 // Operands, value and code.
@@ -113,7 +119,7 @@ static SUMS: [(Width, u64, u64, u64, u8); 24] = [
 
 fn sums() -> bool {
     SUMS.iter().all(|&(w, a, b, value, code)| {
-        fits(w, a) && fits(w, b) && add(w, a, b) == signed(value, code)
+        is_operand(w, a) && is_operand(w, b) && add(w, a, b) == signed(value, code)
     })
 }
 
@@ -147,7 +153,7 @@ static DIFFERENCES: [(Width, u64, u64, u64, u8); 24] = [
 
 fn differences() -> bool {
     DIFFERENCES.iter().all(|&(w, a, b, value, code)| {
-        fits(w, a) && fits(w, b) && subtract(w, a, b) == signed(value, code)
+        is_operand(w, a) && is_operand(w, b) && subtract(w, a, b) == signed(value, code)
     })
 }
 
@@ -177,7 +183,7 @@ static LOGICAL_SUMS: [(Width, u64, u64, bool, u64, u8); 20] = [
 
 fn logical_sums() -> bool {
     LOGICAL_SUMS.iter().all(|&(w, a, b, carry, value, code)| {
-        fits(w, a) && fits(w, b) && add_logical(w, a, b, carry) == plain(value, code)
+        is_operand(w, a) && is_operand(w, b) && add_logical(w, a, b, carry) == plain(value, code)
     })
 }
 
@@ -209,7 +215,9 @@ static LOGICAL_DIFFERENCES: [(Width, u64, u64, bool, u64, u8); 22] = [
 
 fn logical_differences() -> bool {
     LOGICAL_DIFFERENCES.iter().all(|&(w, a, b, borrow, value, code)| {
-        fits(w, a) && fits(w, b) && subtract_logical(w, a, b, borrow) == plain(value, code)
+        is_operand(w, a)
+            && is_operand(w, b)
+            && subtract_logical(w, a, b, borrow) == plain(value, code)
     })
 }
 
@@ -247,7 +255,7 @@ static SIGNS: [(Width, u64, (u64, u8), (u64, u8), (u64, u8)); 10] = [
 
 fn signs() -> bool {
     SIGNS.iter().all(|&(w, a, above, below, other)| {
-        fits(w, a)
+        is_operand(w, a)
             && positive(w, a) == signed(above.0, above.1)
             && negative(w, a) == signed(below.0, below.1)
             && complement(w, a) == signed(other.0, other.1)
@@ -284,8 +292,8 @@ static ORDERS: [(Width, u64, u64, u8, u8); 24] = [
 
 fn orders() -> bool {
     ORDERS.iter().all(|&(w, a, b, number, pattern)| {
-        fits(w, a)
-            && fits(w, b)
+        is_operand(w, a)
+            && is_operand(w, b)
             && compare_signed(w, a, b) == number
             && compare_logical(w, a, b) == pattern
     })
@@ -321,7 +329,7 @@ static LOW_PRODUCTS: [(Width, u64, u64, u64); 24] = [
 
 fn low_products() -> bool {
     LOW_PRODUCTS.iter().all(|&(w, a, b, product)| {
-        fits(w, a) && fits(w, b) && multiply_low(w, a, b) == product
+        is_operand(w, a) && is_operand(w, b) && multiply_low(w, a, b) == product
     })
 }
 
@@ -551,7 +559,7 @@ static SHIFTS: [(Shift, Width, u64, u32, u64, u8); 83] = [
 
 fn shifted() -> bool {
     SHIFTS.iter().all(|&(kind, w, value, amount, moved, code)| {
-        fits(w, value) && amount < 64 && shift(kind, w, value, amount) == signed(moved, code)
+        is_operand(w, value) && amount < 64 && shift(kind, w, value, amount) == signed(moved, code)
     })
 }
 

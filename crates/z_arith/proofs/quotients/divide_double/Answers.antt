@@ -1,6 +1,5 @@
-use Rattle.std.proofs.Common.{◌≡◌, ◌^◌, ◌<◌, ℕ, Ok, rules, arith}
+use Rattle.std.proofs.Common.{◌≡◌, ℕ, Ok, rules}
 use Rattle.std.specs.Prelude.{Result}
-use Rattle.std.proofs.lemmas.Grind.{common_steps}
 use Rattle.z_arith.specs.declared.DivideFault.{DivideFault}
 use Rattle.z_arith.specs.Quotient.{divide_double_of}
 use Rattle.z_arith.proofs.QuotientLemmas.{divides_double}

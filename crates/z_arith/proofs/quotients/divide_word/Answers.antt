@@ -1,4 +1,4 @@
-use Rattle.std.proofs.Common.{◌≡◌, ◌^◌, ◌<◌, ℕ, Ok, rules, arith}
+use Rattle.std.proofs.Common.{◌≡◌, ℕ, Ok, rules, arith}
 use Rattle.std.specs.Prelude.{Result}
 use Rattle.std.proofs.lemmas.Grind.{common_steps}
 use Rattle.z_arith.specs.declared.DivideFault.{DivideFault}
