@@ -8,7 +8,7 @@ use Rattle.z_arith.specs.declared.Answer.{Answer}
 use Rattle.z_arith.specs.declared.Width.{Width}
 use Rattle.z_arith.specs.Whole.{bits, signed, fits_signed, sign_code}
 use Rattle.z_arith.proofs.WholeLemmas.{some_bits, halves, fields}
-use Rattle.z_arith.specs.Shifted.{rotated, left_signed_of, lost_bits, sign_copies}
+use Rattle.z_arith.specs.Shifted.{rotated, left_signed_of, kept_bits, lost_bits, sign_copies}
 
 -- what k bits keep of a number moved left by n places, and what leaves them
 pub kept : (k a n : ℕ) → n ≤ k → a * 2 ^ n % 2 ^ k ≡ a % 2 ^ (k - n) * 2 ^ n
@@ -83,7 +83,7 @@ fits_where_alike k a n h b =
 
 -- a product that fits has the sign of the value that stands for it
 same_sign : (k a n : ℕ) → 0 < k → a < 2 ^ k → fits_signed k (signed k a *ℤ pos (2 ^ n)) ≡ true
-    → sign_code (signed k ((if nat_lt a (2 ^ (k - 1)) then 0 else 2 ^ (k - 1)) + a * 2 ^ n % 2 ^ (k - 1))) ≡ sign_code (signed k a *ℤ pos (2 ^ n))
+    → sign_code (signed k (kept_bits k a n)) ≡ sign_code (signed k a *ℤ pos (2 ^ n))
 same_sign k a n h b =
     elim (cases_lt a (2 ^ (k - 1))) [
       | inl l ↦ (let e : nat_lt a (2 ^ (k - 1)) ≡ true = lt-ltb a (2 ^ (k - 1)) l in
@@ -106,7 +106,7 @@ code_is false o x y c e h g = g ∙ rw e refl
 
 -- what the code settles on is the answer
 pub left_is : (w : Width) (a n v : ℕ) (o : Bool) (r : Answer) → a < 2 ^ bits w
-    → v ≡ (if nat_lt a (2 ^ (bits w - 1)) then 0 else 2 ^ (bits w - 1)) + a * 2 ^ n % 2 ^ (bits w - 1)
+    → v ≡ kept_bits (bits w) a n
     → o ≡ not (nat_eq (lost_bits (bits w) a n) (sign_copies (bits w) a n))
     → r.value ≡ v → r.condition ≡ (if o then 3 else sign_code (signed (bits w) v)) → r.overflow ≡ o → r ≡ left_signed_of (bits w) a n
 unfolding left_signed_of

@@ -7,14 +7,16 @@ use Rattle.z_arith.specs.declared.Shift.{Shift}
 use Rattle.z_arith.specs.declared.Shift.TheVariants.{LeftLogical, RightLogical, LeftSigned, RightSigned, Rotate}
 use Rattle.z_arith.specs.Whole.{bits, signed, fits_signed, sign_code, signed_answer, plain_answer}
 
--- The sign bit stays, and the other k - 1 bits go left. What is lost is all like the sign exactly where
--- the number times 2 ^ n fits, and then the value stands for that product.
+-- the leftmost of k bits as it is, and beside it what is kept of the others when they go left
+abbrev pub kept_bits : ℕ → ℕ → ℕ → ℕ
+kept_bits k a n = let half = 2 ^ (k - 1) in (if nat_lt a half then 0 else half) + a * 2 ^ n % half
+
+-- Where the number times 2 ^ n fits, the value stands for that product.
 unfoldable pub left_signed_of : ℕ → ℕ → ℕ → Answer
 left_signed_of k a n =
-    let half = 2 ^ (k - 1) in
     let product = signed k a *ℤ pos (2 ^ n) in
     record {
-      value = (if nat_lt a half then 0 else half) + a * 2 ^ n % half;
+      value = kept_bits k a n;
       condition = if fits_signed k product then sign_code product else 3;
       overflow = not (fits_signed k product);
     }

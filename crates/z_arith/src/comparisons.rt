@@ -2,10 +2,23 @@
 ghost use Rattle.std.specs.Prelude.{◌≡◌, ◌<◌, ◌^◌, ◌+◌, ◌-◌};
 ghost use Rattle.std.specs.Int.{bit_at};
 ghost use Rattle.z_arith.specs.Whole.{bits};
-ghost use Rattle.z_arith.specs.Comparison.{compare_signed_of, compare_logical_of, test_under_mask_of, test_halfword_of, leftmost_one_of};
+ghost use Rattle.z_arith.specs.Comparison.{order_code, compare_signed_of, compare_logical_of, test_under_mask_of, test_halfword_of, leftmost_one_of};
 
 use crate::Width;
 use crate::numbers::number;
+use std::cmp::Ordering;
+
+// The code of a comparison.
+fn code_of(order: Ordering) -> u8
+    ensures value { result ≡ order_code order }
+    ensures code { result < 4 }
+{
+    match order {
+        Ordering::Equal => 0,
+        Ordering::Less => 1,
+        Ordering::Greater => 2,
+    }
+}
 
 /// Compares two numbers with a sign. Words: CR, C, CH, CHI, CFI, CHSI, CRJ. Doublewords: CGR, CG, CGHI,
 /// CGFI, CGHSI, CGRJ, CGIJ. The code is 0 where they are equal, 1 where the first is low, and 2 where the
@@ -17,14 +30,7 @@ pub fn compare_signed(w: Width, a: u64, b: u64) -> u8
     ensures answer { result ≡ compare_signed_of w a b }
     ensures code { result < 4 }
 {
-    let (a, b) = (number(w, a), number(w, b));
-    if a == b {
-        0
-    } else if a < b {
-        1
-    } else {
-        2
-    }
+    code_of(number(w, a).cmp(&number(w, b)))
 }
 
 /// Compares two numbers without a sign, with the codes of [`compare_signed`]. Words: CLR, CL, and the
@@ -36,14 +42,7 @@ pub fn compare_logical(w: Width, a: u64, b: u64) -> u8
     ensures answer { result ≡ compare_logical_of a b }
     ensures code { result < 4 }
 {
-    let _ = w;
-    if a == b {
-        0
-    } else if a < b {
-        1
-    } else {
-        2
-    }
+    code_of(a.cmp(&b))
 }
 
 /// Tests the bits of a byte in the places where the mask has a one: TM. The code is 0 where all of them are

@@ -1,7 +1,7 @@
 // Shifts and rotations.
 ghost use Rattle.std.specs.Prelude.{◌≡◌, ◌≢◌, ◌<◌, ◌≤◌, ◌^◌, ◌↔◌, ◌*◌, ◌/◌, ◌%◌, IsTrue, false, not, nat_eq, nat_lt, ◌+◌, ◌-◌, if◌then◌else◌};
 ghost use Rattle.z_arith.specs.Whole.{bits};
-ghost use Rattle.z_arith.specs.Shifted.{shift_of, left_signed_of, right_signed_of, rotated, lost_bits, sign_copies, LosesUnlike};
+ghost use Rattle.z_arith.specs.Shifted.{shift_of, left_signed_of, right_signed_of, rotated, kept_bits, lost_bits, sign_copies, LosesUnlike};
 
 use crate::numbers::{doubleword, has_sign, low, number, settled, sign_bit, size};
 use crate::{Answer, Shift, Width};
@@ -55,7 +55,6 @@ fn moved(value: u64, amount: u32) -> u128
 }
 
 // Whether a shift of the bits right of the sign to the left loses one that is unlike the sign.
-#[tactic(auto)]
 fn loses(w: Width, value: u64, amount: u32) -> bool
     requires value_in { value < 2 ^ bits w }
     requires amount_in { amount < 64 }
@@ -75,7 +74,7 @@ fn loses(w: Width, value: u64, amount: u32) -> bool
 fn kept(w: Width, value: u64, amount: u32) -> u64
     requires value_in { value < 2 ^ bits w }
     requires amount_in { amount < 64 }
-    ensures value { result ≡ (if nat_lt value (2 ^ (bits w - 1)) then 0 else 2 ^ (bits w - 1)) + value * 2 ^ amount % 2 ^ (bits w - 1) }
+    ensures value { result ≡ kept_bits (bits w) value amount }
     ensures fits { result < 2 ^ bits w }
 {
     let sign = sign_bit(w);
