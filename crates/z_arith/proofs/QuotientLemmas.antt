@@ -7,7 +7,7 @@ use Rattle.std.proofs.lemmas.Bool.{le-ltb, eqb-false}
 use Rattle.z_arith.specs.declared.DivideFault.{DivideFault}
 use Rattle.z_arith.proofs.WholeLemmas.{stands, distance, nearer}
 use Rattle.z_arith.specs.Whole.{signed, modulo, fits_signed}
-use Rattle.z_arith.specs.Quotient.{IsDivision, divide_signed_of, divide_word_of, divide_double_of}
+use Rattle.z_arith.specs.Quotient.{IsDivision, divide_signed_of, divide_word_of, divide_double_of, DividesWord, DividesDouble}
 
 -- the negative of a natural number is zero or below it
 negative_sign : (x : ℕ) → (neg_ℤ (pos x) ≡ pos 0) ⊎ (is_negative (neg_ℤ (pos x)) ≡ true)
@@ -41,14 +41,14 @@ divides k b n h l =
     subst (λ (x : ℤ). IsDivision n d (signed k (modulo k (int_div n d))) x) (sym r) half)
 
 -- the same of the words and doublewords that the calls give
-pub divides_word : (n b : ℕ) (x : ℕ × ℕ) → b < 2 ^ 32 → Ok x ≡ divide_word_of n b → IsDivision (signed 64 n) (signed 32 b) (signed 32 x.1) (signed 32 x.0)
-unfolding divide_word_of
+pub divides_word : (n b : ℕ) (x : ℕ × ℕ) → b < 2 ^ 32 → Ok x ≡ divide_word_of n b → DividesWord n b x
+unfolding divide_word_of DividesWord
 divides_word n b x l e =
     let P : Result (ℕ × ℕ) DivideFault → Type 0 = λ r. IfOk r (λ y. IsDivision (signed 64 n) (signed 32 b) (signed 32 y.1) (signed 32 y.0)) in
     subst P (sym e) (divides 32 b (signed 64 n) (lit< tt) l)
 
-pub divides_double : (n b : ℕ) (x : ℕ × ℕ) → b < 2 ^ 64 → Ok x ≡ divide_double_of n b → IsDivision (signed 64 n) (signed 64 b) (signed 64 x.1) (signed 64 x.0)
-unfolding divide_double_of
+pub divides_double : (n b : ℕ) (x : ℕ × ℕ) → b < 2 ^ 64 → Ok x ≡ divide_double_of n b → DividesDouble n b x
+unfolding divide_double_of DividesDouble
 divides_double n b x l e =
     let P : Result (ℕ × ℕ) DivideFault → Type 0 = λ r. IfOk r (λ y. IsDivision (signed 64 n) (signed 64 b) (signed 64 y.1) (signed 64 y.0)) in
     subst P (sym e) (divides 64 b (signed 64 n) (lit< tt) l)

@@ -1,5 +1,5 @@
 -- Comparisons, tests of bits, and the search for the first one.
-use Rattle.std.specs.Prelude.{ℕ, zero, suc, ◌+◌, ◌-◌, ◌^◌, ℤ, pos, List, [], ◌∷◌, nat_eq, if◌then◌else◌}
+use Rattle.std.specs.Prelude.{ℕ, zero, suc, ◌+◌, ◌-◌, ◌^◌, ◌≡◌, ◌<◌, List, [], ◌∷◌, nat_eq, if◌then◌else◌}
 use Rattle.std.specs.Ordering.{nat_cmp, int_cmp}
 use Rattle.std.specs.declared.cmp.Ordering.{Ordering}
 use Rattle.std.specs.declared.cmp.Ordering.TheVariants.{Less, Equal, Greater}
@@ -49,3 +49,7 @@ zeros_left (suc k) a = if nat_eq (bit_at a k) 0 then suc (zeros_left k a) else 0
 -- That number, the doubleword without its first one, and the code; 64 and code 0 where there is no one.
 unfoldable pub leftmost_one_of : ℕ → ℕ × ℕ × ℕ
 leftmost_one_of a = if nat_eq a 0 then (64, 0, 0) else let zeros = zeros_left 64 a in (zeros, a - 2 ^ (63 - zeros), 2)
+
+-- a number with a first one has so many zeros left of it in a doubleword, and this rest right of it
+unfoldable pub HasFirstOne : ℕ → ℕ → ℕ → Type 0
+HasFirstOne a zeros rest = (2 ^ (63 - zeros) + rest ≡ a) × (rest < 2 ^ (63 - zeros))

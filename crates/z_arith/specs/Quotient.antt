@@ -33,3 +33,13 @@ divide_logical_of high low divisor =
     let dividend = high * 2 ^ 64 + low in
     if nat_eq divisor 0 || not (nat_lt (dividend / divisor) (2 ^ 64)) then Err (record {})
     else Ok (dividend % divisor, dividend / divisor)
+
+-- what the three calls give, remainder first, in whole numbers
+unfoldable pub DividesWord : ℕ → ℕ → ℕ × ℕ → Type 0
+DividesWord dividend divisor pair = IsDivision (signed 64 dividend) (signed 32 divisor) (signed 32 pair.1) (signed 32 pair.0)
+
+unfoldable pub DividesDouble : ℕ → ℕ → ℕ × ℕ → Type 0
+DividesDouble dividend divisor pair = IsDivision (signed 64 dividend) (signed 64 divisor) (signed 64 pair.1) (signed 64 pair.0)
+
+unfoldable pub DividesLogical : ℕ → ℕ → ℕ → ℕ × ℕ → Type 0
+DividesLogical high low divisor pair = (pair.1 * divisor + pair.0 ≡ high * 2 ^ 64 + low) × (pair.0 < divisor)

@@ -1,8 +1,8 @@
 // Comparisons, tests of bits, and the search for the first one.
-ghost use Rattle.std.specs.Prelude.{◌≡◌, ◌<◌, ◌^◌, ◌+◌, ◌-◌};
+ghost use Rattle.std.specs.Prelude.{◌≡◌, ◌<◌, ◌^◌};
 ghost use Rattle.std.specs.Int.{bit_at};
 ghost use Rattle.z_arith.specs.Whole.{bits};
-ghost use Rattle.z_arith.specs.Comparison.{order_code, compare_signed_of, compare_logical_of, test_under_mask_of, test_halfword_of, leftmost_one_of};
+ghost use Rattle.z_arith.specs.Comparison.{order_code, compare_signed_of, compare_logical_of, test_under_mask_of, test_halfword_of, leftmost_one_of, HasFirstOne};
 
 use crate::Width;
 use crate::numbers::number;
@@ -91,12 +91,11 @@ fn bit(value: u16, place: u32) -> u8
 
 /// How many zeros stand left of the first one, the value without that one, and the condition code, in this
 /// order: FLOGR. The code is 2 where there is a one; else it is 0, and the number is 64.
-#[tactic(auto, using(crate::proofs::BitLemmas::zeros_left_is), unfolding(crate::specs::Comparison::leftmost_one_of))]
+#[tactic(auto, using(crate::proofs::BitLemmas::zeros_left_is), unfolding(crate::specs::Comparison::leftmost_one_of, crate::specs::Comparison::HasFirstOne))]
 pub fn leftmost_one(value: u64) -> (u64, u64, u8)
     ensures answer { result ≡ leftmost_one_of value }
     ensures code { result.2 < 4 }
-    ensures one { 0 < value → 2 ^ (63 - result.0) + result.1 ≡ value }
-    ensures rest { 0 < value → result.1 < 2 ^ (63 - result.0) }
+    ensures first { 0 < value → HasFirstOne value result.0 result.1 }
 {
     if value == 0 {
         return (64, 0, 0);

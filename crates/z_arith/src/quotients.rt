@@ -1,7 +1,6 @@
 // Quotients and remainders, with a sign and without.
-ghost use Rattle.std.specs.Prelude.{◌≡◌, ◌+◌, ◌*◌, ◌^◌, ◌<◌, IfOk};
-ghost use Rattle.z_arith.specs.Whole.{signed};
-ghost use Rattle.z_arith.specs.Quotient.{divide_word_of, divide_double_of, divide_logical_of, IsDivision};
+ghost use Rattle.std.specs.Prelude.{◌≡◌, IfOk};
+ghost use Rattle.z_arith.specs.Quotient.{divide_word_of, divide_double_of, divide_logical_of, DividesWord, DividesDouble, DividesLogical};
 
 use crate::numbers::{doubleword, number, word};
 use crate::{DivideFault, Width};
@@ -14,7 +13,7 @@ use crate::{DivideFault, Width};
 #[tactic(auto, unfolding(crate::specs::Quotient::divide_word_of))]
 pub fn divide_word(dividend: u64, divisor: u32) -> Result<(u32, u32), DivideFault>
     ensures answer { result ≡ divide_word_of dividend divisor }
-    ensures division { IfOk result (λ r. IsDivision (signed 64 dividend) (signed 32 divisor) (signed 32 r.1) (signed 32 r.0)) }
+    ensures division { IfOk result (DividesWord dividend divisor) }
 {
     let n = number(Width::Double, dividend);
     let d = i64::from(divisor.cast_signed());
@@ -33,7 +32,7 @@ pub fn divide_word(dividend: u64, divisor: u32) -> Result<(u32, u32), DivideFaul
 #[tactic(auto, unfolding(crate::specs::Quotient::divide_double_of))]
 pub fn divide_double(dividend: u64, divisor: u64) -> Result<(u64, u64), DivideFault>
     ensures answer { result ≡ divide_double_of dividend divisor }
-    ensures division { IfOk result (λ r. IsDivision (signed 64 dividend) (signed 64 divisor) (signed 64 r.1) (signed 64 r.0)) }
+    ensures division { IfOk result (DividesDouble dividend divisor) }
 {
     let n = number(Width::Double, dividend);
     let d = number(Width::Double, divisor);
@@ -45,11 +44,10 @@ pub fn divide_double(dividend: u64, divisor: u64) -> Result<(u64, u64), DivideFa
 /// which `high` is the left doubleword and `low` the right one. The condition code is unchanged.
 ///
 /// The fault comes exactly where the divisor is 0 or the quotient does not fit a doubleword.
-#[tactic(auto, unfolding(crate::specs::Quotient::divide_logical_of))]
+#[tactic(auto, unfolding(crate::specs::Quotient::divide_logical_of, crate::specs::Quotient::DividesLogical))]
 pub fn divide_logical(high: u64, low: u64, divisor: u64) -> Result<(u64, u64), DivideFault>
     ensures answer { result ≡ divide_logical_of high low divisor }
-    ensures whole { IfOk result (λ r. r.1 * divisor + r.0 ≡ high * 2 ^ 64 + low) }
-    ensures below { IfOk result (λ r. r.0 < divisor) }
+    ensures division { IfOk result (DividesLogical high low divisor) }
 {
     // The quotient fits exactly where the left doubleword is below the divisor.
     if high >= divisor {
