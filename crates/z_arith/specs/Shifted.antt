@@ -11,7 +11,7 @@ use Rattle.z_arith.specs.Whole.{bits, signed, fits_signed, sign_code, signed_ans
 abbrev pub kept_bits : ℕ → ℕ → ℕ → ℕ
 kept_bits k a n = let half = 2 ^ (k - 1) in (if nat_lt a half then 0 else half) + a * 2 ^ n % half
 
--- Where the number times 2 ^ n fits, the value stands for that product.
+-- There is overflow where the number times 2 ^ n does not fit; else the code is that of this product.
 unfoldable pub left_signed_of : ℕ → ℕ → ℕ → Answer
 left_signed_of k a n =
     let product = signed k a *ℤ pos (2 ^ n) in
