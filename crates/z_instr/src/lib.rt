@@ -11,3 +11,5 @@ pub mod op;
 pub mod operand;
 pub mod row;
 pub mod table;
+#[cfg(test)]
+mod tests;
