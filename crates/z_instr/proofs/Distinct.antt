@@ -61,7 +61,7 @@ other_opcodes : (m n : ℕ) → m < n → n < ROWS → have_other_opcodes (entry
 other_opcodes = passes_rows have_other_opcodes refl
 
 -- bytes that have an opcode in its place begin with its first byte
-leads : (p : Place) (bytes : List ℕ) → AreBytes bytes → lead p (opcode_at p bytes) ≡ get_or bytes 0 0
+pub leads : (p : Place) (bytes : List ℕ) → AreBytes bytes → lead p (opcode_at p bytes) ≡ get_or bytes 0 0
 leads First bytes b = refl
 leads FirstTwo bytes b = omega (arith, b 1)
 leads FirstHalf bytes b = omega arith
