@@ -2,6 +2,9 @@ pub mod Tests
 pub mod TableFacts
 pub mod Within
 pub mod OneSpelling
+pub mod Bytes
 pub mod Distinct
 pub mod Spelled
 pub mod OneReading
+pub mod Pieces
+pub mod Examples

@@ -1,5 +1,5 @@
 -- The operands in storage of an instruction, and the tests that it has to pass before it is executed.
-use Rattle.std.specs.Prelude.{ℕ, ◌+◌, ◌*◌, ◌-◌, ◌/◌, ◌%◌, zero, suc, ℤ, pos, ◌+ℤ◌, Bool, true, false, ◌&&◌, ◌||◌, not, cond, nat_eq, nat_lt, List, [], ◌∷◌, get_or, Option, Some, None}
+use Rattle.std.specs.Prelude.{◌≡◌, ℕ, ◌<◌, ◌+◌, ◌*◌, ◌-◌, ◌/◌, ◌%◌, zero, suc, ℤ, pos, ◌+ℤ◌, Bool, true, false, ◌&&◌, ◌||◌, not, cond, nat_eq, nat_lt, List, [], ◌∷◌, get_or, Option, Some, None}
 use Rattle.std.specs.List.{list_any, list_all}
 use Rattle.z_instr.specs.declared.instr.Instr.{Instr}
 use Rattle.z_instr.specs.declared.operand.Size.{Size}
@@ -49,6 +49,10 @@ pieces size s =
     let first = s.first / size in
     let last = (s.first + s.length - 1) / size in
     from_up first (last + 1 - first)
+
+-- some byte of the range is in the piece
+abbrev pub HoldsByteOf : ℕ → Span → ℕ → Type 0
+HoldsByteOf size s piece = (k : ℕ) × (k < s.length) × ((s.first + k) / size ≡ piece)
 
 abbrev pub bytes_of : Size → ℕ
 bytes_of Byte = 1

@@ -1,6 +1,8 @@
 // What holds of the whole table, and of every reading. Each law is the contract of a function that does
 // nothing.
-ghost use Rattle.std.specs.Prelude.{◌≡◌, ◌<◌, ℕ, List, length, get_or, true};
+ghost use Rattle.std.specs.Prelude.{◌≡◌, ◌<◌, ℕ, List, length, get_or, true, nat_eq};
+ghost use Rattle.std.specs.List.{list_any};
+ghost use Rattle.z_instr.specs.Operands.{Span, pieces, HoldsByteOf};
 ghost use Rattle.z_instr.specs.Table.{entry_at};
 ghost use Rattle.z_instr.specs.Layout.{length_by, format_length, place, room};
 ghost use Rattle.z_instr.specs.Facts.{has_fitting_name, is_refused_alike};
@@ -23,10 +25,17 @@ pub fn rows_are_sound()
     ensures refused { (n : ℕ) → n < ROWS → is_refused_alike (entry_at n) ≡ true }
 {}
 
-/// No bytes have two readings, no instruction is read from two lists of bytes, and a reading is as long as
-/// its first byte says.
+/// No list has two readings, no instruction is read from two lists, and what has a reading is a list of
+/// bytes, as long as its first byte says.
 pub fn readings_are_unique()
-    ensures instruction { (bytes : List ℕ) (i j : Instr) → AreBytes bytes → Reads bytes i → Reads bytes j → AreSame i j }
+    ensures instruction { (bytes : List ℕ) (i j : Instr) → Reads bytes i → Reads bytes j → AreSame i j }
     ensures bytes { (some others : List ℕ) (i : Instr) → Reads some i → Reads others i → some ≡ others }
-    ensures length { (bytes : List ℕ) (i : Instr) → AreBytes bytes → Reads bytes i → length bytes ≡ length_by (get_or bytes 0 0) }
+    ensures list { (bytes : List ℕ) (i : Instr) → Reads bytes i → AreBytes bytes }
+    ensures length { (bytes : List ℕ) (i : Instr) → Reads bytes i → length bytes ≡ length_by (get_or bytes 0 0) }
+{}
+
+/// The pages, lines, blocks or octowords of a range are exactly those that hold a byte of it.
+pub fn pieces_hold_bytes()
+    ensures held { (size : ℕ) (s : Span) (piece : ℕ) → 0 < size → 0 < s.length → list_any (nat_eq piece) (pieces size s) ≡ true → HoldsByteOf size s piece }
+    ensures all { (size : ℕ) (s : Span) (piece : ℕ) → 0 < size → 0 < s.length → HoldsByteOf size s piece → list_any (nat_eq piece) (pieces size s) ≡ true }
 {}

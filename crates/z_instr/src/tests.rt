@@ -79,4 +79,5 @@ fn laws_are_called() {
     laws::rows_are_distinct();
     laws::rows_are_sound();
     laws::readings_are_unique();
+    laws::pieces_hold_bytes();
 }
