@@ -11,7 +11,7 @@ use Rattle.z_instr.specs.Layout.{place, lead}
 use Rattle.z_instr.specs.Facts.{is_same_place}
 use Rattle.z_instr.specs.Places.{opcode_at, HasOpcode}
 use Rattle.z_instr.specs.Reading.{AreBytes}
-use Rattle.z_instr.proofs.Tests.{passes, and_left, and_right}
+use Rattle.z_instr.proofs.Passing.{passes, and_left, and_right}
 use Rattle.z_instr.proofs.TableFacts.{same_table, passes_row}
 use Rattle.z_instr.proofs.Distinct.{leads}
 use Rattle.z_decode.specs.declared.index.TheConstants.{KEYS, NUMBERS}

@@ -1,5 +1,5 @@
 -- What is spelled is a list of bytes.
-use Rattle.std.proofs.Common.{◌≡◌, ℕ, ◌<◌, ◌≤◌, ◌+◌, ◌*◌, ◌/◌, ◌%◌, ◌^◌, zero, suc, Bool, true, false, List, [], ◌∷◌, get_or, arith, sym, subst, lit<}
+use Rattle.std.proofs.Common.{ℕ, ◌<◌, ◌+◌, ◌/◌, ◌%◌, ◌^◌, zero, suc, Bool, List, [], ◌∷◌, arith, sym, subst, lit<}
 use Rattle.std.specs.Prelude.{ℤ}
 use Rattle.z_instr.specs.declared.instr.Instr.{Instr}
 use Rattle.z_instr.specs.declared.format.Format.{Format}
@@ -7,7 +7,7 @@ use Rattle.z_instr.specs.declared.format.Format.TheVariants.{RR, I, RX, RRE, RRF
 use Rattle.z_instr.specs.Table.{entry_at}
 use Rattle.z_instr.specs.Layout.{place, room}
 use Rattle.z_instr.specs.Ranges.{limits_in}
-use Rattle.z_instr.specs.Reading.{AreBytes, Reads, spelled, spelling, halves, modulo, short_address, long_address, halfword, word}
+use Rattle.z_instr.specs.Reading.{AreBytes, Reads, spelled, halves, modulo, short_address, long_address, halfword, word}
 use Rattle.z_instr.proofs.Within.{Fits, instr_fits, registers_of}
 use Rattle.z_instr.proofs.TableFacts.{opcode_room}
 use Rattle.z_instr.proofs.OneSpelling.{modulo_below, shared_below}
@@ -34,7 +34,7 @@ after_long : (b : ℕ) (d : ℤ) (rest : List ℕ) → b < 16 → OfBytes rest �
 after_long b d rest h bs =
     let m = modulo_below 20 d (omega arith) in
     and_more (halves b (modulo 20 d % 4096 / 256)) _ (omega arith)
-      (and_more (modulo 20 d % 256) _ (omega arith) (and_more (modulo 20 d / 4096) rest (omega arith) bs))
+    (and_more (modulo 20 d % 256) _ (omega arith) (and_more (modulo 20 d / 4096) rest (omega arith) bs))
 
 after_halfword : (z : ℤ) (rest : List ℕ) → OfBytes rest → OfBytes (halfword z rest)
 after_halfword z rest bs =
@@ -45,8 +45,8 @@ word_bytes : (z : ℤ) → OfBytes (word z)
 word_bytes z =
     let m = modulo_below 32 z (omega arith) in
     and_more (modulo 32 z / 2 ^ 24) _ (omega arith)
-      (and_more (modulo 32 z / 2 ^ 16 % 256) _ (omega arith)
-        (and_more (modulo 32 z / 256 % 256) _ (omega arith) (and_more (modulo 32 z % 256) [] (omega arith) none)))
+    (and_more (modulo 32 z / 2 ^ 16 % 256) _ (omega arith)
+    (and_more (modulo 32 z / 256 % 256) _ (omega arith) (and_more (modulo 32 z % 256) [] (omega arith) none)))
 
 two_halves : (a b : ℕ) → a < 16 → b < 16 → halves a b < 256
 two_halves a b h k = omega arith

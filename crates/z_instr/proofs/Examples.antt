@@ -1,6 +1,6 @@
 -- Worked values of the definitions that no code of this crate computes.
-use Rattle.std.proofs.Common.{◌≡◌, ℕ, refl, true, false, List, [], ◌∷◌}
-use Rattle.std.specs.Prelude.{ℤ, pos, negsuc}
+use Rattle.std.proofs.Common.{◌≡◌, refl, true, false, [], ◌∷◌}
+use Rattle.std.specs.Prelude.{pos, negsuc}
 use Rattle.z_instr.specs.Operands.{span, pieces, selects, registers_between, address}
 
 -- a mask's leftmost bit selects condition code 0, its rightmost 3

@@ -1,4 +1,4 @@
-pub mod Tests
+pub mod Passing
 pub mod TableFacts
 pub mod Within
 pub mod OneSpelling
@@ -7,4 +7,5 @@ pub mod Distinct
 pub mod Spelled
 pub mod OneReading
 pub mod Pieces
+pub mod SmallOperands
 pub mod Examples

@@ -9,7 +9,7 @@ use Rattle.z_instr.specs.Table.{Entry, table, entry_at, no_entry}
 use Rattle.z_instr.specs.Lines.{entry_of}
 use Rattle.z_instr.specs.Layout.{place, room, lead, length_by, format_length}
 use Rattle.z_instr.specs.Facts.{has_fitting_opcode, has_fitting_count, has_fitting_name, is_refused_alike}
-use Rattle.z_instr.proofs.Tests.{passes, and_left, and_right}
+use Rattle.z_instr.proofs.Passing.{passes, and_left, and_right}
 
 pub same_table : map entry_of TABLE ≡ table
 unfolding table

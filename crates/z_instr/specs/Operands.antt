@@ -1,5 +1,5 @@
 -- The operands in storage of an instruction, and the tests that it has to pass before it is executed.
-use Rattle.std.specs.Prelude.{◌≡◌, ℕ, ◌<◌, ◌+◌, ◌*◌, ◌-◌, ◌/◌, ◌%◌, zero, suc, ℤ, pos, ◌+ℤ◌, Bool, true, false, ◌&&◌, ◌||◌, not, cond, nat_eq, nat_lt, List, [], ◌∷◌, get_or, Option, Some, None}
+use Rattle.std.specs.Prelude.{◌≡◌, ℕ, ◌<◌, ◌≤◌, ◌+◌, ◌*◌, ◌-◌, ◌/◌, ◌%◌, zero, suc, ℤ, pos, ◌+ℤ◌, Bool, true, false, ◌&&◌, ◌||◌, not, cond, nat_eq, nat_lt, List, [], ◌∷◌, get_or, Option, Some, None}
 use Rattle.std.specs.List.{list_any, list_all}
 use Rattle.z_instr.specs.declared.instr.Instr.{Instr}
 use Rattle.z_instr.specs.declared.operand.Size.{Size}
@@ -37,6 +37,11 @@ pub record Span : Type 0 where
 
 abbrev pub span : ℕ → ℕ → Bool → Span
 span first length store = record { first = first; length = length; store = store }
+
+-- no operand has more bytes than 256
+pub record IsSmall (s : Span) : Type 0 where
+  pub some : 0 < s.length
+  pub most : s.length ≤ 256
 
 -- numbers one after the other
 abbrev pub from_up : ℕ → ℕ → List ℕ

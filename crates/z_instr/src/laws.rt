@@ -1,8 +1,8 @@
 // What holds of the whole table, and of every reading. Each law is the contract of a function that does
 // nothing.
-ghost use Rattle.std.specs.Prelude.{◌≡◌, ◌<◌, ℕ, List, length, get_or, true, nat_eq};
+ghost use Rattle.std.specs.Prelude.{◌≡◌, ◌<◌, ℕ, List, length, get_or, true, nat_eq, ◌≤◌, All};
 ghost use Rattle.std.specs.List.{list_any};
-ghost use Rattle.z_instr.specs.Operands.{Span, pieces, HoldsByteOf};
+ghost use Rattle.z_instr.specs.Operands.{Span, IsSmall, pieces, spans, HoldsByteOf};
 ghost use Rattle.z_instr.specs.Table.{entry_at};
 ghost use Rattle.z_instr.specs.Layout.{length_by, format_length, place, room};
 ghost use Rattle.z_instr.specs.Facts.{has_fitting_name, is_refused_alike};
@@ -38,4 +38,10 @@ pub fn readings_are_unique()
 pub fn pieces_hold_bytes()
     ensures held { (size : ℕ) (s : Span) (piece : ℕ) → 0 < size → 0 < s.length → list_any (nat_eq piece) (pieces size s) ≡ true → HoldsByteOf size s piece }
     ensures all { (size : ℕ) (s : Span) (piece : ℕ) → 0 < size → 0 < s.length → HoldsByteOf size s piece → list_any (nat_eq piece) (pieces size s) ≡ true }
+{}
+
+/// An instruction has at most two operands in storage, each of 1 to 256 bytes.
+pub fn operands_are_small()
+    ensures count { (i : Instr) (general : List ℕ) (code : ℕ) → length (spans i general code) ≤ 2 }
+    ensures size { (i : Instr) (general : List ℕ) (code : ℕ) → All IsSmall (spans i general code) }
 {}

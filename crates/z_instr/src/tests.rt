@@ -80,4 +80,5 @@ fn laws_are_called() {
     laws::rows_are_sound();
     laws::readings_are_unique();
     laws::pieces_hold_bytes();
+    laws::operands_are_small();
 }
