@@ -82,6 +82,7 @@ fn signed_immediate(byte: u8) -> i64
     }
 }
 
+/// The instruction of bytes of the format RR.
 pub fn read_rr(op: Op, bytes: &[u8], masked: bool) -> Instr
     requires length { length bytes.now ≡ 2 }
     requires format { (entry_at op.number).format ≡ RR }
@@ -105,6 +106,7 @@ pub fn read_rr(op: Op, bytes: &[u8], masked: bool) -> Instr
     }
 }
 
+/// The instruction of bytes of the format I.
 pub fn read_i(op: Op, bytes: &[u8]) -> Instr
     requires length { length bytes.now ≡ 2 }
     requires format { (entry_at op.number).format ≡ I }
@@ -126,6 +128,7 @@ pub fn read_i(op: Op, bytes: &[u8]) -> Instr
     }
 }
 
+/// The instruction of bytes of the format RX.
 pub fn read_rx(op: Op, bytes: &[u8], masked: bool) -> Instr
     requires length { length bytes.now ≡ 4 }
     requires format { (entry_at op.number).format ≡ RX }
@@ -148,6 +151,7 @@ pub fn read_rx(op: Op, bytes: &[u8], masked: bool) -> Instr
     }
 }
 
+/// The instruction of bytes of the format RRE.
 pub fn read_rre(op: Op, bytes: &[u8]) -> Instr
     requires length { length bytes.now ≡ 4 }
     requires format { (entry_at op.number).format ≡ RRE }
@@ -170,6 +174,7 @@ pub fn read_rre(op: Op, bytes: &[u8]) -> Instr
     }
 }
 
+/// The instruction of bytes of the format RRFa.
 pub fn read_rrfa(op: Op, bytes: &[u8]) -> Instr
     requires length { length bytes.now ≡ 4 }
     requires format { (entry_at op.number).format ≡ RRFa }
@@ -192,6 +197,7 @@ pub fn read_rrfa(op: Op, bytes: &[u8]) -> Instr
     }
 }
 
+/// The instruction of bytes of the format RRFc.
 pub fn read_rrfc(op: Op, bytes: &[u8]) -> Instr
     requires length { length bytes.now ≡ 4 }
     requires format { (entry_at op.number).format ≡ RRFc }
@@ -214,6 +220,7 @@ pub fn read_rrfc(op: Op, bytes: &[u8]) -> Instr
     }
 }
 
+/// The instruction of bytes of the format RXY.
 pub fn read_rxy(op: Op, bytes: &[u8]) -> Instr
     requires length { length bytes.now ≡ 6 }
     requires format { (entry_at op.number).format ≡ RXY }
@@ -235,6 +242,7 @@ pub fn read_rxy(op: Op, bytes: &[u8]) -> Instr
     }
 }
 
+/// The instruction of bytes of the format RI.
 pub fn read_ri(op: Op, bytes: &[u8], signed: bool, masked: bool) -> Instr
     requires length { length bytes.now ≡ 4 }
     requires format { (entry_at op.number).format ≡ RI }
@@ -258,6 +266,7 @@ pub fn read_ri(op: Op, bytes: &[u8], signed: bool, masked: bool) -> Instr
     }
 }
 
+/// The instruction of bytes of the format RIL.
 pub fn read_ril(op: Op, bytes: &[u8], signed: bool, masked: bool) -> Instr
     requires length { length bytes.now ≡ 6 }
     requires format { (entry_at op.number).format ≡ RIL }
@@ -281,6 +290,7 @@ pub fn read_ril(op: Op, bytes: &[u8], signed: bool, masked: bool) -> Instr
     }
 }
 
+/// The instruction of bytes of the format RS.
 pub fn read_rs(op: Op, bytes: &[u8]) -> Instr
     requires length { length bytes.now ≡ 4 }
     requires format { (entry_at op.number).format ≡ RS }
@@ -303,6 +313,7 @@ pub fn read_rs(op: Op, bytes: &[u8]) -> Instr
     }
 }
 
+/// The instruction of bytes of the format RSY.
 pub fn read_rsy(op: Op, bytes: &[u8], masked: bool) -> Instr
     requires length { length bytes.now ≡ 6 }
     requires format { (entry_at op.number).format ≡ RSY }
@@ -325,6 +336,7 @@ pub fn read_rsy(op: Op, bytes: &[u8], masked: bool) -> Instr
     }
 }
 
+/// The instruction of bytes of the format SI.
 pub fn read_si(op: Op, bytes: &[u8]) -> Instr
     requires length { length bytes.now ≡ 4 }
     requires format { (entry_at op.number).format ≡ SI }
@@ -346,6 +358,7 @@ pub fn read_si(op: Op, bytes: &[u8]) -> Instr
     }
 }
 
+/// The instruction of bytes of the format SIY.
 pub fn read_siy(op: Op, bytes: &[u8]) -> Instr
     requires length { length bytes.now ≡ 6 }
     requires format { (entry_at op.number).format ≡ SIY }
@@ -367,6 +380,7 @@ pub fn read_siy(op: Op, bytes: &[u8]) -> Instr
     }
 }
 
+/// The instruction of bytes of the format SIL.
 pub fn read_sil(op: Op, bytes: &[u8], signed: bool) -> Instr
     requires length { length bytes.now ≡ 6 }
     requires format { (entry_at op.number).format ≡ SIL }
@@ -389,6 +403,7 @@ pub fn read_sil(op: Op, bytes: &[u8], signed: bool) -> Instr
     }
 }
 
+/// The instruction of bytes of the format S.
 pub fn read_s(op: Op, bytes: &[u8]) -> Instr
     requires length { length bytes.now ≡ 4 }
     requires format { (entry_at op.number).format ≡ S }
@@ -411,6 +426,7 @@ pub fn read_s(op: Op, bytes: &[u8]) -> Instr
     }
 }
 
+/// The instruction of bytes of the format SS.
 pub fn read_ss(op: Op, bytes: &[u8]) -> Instr
     requires length { length bytes.now ≡ 6 }
     requires format { (entry_at op.number).format ≡ SS }
@@ -432,6 +448,7 @@ pub fn read_ss(op: Op, bytes: &[u8]) -> Instr
     }
 }
 
+/// The instruction of bytes of the format RIEb.
 pub fn read_rieb(op: Op, bytes: &[u8]) -> Instr
     requires length { length bytes.now ≡ 6 }
     requires format { (entry_at op.number).format ≡ RIEb }
@@ -454,6 +471,7 @@ pub fn read_rieb(op: Op, bytes: &[u8]) -> Instr
     }
 }
 
+/// The instruction of bytes of the format RIEc.
 pub fn read_riec(op: Op, bytes: &[u8]) -> Instr
     requires length { length bytes.now ≡ 6 }
     requires format { (entry_at op.number).format ≡ RIEc }

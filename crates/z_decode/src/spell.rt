@@ -55,6 +55,7 @@ fn eight(imm: i64) -> u8
     }
 }
 
+/// The bytes of an instruction of the format RR, by its opcode.
 pub fn spell_rr(opcode: u16, i: &Instr) -> [u8; 2]
     requires opcode { opcode < 2 ^ 8 }
     requires format { (entry_at i.now.op.number).format ≡ RR }
@@ -63,6 +64,7 @@ pub fn spell_rr(opcode: u16, i: &Instr) -> [u8; 2]
     [opcode as u8, (i.r1 + i.mask) * 16 + i.r2]
 }
 
+/// The bytes of an instruction of the format I, by its opcode.
 pub fn spell_i(opcode: u16, i: &Instr) -> [u8; 2]
     requires opcode { opcode < 2 ^ 8 }
     requires format { (entry_at i.now.op.number).format ≡ I }
@@ -71,6 +73,7 @@ pub fn spell_i(opcode: u16, i: &Instr) -> [u8; 2]
     [opcode as u8, eight(i.imm)]
 }
 
+/// The bytes of an instruction of the format RX, by its opcode.
 pub fn spell_rx(opcode: u16, i: &Instr) -> [u8; 4]
     requires opcode { opcode < 2 ^ 8 }
     requires format { (entry_at i.now.op.number).format ≡ RX }
@@ -85,6 +88,7 @@ pub fn spell_rx(opcode: u16, i: &Instr) -> [u8; 4]
     ]
 }
 
+/// The bytes of an instruction of the format RRE, by its opcode.
 pub fn spell_rre(opcode: u16, i: &Instr) -> [u8; 4]
     requires opcode { opcode < 2 ^ 16 }
     requires format { (entry_at i.now.op.number).format ≡ RRE }
@@ -98,6 +102,7 @@ pub fn spell_rre(opcode: u16, i: &Instr) -> [u8; 4]
     ]
 }
 
+/// The bytes of an instruction of the format RRFa, by its opcode.
 pub fn spell_rrfa(opcode: u16, i: &Instr) -> [u8; 4]
     requires opcode { opcode < 2 ^ 16 }
     requires format { (entry_at i.now.op.number).format ≡ RRFa }
@@ -111,6 +116,7 @@ pub fn spell_rrfa(opcode: u16, i: &Instr) -> [u8; 4]
     ]
 }
 
+/// The bytes of an instruction of the format RRFc, by its opcode.
 pub fn spell_rrfc(opcode: u16, i: &Instr) -> [u8; 4]
     requires opcode { opcode < 2 ^ 16 }
     requires format { (entry_at i.now.op.number).format ≡ RRFc }
@@ -124,6 +130,7 @@ pub fn spell_rrfc(opcode: u16, i: &Instr) -> [u8; 4]
     ]
 }
 
+/// The bytes of an instruction of the format RXY, by its opcode.
 pub fn spell_rxy(opcode: u16, i: &Instr) -> [u8; 6]
     requires opcode { opcode < 2 ^ 16 }
     requires format { (entry_at i.now.op.number).format ≡ RXY }
@@ -140,6 +147,7 @@ pub fn spell_rxy(opcode: u16, i: &Instr) -> [u8; 6]
     ]
 }
 
+/// The bytes of an instruction of the format RI, by its opcode.
 pub fn spell_ri(opcode: u16, i: &Instr) -> [u8; 4]
     requires opcode { opcode < 2 ^ 12 }
     requires format { (entry_at i.now.op.number).format ≡ RI }
@@ -154,6 +162,7 @@ pub fn spell_ri(opcode: u16, i: &Instr) -> [u8; 4]
     ]
 }
 
+/// The bytes of an instruction of the format RIL, by its opcode.
 pub fn spell_ril(opcode: u16, i: &Instr) -> [u8; 6]
     requires opcode { opcode < 2 ^ 12 }
     requires format { (entry_at i.now.op.number).format ≡ RIL }
@@ -170,6 +179,7 @@ pub fn spell_ril(opcode: u16, i: &Instr) -> [u8; 6]
     ]
 }
 
+/// The bytes of an instruction of the format RS, by its opcode.
 pub fn spell_rs(opcode: u16, i: &Instr) -> [u8; 4]
     requires opcode { opcode < 2 ^ 8 }
     requires format { (entry_at i.now.op.number).format ≡ RS }
@@ -184,6 +194,7 @@ pub fn spell_rs(opcode: u16, i: &Instr) -> [u8; 4]
     ]
 }
 
+/// The bytes of an instruction of the format RSY, by its opcode.
 pub fn spell_rsy(opcode: u16, i: &Instr) -> [u8; 6]
     requires opcode { opcode < 2 ^ 16 }
     requires format { (entry_at i.now.op.number).format ≡ RSY }
@@ -200,6 +211,7 @@ pub fn spell_rsy(opcode: u16, i: &Instr) -> [u8; 6]
     ]
 }
 
+/// The bytes of an instruction of the format SI, by its opcode.
 pub fn spell_si(opcode: u16, i: &Instr) -> [u8; 4]
     requires opcode { opcode < 2 ^ 8 }
     requires format { (entry_at i.now.op.number).format ≡ SI }
@@ -214,6 +226,7 @@ pub fn spell_si(opcode: u16, i: &Instr) -> [u8; 4]
     ]
 }
 
+/// The bytes of an instruction of the format SIY, by its opcode.
 pub fn spell_siy(opcode: u16, i: &Instr) -> [u8; 6]
     requires opcode { opcode < 2 ^ 16 }
     requires format { (entry_at i.now.op.number).format ≡ SIY }
@@ -230,6 +243,7 @@ pub fn spell_siy(opcode: u16, i: &Instr) -> [u8; 6]
     ]
 }
 
+/// The bytes of an instruction of the format SIL, by its opcode.
 pub fn spell_sil(opcode: u16, i: &Instr) -> [u8; 6]
     requires opcode { opcode < 2 ^ 16 }
     requires format { (entry_at i.now.op.number).format ≡ SIL }
@@ -247,6 +261,7 @@ pub fn spell_sil(opcode: u16, i: &Instr) -> [u8; 6]
     ]
 }
 
+/// The bytes of an instruction of the format S, by its opcode.
 pub fn spell_s(opcode: u16, i: &Instr) -> [u8; 4]
     requires opcode { opcode < 2 ^ 16 }
     requires format { (entry_at i.now.op.number).format ≡ S }
@@ -261,6 +276,7 @@ pub fn spell_s(opcode: u16, i: &Instr) -> [u8; 4]
     ]
 }
 
+/// The bytes of an instruction of the format SS, by its opcode.
 pub fn spell_ss(opcode: u16, i: &Instr) -> [u8; 6]
     requires opcode { opcode < 2 ^ 8 }
     requires format { (entry_at i.now.op.number).format ≡ SS }
@@ -278,6 +294,7 @@ pub fn spell_ss(opcode: u16, i: &Instr) -> [u8; 6]
     ]
 }
 
+/// The bytes of an instruction of the format RIEb, by its opcode.
 pub fn spell_rieb(opcode: u16, i: &Instr) -> [u8; 6]
     requires opcode { opcode < 2 ^ 16 }
     requires format { (entry_at i.now.op.number).format ≡ RIEb }
@@ -294,6 +311,7 @@ pub fn spell_rieb(opcode: u16, i: &Instr) -> [u8; 6]
     ]
 }
 
+/// The bytes of an instruction of the format RIEc, by its opcode.
 pub fn spell_riec(opcode: u16, i: &Instr) -> [u8; 6]
     requires opcode { opcode < 2 ^ 16 }
     requires format { (entry_at i.now.op.number).format ≡ RIEc }
