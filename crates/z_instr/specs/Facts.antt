@@ -34,9 +34,9 @@ abbrev pub has_fitting_opcode : Entry → Bool
 has_fitting_opcode e =
     nat_lt e.opcode (room (place e.format)) && nat_eq (length_by (lead (place e.format) e.opcode)) (format_length e.format)
 
--- the name has one to eight letters
+-- the name has one to eight letters, each of them ASCII
 abbrev pub has_fitting_name : Entry → Bool
-has_fitting_name e = nat_lt 0 (length e.name) && nat_le (length e.name) 8
+has_fitting_name e = nat_lt 0 (length e.name) && (nat_le (length e.name) 8 && list_all (λ letter. nat_lt letter 128) e.name)
 
 -- what every transaction refuses, constrained ones refuse too
 abbrev pub is_refused_alike : Entry → Bool

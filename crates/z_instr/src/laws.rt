@@ -17,7 +17,7 @@ pub fn rows_are_distinct()
     ensures opcodes { (m n : ℕ) (bytes : List ℕ) → m < ROWS → n < ROWS → AreBytes bytes → HasOpcode (entry_at m) bytes → HasOpcode (entry_at n) bytes → m ≡ n }
 {}
 
-/// Each name has one to eight letters, each opcode fits its place, and what every transaction refuses is
+/// Each name has one to eight ASCII letters, each opcode fits its place, and what every transaction refuses is
 /// not permitted in constrained ones.
 pub fn rows_are_sound()
     ensures names { (n : ℕ) → n < ROWS → has_fitting_name (entry_at n) ≡ true }
