@@ -1,8 +1,9 @@
 // Bytes from instructions.
-ghost use Rattle.std.specs.Prelude.{◌≡◌, ◌<◌, ◌≤◌, take, List, ℕ};
+ghost use Rattle.std.specs.Prelude.{◌≡◌, ◌<◌, ◌≤◌, take, drop, List, [], ◌∷◌, ℕ};
 ghost use Rattle.z_instr.specs.Table.{entry_at};
 ghost use Rattle.z_instr.specs.Layout.{format_length};
 ghost use Rattle.z_instr.specs.Reading.{Reads};
+ghost use Rattle.z_decode.specs.Code.{zeros_after};
 
 use crate::spell;
 use z_instr::format::Format;
@@ -20,6 +21,7 @@ pub struct Code {
 fn two(b: [u8; 2]) -> Code
     ensures bytes { take result.length result.bytes ≡ b }
     ensures length { result.length ≡ 2 }
+    ensures rest { drop result.length result.bytes ≡ 0 ∷ 0 ∷ 0 ∷ 0 ∷ [] }
 {
     Code {
         bytes: [b[0], b[1], 0, 0, 0, 0],
@@ -30,6 +32,7 @@ fn two(b: [u8; 2]) -> Code
 fn four(b: [u8; 4]) -> Code
     ensures bytes { take result.length result.bytes ≡ b }
     ensures length { result.length ≡ 4 }
+    ensures rest { drop result.length result.bytes ≡ 0 ∷ 0 ∷ [] }
 {
     Code {
         bytes: [b[0], b[1], b[2], b[3], 0, 0],
@@ -40,6 +43,7 @@ fn four(b: [u8; 4]) -> Code
 fn six(b: [u8; 6]) -> Code
     ensures bytes { take result.length result.bytes ≡ b }
     ensures length { result.length ≡ 6 }
+    ensures rest { drop result.length result.bytes ≡ [] }
 {
     Code {
         bytes: b,
@@ -51,6 +55,7 @@ fn six(b: [u8; 6]) -> Code
 pub fn encode(instr: &Instr) -> Code
     ensures bytes { Reads (take result.length result.bytes) instr.now }
     ensures length { result.length ≡ format_length (entry_at instr.now.op.number).format }
+    ensures rest { drop result.length result.bytes ≡ zeros_after result.length }
 {
     let line = line(instr.op);
     let opcode = line.opcode;

@@ -284,9 +284,10 @@ pub fn spell_ss(opcode: u16, i: &Instr) -> [u8; 6]
 {
     let d = i.d as u32;
     let d2 = i.d2 as u32;
+    let length_code = eight(i.imm);
     [
         opcode as u8,
-        eight(i.imm),
+        length_code,
         i.b * 16 + (d / 256) as u8,
         (d % 256) as u8,
         i.b2 * 16 + (d2 / 256) as u8,
