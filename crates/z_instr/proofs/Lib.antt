@@ -7,5 +7,6 @@ pub mod Distinct
 pub mod Spelled
 pub mod OneReading
 pub mod Pieces
+pub mod PlainImmediates
 pub mod SmallOperands
 pub mod Examples

@@ -5,7 +5,8 @@ ghost use Rattle.std.specs.List.{list_any};
 ghost use Rattle.z_instr.specs.Operands.{Span, IsSmall, pieces, spans, HoldsByteOf};
 ghost use Rattle.z_instr.specs.Table.{entry_at};
 ghost use Rattle.z_instr.specs.Layout.{length_by, format_length, place, room};
-ghost use Rattle.z_instr.specs.Facts.{has_fitting_name, is_refused_alike};
+ghost use Rattle.z_instr.specs.Facts.{has_fitting_name, is_refused_alike, has_two_lists, is_service, is_begin};
+ghost use Rattle.z_instr.specs.Ranges.{is_within, bounds};
 ghost use Rattle.z_instr.specs.Places.{HasOpcode};
 ghost use Rattle.z_instr.specs.Reading.{AreBytes, AreSame, Reads};
 ghost use Rattle.z_instr.specs.declared.instr.Instr.{Instr};
@@ -38,6 +39,14 @@ pub fn readings_are_unique()
 pub fn pieces_hold_bytes()
     ensures held { (size : ℕ) (s : Span) (piece : ℕ) → 0 < size → 0 < s.length → list_any (nat_eq piece) (pieces size s) ≡ true → HoldsByteOf size s piece }
     ensures all { (size : ℕ) (s : Span) (piece : ℕ) → 0 < size → 0 < s.length → HoldsByteOf size s piece → list_any (nat_eq piece) (pieces size s) ≡ true }
+{}
+
+/// The immediate of an instruction on two lists of bytes, and of a service call, is from 0 to 255; that of a
+/// begin is from 0 to 65535.
+pub fn immediates_are_plain()
+    ensures lists { (i : Instr) → has_two_lists (entry_at i.op.number).operands ≡ true → is_within (bounds 0 256) i.imm ≡ true }
+    ensures services { (i : Instr) → is_service (entry_at i.op.number).demand ≡ true → is_within (bounds 0 256) i.imm ≡ true }
+    ensures begins { (i : Instr) → is_begin (entry_at i.op.number).demand ≡ true → is_within (bounds 0 65536) i.imm ≡ true }
 {}
 
 /// An instruction has at most two operands in storage, each of 1 to 256 bytes.

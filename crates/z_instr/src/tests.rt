@@ -36,6 +36,9 @@ fn rows_have_their_columns(rt: HostRuntime) -> Result<(), Fail> {
     let swap = line(find(b"CSG").ok_or("CSG")?);
     assert!(rt; swap.operands == Operands::Stored(Size::Doubleword));
     assert!(rt; swap.demand == Demand::Boundary);
+    assert!(rt;
+        line(find(b"LARL").ok_or("LARL")?).relative && !line(find(b"LGFI").ok_or("LGFI")?).relative
+    );
     assert!(rt; place_of(Format::RIL) == Place::FirstHalf);
     assert_eq!(rt; length_in(Format::SIL), 6);
     assert_eq!(rt; Name::new(*b"BCR     ", 3).bytes(), b"BCR".as_slice());
@@ -81,4 +84,5 @@ fn laws_are_called() {
     laws::readings_are_unique();
     laws::pieces_hold_bytes();
     laws::operands_are_small();
+    laws::immediates_are_plain();
 }
