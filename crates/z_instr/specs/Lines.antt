@@ -1,0 +1,23 @@
+-- What a line of the code's table stands for, and what a caller sees of a row.
+use Rattle.std.specs.Prelude.{take}
+use Rattle.z_instr.specs.declared.table.Line.{Line}
+use Rattle.z_instr.specs.declared.row.Row.{Row}
+use Rattle.z_instr.specs.Table.{Entry}
+
+abbrev pub entry_of : Line → Entry
+entry_of l =
+    record {
+      name = take l.count l.letters;
+      opcode = l.opcode;
+      format = l.format;
+      restricted = l.restricted;
+      permitted = l.permitted;
+      signed = l.signed;
+      masked = l.masked;
+      single = l.single;
+      operands = l.operands;
+      demand = l.demand;
+    }
+
+abbrev pub row_of : Entry → Row
+row_of e = record { name = e.name; opcode = e.opcode; format = e.format; restricted = e.restricted; permitted = e.permitted }

@@ -1,0 +1,48 @@
+// Rows by operations and by names.
+ghost use Rattle.std.specs.Prelude.{◌≡◌, ◌<◌, ◌≤◌, ℕ, IfSome, IfNone};
+ghost use Rattle.z_instr.specs.Table.{entry_at};
+ghost use Rattle.z_instr.specs.Layout.{place, room};
+ghost use Rattle.z_instr.specs.declared.table.TheConstants.{ROWS};
+ghost use Rattle.z_instr.specs.Lines.{entry_of, row_of};
+
+use crate::name::Name;
+use crate::op::Op;
+use crate::row::Row;
+use crate::table::{Line, ROWS, TABLE};
+
+/// The line of an operation: its row and the further columns of the table.
+pub fn line(op: Op) -> Line
+    ensures row { entry_of result ≡ entry_at op.number }
+    ensures count { result.count ≤ 8 }
+    ensures room { result.opcode < room (place result.format) }
+{
+    TABLE[op.number as usize]
+}
+
+/// The row of an operation.
+pub fn row(op: Op) -> Row
+    ensures { result ≡ row_of (entry_at op.number) }
+{
+    let line = line(op);
+    Row {
+        name: Name::new(line.letters, line.count),
+        opcode: line.opcode,
+        format: line.format,
+        restricted: line.restricted,
+        permitted: line.permitted,
+    }
+}
+
+/// The operation of a mnemonic, in upper case; None exactly where no row has that name.
+pub fn find(name: &[u8]) -> Option<Op>
+    ensures found { IfSome result (λ op. (entry_at op.number).name ≡ name.now) }
+    ensures none { IfNone result ((n : ℕ) → n < ROWS → (entry_at n).name ≡ name.now → ⊥) }
+{
+    for number in 0..ROWS {
+        let line = line(Op { number });
+        if Name::new(line.letters, line.count).bytes() == name {
+            return Some(Op { number });
+        }
+    }
+    None
+}

@@ -1,0 +1,2 @@
+-- A CPU as plain data.
+pub mod Cpu

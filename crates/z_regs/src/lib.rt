@@ -1,0 +1,15 @@
+//! What a CPU holds between instructions, storage as a list of bytes, and the ranges that an instruction touches there.
+#![tactic(auto)]
+
+mod bytes;
+mod image;
+mod ranges;
+mod storage;
+
+pub use bytes::Bytes;
+pub use image::{CpuImage, RunState};
+pub use ranges::{Range, Touches};
+pub use storage::{NoMemory, Storage};
+
+#[cfg(test)]
+mod tests;

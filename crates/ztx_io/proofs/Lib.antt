@@ -1,0 +1,2 @@
+-- Lemmas of bytes that come in pieces.
+pub mod InPieces
