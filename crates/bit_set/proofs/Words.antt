@@ -1,5 +1,5 @@
 -- One word: its bits as tests, and what is read from them.
-use Rattle.std.proofs.Common.{◌≡◌, ◌≢◌, ℕ, ◌+◌, ◌-◌, ◌*◌, ◌%◌, ◌^◌, ◌<◌, ◌≤◌, min, Bool, true, false, cond, eqb, ⊎_elim, refl, sym, ap, ◌∙◌, arith, w64, bit_and}
+use Rattle.std.proofs.Common.{◌≡◌, ◌≢◌, ℕ, ◌-◌, ◌*◌, ◌%◌, ◌^◌, ◌<◌, ◌≤◌, min, Bool, true, false, cond, eqb, ⊎_elim, refl, sym, ap, ◌∙◌, arith, w64, bit_and}
 use Rattle.std.specs.Prelude.{◌⊎◌, not}
 use Rattle.std.specs.Int.{bit_at, trailing_zeros}
 use Rattle.std.proofs.lemmas.Bool.{cases_lt, cases_eq, eq-eqb, ne_eqb, eqb-true, eqb-false}

@@ -58,6 +58,18 @@ impl BitSet {
         *word = without_bit(*word, (at % 64) as u32);
     }
 
+    /// Adds a number or takes it away.
+    pub fn put(&mut self, at: usize, member: bool)
+        requires { at < length self.old }
+        ensures { self.new ≡ slice_set self.old at member }
+    {
+        if member {
+            self.insert(at)
+        } else {
+            self.remove(at)
+        }
+    }
+
     /// Takes all numbers away.
     pub fn clear(&mut self)
         ensures { self.new ≡ replicate (length self.old) false }
@@ -136,7 +148,9 @@ mod tests {
         assert!(rt; !set.same(&other));
         other.copy_from(&set);
         assert!(rt; set.same(&other) && other.has(191));
-        other.remove(191);
+        other.put(191, false);
+        other.put(7, true);
+        assert_eq!(rt; other.next(6, 64), Some(7));
         assert!(rt; !other.has(191) && other.has(5));
         other.clear();
         assert_eq!(rt; other.next(0, 192), None);

@@ -1,4 +1,4 @@
-use Rattle.std.proofs.Common.{◌≡◌, ◌≤◌, ◌<◌, ◌*◌, ◌+◌, ◌/◌, ◌%◌, ℕ, Option, IfSome, IfNone, length, sym, subst, arith}
+use Rattle.std.proofs.Common.{◌≤◌, ◌<◌, ◌*◌, ◌+◌, ◌/◌, ◌%◌, ℕ, Option, IfSome, IfNone, length, sym, subst, arith}
 use Rattle.bit_set.specs.Bits.{bits_of, IsNext, NoneMarked}
 use Rattle.bit_set.proofs.Marks.{none_in_word, next_found, next_none}
 use Rattle.bit_set.proofs.set.next_in.Goals as goal

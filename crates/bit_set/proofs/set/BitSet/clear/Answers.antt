@@ -1,6 +1,6 @@
-use Rattle.std.proofs.Common.{◌<◌, ◌≡◌, replicate, vec_len, ◌*◌, false, length, get_or, ap, ◌∙◌, sym, arith}
+use Rattle.std.proofs.Common.{◌≡◌, replicate, vec_len, ◌*◌, false, length, ap, ◌∙◌, arith}
 use Rattle.bit_set.specs.Bits.{bits_of}
-use Rattle.bit_set.proofs.Marks.{length-bits_of, bits_of-zeros, same_words}
+use Rattle.bit_set.proofs.Marks.{length-bits_of, bits_of-zeros}
 use Rattle.bit_set.proofs.set.BitSet.clear.Goals as goal
 
 pub returns : goal.returns

@@ -1,5 +1,5 @@
-use Rattle.std.proofs.Common.{◌<◌, ◌*◌, false, length, get_or, ap, ◌∙◌, sym, arith}
-use Rattle.bit_set.proofs.Marks.{length-bits_of, bits_of-zeros, same_words}
+use Rattle.std.proofs.Common.{length, ap, arith}
+use Rattle.bit_set.proofs.Marks.{length-bits_of}
 use Rattle.bit_set.proofs.set.BitSet.copy_from.Goals as goal
 
 pub copy_from_slice-requires : goal.copy_from_slice-requires

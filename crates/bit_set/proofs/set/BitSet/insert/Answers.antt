@@ -1,4 +1,4 @@
-use Rattle.std.proofs.Common.{◌<◌, ◌/◌, ◌%◌, ◌≢◌, set, ◌*◌, true, length, get_or, ap, ◌∙◌, sym, arith}
+use Rattle.std.proofs.Common.{◌<◌, ◌/◌, set, ◌*◌, true, length, ap, ◌∙◌, arith}
 use Rattle.std.proofs.lemmas.List.{get_or_read}
 use Rattle.bit_set.specs.Bits.{bit}
 use Rattle.bit_set.proofs.Marks.{length-bits_of, bits_of-set}

@@ -1,4 +1,4 @@
-use Rattle.std.proofs.Common.{◌≤◌, length, ap, arith}
+use Rattle.std.proofs.Common.{length, ap, arith}
 use Rattle.bit_set.proofs.Marks.{length-bits_of}
 use Rattle.bit_set.proofs.set.BitSet.next.Goals as goal
 

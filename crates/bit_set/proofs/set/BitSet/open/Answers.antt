@@ -1,6 +1,6 @@
-use Rattle.std.proofs.Common.{◌<◌, ◌*◌, false, length, get_or, ap, ◌∙◌, sym, arith}
+use Rattle.std.proofs.Common.{ap, ◌∙◌}
 use Rattle.bit_set.specs.Bits.{bits_of}
-use Rattle.bit_set.proofs.Marks.{length-bits_of, bits_of-zeros, same_words}
+use Rattle.bit_set.proofs.Marks.{bits_of-zeros}
 use Rattle.bit_set.proofs.set.BitSet.open.Goals as goal
 
 pub returns : goal.returns
