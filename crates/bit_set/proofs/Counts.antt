@@ -17,10 +17,10 @@ count_agree (suc n) f g same =
     let last : one_if (f n) ≡ one_if (g n) = ap one_if (same n (omega arith)) in
     omega arith
 
-but_at-same : (f : ℕ → Bool) (at : ℕ) (value : Bool) → but_at f at value at ≡ value
+pub but_at-same : (f : ℕ → Bool) (at : ℕ) (value : Bool) → but_at f at value at ≡ value
 but_at-same f at value = cond-true (eqb at at) value (f at) (eq-eqb at at refl)
 
-but_at-other : (f : ℕ → Bool) (at : ℕ) (value : Bool) (k : ℕ) → k ≢ at → but_at f at value k ≡ f k
+pub but_at-other : (f : ℕ → Bool) (at : ℕ) (value : Bool) (k : ℕ) → k ≢ at → but_at f at value k ≡ f k
 but_at-other f at value k ne = cond-false (eqb k at) value (f k) (ne_eqb k at ne)
 
 -- one number's answer changed
@@ -55,7 +55,7 @@ one_if_or : (a b : Bool) → one_if (a || b) ≤ one_if a + one_if b
 one_if_or true b = omega arith
 one_if_or false b = omega arith
 
-count_or : (n : ℕ) (f g : ℕ → Bool) → count_below n (λ k. f k || g k) ≤ count_below n f + count_below n g
+pub count_or : (n : ℕ) (f g : ℕ → Bool) → count_below n (λ k. f k || g k) ≤ count_below n f + count_below n g
 unfolding count_below
 count_or zero f g = omega arith
 count_or (suc n) f g = omega (arith, count_or n f g, one_if_or (f n) (g n))
