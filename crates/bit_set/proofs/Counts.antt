@@ -108,3 +108,13 @@ one_outside n f g more =
     cases (search_below n (λ k. f k && not (g k)))
     (λ found. found)
     (λ none. absurd (omega (arith, more, count_le n f g (λ k lt e. inside_from_not (f k) (g k) (none k lt) e))))
+
+-- no more numbers pass than there are
+pub count_at_most : (n : ℕ) (f : ℕ → Bool) → count_below n f ≤ n
+unfolding count_below
+count_at_most zero f = omega arith
+count_at_most (suc n) f = omega (arith, count_at_most n f, one_at_most (f n))
+  where
+    one_at_most : (b : Bool) → one_if b ≤ 1
+    one_at_most true = omega arith
+    one_at_most false = omega arith

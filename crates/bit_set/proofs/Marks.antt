@@ -2,7 +2,7 @@
 use Rattle.std.proofs.Common.{◌≡◌, ◌≢◌, ℕ, ◌+◌, ◌-◌, ◌*◌, ◌/◌, ◌%◌, ◌^◌, ◌<◌, ◌≤◌, Bool, true, false, cond, ltb, List, length, get_or, set, replicate, Option, Some, None, IfSome, IfNone, ⊎_elim, sym, ap, subst, ◌∙◌, arith}
 use Rattle.std.specs.Prelude.{◌⊎◌, All}
 use Rattle.std.proofs.lemmas.Bool.{cases_lt, cases_eq, cond-true, cond-false, lt-ltb, le-ltb}
-use Rattle.std.proofs.lemmas.List.{length-set, length-replicate, get_or-set_same, get_or-set_other, get_or-replicate, ext_get_or}
+use Rattle.std.proofs.lemmas.List.{get_or_past, length-set, length-replicate, get_or-set_same, get_or-set_other, get_or-replicate, ext_get_or}
 use Rattle.std.proofs.lemmas.List.FromFn.{length-map-range_with_len, get_or-map-range_with_len}
 use Rattle.std.proofs.lemmas.Nat.Bits.{bit_at-zero}
 use Rattle.bit_set.specs.Bits.{bit, bits_of, IsLowestBit, IsNext, NoneMarked}
@@ -128,3 +128,10 @@ next_none words from w s b end lt below_it lowest =
     (λ yes. subst (λ o. IfNone o (NoneMarked (bits_of words) from end)) (sym (cond-true (ltb (w * 64 + b) end) (Some (w * 64 + b)) None (lt-ltb _ _ yes))) tt)
     (λ over. subst (λ o. IfNone o (NoneMarked (bits_of words) from end)) (sym (cond-false (ltb (w * 64 + b) end) (Some (w * 64 + b)) None (le-ltb _ _ over)))
     (λ k le under. none_up_to words from w s b lt (omega (arith, lowest.within)) below_it lowest.first k le (omega (arith, over, under))))
+
+-- an empty set has no member
+pub clear_at : (n k : ℕ) → get_or (replicate n false) k false ≡ false
+clear_at n k =
+    cases (cases_lt k n)
+    (λ low. get_or-replicate n k false false low)
+    (λ high. get_or_past (replicate n false) k false (omega (arith, length-replicate {A = Bool} n false, high)))

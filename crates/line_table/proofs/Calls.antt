@@ -99,12 +99,6 @@ held_share width held holders exclusive counts cpu line kept line_in mine = λ o
 
 -- ---- an empty table
 
-pub clear_at : (n k : ℕ) → get_or (replicate n false) k false ≡ false
-clear_at n k =
-    cases (cases_lt k n)
-    (λ low. get_or-replicate n k false false low)
-    (λ high. get_or_past (replicate n false) k false (omega (arith, length-replicate {A = Bool} n false, high)))
-
 pub zero_at : (n k : ℕ) → get_or {A = ℕ} (replicate n 0) k 0 ≡ 0
 zero_at n k =
     cases (cases_lt k n)

@@ -1,8 +1,9 @@
 use Rattle.std.proofs.Common.{◌≡◌, ◌*◌, ◌/◌, ℕ, Bool, false, length, get_or, vec_len, ap, ◌∙◌, arith}
+use Rattle.bit_set.proofs.Marks.{clear_at}
 use Rattle.line_table.specs.declared.table.TheConstants.{LINES}
 use Rattle.std.proofs.lemmas.List.{length-replicate}
 use Rattle.line_table.proofs.Seen.{shown}
-use Rattle.line_table.proofs.Calls.{clear_at, zero_at, opened, nobody_seen}
+use Rattle.line_table.proofs.Calls.{zero_at, opened, nobody_seen}
 use Rattle.line_table.proofs.table.LineTable.open.Goals as goal
 
 pub invariant_of-result : goal.invariant_of-result

@@ -1,0 +1,14 @@
+//! The footprint of an attempt: the lines that it fetched, the lines that it stored and the blocks
+//! that it stored, within their limits.
+#![tactic(auto)]
+
+mod footprint;
+mod laws;
+mod places;
+
+pub use footprint::{BLOCKS, Footprint, MOST_BLOCKS, MOST_LINES, NoMemory, Overflow};
+pub use laws::{counts_a_line_once, has_the_places_of_its_addresses};
+pub use places::{BLOCK_SIZE, LINE_SIZE, STORAGE_SIZE};
+
+#[cfg(test)]
+mod tests;
