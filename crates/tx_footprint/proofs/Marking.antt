@@ -32,7 +32,7 @@ pub still_untouched : (kind : Kind) (ranges : List Range) (i : ℕ) (r : Range) 
 still_untouched kind ranges i r place e before off =
     touched_more kind ranges i r place e ∙ or_from (touched_by kind (take i ranges) place) (covers kind r place) before off
 
-or_assoc : (a b c : Bool) → ((a || b) || c) ≡ (a || (b || c))
+pub or_assoc : (a b c : Bool) → ((a || b) || c) ≡ (a || (b || c))
 or_assoc true b c = refl
 or_assoc false b c = refl
 

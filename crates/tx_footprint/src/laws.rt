@@ -1,11 +1,11 @@
 //! Laws of footprints, each the contract of a function that does nothing.
 
-ghost use Rattle.std.specs.Prelude.{◌≡◌, ℕ, ◌+◌, ◌*◌, ◌/◌, ◌<◌, ◌≤◌, ◌↔◌, Bool, true, ◌||◌, List};
+ghost use Rattle.std.specs.Prelude.{◌≡◌, ℕ, ◌+◌, ◌*◌, ◌/◌, ◌<◌, ◌≤◌, ◌↔◌, Bool, true, ◌||◌, List, ◌++◌};
 ghost use Rattle.bit_set.specs.Counts.{count_below};
 ghost use Rattle.z_regs.specs.declared.ranges.Range.{Range};
 ghost use Rattle.line_table.specs.declared.table.TheConstants.{LINES};
 ghost use Rattle.tx_footprint.specs.Places.{has_place};
-ghost use Rattle.tx_footprint.specs.Touched.{Sets, line_count};
+ghost use Rattle.tx_footprint.specs.Touched.{Sets, line_count, touching};
 
 /// A range has a place exactly where one of its addresses lies there.
 pub fn has_the_places_of_its_addresses()
@@ -17,4 +17,9 @@ pub fn has_the_places_of_its_addresses()
 pub fn counts_a_line_once()
     ensures at_most { (sets : Sets) → line_count sets ≤ count_below LINES sets.fetched + count_below LINES sets.stored }
     ensures once { (sets : Sets) → sets.fetched ≡ sets.stored → line_count sets ≡ count_below LINES sets.stored }
+{}
+
+/// Ranges that are touched in turn leave what all of them together do.
+pub fn adds_in_turn()
+    ensures { (sets : Sets) (first second : List Range) → touching (touching sets first) second ≡ touching sets (first ++ second) }
 {}

@@ -73,4 +73,5 @@ fn keeps_its_limits(rt: HostRuntime) -> Result<(), Fail> {
 fn has_laws() {
     crate::has_the_places_of_its_addresses();
     crate::counts_a_line_once();
+    crate::adds_in_turn();
 }
