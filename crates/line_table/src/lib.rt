@@ -1,4 +1,6 @@
-//! Which CPU holds which line of storage, and how.
+//! Which CPU holds which line of storage, and how: the ownership of cache lines of Jacobi, Slegel and
+//! Greiner, "Transactional Memory Architecture and Implementation for IBM System z", MICRO 2012, over
+//! lines of 256 bytes.
 #![tactic(auto)]
 
 mod laws;

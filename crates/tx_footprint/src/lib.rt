@@ -1,5 +1,7 @@
 //! The footprint of an attempt: the lines that it fetched, the lines that it stored and the blocks
-//! that it stored, within their limits.
+//! that it stored, within their limits. The fetch and store footprints are those of the
+//! transactional-execution facility (z/Architecture Principles of Operation, SA22-7832); the limits are
+//! this project's.
 #![tactic(auto)]
 
 mod footprint;
