@@ -1,2 +1,5 @@
+pub mod WholeLemmas
 pub mod ProductLemmas
+pub mod QuotientLemmas
 pub mod ShiftLemmas
+pub mod BitLemmas

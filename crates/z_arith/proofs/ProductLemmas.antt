@@ -1,9 +1,9 @@
 -- The rightmost bits of a product are the same with a sign and without.
-use Rattle.std.proofs.Common.{◌≡◌, ℕ, zero, suc, ◌<◌, ◌≤◌, ◌+◌, ◌-◌, ◌*◌, ◌/◌, ◌^◌, ◌%◌, ◌⊎◌, inl, inr, true, false, nat_lt, refl, sym, ap, ◌∙◌, arith}
-use Rattle.std.specs.Prelude.{ℤ, pos, negsuc, ◌*ℤ◌, neg_ℤ}
+use Rattle.std.proofs.Common.{◌≡◌, ℕ, zero, suc, ◌<◌, ◌+◌, ◌-◌, ◌*◌, ◌/◌, ◌^◌, ◌%◌, inl, inr, refl, sym, ap, ◌∙◌, arith}
+use Rattle.std.specs.Prelude.{pos, ◌*ℤ◌, neg_ℤ}
 use Rattle.std.proofs.lemmas.Nat.{pow_pos, mod-mul-add, div-add-mod'}
-use Rattle.std.proofs.lemmas.Bool.{cases_lt, lt-ltb, le-ltb}
 use Rattle.std.proofs.Math.Nat.{mul-mod_left, zero-mod, add-mul-mod_self_right}
+use Rattle.z_arith.proofs.WholeLemmas.{signed_cases}
 use Rattle.z_arith.specs.Whole.{signed, modulo, bits}
 use Rattle.z_arith.specs.declared.Width.{Width}
 use Rattle.z_arith.specs.declared.Width.TheVariants.{Word, Double}
@@ -24,14 +24,6 @@ lacks m n y c p e =
 negated : (k x y c : ℕ) → x + y ≡ c * 2 ^ k → modulo k (neg_ℤ (pos x)) ≡ y % 2 ^ k
 negated k zero y c e = let is : y ≡ c * 2 ^ k = omega arith in zero-mod (2 ^ k) ∙ sym (ap (λ n. n % 2 ^ k) is ∙ mul-mod_left c (2 ^ k))
 negated k (suc n) y c e = lacks (2 ^ k) n y c (pow_pos k) e
-
--- k bits stand for their number, or for 2 ^ k less
-pub signed_cases : (k a : ℕ) → a < 2 ^ k → (signed k a ≡ pos a) ⊎ ((n : ℕ) × (signed k a ≡ negsuc n) × (suc n + a ≡ 2 ^ k))
-signed_cases k a h =
-    elim (cases_lt a (2 ^ (k - 1))) [
-      | inl l ↦ (let e : nat_lt a (2 ^ (k - 1)) ≡ true = lt-ltb a (2 ^ (k - 1)) l in inl (rw e refl))
-      | inr l ↦ (let e : nat_lt a (2 ^ (k - 1)) ≡ false = le-ltb a (2 ^ (k - 1)) l in inr (2 ^ k - 1 - a, rw e refl, omega arith))
-    ]
 
 -- two numbers below zero
 both_negative : (m a b i j : ℕ) → suc i + a ≡ m → suc j + b ≡ m → suc i * suc j % m ≡ a * b % m

@@ -1,14 +1,14 @@
 -- What a shift to the left keeps, and what it loses.
-use Rattle.std.proofs.Common.{◌≡◌, ℕ, zero, suc, ◌<◌, ◌≤◌, ◌+◌, ◌-◌, ◌*◌, ◌/◌, ◌^◌, ◌%◌, ◌⊎◌, inl, inr, true, false, nat_lt, nat_eq, refl, sym, subst, ap, ◌∙◌, arith, zero-add, lit<}
+use Rattle.std.proofs.Common.{◌≡◌, ℕ, suc, ◌<◌, ◌≤◌, ◌+◌, ◌-◌, ◌*◌, ◌/◌, ◌^◌, ◌%◌, inl, inr, true, false, nat_lt, nat_eq, refl, sym, subst, ap, ◌∙◌, arith, zero-add}
 use Rattle.std.proofs.lemmas.Nat.{pow_pos, pow-add, mod-mul-add, div-add-mod', mod_below, mul-add-lt, shr_below}
-use Rattle.std.proofs.Math.Nat.{mul-div-mul_right, mul-lt-mul_of_pos_right, div-eq_of_lt, div-eq_of_lt-le, div-mul-le_self, mod-eq_of_lt, pow-suc}
+use Rattle.std.proofs.Math.Nat.{mul-div-mul_right, mul-lt-mul_of_pos_right, div-eq_of_lt, div-eq_of_lt-le, div-mul-le_self, mod-eq_of_lt}
 use Rattle.std.proofs.lemmas.Bool.{cases_lt, lt-ltb, le-ltb, eq-eqb, ne_eqb, ltb-true}
-use Rattle.std.specs.Prelude.{ℤ, pos, negsuc, ◌*ℤ◌, neg_ℤ, not, if◌then◌else◌, Bool}
+use Rattle.std.specs.Prelude.{pos, ◌*ℤ◌, not, if◌then◌else◌, Bool}
 use Rattle.z_arith.specs.declared.Answer.{Answer}
 use Rattle.z_arith.specs.declared.Width.{Width}
-use Rattle.z_arith.specs.declared.Width.TheVariants.{Word, Double}
 use Rattle.z_arith.specs.Whole.{bits, signed, fits_signed, sign_code}
-use Rattle.z_arith.specs.Shifted.{rotated, left_signed_of, lost_bits, sign_copies}
+use Rattle.z_arith.proofs.WholeLemmas.{some_bits, halves, fields}
+use Rattle.z_arith.specs.Shifted.{rotated, left_signed_of, kept_bits, lost_bits, sign_copies}
 
 -- what k bits keep of a number moved left by n places, and what leaves them
 pub kept : (k a n : ℕ) → n ≤ k → a * 2 ^ n % 2 ^ k ≡ a % 2 ^ (k - n) * 2 ^ n
@@ -57,10 +57,6 @@ wide h d r p y e q f =
       | inr l ↦ le-ltb y h l ∙ sym (ne_eqb (r * p / h) (p - 1) (λ g. let most : r * p / h * h ≤ r * p = div-mul-le_self (r * p) h in let put : r * p / h * h ≡ (p - 1) * h = ap (λ x. x * h) g in omega arith))
     ]
 
--- k bits are worth twice their leftmost one
-halves : (k : ℕ) → 0 < k → 2 ^ k ≡ 2 ^ (k - 1) + 2 ^ (k - 1)
-halves k h = let e : k ≡ suc (k - 1) = omega arith in let t : 2 ^ suc (k - 1) ≡ 2 ^ (k - 1) * 2 = pow-suc 2 (k - 1) in omega (arith, ap (λ i. 2 ^ i) e, t)
-
 -- of k bits with the leftmost one, the others
 others : (k a : ℕ) → 0 < k → 2 ^ (k - 1) ≤ a → a < 2 ^ k → a % 2 ^ (k - 1) + 2 ^ (k - 1) ≡ a
 others k a h l b =
@@ -87,7 +83,7 @@ fits_where_alike k a n h b =
 
 -- a product that fits has the sign of the value that stands for it
 same_sign : (k a n : ℕ) → 0 < k → a < 2 ^ k → fits_signed k (signed k a *ℤ pos (2 ^ n)) ≡ true
-    → sign_code (signed k ((if nat_lt a (2 ^ (k - 1)) then 0 else 2 ^ (k - 1)) + a * 2 ^ n % 2 ^ (k - 1))) ≡ sign_code (signed k a *ℤ pos (2 ^ n))
+    → sign_code (signed k (kept_bits k a n)) ≡ sign_code (signed k a *ℤ pos (2 ^ n))
 same_sign k a n h b =
     elim (cases_lt a (2 ^ (k - 1))) [
       | inl l ↦ (let e : nat_lt a (2 ^ (k - 1)) ≡ true = lt-ltb a (2 ^ (k - 1)) l in
@@ -103,23 +99,14 @@ same_sign k a n h b =
           rw (e, is) (λ (t : nat_lt y (2 ^ (k - 1)) ≡ true). rw big refl))
     ]
 
--- an answer is its three parts
-fields : (r : Answer) (v c : ℕ) (o : Bool) → r.value ≡ v → r.condition ≡ c → r.overflow ≡ o → r ≡ record { value = v; condition = c; overflow = o }
-fields r v c o p q s = λ i. record { value = p i; condition = q i; overflow = s i }
-
 -- the code as the test of the lost bits gives it, and as the fit of the product does
 code_is : (f o : Bool) (x y c : ℕ) → o ≡ not f → (f ≡ true → x ≡ y) → c ≡ (if o then 3 else x) → c ≡ (if f then y else 3)
 code_is true o x y c e h g = g ∙ rw e (h refl)
 code_is false o x y c e h g = g ∙ rw e refl
 
--- an operand has bits
-some_bits : (w : Width) → 0 < bits w
-some_bits Word = lit< tt
-some_bits Double = lit< tt
-
 -- what the code settles on is the answer
 pub left_is : (w : Width) (a n v : ℕ) (o : Bool) (r : Answer) → a < 2 ^ bits w
-    → v ≡ (if nat_lt a (2 ^ (bits w - 1)) then 0 else 2 ^ (bits w - 1)) + a * 2 ^ n % 2 ^ (bits w - 1)
+    → v ≡ kept_bits (bits w) a n
     → o ≡ not (nat_eq (lost_bits (bits w) a n) (sign_copies (bits w) a n))
     → r.value ≡ v → r.condition ≡ (if o then 3 else sign_code (signed (bits w) v)) → r.overflow ≡ o → r ≡ left_signed_of (bits w) a n
 unfolding left_signed_of

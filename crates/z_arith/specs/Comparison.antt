@@ -1,20 +1,24 @@
 -- Comparisons, tests of bits, and the search for the first one.
-use Rattle.std.specs.Prelude.{ℕ, zero, suc, ◌+◌, ◌-◌, ◌^◌, ℤ, pos, List, [], ◌∷◌, nat_eq, if◌then◌else◌}
-use Rattle.std.specs.Int.RustNames.{int_lt}
+use Rattle.std.specs.Prelude.{ℕ, zero, suc, ◌+◌, ◌-◌, ◌^◌, ◌≡◌, ◌<◌, List, [], ◌∷◌, nat_eq, if◌then◌else◌}
+use Rattle.std.specs.Ordering.{nat_cmp, int_cmp}
+use Rattle.std.specs.declared.cmp.Ordering.{Ordering}
+use Rattle.std.specs.declared.cmp.Ordering.TheVariants.{Less, Equal, Greater}
 use Rattle.std.specs.Int.{bit_at}
 use Rattle.std.specs.List.{list_all}
 use Rattle.z_arith.specs.declared.Width.{Width}
 use Rattle.z_arith.specs.Whole.{bits, signed}
 
 -- 0 where both are equal, 1 where the first is low, 2 where the first is high
-abbrev pub order_code : ℤ → ℤ → ℕ
-order_code a b = if int_lt a b then 1 else if int_lt b a then 2 else 0
+abbrev pub order_code : Ordering → ℕ
+order_code Equal = 0
+order_code Less = 1
+order_code Greater = 2
 
 unfoldable pub compare_signed_of : Width → ℕ → ℕ → ℕ
-compare_signed_of w a b = order_code (signed (bits w) a) (signed (bits w) b)
+compare_signed_of w a b = order_code (int_cmp (signed (bits w) a) (signed (bits w) b))
 
 unfoldable pub compare_logical_of : ℕ → ℕ → ℕ
-compare_logical_of a b = order_code (pos a) (pos b)
+compare_logical_of a b = order_code (nat_cmp a b)
 
 -- the bits of a in those of the k rightmost places where the mask has a one, from the left
 unfoldable pub selected : ℕ → ℕ → ℕ → List ℕ
@@ -42,6 +46,10 @@ unfoldable pub zeros_left : ℕ → ℕ → ℕ
 zeros_left zero a = 0
 zeros_left (suc k) a = if nat_eq (bit_at a k) 0 then suc (zeros_left k a) else 0
 
--- that number, the doubleword without its first one, and the code
+-- That number, the doubleword without its first one, and the code; 64 and code 0 where there is no one.
 unfoldable pub leftmost_one_of : ℕ → ℕ × ℕ × ℕ
-leftmost_one_of a = let zeros = zeros_left 64 a in if nat_eq a 0 then (zeros, 0, 0) else (zeros, a - 2 ^ (63 - zeros), 2)
+leftmost_one_of a = if nat_eq a 0 then (64, 0, 0) else let zeros = zeros_left 64 a in (zeros, a - 2 ^ (63 - zeros), 2)
+
+-- a number with a first one has so many zeros left of it in a doubleword, and this rest right of it
+unfoldable pub HasFirstOne : ℕ → ℕ → ℕ → Type 0
+HasFirstOne a zeros rest = (2 ^ (63 - zeros) + rest ≡ a) × (rest < 2 ^ (63 - zeros))

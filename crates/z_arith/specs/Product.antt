@@ -1,5 +1,5 @@
 -- Products.
-use Rattle.std.specs.Prelude.{ℕ, ◌*◌, ◌/◌, ◌%◌, ◌^◌, ℤ, ◌*ℤ◌}
+use Rattle.std.specs.Prelude.{ℕ, ◌*◌, ◌/◌, ◌%◌, ◌^◌, ◌*ℤ◌}
 use Rattle.z_arith.specs.declared.Width.{Width}
 use Rattle.z_arith.specs.Whole.{bits, signed, modulo}
 

@@ -1,5 +1,5 @@
 -- Shifts and rotations by n places, with n below 64.
-use Rattle.std.specs.Prelude.{ℕ, ◌+◌, ◌-◌, ◌*◌, ◌/◌, ◌%◌, ◌^◌, ℤ, pos, ◌*ℤ◌, not, nat_lt, if◌then◌else◌}
+use Rattle.std.specs.Prelude.{ℕ, ◌+◌, ◌-◌, ◌*◌, ◌/◌, ◌%◌, ◌^◌, ◌≢◌, pos, ◌*ℤ◌, not, nat_lt, if◌then◌else◌}
 use Rattle.std.specs.Int.{int_div_euclid}
 use Rattle.z_arith.specs.declared.Width.{Width}
 use Rattle.z_arith.specs.declared.Answer.{Answer}
@@ -7,14 +7,16 @@ use Rattle.z_arith.specs.declared.Shift.{Shift}
 use Rattle.z_arith.specs.declared.Shift.TheVariants.{LeftLogical, RightLogical, LeftSigned, RightSigned, Rotate}
 use Rattle.z_arith.specs.Whole.{bits, signed, fits_signed, sign_code, signed_answer, plain_answer}
 
--- The sign bit stays, and the other k - 1 bits go left. What is lost is all like the sign exactly where
--- the number times 2 ^ n fits, and then the value stands for that product.
+-- the leftmost of k bits as it is, and beside it what is kept of the others when they go left
+abbrev pub kept_bits : ℕ → ℕ → ℕ → ℕ
+kept_bits k a n = let half = 2 ^ (k - 1) in (if nat_lt a half then 0 else half) + a * 2 ^ n % half
+
+-- There is overflow where the number times 2 ^ n does not fit; else the code is that of this product.
 unfoldable pub left_signed_of : ℕ → ℕ → ℕ → Answer
 left_signed_of k a n =
-    let half = 2 ^ (k - 1) in
     let product = signed k a *ℤ pos (2 ^ n) in
     record {
-      value = (if nat_lt a half then 0 else half) + a * 2 ^ n % half;
+      value = kept_bits k a n;
       condition = if fits_signed k product then sign_code product else 3;
       overflow = not (fits_signed k product);
     }
@@ -42,3 +44,7 @@ lost_bits k a n = a % 2 ^ (k - 1) * 2 ^ n / 2 ^ (k - 1)
 -- n copies of the leftmost of k bits
 abbrev pub sign_copies : ℕ → ℕ → ℕ → ℕ
 sign_copies k a n = if nat_lt a (2 ^ (k - 1)) then 0 else 2 ^ n - 1
+
+-- a shift of k bits to the left by n places loses a bit that is unlike the sign
+unfoldable pub LosesUnlike : ℕ → ℕ → ℕ → Type 0
+LosesUnlike k a n = lost_bits k a n ≢ sign_copies k a n

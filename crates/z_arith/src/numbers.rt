@@ -4,7 +4,7 @@ ghost use Rattle.z_arith.specs.Whole.{bits, signed, modulo, sign_code};
 
 use crate::{Answer, Width};
 
-// The rightmost bits of a doubleword, as many as an operand has.
+/// The rightmost bits of a doubleword, as many as an operand has.
 pub fn low(w: Width, pattern: u64) -> u64
     ensures { result ≡ pattern % 2 ^ bits w }
 {
@@ -14,7 +14,7 @@ pub fn low(w: Width, pattern: u64) -> u64
     }
 }
 
-// The worth of the leftmost bit of an operand.
+/// The worth of the leftmost bit of an operand.
 pub fn sign_bit(w: Width) -> u64
     ensures { result ≡ 2 ^ (bits w - 1) }
 {
@@ -24,7 +24,7 @@ pub fn sign_bit(w: Width) -> u64
     }
 }
 
-// How many bits an operand has.
+/// How many bits an operand has.
 pub fn size(w: Width) -> u32
     ensures { result ≡ bits w }
 {
@@ -34,14 +34,14 @@ pub fn size(w: Width) -> u32
     }
 }
 
-// Whether the leftmost bit is one.
+/// Whether the leftmost bit is one.
 pub fn has_sign(w: Width, pattern: u64) -> bool
     ensures { IsTrue result ↔ (2 ^ (bits w - 1) ≤ pattern) }
 {
     pattern >= sign_bit(w)
 }
 
-// The number with a sign that an operand stands for.
+/// The number with a sign that an operand stands for.
 pub fn number(w: Width, pattern: u64) -> i64
     requires { pattern < 2 ^ bits w }
     ensures { result ≡ signed (bits w) pattern }
@@ -52,21 +52,21 @@ pub fn number(w: Width, pattern: u64) -> i64
     }
 }
 
-// The doubleword that stands for a number.
+/// The doubleword that stands for a number.
 pub fn doubleword(number: i64) -> u64
     ensures { result ≡ modulo 64 number }
 {
     number.cast_unsigned()
 }
 
-// The rightmost word of that doubleword.
+/// The rightmost word of that doubleword.
 pub fn word(number: i64) -> u32
     ensures { result ≡ modulo 32 number }
 {
     low(Width::Word, doubleword(number)) as u32
 }
 
-// The answer with this value; its code is that of the value's sign, or 3 where there is overflow.
+/// The answer with this value; its code is that of the value's sign, or 3 where there is overflow.
 pub fn settled(w: Width, value: u64, overflow: bool) -> Answer
     requires { value < 2 ^ bits w }
     ensures value { result.value ≡ value }

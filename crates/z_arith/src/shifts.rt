@@ -1,17 +1,26 @@
 // Shifts and rotations.
 ghost use Rattle.std.specs.Prelude.{◌≡◌, ◌≢◌, ◌<◌, ◌≤◌, ◌^◌, ◌↔◌, ◌*◌, ◌/◌, ◌%◌, IsTrue, false, not, nat_eq, nat_lt, ◌+◌, ◌-◌, if◌then◌else◌};
 ghost use Rattle.z_arith.specs.Whole.{bits};
-ghost use Rattle.z_arith.specs.Shifted.{shift_of, left_signed_of, right_signed_of, rotated, lost_bits, sign_copies};
+ghost use Rattle.z_arith.specs.Shifted.{shift_of, left_signed_of, right_signed_of, rotated, kept_bits, lost_bits, sign_copies, LosesUnlike};
 
 use crate::numbers::{doubleword, has_sign, low, number, settled, sign_bit, size};
 use crate::{Answer, Shift, Width};
 
-/// Shifts.
+/// The value moved by `amount` places, below 64, as `kind` says.
+///
+/// `LeftLogical`: SLL, and for doublewords SLLG. `RightLogical`: SRL and SRLG. `Rotate`: RLL and RLLG; a
+/// word is rotated by the amount modulo 32. These leave the condition code of the CPU unchanged, and the
+/// answer's is 0.
+///
+/// `LeftSigned`: SLA and SLAG. There is overflow exactly where some bit is lost that is unlike the sign;
+/// the value keeps its sign all the same. `RightSigned`: SRA and SRAG. The code of these two is 0 for a
+/// value of zero, 1 below zero, 2 above, and 3 with overflow.
 #[tactic(auto, unfolding(crate::specs::Shifted::shift_of))]
 pub fn shift(kind: Shift, w: Width, value: u64, amount: u32) -> Answer
     requires value_in { value < 2 ^ bits w }
     requires amount_in { amount < 64 }
     ensures answer { result ≡ shift_of kind w value amount }
+    ensures lost { kind ≡ Shift.LeftSigned → (IsTrue result.overflow ↔ LosesUnlike (bits w) value amount) }
     ensures fits { result.value < 2 ^ bits w }
     ensures code { result.condition < 4 }
 {
@@ -46,7 +55,6 @@ fn moved(value: u64, amount: u32) -> u128
 }
 
 // Whether a shift of the bits right of the sign to the left loses one that is unlike the sign.
-#[tactic(auto)]
 fn loses(w: Width, value: u64, amount: u32) -> bool
     requires value_in { value < 2 ^ bits w }
     requires amount_in { amount < 64 }
@@ -66,7 +74,7 @@ fn loses(w: Width, value: u64, amount: u32) -> bool
 fn kept(w: Width, value: u64, amount: u32) -> u64
     requires value_in { value < 2 ^ bits w }
     requires amount_in { amount < 64 }
-    ensures value { result ≡ (if nat_lt value (2 ^ (bits w - 1)) then 0 else 2 ^ (bits w - 1)) + value * 2 ^ amount % 2 ^ (bits w - 1) }
+    ensures value { result ≡ kept_bits (bits w) value amount }
     ensures fits { result < 2 ^ bits w }
 {
     let sign = sign_bit(w);
@@ -78,10 +86,12 @@ fn kept(w: Width, value: u64, amount: u32) -> u64
     }
 }
 
+#[tactic(auto, unfolding(crate::specs::Shifted::LosesUnlike))]
 fn left_signed(w: Width, value: u64, amount: u32) -> Answer
     requires value_in { value < 2 ^ bits w }
     requires amount_in { amount < 64 }
     ensures answer { result ≡ left_signed_of (bits w) value amount }
+    ensures lost { IsTrue result.overflow ↔ LosesUnlike (bits w) value amount }
     ensures fits { result.value < 2 ^ bits w }
     ensures code { result.condition < 4 }
 {

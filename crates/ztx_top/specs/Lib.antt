@@ -1,0 +1,10 @@
+-- First forms, what running one means, the report, and what the top call answers.
+pub mod Texts
+pub mod Instruction
+pub mod Form
+pub mod Image
+pub mod Serial
+pub mod Meaning
+pub mod Shown
+pub mod Report
+pub mod Answers
