@@ -1,0 +1,159 @@
+ghost use Rattle.std.specs.Prelude.{◌≡◌, ℕ, ◌*◌, ◌<◌, ◌≤◌, ◌↔◌, Bool, true, false, List, length, replicate, slice_set, slice_index_or, nat_lt, if◌then◌else◌, IsTrue, IfOk, IfSome, IfNone};
+ghost use Rattle.bit_set.specs.Bits.{bits_of, IsNext, NoneMarked};
+
+use crate::word::{has_bit, lowest_from, with_bit, without_bit};
+use std::alloc::{AllocError, Global};
+use std::marker::Model;
+
+/// A set of the numbers below a multiple of 64, seen as one mark for each of them.
+#[derive(Drop)]
+pub struct BitSet {
+    words: Vec<u64>,
+}
+
+impl Model for BitSet {
+    ghost use Rattle.std.specs.Prelude.{Bool, List, ◌<◌, ◌^◌, All};
+    ghost use Rattle.bit_set.specs.Bits.{bits_of};
+
+    ghost Value = { List Bool };
+
+    ghost view = { λ s. bits_of s.words.items };
+
+    ghost invariant = { λ s. All (λ word. word < 2 ^ 64) s.words.items };
+}
+
+impl BitSet {
+    /// The empty set, with room for the numbers below 64 times `words`.
+    pub fn open(alloc: Global, words: usize) -> Result<BitSet, AllocError>
+        ensures { IfOk result (λ set. set ≡ replicate (64 * words) false) }
+    {
+        Ok(BitSet {
+            words: vec![in alloc; 0; words]?,
+        })
+    }
+
+    /// Whether the number is in the set.
+    pub fn has(&self, at: usize) -> bool
+        requires { at < length self.now }
+        ensures { result ≡ slice_index_or self.now at false }
+    {
+        has_bit(self.words[at / 64], (at % 64) as u32)
+    }
+
+    /// Adds a number.
+    pub fn insert(&mut self, at: usize)
+        requires { at < length self.old }
+        ensures { self.new ≡ slice_set self.old at true }
+    {
+        let word = &mut self.words[at / 64];
+        *word = with_bit(*word, (at % 64) as u32);
+    }
+
+    /// Takes a number away.
+    pub fn remove(&mut self, at: usize)
+        requires { at < length self.old }
+        ensures { self.new ≡ slice_set self.old at false }
+    {
+        let word = &mut self.words[at / 64];
+        *word = without_bit(*word, (at % 64) as u32);
+    }
+
+    /// Adds a number or takes it away.
+    pub fn put(&mut self, at: usize, member: bool)
+        requires { at < length self.old }
+        ensures { self.new ≡ slice_set self.old at member }
+    {
+        if member {
+            self.insert(at)
+        } else {
+            self.remove(at)
+        }
+    }
+
+    /// Takes all numbers away.
+    pub fn clear(&mut self)
+        ensures { self.new ≡ replicate (length self.old) false }
+    {
+        self.words.fill(0);
+    }
+
+    /// Makes this set equal to one of the same room.
+    pub fn copy_from(&mut self, other: &BitSet)
+        requires { length self.old ≡ length other.now }
+        ensures { self.new ≡ other.now }
+    {
+        self.words.copy_from_slice(&other.words);
+    }
+
+    /// Whether two sets are equal, room included.
+    pub fn same(&self, other: &BitSet) -> bool
+        ensures { IsTrue result ↔ (self.now ≡ other.now) }
+    {
+        self.words == other.words
+    }
+
+    /// The lowest number of the set from `from` on and below `end`.
+    pub fn next(&self, from: usize, end: usize) -> Option<usize>
+        requires { end ≤ length self.now }
+        ensures found { IfSome result (λ at. IsNext self.now from end at) }
+        ensures none { IfNone result (NoneMarked self.now from end) }
+    {
+        next_in(&self.words, from, end)
+    }
+}
+
+/// The lowest bit of the words from `from` on and below `end` that is one.
+fn next_in(words: &[u64], from: usize, end: usize) -> Option<usize>
+    requires { end ≤ 64 * length words.now }
+    ensures found { IfSome result (λ at. IsNext (bits_of words.now) from end at) }
+    ensures none { IfNone result (NoneMarked (bits_of words.now) from end) }
+{
+    if end <= from {
+        return None;
+    }
+    let first = from / 64;
+    if let Some(bit) = lowest_from(words[first], (from % 64) as u32) {
+        return below(first * 64 + bit as usize, end);
+    }
+    'words: for at in first + 1..end.div_ceil(64) {
+        if let Some(bit) = lowest_from(words[at], 0) {
+            return below(at * 64 + bit as usize, end);
+        }
+    }
+    None
+}
+
+/// The number, where it is below `end`.
+fn below(at: usize, end: usize) -> Option<usize>
+    ensures { result ≡ (if nat_lt at end then Some at else None) }
+{
+    if at < end { Some(at) } else { None }
+}
+
+#[cfg(test)]
+mod tests {
+    use super::*;
+    use std::test::Fail;
+
+    #[test]
+    fn adds_finds_and_takes_away(rt: HostRuntime) -> Result<(), Fail> {
+        let mut set = BitSet::open(rt.alloc(), 3)?;
+        let mut other = BitSet::open(rt.alloc(), 3)?;
+        set.insert(5);
+        set.insert(64);
+        set.insert(191);
+        assert_eq!(rt; set.next(6, 192), Some(64));
+        assert_eq!(rt; set.next(65, 191), None);
+        assert_eq!(rt; set.next(65, 192), Some(191));
+        assert!(rt; !set.same(&other));
+        other.copy_from(&set);
+        assert!(rt; set.same(&other) && other.has(191));
+        other.put(191, false);
+        other.put(7, true);
+        assert_eq!(rt; other.next(6, 64), Some(7));
+        assert!(rt; !other.has(191) && other.has(5));
+        other.clear();
+        assert_eq!(rt; other.next(0, 192), None);
+        Ok(())
+    }
+}

@@ -1,0 +1,44 @@
+//! One word of 64 bits.
+
+ghost use Rattle.std.specs.Prelude.{◌≡◌, ◌≢◌, ℕ, ◌<◌, ◌≤◌, true, false, IfSome, IfNone};
+ghost use Rattle.bit_set.specs.Bits.{bit, IsLowestBit};
+
+/// Whether bit `at` of the word is one.
+pub fn has_bit(word: u64, at: u32) -> bool
+    requires { at < 64 }
+    ensures { result ≡ bit word at }
+{
+    word & (1 << at) != 0
+}
+
+/// The word with bit `at` set to one.
+pub fn with_bit(word: u64, at: u32) -> u64
+    requires { at < 64 }
+    ensures set { bit result at ≡ true }
+    ensures others { (i : ℕ) → i < 64 → i ≢ at → bit result i ≡ bit word i }
+{
+    word | (1 << at)
+}
+
+/// The word with bit `at` set to zero.
+pub fn without_bit(word: u64, at: u32) -> u64
+    requires { at < 64 }
+    ensures cleared { bit result at ≡ false }
+    ensures others { (i : ℕ) → i < 64 → i ≢ at → bit result i ≡ bit word i }
+{
+    word & !(1 << at)
+}
+
+/// The lowest bit from `from` on that is one.
+pub fn lowest_from(word: u64, from: u32) -> Option<u32>
+    requires { from < 64 }
+    ensures found { IfSome result (λ at. IsLowestBit word from at) }
+    ensures none { IfNone result ((i : ℕ) → from ≤ i → i < 64 → bit word i ≡ false) }
+{
+    let high = word & (u64::MAX << from);
+    if high == 0 {
+        None
+    } else {
+        Some(high.trailing_zeros())
+    }
+}

@@ -1,0 +1,4 @@
+pub mod Against
+pub mod Kept
+pub mod Seen
+pub mod Calls

@@ -1,0 +1,16 @@
+//! The footprint of an attempt: the lines that it fetched, the lines that it stored and the blocks
+//! that it stored, within their limits. The fetch and store footprints are those of the
+//! transactional-execution facility (z/Architecture Principles of Operation, SA22-7832); the limits are
+//! this project's.
+#![tactic(auto)]
+
+mod footprint;
+mod laws;
+mod places;
+
+pub use footprint::{BLOCKS, Footprint, MOST_BLOCKS, MOST_LINES, NoMemory, Overflow};
+pub use laws::{adds_in_turn, counts_a_line_once, has_the_places_of_its_addresses};
+pub use places::{BLOCK_SIZE, LINE_SIZE, STORAGE_SIZE};
+
+#[cfg(test)]
+mod tests;

@@ -1,0 +1,77 @@
+ghost use Rattle.std.specs.Prelude.{◌+◌, ◌≤◌, All};
+ghost use Rattle.tx_footprint.specs.Places.{IsInStorage};
+
+use crate::{Footprint, Overflow, STORAGE_SIZE};
+use std::test::Fail;
+use z_regs::{Range, Touches};
+
+/// One range of a doubleword.
+fn doubleword(first: u64, store: bool) -> Touches
+    requires { first + 8 ≤ STORAGE_SIZE }
+    ensures { All IsInStorage result }
+{
+    let mut touches = Touches::none();
+    touches.add(Range {
+        first,
+        length: 8,
+        store,
+    });
+    touches
+}
+
+/// Adds one range where it fits.
+fn take(footprint: &mut Footprint, first: u64, store: bool) -> Result<(), Overflow>
+    requires { first + 8 ≤ STORAGE_SIZE }
+{
+    let touches = doubleword(first, store);
+    footprint.fits(&touches)?;
+    footprint.add(&touches);
+    Ok(())
+}
+
+#[test]
+fn counts_a_line_once(rt: HostRuntime) -> Result<(), Fail> {
+    let mut footprint = Footprint::open(rt.alloc())?;
+    let mut other = Footprint::open(rt.alloc())?;
+    take(&mut footprint, 0x9000, false)?;
+    take(&mut footprint, 0x9080, true)?;
+    assert_eq!(rt; footprint.lines(), 1);
+    assert_eq!(rt; footprint.blocks(), 1);
+    assert!(rt; footprint.fetched(144) && footprint.stored(144) && !footprint.stored(145));
+    take(&mut footprint, 0x90fc, true)?;
+    assert_eq!(rt; footprint.lines(), 2);
+    assert_eq!(rt; footprint.blocks(), 2);
+    assert!(rt; !footprint.same(&other));
+    other.copy_from(&footprint);
+    assert!(rt; footprint.same(&other));
+    other.clear();
+    assert_eq!(rt; other.lines(), 0);
+    Ok(())
+}
+
+#[test]
+fn keeps_its_limits(rt: HostRuntime) -> Result<(), Fail> {
+    let mut footprint = Footprint::open(rt.alloc())?;
+    for line in 0..384u64 {
+        take(&mut footprint, line * 256, false)?;
+    }
+    assert_eq!(rt;
+        take(&mut footprint, 384 * 256, false),
+        Err(Overflow::Fetch)
+    );
+    assert_eq!(rt; take(&mut footprint, 383 * 256, true), Ok(()));
+    footprint.clear();
+    for block in 0..64u64 {
+        take(&mut footprint, block * 128, true)?;
+    }
+    assert_eq!(rt; take(&mut footprint, 64 * 128, true), Err(Overflow::Store));
+    assert_eq!(rt; take(&mut footprint, 64 * 128, false), Ok(()));
+    Ok(())
+}
+
+#[test]
+fn has_laws() {
+    crate::has_the_places_of_its_addresses();
+    crate::counts_a_line_once();
+    crate::adds_in_turn();
+}
