@@ -6,6 +6,7 @@ mod instruction;
 mod machine;
 mod report;
 mod run;
+mod shown;
 mod texts;
 mod top;
 

@@ -55,7 +55,7 @@ fn answer(alloc: Global, bytes: &[u8]) -> Result<Option<(String, u8)>, AllocErro
         return Ok(None);
     };
     let machine = run(alloc, form.instructions.as_slice(), form.turns)?;
-    let text = report(alloc, &machine)?;
+    let text = report(alloc, &machine, form.shown)?;
     Ok(Some((text, status(&machine))))
 }
 
