@@ -11,3 +11,4 @@ pub mod Addresses
 pub mod Steps
 pub mod Reports
 pub mod Inputs
+pub mod Forms

@@ -239,17 +239,17 @@ same_program live now m n (i ∷ []) (j ∷ []) a b p q same =
     record { instructions = ap (λ (k : Instruction). k ∷ []) equal; behind = cut.behind }
 same_program live now m n (i ∷ []) (j ∷ k ∷ js) a b p q same =
     let cut = same_cut 10 (line_of i) (line_of j) a (following_text (k ∷ js) b) (lacks_line i (first_in_range live m i [] p))
-        (lacks_line j (first_in_range now n j (k ∷ js) q)) same in
+    (lacks_line j (first_in_range now n j (k ∷ js) q)) same in
     let equal = line_injective i j (first_in_range live m i [] p) (first_in_range now n j (k ∷ js) q) cut.front in
     absurd (not_both (is_call j) (sym (ap is_call equal) ∙ alone_is_call live m i p) (not_alone_is_plain now n j k js q))
 same_program live now m n (i ∷ k ∷ is) (j ∷ []) a b p q same =
     let cut = same_cut 10 (line_of i) (line_of j) (following_text (k ∷ is) a) b (lacks_line i (first_in_range live m i (k ∷ is) p))
-        (lacks_line j (first_in_range now n j [] q)) same in
+    (lacks_line j (first_in_range now n j [] q)) same in
     let equal = line_injective i j (first_in_range live m i (k ∷ is) p) (first_in_range now n j [] q) cut.front in
     absurd (not_both (is_call i) (ap is_call equal ∙ alone_is_call now n j q) (not_alone_is_plain live m i k is p))
 same_program live now m n (i ∷ k ∷ is) (j ∷ l ∷ js) a b p q same =
     let cut = same_cut 10 (line_of i) (line_of j) (following_text (k ∷ is) a) (following_text (l ∷ js) b) (lacks_line i (first_in_range live m i (k ∷ is) p))
-        (lacks_line j (first_in_range now n j (l ∷ js) q)) same in
+    (lacks_line j (first_in_range now n j (l ∷ js) q)) same in
     let equal = line_injective i j (first_in_range live m i (k ∷ is) p) (first_in_range now n j (l ∷ js) q) cut.front in
     let behind : program_text (k ∷ is) a ≡ program_text (l ∷ js) b = same_rest (program_text (k ∷ is) a) (program_text (l ∷ js) b) cut.behind in
     let left = tail_program live m i (k ∷ is) (wider live m (i ∷ k ∷ is) p) (not_alone_is_plain live m i k is p) in

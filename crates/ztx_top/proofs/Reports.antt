@@ -52,10 +52,10 @@ unfolding report_of
 report_shown f limits events p shows =
     let s = meaning (image_of f) limits events in
     same_parts (status_of_one p.cpu) (status_of (image_of f) s) (cpu_text 0 p.cpu p.turns p.completed (commits_of 0 p.history)) (cpus_text (image_of f) s 0 (image_of f).cpus)
-        (shown_text f.shown p.shared) (shown_text f.shown (flat_of (image_of f) s.history).storage)
-        (history_text p.history) (history_text s.history) (schedule_text p.events) (schedule_text s.events)
-        (status_shown f limits events p shows) (cpus_shown f limits events p shows) (bytes_shown f limits events p shows)
-        (ap history_text shows.history_is) (ap schedule_text shows.events_are)
+    (shown_text f.shown p.shared) (shown_text f.shown (flat_of (image_of f) s.history).storage)
+    (history_text p.history) (history_text s.history) (schedule_text p.events) (schedule_text s.events)
+    (status_shown f limits events p shows) (cpus_shown f limits events p shows) (bytes_shown f limits events p shows)
+    (ap history_text shows.history_is) (ap schedule_text shows.events_are)
 
 legal_shown : (f : FirstForm) (limits : Limits) (events : List Event) (p : Parts) → Shows (image_of f) limits events p
     → IsLegal (image_of f) (meaning (image_of f) limits events).history

@@ -236,14 +236,14 @@ holds_after image p i base replayed runs base_runs running found comes =
     let base_is = base_running image p base runs base_runs running in
     by_bool (nat_lt 0 p.completed)
     (λ live. by_bool (live_after (nat_lt 0 p.completed) i)
-      (λ stays. live_holds image p i base replayed runs base_is found (may_run_inside p.completed i live comes) stays)
-      (λ over. commit_holds image p i base replayed runs base_is found (may_run_inside p.completed i live comes) over live
-        (closes i (ap (λ l. live_after l i) (sym live) ∙ over))))
+    (λ stays. live_holds image p i base replayed runs base_is found (may_run_inside p.completed i live comes) stays)
+    (λ over. commit_holds image p i base replayed runs base_is found (may_run_inside p.completed i live comes) over live
+    (closes i (ap (λ l. live_after l i) (sym live) ∙ over))))
     (λ none. by_bool (live_after (nat_lt 0 p.completed) i)
-      (λ stays. live_holds image p i base replayed runs base_is found
-        (ap (λ n. may_run n i) (zero_test p.completed none) ∙ opens i (ap (λ l. live_after l i) (sym none) ∙ stays)) stays)
-      (λ over. step_holds image p i base replayed (sees_shared image p base runs (zero_test p.completed none)) running found over none
-        (stays_outside i (ap (λ l. may_come l i) (sym none) ∙ comes) (ap (λ l. live_after l i) (sym none) ∙ over))))
+    (λ stays. live_holds image p i base replayed runs base_is found
+    (ap (λ n. may_run n i) (zero_test p.completed none) ∙ opens i (ap (λ l. live_after l i) (sym none) ∙ stays)) stays)
+    (λ over. step_holds image p i base replayed (sees_shared image p base runs (zero_test p.completed none)) running found over none
+    (stays_outside i (ap (λ l. may_come l i) (sym none) ∙ comes) (ap (λ l. live_after l i) (sym none) ∙ over))))
 
 pub counted_turn : (image : Image) (limits : Limits) (events : List Event) (p : Parts) (i : Instruction) → Shows image limits events p
     → is_running p.cpu.state ≡ true → p.turns ≢ limits.turns → instruction_at image.program p.cpu.address ≡ Some i

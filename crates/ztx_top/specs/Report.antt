@@ -157,7 +157,7 @@ status_of image s = if all_finished image s 0 image.cpus then 0 else 6
 abbrev pub text_of_state : Image → State → List ℕ
 text_of_state image s =
     report_text (status_of image s) (cpus_text image s 0 image.cpus) (shown_text image.shown (flat_of image s.history).storage)
-        (history_text s.history) (schedule_text s.events)
+    (history_text s.history) (schedule_text s.events)
 
 -- the report of the state after the events
 unfoldable pub report_of : Image → Limits → List Event → List ℕ
@@ -171,4 +171,4 @@ status_of_one c = if is_finished c then 0 else 6
 abbrev pub text_of_one : Option Shown → Parts → List ℕ
 text_of_one shown p =
     report_text (status_of_one p.cpu) (cpu_text 0 p.cpu p.turns p.completed (commits_of 0 p.history)) (shown_text shown p.shared)
-        (history_text p.history) (schedule_text p.events)
+    (history_text p.history) (schedule_text p.events)

@@ -6,8 +6,8 @@ ghost use Rattle.ztx_top.specs.Form.{FirstForm, IsFirstForm, IsProgram, IsShown,
 ghost use Rattle.ztx_top.specs.declared.shown.Shown.{Shown};
 
 use crate::instruction::Instruction;
-use crate::texts::{cut_at, hexadecimal, number, strip};
 use crate::shown::Shown;
+use crate::texts::{cut_at, hexadecimal, number, strip};
 use std::alloc::{AllocError, Global};
 use std::marker::Model;
 

@@ -84,7 +84,9 @@ impl Instruction {
         ensures { result ≡ length_of self }
     {
         match self {
-            Instruction::LoadHalfwordImmediate { .. } | Instruction::Add { .. } | Instruction::End => 4,
+            Instruction::LoadHalfwordImmediate { .. }
+            | Instruction::Add { .. }
+            | Instruction::End => 4,
             Instruction::Load { .. } | Instruction::Store { .. } | Instruction::Begin { .. } => 6,
             Instruction::SupervisorCall => 2,
         }

@@ -3,6 +3,7 @@
 
 mod form;
 mod instruction;
+pub mod laws;
 mod machine;
 mod report;
 mod run;

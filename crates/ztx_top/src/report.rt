@@ -170,7 +170,10 @@ fn add_schedule(text: &mut String, events: &[Event]) -> Result<(), AllocError>
 fn commits(history: &[Entry]) -> usize
     ensures { result ≡ commits_of 0 history.now }
 {
-    history.iter().filter(|entry| matches!(entry, Entry::Commit(0, _))).count()
+    history
+        .iter()
+        .filter(|entry| matches!(entry, Entry::Commit(0, _)))
+        .count()
 }
 
 /// Adds the line of the live transaction.
@@ -187,7 +190,10 @@ fn add_transaction(text: &mut String, completed: u32) -> Result<(), AllocError>
 fn add_counts(text: &mut String, turns: u32, commits: usize) -> Result<(), AllocError>
     ensures { OnOk result (string_bytes text.new ≡ string_bytes text.old ++ counts_text turns commits) }
 {
-    write!(text, "PENDING NONE\nCOUNTS TURNS {turns} ASKED 0 REJECTED 0 COMMITS {commits} ABORTS 0\n")
+    write!(
+        text,
+        "PENDING NONE\nCOUNTS TURNS {turns} ASKED 0 REJECTED 0 COMMITS {commits} ABORTS 0\n"
+    )
 }
 
 /// Adds the lines of what the CPU has under way, and of its counts.
@@ -227,7 +233,12 @@ fn bytes_at(bytes: &[u8], row: usize) -> &[u8]
 }
 
 /// Adds a row of bytes behind its address.
-fn add_bytes_row(alloc: Global, text: &mut String, address: u32, bytes: &[u8]) -> Result<(), AllocError>
+fn add_bytes_row(
+    alloc: Global,
+    text: &mut String,
+    address: u32,
+    bytes: &[u8],
+) -> Result<(), AllocError>
     ensures { OnOk result (string_bytes text.new ≡ string_bytes text.old ++ bytes_row address bytes.now) }
 {
     let address = hex::encode(alloc, address.to_be_bytes())?;
@@ -241,13 +252,23 @@ fn add_bytes(alloc: Global, text: &mut String, first: u16, bytes: &[u8]) -> Resu
     ensures { OnOk result (string_bytes text.new ≡ string_bytes text.old ++ bytes_rows first bytes.now ((length bytes.now + 15) / 16)) }
 {
     for row in 0..bytes.len().div_ceil(ROW) {
-        add_bytes_row(alloc, text, u32::from(first) + 16 * row as u32, bytes_at(bytes, row))?;
+        add_bytes_row(
+            alloc,
+            text,
+            u32::from(first) + 16 * row as u32,
+            bytes_at(bytes, row),
+        )?;
     }
     Ok(())
 }
 
 /// Adds the bytes of shared storage that are shown.
-fn add_shown(alloc: Global, text: &mut String, shown: Option<Shown>, shared: &Storage) -> Result<(), AllocError>
+fn add_shown(
+    alloc: Global,
+    text: &mut String,
+    shown: Option<Shown>,
+    shared: &Storage,
+) -> Result<(), AllocError>
     requires { IfSome shown IsShown }
     ensures { OnOk result (string_bytes text.new ≡ string_bytes text.old ++ shown_text shown shared.now) }
 {

@@ -74,7 +74,11 @@ fn step(alloc: Global, machine: &mut Machine, instruction: Instruction) -> Resul
 }
 
 /// One turn of the CPU: its next instruction, or nothing where it is finished or has had all its turns.
-fn turn(alloc: Global, machine: &mut Machine, instructions: &[Instruction]) -> Result<(), AllocError>
+fn turn(
+    alloc: Global,
+    machine: &mut Machine,
+    instructions: &[Instruction],
+) -> Result<(), AllocError>
     requires program { IsProgram false 16 instructions.now }
     requires before { IsBefore instructions.now machine.old.next machine.old.completed (cpu_of machine.old.cpu) }
     ensures before { OnOk result (IsBefore instructions.now machine.new.next machine.new.completed (cpu_of machine.new.cpu)) }

@@ -88,6 +88,9 @@ fn run_listing<S: Source, K: Sink>(alloc: Global, source: &mut S, sink: &mut K) 
 ///
 /// The words are those of the command line, without the program's name. Everything is written to the sink.
 ///
+/// A first form is a listing for one CPU: 1 to 16 instructions `LGHI`, `AGR`, `LG`, `STG`, `TBEGIN`, `TEND` and, as the last one,
+/// `SVC 0`; a schedule of 1 to 1000 turns; and perhaps a line that shows 1 to 256 bytes of storage. No text is two first forms.
+///
 /// | Status | Comes | Written |
 /// |---|---|---|
 /// | 0 | the words are the one word `run`, the input is a first form, and every CPU is finished at the end of its schedule | the report |

@@ -14,13 +14,13 @@ returns-in_default-clause-none c = λ is end program text.
 pub returns-in_default-instruction-clause-none : goal.returns-in_default-instruction-clause-none
 returns-in_default-instruction-clause-none c = λ is end program text.
     no_instruction _ _ c.lines.rest.now end c.in-Some.line.now c.in-Some.after.now (c.lines.invariant.leaves is end program text)
-        c.in-Some.ensures.some c.in-Some.ensures.first c.in_default-instruction.ensures.none
+    c.in-Some.ensures.some c.in-Some.ensures.first c.in_default-instruction.ensures.none
 
 pub returns-then-not-may_come-clause-none : goal.returns-then-not-may_come-clause-none
 returns-then-not-may_come-clause-none c = λ is end program text.
     let read = c.in-Some-instruction.read in
     let first = is_first _ _ c.lines.rest.now end c.in-Some.line.now c.in-Some.after.now read (c.lines.invariant.leaves is end program text)
-        c.in-Some.ensures.some c.in-Some.ensures.first c.in-Some-instruction.ensures.some c.in-Some-instruction.ensures.within in
+    c.in-Some.ensures.some c.in-Some.ensures.first c.in-Some-instruction.ensures.some c.in-Some-instruction.ensures.within in
     let fails : may_come c.lines.live read ≡ false = search rules in
     not_both (may_come c.lines.live read) first.comes fails
 
@@ -32,7 +32,7 @@ returns-then-is_call-clause-within c =
     let comes : may_come c.lines.live read ≡ true = search rules in
     let grown : c.push.new.self.items ≡ c.lines.instructions.items ++ read ∷ [] = search rules in
     subst (IsProgram false 16) (sym grown)
-        (program_ends c.lines.live c.lines.instructions.items read c.lines.invariant.in_range c.lines.invariant.behind few c.in-Some-instruction.ensures.within comes call)
+    (program_ends c.lines.live c.lines.instructions.items read c.lines.invariant.in_range c.lines.invariant.behind few c.in-Some-instruction.ensures.within comes call)
 
 pub returns-in_default-strip-clause-none : goal.returns-in_default-strip-clause-none
 returns-in_default-strip-clause-none c = λ is end program text.
@@ -42,7 +42,7 @@ returns-in_default-strip-clause-none c = λ is end program text.
     subst (λ (n : ℕ). Remains c.lines.live n c.lines.rest.now end) (omega arith) (c.lines.invariant.leaves is end program text) in
     let plain : is_call read ≡ false = search rules in
     let first = is_first c.lines.live (most + 1) c.lines.rest.now end c.in-Some.line.now c.in-Some.after.now read left
-        c.in-Some.ensures.some c.in-Some.ensures.first c.in-Some-instruction.ensures.some c.in-Some-instruction.ensures.within in
+    c.in-Some.ensures.some c.in-Some.ensures.first c.in-Some-instruction.ensures.some c.in-Some-instruction.ensures.within in
     no_blank _ most c.in-Some.after.now end (follows c.lines.live most read c.in-Some.after.now end first plain) c.in_default-strip.ensures
 
 pub lines-preserved : goal.lines-preserved
@@ -64,9 +64,9 @@ lines-preserved c =
           let left : Remains c.lines.live (most + 1) c.lines.rest.now end =
           subst (λ (n : ℕ). Remains c.lines.live n c.lines.rest.now end) (omega arith) (c.lines.invariant.leaves is end program text) in
           let first = is_first c.lines.live (most + 1) c.lines.rest.now end c.in-Some.line.now c.in-Some.after.now read left
-              c.in-Some.ensures.some c.in-Some.ensures.first c.in-Some-instruction.ensures.some c.in-Some-instruction.ensures.within in
+          c.in-Some.ensures.some c.in-Some.ensures.first c.in-Some-instruction.ensures.some c.in-Some-instruction.ensures.within in
           let next = rest_follows _ most c.in-Some.after.now end c.in-Some-strip.next.now
-              (follows c.lines.live most read c.in-Some.after.now end first plain) c.in-Some-strip.ensures in
+          (follows c.lines.live most read c.in-Some.after.now end first plain) c.in-Some-strip.ensures in
           let count : most ≡ 16 - vec_len c.push.new.self = search rules in
           let shorter = subst (λ (n : ℕ). Remains (live_after c.lines.live read) n c.in-Some-strip.next.now end) count next in
           subst (λ (l : Bool). Remains l (16 - vec_len c.push.new.self) c.in-Some-strip.next.now end) (sym now) shorter;

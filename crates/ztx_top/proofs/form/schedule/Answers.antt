@@ -16,14 +16,14 @@ pub returns-in_default-number-clause-none : goal.returns-in_default-number-claus
 returns-in_default-number-clause-none c = λ turns s some few shown is.
     let rest = append_cancel_left (codes " SCHED 0*") c.in-Some.rest.now (decimal turns ++ 10 ∷ end_text s) (sym c.in-Some.ensures ∙ is) in
     let line = same_number_line c.in-Some.rest.now c.in-Some-cut_at.digits.now c.in-Some-cut_at.end.now (end_text s) turns few rest
-        c.in-Some-cut_at.ensures.some c.in-Some-cut_at.ensures.first in
+    c.in-Some-cut_at.ensures.some c.in-Some-cut_at.ensures.first in
     c.in_default-number.ensures.none turns few line.number
 
 pub returns-then-turns-eq0-clause-none : goal.returns-then-turns-eq0-clause-none
 returns-then-turns-eq0-clause-none c = λ turns s some few shown is.
     let rest = append_cancel_left (codes " SCHED 0*") c.in-Some.rest.now (decimal turns ++ 10 ∷ end_text s) (sym c.in-Some.ensures ∙ is) in
     let line = same_number_line c.in-Some.rest.now c.in-Some-cut_at.digits.now c.in-Some-cut_at.end.now (end_text s) turns few rest
-        c.in-Some-cut_at.ensures.some c.in-Some-cut_at.ensures.first in
+    c.in-Some-cut_at.ensures.some c.in-Some-cut_at.ensures.first in
     let zero_is : c.in-Some-cut_at.digits.now ≡ decimal 0 = c.in-Some-number.ensures.some ∙ ap decimal (search rules) in
     not_zero c.in-Some-cut_at.digits.now turns zero_is line.number some few
 
@@ -31,5 +31,5 @@ pub returns-in_default-ending-clause-none : goal.returns-in_default-ending-claus
 returns-in_default-ending-clause-none c = λ turns s some few shown is.
     let rest = append_cancel_left (codes " SCHED 0*") c.in-Some.rest.now (decimal turns ++ 10 ∷ end_text s) (sym c.in-Some.ensures ∙ is) in
     let line = same_number_line c.in-Some.rest.now c.in-Some-cut_at.digits.now c.in-Some-cut_at.end.now (end_text s) turns few rest
-        c.in-Some-cut_at.ensures.some c.in-Some-cut_at.ensures.first in
+    c.in-Some-cut_at.ensures.some c.in-Some-cut_at.ensures.first in
     c.in_default-ending.ensures.none s shown line.end_is

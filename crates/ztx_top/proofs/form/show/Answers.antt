@@ -15,29 +15,29 @@ returns-in_default-clause-none c = λ s shown is.
 pub returns-in_default-hexadecimal-clause-none : goal.returns-in_default-hexadecimal-clause-none
 returns-in_default-hexadecimal-clause-none c = λ s shown is.
     let part = same_hex_part c.args.text.now c.in-Some.first.now c.in-Some.rest.now (decimal s.length ++ 10 ∷ codes " END\n") s.first is
-        c.in-Some.ensures.some c.in-Some.ensures.first in
+    c.in-Some.ensures.some c.in-Some.ensures.first in
     c.in_default-hexadecimal.ensures.none s.first (address_small s.first shown.first) part.halfword
 
 pub returns-in_default-cut_at-clause-none : goal.returns-in_default-cut_at-clause-none
 returns-in_default-cut_at-clause-none c = λ s shown is.
     let part = same_hex_part c.args.text.now c.in-Some.first.now c.in-Some.rest.now (decimal s.length ++ 10 ∷ codes " END\n") s.first is
-        c.in-Some.ensures.some c.in-Some.ensures.first in
+    c.in-Some.ensures.some c.in-Some.ensures.first in
     let none = rw part.rest_is at c.in_default-cut_at.ensures.none in
     lacks_not_there 10 (decimal s.length) (codes " END\n") none
 
 pub returns-in_default-number-clause-none : goal.returns-in_default-number-clause-none
 returns-in_default-number-clause-none c = λ s shown is.
     let part = same_hex_part c.args.text.now c.in-Some.first.now c.in-Some.rest.now (decimal s.length ++ 10 ∷ codes " END\n") s.first is
-        c.in-Some.ensures.some c.in-Some.ensures.first in
+    c.in-Some.ensures.some c.in-Some.ensures.first in
     let few : s.length ≤ 1000 = omega (arith, shown.most) in
     let line = same_number_line c.in-Some.rest.now c.in-Some-cut_at.digits.now c.in-Some-cut_at.end.now (codes " END\n") s.length few
-        part.rest_is c.in-Some-cut_at.ensures.some c.in-Some-cut_at.ensures.first in
+    part.rest_is c.in-Some-cut_at.ensures.some c.in-Some-cut_at.ensures.first in
     c.in_default-number.ensures.none s.length shown.most line.number
 
 pub returns-then-not-is_data_address-clause-none : goal.returns-then-not-is_data_address-clause-none
 returns-then-not-is_data_address-clause-none c = λ s shown is.
     let part = same_hex_part c.args.text.now c.in-Some.first.now c.in-Some.rest.now (decimal s.length ++ 10 ∷ codes " END\n") s.first is
-        c.in-Some.ensures.some c.in-Some.ensures.first in
+    c.in-Some.ensures.some c.in-Some.ensures.first in
     let small : c.in-Some-hexadecimal.first < 65536 = search rules in
     let same : c.in-Some-hexadecimal.first ≡ s.first =
     hex_injective c.in-Some-hexadecimal.first s.first small (address_small s.first shown.first) (sym c.in-Some-hexadecimal.ensures.some ∙ part.halfword) in
@@ -47,18 +47,18 @@ returns-then-not-is_data_address-clause-none c = λ s shown is.
 pub returns-then-length-eq0-clause-none : goal.returns-then-length-eq0-clause-none
 returns-then-length-eq0-clause-none c = λ s shown is.
     let part = same_hex_part c.args.text.now c.in-Some.first.now c.in-Some.rest.now (decimal s.length ++ 10 ∷ codes " END\n") s.first is
-        c.in-Some.ensures.some c.in-Some.ensures.first in
+    c.in-Some.ensures.some c.in-Some.ensures.first in
     let few : s.length ≤ 1000 = omega (arith, shown.most) in
     let line = same_number_line c.in-Some.rest.now c.in-Some-cut_at.digits.now c.in-Some-cut_at.end.now (codes " END\n") s.length few
-        part.rest_is c.in-Some-cut_at.ensures.some c.in-Some-cut_at.ensures.first in
+    part.rest_is c.in-Some-cut_at.ensures.some c.in-Some-cut_at.ensures.first in
     let zero_is : c.in-Some-cut_at.digits.now ≡ decimal 0 = c.in-Some-number.ensures.some ∙ ap decimal (search rules) in
     not_zero c.in-Some-cut_at.digits.now s.length zero_is line.number shown.some few
 
 pub returns-then-ne-clause-none : goal.returns-then-ne-clause-none
 returns-then-ne-clause-none c = λ s shown is.
     let part = same_hex_part c.args.text.now c.in-Some.first.now c.in-Some.rest.now (decimal s.length ++ 10 ∷ codes " END\n") s.first is
-        c.in-Some.ensures.some c.in-Some.ensures.first in
+    c.in-Some.ensures.some c.in-Some.ensures.first in
     let few : s.length ≤ 1000 = omega (arith, shown.most) in
     let line = same_number_line c.in-Some.rest.now c.in-Some-cut_at.digits.now c.in-Some-cut_at.end.now (codes " END\n") s.length few
-        part.rest_is c.in-Some-cut_at.ensures.some c.in-Some-cut_at.ensures.first in
+    part.rest_is c.in-Some-cut_at.ensures.some c.in-Some-cut_at.ensures.first in
     search (rules, line.end_is)

@@ -22,20 +22,20 @@ pub returns-clause-before : goal.returns-clause-before
 returns-clause-before c =
     let running : is_running c.args.machine.now.cpu.state ≡ true = running_is c.args.machine.now.cpu.state (search rules) in
     stands_next c.args.instructions.now c.args.machine.now.next (LoadHalfwordImmediate 0 0) c.args.machine.now.completed (cpu_of c.args.machine.now.cpu) _
-        c.step.new.machine.next c.step.new.machine.completed (cpu_of c.step.new.machine.cpu) c.requires.program.few (c.requires.before running)
-        c.in_ok-step.ensures.next c.in_ok-step.ensures.completed c.in_ok-step.ensures.cpu
+    c.step.new.machine.next c.step.new.machine.completed (cpu_of c.step.new.machine.cpu) c.requires.program.few (c.requires.before running)
+    c.in_ok-step.ensures.next c.in_ok-step.ensures.completed c.in_ok-step.ensures.cpu
 
 pub returns-clause-shows : goal.returns-clause-shows
 returns-clause-shows c = λ turns shown events shows.
     let running : is_running c.args.machine.now.cpu.state ≡ true = running_is c.args.machine.now.cpu.state (search rules) in
     stepped_shows c.args.instructions.now turns shown events (parts_of c.args.machine.now) (parts_of c.step.new.machine) c.args.machine.now.next (LoadHalfwordImmediate 0 0)
-        shows running (search rules) (c.requires.before running)
-        (record {
-          history = c.in_ok-step.ensures.history;
-          events = c.in_ok-step.ensures.events;
-          turns = c.in_ok-step.ensures.turns;
-          completed = c.in_ok-step.ensures.completed;
-          cpu = c.in_ok-step.ensures.cpu;
-          own = c.in_ok-step.ensures.own;
-          shared = c.in_ok-step.ensures.shared;
-        })
+    shows running (search rules) (c.requires.before running)
+    (record {
+      history = c.in_ok-step.ensures.history;
+      events = c.in_ok-step.ensures.events;
+      turns = c.in_ok-step.ensures.turns;
+      completed = c.in_ok-step.ensures.completed;
+      cpu = c.in_ok-step.ensures.cpu;
+      own = c.in_ok-step.ensures.own;
+      shared = c.in_ok-step.ensures.shared;
+    })

@@ -17,7 +17,7 @@ returns-in-Ok-Some-clause-done g c = λ is.
     let report : IsReport c.in-Ok.bytes.items text c.in-Ok-Some.status = search rules in
     let told = rw c.as_bytes.ensures.value at c.tell-in-Ok-Some.ensures.done in
     wrote (g.S.Source.left c.args.source.now) (g.S.Source.left c.read_all.new.source) c.in-Ok.bytes.items text c.in-Ok-Some.status c.tell-in-Ok-Some.result 0 _ _
-        (search rules) report c.tell-in-Ok-Some.ensures.statuses told is (λ e. omega (arith, e)) (λ e. omega (arith, e))
+    (search rules) report c.tell-in-Ok-Some.ensures.statuses told is (λ e. omega (arith, e)) (λ e. omega (arith, e))
 
 pub returns-in-Ok-Some-clause-unfinished : goal.returns-in-Ok-Some-clause-unfinished
 returns-in-Ok-Some-clause-unfinished g c = λ is.
@@ -25,7 +25,7 @@ returns-in-Ok-Some-clause-unfinished g c = λ is.
     let report : IsReport c.in-Ok.bytes.items text c.in-Ok-Some.status = search rules in
     let told = rw c.as_bytes.ensures.value at c.tell-in-Ok-Some.ensures.done in
     wrote (g.S.Source.left c.args.source.now) (g.S.Source.left c.read_all.new.source) c.in-Ok.bytes.items text c.in-Ok-Some.status c.tell-in-Ok-Some.result 6 _ _
-        (search rules) report c.tell-in-Ok-Some.ensures.statuses told is (λ e. omega (arith, e)) (λ e. omega (arith, e))
+    (search rules) report c.tell-in-Ok-Some.ensures.statuses told is (λ e. omega (arith, e)) (λ e. omega (arith, e))
 
 pub returns-in-Ok-None-clause-form : goal.returns-in-Ok-None-clause-form
 returns-in-Ok-None-clause-form g c = λ is.
