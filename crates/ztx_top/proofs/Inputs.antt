@@ -1,5 +1,6 @@
 -- What a whole input, or one that is too long, says of the bytes that the source had left.
-use Rattle.std.proofs.Common.{◌≡◌, ◌∙◌, ℕ, ◌≤◌, ◌⊎◌, List, ◌++◌, length, Option, Some, None, IfSome, sym, ap, subst, arith, inl, inr, append-nil, zero, suc, refl}
+use Rattle.std.proofs.Common.{◌≡◌, ◌≢◌, ◌∙◌, ℕ, ◌≤◌, ◌⊎◌, List, ◌++◌, length, Option, Some, None, IfSome, sym, ap, subst, arith, inl, inr, append-nil, zero, suc, refl}
+use Rattle.std.specs.Io.KnownBytes.{Appends}
 use Rattle.std.proofs.lemmas.List.{length-append}
 use Rattle.ztx_io.specs.Faults.{Rose}
 use Rattle.ztx_io.specs.Reads.{PassesLimit, ReadsWhole}
@@ -18,6 +19,16 @@ whole_is None after bytes P whole fact = tt
 whole_is (Some input) None bytes P whole fact = absurd whole.1
 whole_is (Some input) (Some rest) bytes P whole fact =
     let all : input ≡ bytes = whole.1 ∙ ap (λ r. bytes ++ r) whole.2 ∙ append-nil bytes in subst P (sym all) fact
+
+-- the report was written whole, where the answer is its status
+pub wrote : (left after_read : Option (List ℕ)) (bytes text : List ℕ) (status answer k : ℕ) (held after : Option (List ℕ)) → ReadsWhole 16777216 left after_read bytes
+    → IsReport bytes text status → ((answer ≡ status) ⊎ ((answer ≡ 1) ⊎ (answer ≡ 3))) → (answer ≡ status → Appends held after text)
+    → answer ≡ k → (k ≢ 1) → (k ≢ 3) → IfSome left (λ input. WritesReport input k held after)
+wrote left after_read bytes text status answer k held after whole report (inl same) done is not_memory not_fault =
+    whole_is left after_read bytes (λ input. WritesReport input k held after) whole
+    (record { text = text; report = subst (IsReport bytes text) (sym same ∙ is) report; written = done same })
+wrote left after_read bytes text status answer k held after whole report (inr (inl memory)) done is not_memory not_fault = absurd (not_memory (sym is ∙ memory))
+wrote left after_read bytes text status answer k held after whole report (inr (inr fault)) done is not_memory not_fault = absurd (not_fault (sym is ∙ fault))
 
 pub cut_report : (left after_read : Option (List ℕ)) (bytes text : List ℕ) (status : ℕ) (held after : Option (List ℕ)) → ReadsWhole 16777216 left after_read bytes
     → IsReport bytes text status → AppendsPrefix held after text → IsCut left held after

@@ -1,74 +1,79 @@
 -- The report of the state, from what the machine of the code shows.
-use Rattle.std.proofs.Common.{◌≡◌, ℕ, List, [], ◌∷◌, true, false, Bool, sym, ap, ◌∙◌, refl, append-nil}
+use Rattle.std.proofs.Common.{◌≡◌, ℕ, List, [], ◌++◌, true, false, Bool, Option, sym, ap, ◌∙◌, refl, append-nil}
 use Rattle.std.specs.Prelude.{◌&&◌, if◌then◌else◌, replicate}
-use Rattle.std.specs.List.{list_all}
 use Rattle.z_regs.specs.Cpu.{Cpu}
 use Rattle.ztx_top.specs.declared.instruction.Instruction.{Instruction}
-use Rattle.ztx_top.specs.declared.machine.Entry.{Entry}
+use Rattle.ztx_top.specs.declared.shown.Shown.{Shown}
 use Rattle.ztx_top.specs.declared.machine.Event.{Event}
 use Rattle.ztx_top.specs.declared.machine.Event.TheVariants.{Turn}
 use Rattle.ztx_top.specs.declared.machine.Limits.{Limits}
 use Rattle.ztx_top.specs.Form.{FirstForm, IsFirstForm, text_of}
-use Rattle.ztx_top.specs.Image.{Image, image_of}
-use Rattle.ztx_top.specs.Serial.{replay, IsLegal}
-use Rattle.ztx_top.specs.Meaning.{meaning, flat_of, flat_or_start, is_finished, default_limits}
-use Rattle.ztx_top.specs.Shown.{Shows}
-use Rattle.ztx_top.specs.Report.{report_of, report_text, text_of_one, status_of, status_of_one, cpus_text, cpu_text, history_text, schedule_text}
+use Rattle.ztx_top.specs.Image.{image_of}
+use Rattle.ztx_top.specs.Serial.{Flat, Seen, replay, IsLegal}
+use Rattle.ztx_top.specs.Meaning.{meaning, flat_of, seen_of, is_finished, default_limits}
+use Rattle.ztx_top.specs.Shows.{Parts, Shows}
+use Rattle.ztx_top.specs.Report.{report_of, report_text, text_of_one, status_of, status_of_one, cpus_text, cpu_text, commits_of, shown_text, history_text, schedule_text}
 use Rattle.ztx_top.specs.Answers.{IsReport}
-
-flat_shown : (image : Image) (limits : Limits) (events : List Event) (history : List Entry) (recorded : List Event) (turns : ℕ) (c : Cpu)
-    → Shows image limits events history recorded turns c → (flat_of image (meaning image limits events).history).cpus ≡ c ∷ []
-flat_shown image limits events history recorded turns c shows =
-    ap (λ h. (flat_of image h).cpus) (sym shows.history_is) ∙ ap (λ o. (flat_or_start image o).cpus) shows.cpu_is
+use Rattle.ztx_top.proofs.Turns.{flat_shown, seen_shown}
 
 finished_alone : (b : Bool) → ◌≡◌ {A = ℕ} (if b && true then 0 else 6) (if b then 0 else 6)
 finished_alone true = refl
 finished_alone false = refl
 
-pub status_shown : (image : Image) (limits : Limits) (events : List Event) (history : List Entry) (recorded : List Event) (turns : ℕ) (c : Cpu)
-    → Shows image limits events history recorded turns c → status_of_one c ≡ status_of image (meaning image limits events).history
-status_shown image limits events history recorded turns c shows =
-    let flat = flat_shown image limits events history recorded turns c shows in
-    sym (finished_alone (is_finished c)) ∙ ap (λ (l : List Cpu). if list_all is_finished l then 0 else 6) (sym flat)
+status_shown : (f : FirstForm) (limits : Limits) (events : List Event) (p : Parts) → Shows (image_of f) limits events p
+    → status_of_one p.cpu ≡ status_of (image_of f) (meaning (image_of f) limits events)
+status_shown f limits events p shows =
+    sym (finished_alone (is_finished p.cpu)) ∙ ap (λ (d : Seen). if is_finished d.cpu && true then 0 else 6) (sym (seen_shown (image_of f) limits events p shows))
 
-cpus_shown : (image : Image) (limits : Limits) (events : List Event) (history : List Entry) (recorded : List Event) (turns : ℕ) (c : Cpu)
-    → Shows image limits events history recorded turns c
-    → cpu_text 0 c turns ≡ cpus_text (meaning image limits events) 0 (flat_of image (meaning image limits events).history).cpus
-cpus_shown image limits events history recorded turns c shows =
-    let flat = flat_shown image limits events history recorded turns c shows in
-    let s = meaning image limits events in
-    ap (cpu_text 0 c) shows.turns_are ∙ sym (append-nil (cpu_text 0 c (s.turns 0))) ∙ ap (cpus_text s 0) (sym flat)
+same_cpu : (c d : Cpu) (t u m n h k : ℕ) → c ≡ d → t ≡ u → m ≡ n → h ≡ k → cpu_text 0 c t m h ≡ cpu_text 0 d u n k ++ []
+same_cpu c d t u m n h k cpu turns completed commits =
+    ap (λ (e : Cpu). cpu_text 0 e t m h) cpu ∙ ap (λ x. cpu_text 0 d x m h) turns ∙ ap (λ x. cpu_text 0 d u x h) completed
+    ∙ ap (cpu_text 0 d u n) commits ∙ sym (append-nil (cpu_text 0 d u n k))
 
-same_parts : (m n : ℕ) (a b h i x y : List ℕ) → m ≡ n → a ≡ b → h ≡ i → x ≡ y → report_text m a h x ≡ report_text n b i y
-same_parts m n a b h i x y status cpus history schedule =
-    ap (λ k. report_text k a h x) status ∙ ap (λ l. report_text n l h x) cpus ∙ ap (λ l. report_text n b l x) history ∙ ap (report_text n b i) schedule
+cpus_shown : (f : FirstForm) (limits : Limits) (events : List Event) (p : Parts) → Shows (image_of f) limits events p
+    → cpu_text 0 p.cpu p.turns p.completed (commits_of 0 p.history) ≡ cpus_text (image_of f) (meaning (image_of f) limits events) 0 (image_of f).cpus
+cpus_shown f limits events p shows =
+    let s = meaning (image_of f) limits events in
+    same_cpu p.cpu (seen_of (image_of f) s 0).cpu p.turns (s.turns 0) p.completed (s.completed 0) (commits_of 0 p.history) (commits_of 0 s.history)
+    (ap (λ (d : Seen). d.cpu) (sym (seen_shown (image_of f) limits events p shows))) shows.turns_are shows.completed_is (ap (commits_of 0) shows.history_is)
 
-pub report_shown : (image : Image) (limits : Limits) (events : List Event) (history : List Entry) (recorded : List Event) (turns : ℕ) (c : Cpu)
-    → Shows image limits events history recorded turns c → text_of_one c turns history recorded ≡ report_of image limits events
+bytes_shown : (f : FirstForm) (limits : Limits) (events : List Event) (p : Parts) → Shows (image_of f) limits events p
+    → shown_text f.shown p.shared ≡ shown_text f.shown (flat_of (image_of f) (meaning (image_of f) limits events).history).storage
+bytes_shown f limits events p shows = ap (λ (g : Flat). shown_text f.shown g.storage) (sym (flat_shown (image_of f) limits events p shows))
+
+same_parts : (m n : ℕ) (a b c d h i x y : List ℕ) → m ≡ n → a ≡ b → c ≡ d → h ≡ i → x ≡ y → report_text m a c h x ≡ report_text n b d i y
+same_parts m n a b c d h i x y status cpus shown history schedule =
+    ap (λ k. report_text k a c h x) status ∙ ap (λ l. report_text n l c h x) cpus ∙ ap (λ l. report_text n b l h x) shown
+    ∙ ap (λ l. report_text n b d l x) history ∙ ap (report_text n b d i) schedule
+
+report_shown : (f : FirstForm) (limits : Limits) (events : List Event) (p : Parts) → Shows (image_of f) limits events p
+    → text_of_one f.shown p ≡ report_of (image_of f) limits events
 unfolding report_of
-report_shown image limits events history recorded turns c shows =
-    let s = meaning image limits events in
-    same_parts (status_of_one c) (status_of image s.history) (cpu_text 0 c turns) (cpus_text s 0 (flat_of image s.history).cpus)
-    (history_text history) (history_text s.history) (schedule_text recorded) (schedule_text s.events)
-    (status_shown image limits events history recorded turns c shows) (cpus_shown image limits events history recorded turns c shows)
+report_shown f limits events p shows =
+    let s = meaning (image_of f) limits events in
+    same_parts (status_of_one p.cpu) (status_of (image_of f) s) (cpu_text 0 p.cpu p.turns p.completed (commits_of 0 p.history)) (cpus_text (image_of f) s 0 (image_of f).cpus)
+    (shown_text f.shown p.shared) (shown_text f.shown (flat_of (image_of f) s.history).storage)
+    (history_text p.history) (history_text s.history) (schedule_text p.events) (schedule_text s.events)
+    (status_shown f limits events p shows) (cpus_shown f limits events p shows) (bytes_shown f limits events p shows)
     (ap history_text shows.history_is) (ap schedule_text shows.events_are)
 
-pub legal_shown : (image : Image) (limits : Limits) (events : List Event) (history : List Entry) (recorded : List Event) (turns : ℕ) (c : Cpu)
-    → Shows image limits events history recorded turns c → IsLegal image (meaning image limits events).history
-legal_shown image limits events history recorded turns c shows =
-    let is = ap (replay image) (sym shows.history_is) ∙ shows.cpu_is in rw is refl
+legal_shown : (f : FirstForm) (limits : Limits) (events : List Event) (p : Parts) → Shows (image_of f) limits events p
+    → IsLegal (image_of f) (meaning (image_of f) limits events).history
+legal_shown f limits events p shows =
+    let is = ap (replay (image_of f)) (sym shows.history_is) ∙ shows.replayed in rw is refl
 
 -- the report of a form that was run
-pub is_report : (input : List ℕ) (is : List Instruction) (turns : ℕ) (history : List Entry) (recorded : List Event) (t : ℕ) (c : Cpu) (text : List ℕ) (status : ℕ)
-    → IsFirstForm (record { instructions = is; turns = turns }) → input ≡ text_of (record { instructions = is; turns = turns })
-    → Shows (image_of (record { instructions = is; turns = turns })) default_limits (replicate turns (Turn 0)) history recorded t c
-    → text ≡ text_of_one c t history recorded → status ≡ status_of_one c → IsReport input text status
-is_report input is turns history recorded t c text status form input_is shows text_is status_is =
-    let f : FirstForm = record { instructions = is; turns = turns } in
+pub is_report : (input : List ℕ) (is : List Instruction) (turns : ℕ) (shown : Option Shown) (p : Parts) (text : List ℕ) (status : ℕ)
+    → IsFirstForm (record { instructions = is; turns = turns; shown = shown }) → input ≡ text_of (record { instructions = is; turns = turns; shown = shown })
+    → Shows (image_of (record { instructions = is; turns = turns; shown = shown })) default_limits (replicate turns (Turn 0)) p
+    → text ≡ text_of_one shown p → status ≡ status_of_one p.cpu → IsReport input text status
+is_report input is turns shown p text status form input_is shows text_is status_is =
+    let f : FirstForm = record { instructions = is; turns = turns; shown = shown } in
+    let events = replicate turns (Turn 0) in
     record {
       image = image_of f;
       stands = (f, form, input_is, refl);
-      legal = legal_shown (image_of f) default_limits (replicate turns (Turn 0)) history recorded t c shows;
-      text_is = text_is ∙ report_shown (image_of f) default_limits (replicate turns (Turn 0)) history recorded t c shows;
-      status_is = status_is ∙ status_shown (image_of f) default_limits (replicate turns (Turn 0)) history recorded t c shows;
+      legal = legal_shown f default_limits events p shows;
+      text_is = text_is ∙ report_shown f default_limits events p shows;
+      status_is = status_is ∙ status_shown f default_limits events p shows;
     }

@@ -1,136 +1,293 @@
 -- Turns of the one CPU: the state after one more event, and what the machine of the code shows of it.
-use Rattle.std.proofs.Common.{◌≡◌, ◌≢◌, ℕ, ◌<◌, ◌≤◌, ◌+◌, ◌*◌, ◌%◌, ◌^◌, zero, suc, List, [], ◌∷◌, ◌++◌, length, get_or, take, add-one, lit<, lit≤, length-take-le, mod-eq_of_lt, true, false, Some, arith, sym, ap, ◌∙◌, refl, subst}
-use Rattle.std.specs.Prelude.{◌==◌, if◌then◌else◌, replicate}
+use Rattle.std.proofs.Common.{◌≡◌, ◌≢◌, ℕ, ◌<◌, ◌+◌, zero, suc, List, [], ◌∷◌, ◌++◌, true, false, Bool, Option, Some, arith, add-one, append-nil, sym, ap, ap₂, ◌∙◌, refl}
+use Rattle.std.specs.Prelude.{◌==◌, ◌||◌, nat_lt, if◌then◌else◌, replicate}
 use Rattle.std.proofs.lemmas.List.Sums.{fold-append}
-use Rattle.std.proofs.lemmas.List.{take_more}
 use Rattle.std.proofs.lemmas.Grind.{common_steps}
 use Rattle.z_regs.specs.Cpu.{Cpu, started}
+use Rattle.z_regs.specs.declared.image.RunState.{RunState}
+use Rattle.z_regs.specs.declared.image.RunState.TheVariants as state
 use Rattle.ztx_top.specs.declared.instruction.Instruction.{Instruction}
+use Rattle.ztx_top.specs.declared.shown.Shown.{Shown}
 use Rattle.ztx_top.specs.declared.machine.Entry.{Entry}
-use Rattle.ztx_top.specs.declared.machine.Entry.TheVariants.{Step}
+use Rattle.ztx_top.specs.declared.machine.Entry.TheVariants.{Step, Commit}
 use Rattle.ztx_top.specs.declared.machine.Event.{Event}
 use Rattle.ztx_top.specs.declared.machine.Event.TheVariants.{Turn}
 use Rattle.ztx_top.specs.declared.machine.Limits.{Limits}
-use Rattle.z_regs.specs.declared.image.RunState.{RunState}
-use Rattle.z_regs.specs.declared.image.RunState.TheVariants as state
-use Rattle.ztx_top.specs.declared.instruction.Instruction.TheVariants.{LoadHalfwordImmediate, Add, SupervisorCall}
-use Rattle.ztx_top.specs.Instruction.{effect, length_of, total_length, is_call}
-use Rattle.ztx_top.specs.Form.{IsProgram, ends_with_call}
-use Rattle.ztx_top.specs.Image.{Image, placed_from, origin, image_of}
-use Rattle.ztx_top.specs.Serial.{Flat, apply, apply_next, replay, instruction_at, is_running, cpu_at}
-use Rattle.ztx_top.specs.Meaning.{State, meaning, next, turn, counted, start, flat_of, flat_or_start, is_finished, default_limits}
-use Rattle.ztx_top.specs.Shown.{Shows, IsBefore, address_of}
+use Rattle.ztx_top.specs.Instruction.{effect, fetched, stored, is_begin, is_end}
+use Rattle.ztx_top.specs.Form.{may_come, live_after}
+use Rattle.ztx_top.specs.Image.{Image, image_of, origin, zeros}
+use Rattle.ztx_top.specs.Serial.{Flat, Seen, apply, apply_next, replay, instruction_at, is_running, ran, seen_by, one_more, private_run, may_run, committed_run}
+use Rattle.ztx_top.specs.Meaning.{State, meaning, next, turn, attempted, counted, start, flat_of, flat_or_start, run_or_start, seen_of, is_finished, entries_of, completed_after, default_limits}
+use Rattle.ztx_top.specs.Shows.{Parts, Shows}
+use Rattle.ztx_top.proofs.InstructionFacts.{opens, stays_outside, goes_inside, closes, stays_live}
 
 pub meaning_more : (image : Image) (limits : Limits) (events : List Event) (e : Event) → meaning image limits (events ++ e ∷ []) ≡ next image limits (meaning image limits events) e
 unfolding meaning
 meaning_more image limits events e = fold-append (next image limits) start events (e ∷ [])
 
-pub replay_more : (image : Image) (history : List Entry) (e : Entry) → replay image (history ++ e ∷ []) ≡ apply_next image (replay image history) e
+replay_more : (image : Image) (history : List Entry) (e : Entry) → replay image (history ++ e ∷ []) ≡ apply_next image (replay image history) e
 unfolding replay
-replay_more image history e = fold-append (apply_next image) (Some (record { cpus = image.cpus })) history (e ∷ [])
+replay_more image history e = fold-append (apply_next image) (Some (record { storage = image.storage; cpus = image.cpus })) history (e ∷ [])
 
-pub replay_start : (image : Image) → replay image [] ≡ Some (record { cpus = image.cpus })
+replay_start : (image : Image) → replay image [] ≡ Some (record { storage = image.storage; cpus = image.cpus })
 unfolding replay
 replay_start image = refl
 
-pub meaning_start : (image : Image) (limits : Limits) → meaning image limits [] ≡ start
+meaning_start : (image : Image) (limits : Limits) → meaning image limits [] ≡ start
 unfolding meaning
 meaning_start image limits = refl
 
-abbrev alone : Cpu → Flat
-alone c = record { cpus = c ∷ [] }
+-- storage and the one CPU
+abbrev pub alone : List ℕ → Cpu → Flat
+alone storage c = record { storage = storage; cpus = c ∷ [] }
 
--- the CPU of the state is the one that is shown
-cpu_shown : (image : Image) (limits : Limits) (events : List Event) (history : List Entry) (recorded : List Event) (turns : ℕ) (c : Cpu)
-    → Shows image limits events history recorded turns c → cpu_at (flat_of image (meaning image limits events).history) 0 ≡ c
-cpu_shown image limits events history recorded turns c shows =
-    ap (λ h. cpu_at (flat_of image h) 0) (sym shows.history_is) ∙ ap (λ o. cpu_at (flat_or_start image o) 0) shows.cpu_is
+abbrev pub seen_in : Parts → Seen
+seen_in p = record { cpu = p.cpu; storage = p.own; committed = false }
+
+-- shared storage and the CPUs of the state
+pub flat_shown : (image : Image) (limits : Limits) (events : List Event) (p : Parts) (shows : Shows image limits events p)
+    → flat_of image (meaning image limits events).history ≡ alone p.shared shows.base
+flat_shown image limits events p shows = ap (flat_of image) (sym shows.history_is) ∙ ap (flat_or_start image) shows.replayed
+
+-- what the CPU of the state sees is what is shown
+pub seen_shown : (image : Image) (limits : Limits) (events : List Event) (p : Parts) → Shows image limits events p
+    → seen_of image (meaning image limits events) 0 ≡ seen_in p
+seen_shown image limits events p shows =
+    ap₂ (λ (f : Flat) (n : ℕ). run_or_start f 0 (private_run image f 0 n)) (flat_shown image limits events p shows) (sym shows.completed_is)
+    ∙ ap (run_or_start (alone p.shared shows.base) 0) shows.runs
 
 -- a turn by the CPU that is shown
-turn_of : (image : Image) (limits : Limits) (s : State) (c : Cpu) → cpu_at (flat_of image s.history) 0 ≡ c
-    → turn image limits s 0 ≡ (if is_finished c then s else if s.turns 0 == limits.turns then s else counted s 0)
-turn_of image limits s c is = ap (λ (d : Cpu). if is_finished d then s else if s.turns 0 == limits.turns then s else counted s 0) is
+turn_of : (image : Image) (limits : Limits) (s : State) (seen : Seen) → seen_of image s 0 ≡ seen
+    → turn image limits s 0
+    ≡ (if is_finished seen.cpu then s else if s.turns 0 == limits.turns then s else attempted s 0 (instruction_at image.program seen.cpu.address))
+turn_of image limits s seen is =
+    ap (λ (d : Seen). if is_finished d.cpu then s else if s.turns 0 == limits.turns then s else attempted s 0 (instruction_at image.program d.cpu.address)) is
 
 -- an idle turn leaves the state, and what is shown of it
-kept : (image : Image) (limits : Limits) (events : List Event) (history : List Entry) (recorded : List Event) (turns : ℕ) (c : Cpu)
-    → Shows image limits events history recorded turns c → meaning image limits (events ++ Turn 0 ∷ []) ≡ meaning image limits events
-    → Shows image limits (events ++ Turn 0 ∷ []) history recorded turns c
-kept image limits events history recorded turns c shows same =
+kept : (image : Image) (limits : Limits) (events : List Event) (p : Parts) → Shows image limits events p
+    → meaning image limits (events ++ Turn 0 ∷ []) ≡ meaning image limits events → Shows image limits (events ++ Turn 0 ∷ []) p
+kept image limits events p shows same =
     record {
       history_is = shows.history_is ∙ ap (λ (s : State). s.history) (sym same);
       events_are = shows.events_are ∙ ap (λ (s : State). s.events) (sym same);
       turns_are = shows.turns_are ∙ ap (λ (s : State). s.turns 0) (sym same);
-      cpu_is = shows.cpu_is;
+      completed_is = shows.completed_is ∙ ap (λ (s : State). s.completed 0) (sym same);
+      base = shows.base;
+      replayed = shows.replayed;
+      runs = shows.runs;
+      base_runs = shows.base_runs;
     }
 
-pub finished_turn : (image : Image) (limits : Limits) (events : List Event) (history : List Entry) (recorded : List Event) (turns : ℕ) (c : Cpu)
-    → Shows image limits events history recorded turns c → is_running c.state ≡ false → Shows image limits (events ++ Turn 0 ∷ []) history recorded turns c
-finished_turn image limits events history recorded turns c shows stopped =
+pub finished_turn : (image : Image) (limits : Limits) (events : List Event) (p : Parts) → Shows image limits events p → is_running p.cpu.state ≡ false
+    → Shows image limits (events ++ Turn 0 ∷ []) p
+finished_turn image limits events p shows stopped =
     let s = meaning image limits events in
-    let one = turn_of image limits s c (cpu_shown image limits events history recorded turns c shows) in
+    let one = turn_of image limits s (seen_in p) (seen_shown image limits events p shows) in
     let idle : turn image limits s 0 ≡ s = one ∙ (rw stopped refl) in
-    kept image limits events history recorded turns c shows (meaning_more image limits events (Turn 0) ∙ idle)
+    kept image limits events p shows (meaning_more image limits events (Turn 0) ∙ idle)
 
-pub spent_turn : (image : Image) (limits : Limits) (events : List Event) (history : List Entry) (recorded : List Event) (turns : ℕ) (c : Cpu)
-    → Shows image limits events history recorded turns c → is_running c.state ≡ true → turns ≡ limits.turns
-    → Shows image limits (events ++ Turn 0 ∷ []) history recorded turns c
-spent_turn image limits events history recorded turns c shows running spent =
+pub spent_turn : (image : Image) (limits : Limits) (events : List Event) (p : Parts) → Shows image limits events p → is_running p.cpu.state ≡ true → p.turns ≡ limits.turns
+    → Shows image limits (events ++ Turn 0 ∷ []) p
+spent_turn image limits events p shows running spent =
     let s = meaning image limits events in
-    let one = turn_of image limits s c (cpu_shown image limits events history recorded turns c shows) in
-    let all : (s.turns 0 == limits.turns) ≡ true = grind (arith, common_steps, shows.turns_are, spent) in
+    let one = turn_of image limits s (seen_in p) (seen_shown image limits events p shows) in
+    let all : (s.turns 0 == limits.turns) ≡ true = same_test (s.turns 0) limits.turns (sym shows.turns_are ∙ spent) in
     let idle : turn image limits s 0 ≡ s = one ∙ (rw running (rw all refl)) in
-    kept image limits events history recorded turns c shows (meaning_more image limits events (Turn 0) ∙ idle)
+    kept image limits events p shows (meaning_more image limits events (Turn 0) ∙ idle)
+  where
+    same_test : (a b : ℕ) → a ≡ b → (a == b) ≡ true
+    same_test a b is = grind (arith, common_steps)
 
--- a counted turn, where the instruction stands at the address of the CPU
-pub counted_turn : (image : Image) (limits : Limits) (events : List Event) (history : List Entry) (recorded : List Event) (turns : ℕ) (c : Cpu) (i : Instruction)
-    → Shows image limits events history recorded turns c → is_running c.state ≡ true → turns ≢ limits.turns → instruction_at image.program c.address ≡ Some i
-    → Shows image limits (events ++ Turn 0 ∷ []) (history ++ Step 0 ∷ []) (recorded ++ Turn 0 ∷ []) (turns + 1) (effect i c)
-counted_turn image limits events history recorded turns c i shows running unspent found =
-    let s = meaning image limits events in
-    let one = turn_of image limits s c (cpu_shown image limits events history recorded turns c shows) in
-    let more : (s.turns 0 == limits.turns) ≡ false = grind (arith, common_steps, shows.turns_are, unspent) in
-    let goes : turn image limits s 0 ≡ counted s 0 = one ∙ (rw running (rw more refl)) in
-    let is : meaning image limits (events ++ Turn 0 ∷ []) ≡ counted s 0 = meaning_more image limits events (Turn 0) ∙ goes in
-    let fits : apply image (alone c) (Step 0) ≡ Some (alone (effect i c)) = rw running (rw found refl) in
+-- ---- a counted turn
+
+-- the parts behind an instruction
+abbrev pub parts_after : Parts → Instruction → Parts
+parts_after p i =
     record {
-      history_is = ap (λ h. h ++ Step 0 ∷ []) shows.history_is ∙ ap (λ (t : State). t.history) (sym is);
+      history = p.history ++ entries_of p.completed 0 i;
+      events = p.events ++ Turn 0 ∷ [];
+      turns = p.turns + 1;
+      completed = completed_after p.completed i;
+      cpu = effect i p.cpu (fetched i p.own);
+      own = stored i p.cpu p.own;
+      shared = if live_after (nat_lt 0 p.completed) i then p.shared else stored i p.cpu p.own;
+    }
+
+-- what the history and the private run say behind an instruction
+record Holds (image : Image) (p : Parts) : Type 0 where
+  base : Cpu
+  replayed : replay image p.history ≡ Some (alone p.shared base)
+  runs : private_run image (alone p.shared base) 0 p.completed ≡ Some (seen_in p)
+  base_runs : 0 < p.completed → is_running base.state ≡ true
+
+-- one more instruction of the private run
+more_runs : (image : Image) (f : Flat) (n : ℕ) (seen : Seen) (i : Instruction) → private_run image f 0 n ≡ Some seen → seen.committed ≡ false
+    → instruction_at image.program seen.cpu.address ≡ Some i → may_run n i ≡ true → private_run image f 0 (n + 1) ≡ Some (ran i seen)
+more_runs image f n seen i runs going found may =
+    let goes : one_more image n (Some seen) ≡ Some (ran i seen) = rw going (rw found (rw may refl)) in
+    rw (add-one n) (ap (one_more image n) runs ∙ goes)
+
+positive_test : (n : ℕ) → nat_lt 0 n ≡ true → 0 < n
+positive_test n is = grind (arith, common_steps)
+
+zero_test : (n : ℕ) → nat_lt 0 n ≡ false → n ≡ 0
+zero_test n is = grind (arith, common_steps)
+
+may_run_inside : (n : ℕ) (i : Instruction) → nat_lt 0 n ≡ true → may_come (nat_lt 0 n) i ≡ true → may_run n i ≡ true
+may_run_inside zero i live comes = absurd (omega (arith, positive_test zero live))
+may_run_inside (suc n) i live comes = goes_inside i (ap (λ l. may_come l i) (sym live) ∙ comes)
+
+-- where no transaction is live, the CPU sees what is shared
+record SeesShared (p : Parts) (base : Cpu) : Type 0 where
+  cpu_is : base ≡ p.cpu
+  storage_is : p.shared ≡ p.own
+
+sees_shared : (image : Image) (p : Parts) (base : Cpu) → private_run image (alone p.shared base) 0 p.completed ≡ Some (seen_in p) → p.completed ≡ 0 → SeesShared p base
+sees_shared image p base runs none =
+    let start : private_run image (alone p.shared base) 0 0 ≡ Some (seen_in p) = ap (private_run image (alone p.shared base) 0) (sym none) ∙ runs in
+    let same = same_seen (seen_by (alone p.shared base) 0) (seen_in p) start in
+    record { cpu_is = ap (λ (s : Seen). s.cpu) same; storage_is = ap (λ (s : Seen). s.storage) same }
+  where
+    same_seen : (a b : Seen) → ◌≡◌ {A = Option Seen} (Some a) (Some b) → a ≡ b
+    same_seen a b is = cc
+
+by_bool : {P : Type 0} (b : Bool) → (b ≡ true → P) → (b ≡ false → P) → P
+by_bool true holds fails = holds refl
+by_bool false holds fails = fails refl
+
+-- the CPU that the history leaves runs, where the one that is shown does
+base_running : (image : Image) (p : Parts) (base : Cpu) → private_run image (alone p.shared base) 0 p.completed ≡ Some (seen_in p)
+    → (0 < p.completed → is_running base.state ≡ true) → is_running p.cpu.state ≡ true → is_running base.state ≡ true
+base_running image p base runs base_runs running =
+    by_bool (nat_lt 0 p.completed) (λ live. base_runs (positive_test p.completed live))
+    (λ none. ap (λ (c : Cpu). is_running c.state) (sees_shared image p base runs (zero_test p.completed none)).cpu_is ∙ running)
+
+-- inside a transaction, or with its begin: the private run grows
+live_holds : (image : Image) (p : Parts) (i : Instruction) (base : Cpu) → replay image p.history ≡ Some (alone p.shared base)
+    → private_run image (alone p.shared base) 0 p.completed ≡ Some (seen_in p) → is_running base.state ≡ true
+    → instruction_at image.program p.cpu.address ≡ Some i → may_run p.completed i ≡ true → live_after (nat_lt 0 p.completed) i ≡ true
+    → Holds image (parts_after p i)
+live_holds image p i base replayed runs running found may live =
+    let none : entries_of p.completed 0 i ≡ [] = rw live refl in
+    let history : (parts_after p i).history ≡ p.history = ap (λ l. p.history ++ l) none ∙ append-nil p.history in
+    let shared : (parts_after p i).shared ≡ p.shared = rw live refl in
+    let completed : (parts_after p i).completed ≡ p.completed + 1 = rw live refl in
+    let going = stays_live (nat_lt 0 p.completed) i live in
+    let q = parts_after p i in
+    record {
+      base = base;
+      replayed = ap (replay image) history ∙ replayed ∙ ap (λ l. Some (alone l base)) (sym shared);
+      runs = ap₂ (λ (l : List ℕ) (n : ℕ). private_run image (alone l base) 0 n) shared completed
+          ∙ more_runs image (alone p.shared base) p.completed (seen_in p) i runs refl found may
+          ∙ ap (λ b. Some (record { cpu = q.cpu; storage = q.own; committed = b })) going;
+      base_runs = λ _. running;
+    }
+
+-- the end of a transaction: its private run becomes shared
+commit_holds : (image : Image) (p : Parts) (i : Instruction) (base : Cpu) → replay image p.history ≡ Some (alone p.shared base)
+    → private_run image (alone p.shared base) 0 p.completed ≡ Some (seen_in p) → is_running base.state ≡ true
+    → instruction_at image.program p.cpu.address ≡ Some i → may_run p.completed i ≡ true → live_after (nat_lt 0 p.completed) i ≡ false
+    → nat_lt 0 p.completed ≡ true → is_end i ≡ true → Holds image (parts_after p i)
+commit_holds image p i base replayed runs running found may over live ends =
+    let entry = Commit 0 (p.completed + 1) in
+    let q = parts_after p i in
+    let one : entries_of p.completed 0 i ≡ entry ∷ [] = rw over (rw live refl) in
+    let history : q.history ≡ p.history ++ entry ∷ [] = ap (λ l. p.history ++ l) one in
+    let shared : q.shared ≡ q.own = rw over refl in
+    let completed : q.completed ≡ 0 = rw over refl in
+    let more = more_runs image (alone p.shared base) p.completed (seen_in p) i runs refl found may in
+    let commits : committed_run (alone p.shared base) 0 (Some (ran i (seen_in p))) ≡ Some (alone q.own q.cpu) = rw ends refl in
+    let fits : apply image (alone p.shared base) entry ≡ Some (alone q.own q.cpu) = rw running (ap (committed_run (alone p.shared base) 0) more ∙ commits) in
+    record {
+      base = q.cpu;
+      replayed = ap (replay image) history ∙ replay_more image p.history entry ∙ ap (λ o. apply_next image o entry) replayed ∙ fits
+          ∙ ap (λ l. Some (alone l q.cpu)) (sym shared);
+      runs = ap₂ (λ (l : List ℕ) (n : ℕ). private_run image (alone l q.cpu) 0 n) shared completed;
+      base_runs = λ some. absurd (omega (arith, some, completed));
+    }
+
+-- outside transactions: the instruction is a step, and what it stores is shared
+step_holds : (image : Image) (p : Parts) (i : Instruction) (base : Cpu) → replay image p.history ≡ Some (alone p.shared base)
+    → SeesShared p base → is_running p.cpu.state ≡ true → instruction_at image.program p.cpu.address ≡ Some i
+    → live_after (nat_lt 0 p.completed) i ≡ false → nat_lt 0 p.completed ≡ false → (is_begin i || is_end i) ≡ false → Holds image (parts_after p i)
+step_holds image p i base replayed sees running found over none plain =
+    let entry = Step 0 in
+    let q = parts_after p i in
+    let one : entries_of p.completed 0 i ≡ entry ∷ [] = rw over (rw none refl) in
+    let history : q.history ≡ p.history ++ entry ∷ [] = ap (λ l. p.history ++ l) one in
+    let shared : q.shared ≡ q.own = rw over refl in
+    let completed : q.completed ≡ 0 = rw over refl in
+    let steps : apply image (alone p.own p.cpu) entry ≡ Some (alone q.own q.cpu) = rw running (rw found (rw plain refl)) in
+    let fits : apply image (alone p.shared base) entry ≡ Some (alone q.own q.cpu) =
+    ap₂ (λ (l : List ℕ) (c : Cpu). apply image (alone l c) entry) sees.storage_is sees.cpu_is ∙ steps in
+    record {
+      base = q.cpu;
+      replayed = ap (replay image) history ∙ replay_more image p.history entry ∙ ap (λ o. apply_next image o entry) replayed ∙ fits
+          ∙ ap (λ l. Some (alone l q.cpu)) (sym shared);
+      runs = ap₂ (λ (l : List ℕ) (n : ℕ). private_run image (alone l q.cpu) 0 n) shared completed;
+      base_runs = λ some. absurd (omega (arith, some, completed));
+    }
+
+holds_after : (image : Image) (p : Parts) (i : Instruction) (base : Cpu) → replay image p.history ≡ Some (alone p.shared base)
+    → private_run image (alone p.shared base) 0 p.completed ≡ Some (seen_in p) → (0 < p.completed → is_running base.state ≡ true)
+    → is_running p.cpu.state ≡ true → instruction_at image.program p.cpu.address ≡ Some i → may_come (nat_lt 0 p.completed) i ≡ true
+    → Holds image (parts_after p i)
+holds_after image p i base replayed runs base_runs running found comes =
+    let base_is = base_running image p base runs base_runs running in
+    by_bool (nat_lt 0 p.completed)
+    (λ live. by_bool (live_after (nat_lt 0 p.completed) i)
+    (λ stays. live_holds image p i base replayed runs base_is found (may_run_inside p.completed i live comes) stays)
+    (λ over. commit_holds image p i base replayed runs base_is found (may_run_inside p.completed i live comes) over live
+    (closes i (ap (λ l. live_after l i) (sym live) ∙ over))))
+    (λ none. by_bool (live_after (nat_lt 0 p.completed) i)
+    (λ stays. live_holds image p i base replayed runs base_is found
+    (ap (λ n. may_run n i) (zero_test p.completed none) ∙ opens i (ap (λ l. live_after l i) (sym none) ∙ stays)) stays)
+    (λ over. step_holds image p i base replayed (sees_shared image p base runs (zero_test p.completed none)) running found over none
+    (stays_outside i (ap (λ l. may_come l i) (sym none) ∙ comes) (ap (λ l. live_after l i) (sym none) ∙ over))))
+
+pub counted_turn : (image : Image) (limits : Limits) (events : List Event) (p : Parts) (i : Instruction) → Shows image limits events p
+    → is_running p.cpu.state ≡ true → p.turns ≢ limits.turns → instruction_at image.program p.cpu.address ≡ Some i
+    → may_come (nat_lt 0 p.completed) i ≡ true → Shows image limits (events ++ Turn 0 ∷ []) (parts_after p i)
+counted_turn image limits events p i shows running unspent found comes =
+    let s = meaning image limits events in
+    let one = turn_of image limits s (seen_in p) (seen_shown image limits events p shows) in
+    let more : (s.turns 0 == limits.turns) ≡ false = other_test (s.turns 0) limits.turns (λ is. unspent (shows.turns_are ∙ is)) in
+    let goes : turn image limits s 0 ≡ counted s 0 i = one ∙ (rw running (rw more (rw found refl))) in
+    let is : meaning image limits (events ++ Turn 0 ∷ []) ≡ counted s 0 i = meaning_more image limits events (Turn 0) ∙ goes in
+    let holds = holds_after image p i shows.base shows.replayed shows.runs shows.base_runs running found comes in
+    record {
+      history_is = ap₂ (λ (h : List Entry) (n : ℕ). h ++ entries_of n 0 i) shows.history_is shows.completed_is ∙ ap (λ (t : State). t.history) (sym is);
       events_are = ap (λ h. h ++ Turn 0 ∷ []) shows.events_are ∙ ap (λ (t : State). t.events) (sym is);
       turns_are = ap (λ n. n + 1) shows.turns_are ∙ ap (λ (t : State). t.turns 0) (sym is);
-      cpu_is = replay_more image history (Step 0) ∙ ap (λ o. apply_next image o (Step 0)) shows.cpu_is ∙ fits;
+      completed_is = ap (λ n. completed_after n i) shows.completed_is ∙ ap (λ (t : State). t.completed 0) (sym is);
+      base = holds.base;
+      replayed = holds.replayed;
+      runs = holds.runs;
+      base_runs = holds.base_runs;
     }
+  where
+    other_test : (a b : ℕ) → a ≢ b → (a == b) ≡ false
+    other_test a b differ = grind (arith, common_steps)
 
-pub shows_start : (image : Image) (limits : Limits) (c : Cpu) → image.cpus ≡ c ∷ [] → Shows image limits [] [] [] 0 c
-shows_start image limits c is =
-    let empty = meaning_start image limits in
+-- ---- the start
+
+pub shows_opened : (is : List Instruction) (turns : ℕ) (shown : Option Shown) (p : Parts) → p.history ≡ [] → p.events ≡ [] → p.turns ≡ 0 → p.completed ≡ 0
+    → p.cpu ≡ started origin → p.own ≡ zeros 1048576 → p.shared ≡ zeros 1048576
+    → Shows (image_of (record { instructions = is; turns = turns; shown = shown })) default_limits [] p
+shows_opened is turns shown p history events no_turns none cpu own shared =
+    let image = image_of (record { instructions = is; turns = turns; shown = shown }) in
+    let empty = meaning_start image default_limits in
     record {
-      history_is = ap (λ (s : State). s.history) (sym empty);
-      events_are = ap (λ (s : State). s.events) (sym empty);
-      turns_are = ap (λ (s : State). s.turns 0) (sym empty);
-      cpu_is = replay_start image ∙ ap (λ (l : List Cpu). Some (record { cpus = l })) is;
+      history_is = history ∙ ap (λ (s : State). s.history) (sym empty);
+      events_are = events ∙ ap (λ (s : State). s.events) (sym empty);
+      turns_are = no_turns ∙ ap (λ (s : State). s.turns 0) (sym empty);
+      completed_is = none ∙ ap (λ (s : State). s.completed 0) (sym empty);
+      base = started origin;
+      replayed = ap (replay image) history ∙ replay_start image ∙ ap (λ l. Some (alone l (started origin))) (sym shared);
+      runs = ap (private_run image (alone p.shared (started origin)) 0) none
+          ∙ ap₂ (λ (c : Cpu) (l : List ℕ). Some (record { cpu = c; storage = l; committed = false })) (sym cpu) (shared ∙ sym own);
+      base_runs = λ some. absurd (omega (arith, some, none));
     }
-
-length_positive : (i : Instruction) → 0 < length_of i
-length_positive (LoadHalfwordImmediate r1 value) = lit< tt
-length_positive (Add r1 r2) = lit< tt
-length_positive SupervisorCall = lit< tt
-
-length_few : (i : Instruction) → length_of i ≤ 4
-length_few (LoadHalfwordImmediate r1 value) = lit≤ tt
-length_few (Add r1 r2) = lit≤ tt
-length_few SupervisorCall = lit≤ tt
-
--- the instruction with an index stands at its address
-pub found_from : (from : ℕ) (is : List Instruction) (n : ℕ) (d : Instruction) → n < length is
-    → instruction_at (placed_from from is) (from + total_length (take n is)) ≡ Some (get_or is n d)
-found_from from [] n d within = absurd (omega arith)
-found_from from (i ∷ is) zero d within =
-    let here : (from == from + 0) ≡ true = grind (arith, common_steps) in rw here refl
-found_from from (i ∷ is) (suc n) d within =
-    let rest = total_length (take n is) in
-    let there : (from == from + (length_of i + rest)) ≡ false = grind (arith, common_steps, length_positive i) in
-    let address : from + (length_of i + rest) ≡ from + length_of i + rest = omega arith in
-    let others = found_from (from + length_of i) is n d (omega arith) in
-    rw there (ap (instruction_at (placed_from (from + length_of i) is)) address ∙ others)
 
 replicate_suc : (n : ℕ) (e : Event) → e ∷ replicate n e ≡ replicate n e ++ e ∷ []
 replicate_suc zero e = refl
@@ -139,25 +296,6 @@ replicate_suc (suc n) e = ap (λ l. e ∷ l) (replicate_suc n e)
 pub replicate_more : (n : ℕ) (e : Event) → replicate (n + 1) e ≡ replicate n e ++ e ∷ []
 replicate_more n e = rw (add-one n) (replicate_suc n e)
 
-total_few : (is : List Instruction) → total_length is ≤ 4 * length is
-total_few [] = omega arith
-total_few (i ∷ is) = omega (arith, length_few i, total_few is)
-
-total-append : (is js : List Instruction) → total_length (is ++ js) ≡ total_length is + total_length js
-total-append [] js = omega arith
-total-append (i ∷ is) js = omega (arith, total-append is js)
-
--- the last instruction is the call
-last_is_call : (is : List Instruction) (n : ℕ) (d : Instruction) → ends_with_call is ≡ true → suc n ≡ length is → is_call (get_or is n d) ≡ true
-last_is_call [] n d ends last = absurd (omega arith)
-last_is_call (i ∷ []) zero d ends last = grind (arith, common_steps)
-last_is_call (i ∷ []) (suc n) d ends last = absurd (omega arith)
-last_is_call (i ∷ j ∷ is) zero d ends last = absurd (omega arith)
-last_is_call (i ∷ j ∷ is) (suc n) d ends last =
-    let plain : is_call i ≡ false = grind (arith, common_steps) in
-    let others : ends_with_call (j ∷ is) ≡ true = (rw plain at ends) in
-    last_is_call (j ∷ is) n d others (omega arith)
-
 pub running_is : (s : RunState) → s ≡ state.Running → is_running s ≡ true
 running_is s is = ap is_running is
 
@@ -165,68 +303,3 @@ pub stopped_is : (s : RunState) → (s ≡ state.Running → ⊥) → is_running
 stopped_is state.Running not_running = absurd (not_running refl)
 stopped_is state.Halted not_running = refl
 stopped_is (state.Interrupted code) not_running = refl
-
--- the address behind an instruction
-next_address : (is : List Instruction) (n : ℕ) (d : Instruction) → length is ≤ 16 → n < length is
-    → (address_of is n + length_of (get_or is n d)) % 2 ^ 64 ≡ address_of is (n + 1)
-next_address is n d few within =
-    let i = get_or is n d in
-    let sum = ap total_length (take_more is n d within) ∙ total-append (take n is) (i ∷ []) in
-    let small : total_length (take n is) ≤ 64 = omega (arith, total_few (take n is), length-take-le n is (omega arith)) in
-    let least : (address_of is n + length_of i) % 2 ^ 64 ≡ address_of is n + length_of i = mod-eq_of_lt (omega (arith, small, length_few i)) in
-    least ∙ omega (arith, sum)
-
-runs_on : (i : Instruction) (c : Cpu) → is_running (effect i c).state ≡ true → is_call i ≡ false
-runs_on (LoadHalfwordImmediate r1 value) c running = refl
-runs_on (Add r1 r2) c running = refl
-runs_on SupervisorCall c running = absurd (cc running)
-
-address_behind : (i : Instruction) (c : Cpu) → (effect i c).address ≡ (c.address + length_of i) % 2 ^ 64
-address_behind (LoadHalfwordImmediate r1 value) c = refl
-address_behind (Add r1 r2) c = refl
-address_behind SupervisorCall c = refl
-
-pub before_next : (is : List Instruction) (n : ℕ) (d : Instruction) (c : Cpu) → IsProgram 16 is → n < length is → c.address ≡ address_of is n
-    → IsBefore is (n + 1) (effect (get_or is n d) c)
-before_next is n d c program within at = λ running.
-    let i = get_or is n d in
-    let plain : is_call i ≡ false = runs_on i c running in
-    let more : suc n ≢ length is = λ last. let call = last_is_call is n d program.ends last in cc (call, plain) in
-    let address = address_behind i c ∙ ap (λ a. (a + length_of i) % 2 ^ 64) at ∙ next_address is n d program.few within in
-    (omega (arith, more), address)
-
-pub shows_opened : (is : List Instruction) (turns : ℕ) (history : List Entry) (recorded : List Event) (c : Cpu) → history ≡ [] → recorded ≡ [] → c ≡ started origin
-    → Shows (image_of (record { instructions = is; turns = turns })) default_limits [] history recorded 0 c
-shows_opened is turns history recorded c no_history none_recorded starts =
-    let image = image_of (record { instructions = is; turns = turns }) in
-    let first = shows_start image default_limits (started origin) refl in
-    record {
-      history_is = no_history ∙ first.history_is;
-      events_are = none_recorded ∙ first.events_are;
-      turns_are = first.turns_are;
-      cpu_is = ap (replay image) no_history ∙ first.cpu_is ∙ ap (λ (d : Cpu). Some (alone d)) (sym starts);
-    }
-
-pub stepped_before : (is : List Instruction) (n : ℕ) (d : Instruction) (c : Cpu) (m : ℕ) (e : Cpu) → IsProgram 16 is → n < length is → c.address ≡ address_of is n
-    → m ≡ n + 1 → e ≡ effect (get_or is n d) c → IsBefore is m e
-stepped_before is n d c m e program within at next does =
-    let after = before_next is n d c program within at in
-    subst (λ (k : ℕ). IsBefore is k e) (sym next) (subst (λ (f : Cpu). IsBefore is (n + 1) f) (sym does) after)
-
--- what is shown after a step
-pub stepped_shows : (is : List Instruction) (turns : ℕ) (events : List Event) (history history' : List Entry) (recorded recorded' : List Event) (t t' : ℕ) (n : ℕ) (d : Instruction)
-    (c e : Cpu) → Shows (image_of (record { instructions = is; turns = turns })) default_limits events history recorded t c
-    → is_running c.state ≡ true → t ≢ 200000 → n < length is → c.address ≡ address_of is n
-    → history' ≡ history ++ Step 0 ∷ [] → recorded' ≡ recorded ++ Turn 0 ∷ [] → t' ≡ t + 1 → e ≡ effect (get_or is n d) c
-    → Shows (image_of (record { instructions = is; turns = turns })) default_limits (events ++ Turn 0 ∷ []) history' recorded' t' e
-stepped_shows is turns events history history' recorded recorded' t t' n d c e shows running unspent within at wrote noted counts does =
-    let image = image_of (record { instructions = is; turns = turns }) in
-    let found : instruction_at image.program c.address ≡ Some (get_or is n d) =
-    ap (instruction_at (placed_from origin is)) at ∙ found_from origin is n d within in
-    let after = counted_turn image default_limits events history recorded t c (get_or is n d) shows running unspent found in
-    record {
-      history_is = wrote ∙ after.history_is;
-      events_are = noted ∙ after.events_are;
-      turns_are = counts ∙ after.turns_are;
-      cpu_is = ap (replay image) wrote ∙ after.cpu_is ∙ ap (λ (f : Cpu). Some (alone f)) (sym does);
-    }

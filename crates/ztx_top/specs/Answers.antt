@@ -28,7 +28,7 @@ pub record IsReport (input text : List ℕ) (status : ℕ) : Type 0 where
   pub stands : Stands input image
   pub legal : IsLegal image (meaning image default_limits image.schedule).history
   pub text_is : text ≡ report_of image default_limits image.schedule
-  pub status_is : status ≡ status_of image (meaning image default_limits image.schedule).history
+  pub status_is : status ≡ status_of image (meaning image default_limits image.schedule)
 
 -- the report of the input was written
 pub record WritesReport (input : List ℕ) (status : ℕ) (held after : Option (List ℕ)) : Type 0 where

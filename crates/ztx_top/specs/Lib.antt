@@ -5,6 +5,6 @@ pub mod Form
 pub mod Image
 pub mod Serial
 pub mod Meaning
-pub mod Shown
+pub mod Shows
 pub mod Report
 pub mod Answers

@@ -1,5 +1,5 @@
 -- The report of a run, as a function of the image, the limits and the events.
-use Rattle.std.specs.Prelude.{ℕ, zero, suc, ◌+◌, ◌*◌, ◌/◌, if◌then◌else◌, List, [], ◌∷◌, ◌++◌, length, take, drop, false, codes}
+use Rattle.std.specs.Prelude.{ℕ, zero, suc, ◌+◌, ◌*◌, ◌/◌, if◌then◌else◌, List, [], ◌∷◌, ◌++◌, length, take, drop, Bool, true, false, ◌&&◌, ◌==◌, nat_lt, count_by, Option, Some, None, codes}
 use Rattle.std.specs.List.{flat_map}
 use Rattle.std.specs.Fmt.{decimal, digits}
 use Rattle.std.specs.Int.{to_be_bytes}
@@ -8,17 +8,15 @@ use mir.Syntax.{w16, w32, w64}
 use Rattle.z_regs.specs.Cpu.{Cpu}
 use Rattle.z_regs.specs.declared.image.RunState.{RunState}
 use Rattle.z_regs.specs.declared.image.RunState.TheVariants.{Running, Halted, Interrupted}
+use Rattle.ztx_top.specs.declared.shown.Shown.{Shown}
 use Rattle.ztx_top.specs.declared.machine.Entry.{Entry}
-use Rattle.ztx_top.specs.declared.machine.Entry.TheVariants.{Step}
+use Rattle.ztx_top.specs.declared.machine.Entry.TheVariants.{Step, Commit}
 use Rattle.ztx_top.specs.declared.machine.Event.{Event}
 use Rattle.ztx_top.specs.declared.machine.Event.TheVariants.{Turn}
 use Rattle.ztx_top.specs.declared.machine.Limits.{Limits}
 use Rattle.ztx_top.specs.Image.{Image}
-use Rattle.ztx_top.specs.Meaning.{State, meaning, flat_of, all_finished, is_finished}
-
--- 0 where every CPU is finished, else 6
-abbrev pub status_of : Image → List Entry → ℕ
-status_of image history = if all_finished image history then 0 else 6
+use Rattle.ztx_top.specs.Shows.{Parts}
+use Rattle.ztx_top.specs.Meaning.{State, meaning, flat_of, seen_of, is_finished}
 
 -- ---- one CPU
 
@@ -57,23 +55,57 @@ access_rows access = access_row (codes "AR 00") (take 8 access) ++ access_row (c
 abbrev pub registers_text : Cpu → List ℕ
 registers_text c = general_rows c.general ++ access_rows c.access
 
+-- the live transaction, by its completed instructions
+abbrev pub transaction_text : ℕ → List ℕ
+transaction_text completed =
+    if nat_lt 0 completed then codes "TX DEPTH 1 COMPLETED " ++ (decimal completed ++ codes "\n") else codes "TX NONE\n"
+
+abbrev pub counts_text : ℕ → ℕ → List ℕ
+counts_text turns commits =
+    codes "PENDING NONE\nCOUNTS TURNS " ++ (decimal turns ++ (codes " ASKED 0 REJECTED 0 COMMITS " ++ (decimal commits ++ codes " ABORTS 0\n")))
+
+abbrev pub is_commit_of : ℕ → Entry → Bool
+is_commit_of i (Step j) = false
+is_commit_of i (Commit j n) = i == j
+
+-- the commits of a CPU
+abbrev pub commits_of : ℕ → List Entry → ℕ
+commits_of i history = count_by (is_commit_of i) history
+
 -- what the CPU has under way, and its counts
-abbrev pub counts_text : ℕ → List ℕ
-counts_text turns =
-    codes "TX NONE\nPENDING NONE\nCOUNTS TURNS " ++ (decimal turns ++ codes " ASKED 0 REJECTED 0 COMMITS 0 ABORTS 0\n")
+abbrev pub progress_text : ℕ → ℕ → ℕ → List ℕ
+progress_text turns completed commits = transaction_text completed ++ counts_text turns commits
 
-abbrev pub cpu_text : ℕ → Cpu → ℕ → List ℕ
-cpu_text i c turns = head_text i c ++ (registers_text c ++ counts_text turns)
+abbrev pub cpu_text : ℕ → Cpu → ℕ → ℕ → ℕ → List ℕ
+cpu_text i c turns completed commits = head_text i c ++ (registers_text c ++ progress_text turns completed commits)
 
--- the CPUs from number i on
-abbrev pub cpus_text : State → ℕ → List Cpu → List ℕ
-cpus_text s i [] = []
-cpus_text s i (c ∷ cs) = cpu_text i c (s.turns i) ++ cpus_text s (suc i) cs
+-- the CPUs from number i on, as they are now
+abbrev pub cpus_text : Image → State → ℕ → List Cpu → List ℕ
+cpus_text image s i [] = []
+cpus_text image s i (c ∷ cs) =
+    cpu_text i (seen_of image s i).cpu (s.turns i) (s.completed i) (commits_of i s.history) ++ cpus_text image s (suc i) cs
+
+-- ---- shown storage
+
+-- up to sixteen bytes from an address on
+abbrev pub bytes_row : ℕ → List ℕ → List ℕ
+bytes_row address bytes = codes "M " ++ (encode_lower (to_be_bytes w32 address) ++ (codes " " ++ (encode_lower bytes ++ codes "\n")))
+
+-- the first so many rows of sixteen bytes each, or the rest in the last
+abbrev pub bytes_rows : ℕ → List ℕ → ℕ → List ℕ
+bytes_rows address bytes zero = []
+bytes_rows address bytes (suc k) = bytes_rows address bytes k ++ bytes_row (address + 16 * k) (take 16 (drop (16 * k) bytes))
+
+-- the bytes of shared storage that are shown
+abbrev pub shown_text : Option Shown → List ℕ → List ℕ
+shown_text None storage = []
+shown_text (Some s) storage = bytes_rows s.first (take s.length (drop s.first storage)) ((s.length + 15) / 16)
 
 -- ---- history and schedule
 
 abbrev pub entry_text : Entry → List ℕ
 entry_text (Step i) = codes "S " ++ decimal i
+entry_text (Commit i n) = codes "C " ++ (decimal i ++ (codes " " ++ decimal n))
 
 abbrev pub entries_text : List Entry → List ℕ
 entries_text history = flat_map (λ (e : Entry). entry_text e ++ codes "\n") history
@@ -109,13 +141,23 @@ schedule_text events =
 -- ---- the whole
 
 -- the report of its parts
-abbrev pub report_text : ℕ → List ℕ → List ℕ → List ℕ → List ℕ
-report_text status cpus history schedule =
-    codes "ZTX REPORT\nSTATUS " ++ (decimal status ++ (codes "\n" ++ (cpus ++ (history ++ (schedule ++ codes "END\n")))))
+abbrev pub report_text : ℕ → List ℕ → List ℕ → List ℕ → List ℕ → List ℕ
+report_text status cpus shown history schedule =
+    codes "ZTX REPORT\nSTATUS " ++ (decimal status ++ (codes "\n" ++ (cpus ++ (shown ++ (history ++ (schedule ++ codes "END\n"))))))
+
+-- every CPU from number i on is finished
+abbrev pub all_finished : Image → State → ℕ → List Cpu → Bool
+all_finished image s i [] = true
+all_finished image s i (c ∷ cs) = is_finished (seen_of image s i).cpu && all_finished image s (suc i) cs
+
+-- 0 where every CPU is finished, else 6
+abbrev pub status_of : Image → State → ℕ
+status_of image s = if all_finished image s 0 image.cpus then 0 else 6
 
 abbrev pub text_of_state : Image → State → List ℕ
 text_of_state image s =
-    report_text (status_of image s.history) (cpus_text s 0 (flat_of image s.history).cpus) (history_text s.history) (schedule_text s.events)
+    report_text (status_of image s) (cpus_text image s 0 image.cpus) (shown_text image.shown (flat_of image s.history).storage)
+    (history_text s.history) (schedule_text s.events)
 
 -- the report of the state after the events
 unfoldable pub report_of : Image → Limits → List Event → List ℕ
@@ -126,5 +168,7 @@ report_of image limits events = text_of_state image (meaning image limits events
 abbrev pub status_of_one : Cpu → ℕ
 status_of_one c = if is_finished c then 0 else 6
 
-abbrev pub text_of_one : Cpu → ℕ → List Entry → List Event → List ℕ
-text_of_one c turns history events = report_text (status_of_one c) (cpu_text 0 c turns) (history_text history) (schedule_text events)
+abbrev pub text_of_one : Option Shown → Parts → List ℕ
+text_of_one shown p =
+    report_text (status_of_one p.cpu) (cpu_text 0 p.cpu p.turns p.completed (commits_of 0 p.history)) (shown_text shown p.shared)
+    (history_text p.history) (schedule_text p.events)

@@ -3,9 +3,11 @@
 
 mod form;
 mod instruction;
+pub mod laws;
 mod machine;
 mod report;
 mod run;
+mod shown;
 mod texts;
 mod top;
 

@@ -2,7 +2,7 @@
 ghost use Rattle.std.specs.Prelude.{◌≤◌};
 
 use std::fmt;
-use z_regs::CpuImage;
+use z_regs::{CpuImage, Storage};
 
 /// What happens to the machine.
 #[derive(Clone, Copy, Debug, PartialEq, Eq)]
@@ -28,6 +28,8 @@ impl fmt::Display for Event {
 pub enum Entry {
     /// One instruction of a CPU outside transactions.
     Step(u32),
+    /// The transaction of a CPU, of so many instructions, its begin and its end included.
+    Commit(u32, u32),
 }
 
 impl fmt::Display for Entry {
@@ -37,8 +39,10 @@ impl fmt::Display for Entry {
     ghost output = { λ e. Some (entry_text e) };
 
     fn fmt<W: fmt::Write>(&self, f: &mut fmt::Formatter<W>) -> fmt::Result {
-        let Entry::Step(cpu) = self;
-        write!(f, "S {cpu}")
+        match self {
+            Entry::Step(cpu) => write!(f, "S {cpu}"),
+            Entry::Commit(cpu, count) => write!(f, "C {cpu} {count}"),
+        }
     }
 }
 
@@ -52,15 +56,22 @@ pub struct Limits {
 /// The limits of a run that names none.
 pub const DEFAULT_LIMITS: Limits = Limits { turns: 200_000 };
 
-/// The CPU of a run, and the counts and records of the run so far.
+/// The CPU of a run, storage, and the counts and records of the run so far.
 #[derive(Drop)]
 pub struct Machine {
     pub cpu: CpuImage,
     /// The index of the instruction that the CPU stands at, while it runs.
     pub next: usize,
+    /// Storage as the CPU sees it: with the stores of its live transaction.
+    pub own: Storage,
+    /// Storage without them.
+    pub shared: Storage,
     /// Counted turns of the CPU.
     pub turns: u32,
+    /// Completed instructions of the live transaction, 0 where none is live.
+    pub completed: u32,
     pub history: Vec<Entry>,
     pub events: Vec<Event>,
     ghost within: { turns ≤ 200000 },
+    ghost fewer: { completed ≤ turns },
 }

@@ -55,7 +55,7 @@ fn answer(alloc: Global, bytes: &[u8]) -> Result<Option<(String, u8)>, AllocErro
         return Ok(None);
     };
     let machine = run(alloc, form.instructions.as_slice(), form.turns)?;
-    let text = report(alloc, &machine)?;
+    let text = report(alloc, &machine, form.shown)?;
     Ok(Some((text, status(&machine))))
 }
 
@@ -87,6 +87,9 @@ fn run_listing<S: Source, K: Sink>(alloc: Global, source: &mut S, sink: &mut K) 
 /// Answers the words and the bytes of the source, and gives the exit status.
 ///
 /// The words are those of the command line, without the program's name. Everything is written to the sink.
+///
+/// A first form is a listing for one CPU: 1 to 16 instructions `LGHI`, `AGR`, `LG`, `STG`, `TBEGIN`, `TEND` and, as the last one,
+/// `SVC 0`; a schedule of 1 to 1000 turns; and perhaps a line that shows 1 to 256 bytes of storage. No text is two first forms.
 ///
 /// | Status | Comes | Written |
 /// |---|---|---|
