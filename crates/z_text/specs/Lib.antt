@@ -1,0 +1,5 @@
+pub mod Line
+pub mod Numbers
+pub mod Tokens
+pub mod Splits
+pub mod Labels
