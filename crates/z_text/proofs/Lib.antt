@@ -2,3 +2,4 @@ pub mod Numbers
 pub mod Pieces
 pub mod Heads
 pub mod Table
+pub mod Terms

@@ -28,7 +28,7 @@ first_piece at n (b ∷ bs) h e p =
     let d : n ≡ suc (size_at (b ∷ bs) - 1) = omega arith in
     ap (λ m. pieces 0 m (drop (size_at (b ∷ bs) - 1) bs)) a ∙ (rw d refl)))
 
-drop_twice : (n at : ℕ) (text : List ℕ) → drop n (drop at text) ≡ drop (at + n) text
+pub drop_twice : {X : Type 0} (n at : ℕ) (text : List X) → drop n (drop at text) ≡ drop (at + n) text
 drop_twice n at text = grind (arith, drop-drop)
 
 -- the same by places in the line, with the kind and the size as they were found

@@ -3,3 +3,4 @@ pub mod Numbers
 pub mod Tokens
 pub mod Splits
 pub mod Labels
+pub mod Expressions
