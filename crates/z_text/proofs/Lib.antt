@@ -3,3 +3,5 @@ pub mod Pieces
 pub mod Heads
 pub mod Table
 pub mod Terms
+pub mod Longest
+pub mod Filled

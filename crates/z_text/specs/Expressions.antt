@@ -1,5 +1,5 @@
 -- Expressions: a term or a signed term, and signed terms behind it.
-use Rattle.std.specs.Prelude.{◌≡◌, ℕ, ◌+◌, ◌-◌, ◌^◌, ℤ, pos, negsuc, ◌+ℤ◌, ◌-ℤ◌, ◌≤ℤ◌, Bool, true, false, ◌&&◌, List, [], ◌∷◌, length, take, drop, Option, Some, None, option_map, Result, Ok, Err, ◌==◌, if◌then◌else◌, slice_index}
+use Rattle.std.specs.Prelude.{◌≡◌, ℕ, ◌+◌, ◌-◌, ◌^◌, ◌<◌, ◌≤◌, ℤ, pos, negsuc, ◌+ℤ◌, ◌-ℤ◌, ◌≤ℤ◌, Bool, true, false, ◌&&◌, List, [], ◌∷◌, length, take, drop, Option, Some, None, option_map, Result, Ok, Err, ◌==◌, if◌then◌else◌, slice_index}
 use Rattle.z_text.specs.Labels.{value_in}
 use Rattle.z_text.specs.Line.{as_read, span}
 use Rattle.z_text.specs.Numbers.{number_of}
@@ -46,6 +46,26 @@ end_after at size = if size == 0 then None else Some (at + size)
 
 abbrev pub end_of : List Token → ℕ → Option ℕ
 end_of ts at = end_after at (expression_size (drop at ts))
+
+-- The grammar, apart from sizes: signed terms and nothing else,
+abbrev pub are_signed_terms : List Token → Bool
+are_signed_terms [] = true
+are_signed_terms (s ∷ []) = false
+are_signed_terms (s ∷ t ∷ ts) = (is_sign s.kind && is_term t.kind) && are_signed_terms ts
+
+-- and an expression: a term or a signed term, and signed terms.
+abbrev pub is_expression : List Token → Bool
+is_expression [] = false
+is_expression (t ∷ ts) = if is_term t.kind then are_signed_terms ts else are_signed_terms (t ∷ ts)
+
+-- the tokens from one place to another
+abbrev pub part : ℕ → ℕ → List Token → List Token
+part first end ts = take (end - first) (drop first ts)
+
+-- No tokens from this place are an expression, or those to the end are one, and no more of them are.
+abbrev pub IsLongest : List Token → ℕ → Option ℕ → Type 0
+IsLongest ts at None = (end : ℕ) → end ≤ length ts → is_expression (part at end ts) ≡ false
+IsLongest ts at (Some end) = (is_expression (part at end ts) ≡ true) × ((longer : ℕ) → end < longer → longer ≤ length ts → is_expression (part at longer ts) ≡ false)
 
 -- the value of a term, if it has one: a label may have none
 abbrev pub value_of_kind : TokenKind → List ℕ → Labels → ℕ → Option ℤ

@@ -141,3 +141,15 @@ pub record AreTokensIn (text : List ℕ) (ts : List Token) : Type 0 where
   pub inside : All (LiesIn (length text)) ts
   pub numbers : list_all (is_good_number text) ts ≡ true
   pub few : length ts ≤ 120
+
+-- The tokens lie end to end from one place to another.
+abbrev pub FillFrom : ℕ → List Token → ℕ → Type 0
+FillFrom at [] end = at ≡ end
+FillFrom at (t ∷ ts) end = (t.first ≡ at) × FillFrom t.end ts end
+
+-- Behind the label and the operation, tokens lie end to end over the operands, where they are split.
+abbrev pub FillOperands : List ℕ → List Token → Type 0
+FillOperands line ts =
+    says_nothing line ≡ false →
+    keeps_operands_whole (span (fields_of line).operation (fields_of line).operation_end line) ≡ false →
+    (operands : List Token) × (ts ≡ head_of (fields_of line) ++ operands) × FillFrom (fields_of line).operands operands (fields_of line).operands_end

@@ -1,6 +1,6 @@
 ghost use Rattle.std.specs.Prelude.{◌≡◌, ◌<◌, ◌≤◌, length, IfOk, IfSome, IsTrue};
 ghost use Rattle.z_text.specs.Tokens.{AreTokensIn};
-ghost use Rattle.z_text.specs.Expressions.{is_sign, is_term, begins_term, begins_signed_term, signed_terms_size, expression_size, end_of, expression_of};
+ghost use Rattle.z_text.specs.Expressions.{is_sign, is_term, begins_term, begins_signed_term, signed_terms_size, expression_size, end_of, expression_of, IsLongest};
 
 use crate::labels::Labels;
 use crate::sum::sum_of;
@@ -66,9 +66,7 @@ fn expression_size(tokens: &[Token]) -> usize
     signed_terms_size(tokens)
 }
 
-/// The place after the longest expression that begins at `at`, whether or not its labels have values; `None` exactly where
-/// none begins there.
-pub fn expression_end(tokens: &[Token], at: usize) -> Option<usize>
+fn end_of(tokens: &[Token], at: usize) -> Option<usize>
     requires { at ≤ length tokens.now }
     ensures is { result ≡ end_of tokens.now at }
     ensures later { IfSome result (λ end. at < end) }
@@ -78,6 +76,18 @@ pub fn expression_end(tokens: &[Token], at: usize) -> Option<usize>
         0 => None,
         size => Some(at + size),
     }
+}
+
+/// The place after the longest expression that begins at `at`, whether or not its labels have values; `None` exactly where
+/// none begins there.
+pub fn expression_end(tokens: &[Token], at: usize) -> Option<usize>
+    requires { at ≤ length tokens.now }
+    ensures is { result ≡ end_of tokens.now at }
+    ensures longest { IsLongest tokens.now at result }
+    ensures later { IfSome result (λ end. at < end) }
+    ensures within { IfSome result (λ end. end ≤ length tokens.now) }
+{
+    end_of(tokens, at)
 }
 
 /// The value of the longest expression that begins at `at`, and the place after it.

@@ -1,7 +1,7 @@
 ghost use Rattle.std.specs.Prelude.{◌≡◌, ◌<◌, ◌≤◌, ◌↔◌, ◌++◌, ◌+◌, false, length, All, IfOk, Option, Some, None, take};
 ghost use Rattle.std.specs.List.{list_all};
-ghost use Rattle.z_text.specs.Line.{fields_of};
-ghost use Rattle.z_text.specs.Tokens.{tokens_of, split_of, operands_of, has_bad_head, head_of, is_good_number, Gives, LiesIn, AreTokensIn};
+ghost use Rattle.z_text.specs.Line.{as_read, fields_of};
+ghost use Rattle.z_text.specs.Tokens.{tokens_of, split_of, operands_of, has_bad_head, head_of, is_good_number, Gives, LiesIn, AreTokensIn, FillOperands};
 ghost use Rattle.z_text.specs.Splits.{HasHead, GivesSplit, HasOperands};
 
 use crate::fields::{Fields, are_printed, fields_of, is_name, keeps_operands_whole, says_nothing};
@@ -110,20 +110,12 @@ fn are_good_numbers(text: &[u8], tokens: &[Token]) -> bool
     true
 }
 
-/// The tokens of a line, in order.
-///
-/// The text is one line without its line end. It begins with a label or with a blank; then come blanks, the operation,
-/// blanks, and the operands up to a blank. Blanks separate tokens. What follows the operands is a remark and is not read.
-/// The operands of DC and SCHED give no tokens. Small letters are read as capitals. A line that is empty, all blanks, or
-/// begins with an asterisk has no tokens.
-///
-/// The first fault in this order is the answer: [`TextFault::LineTooLong`] above 120 bytes; [`TextFault::BadToken`]
-/// anywhere in the line; [`TextFault::BadNumber`] anywhere in the line. [`TextFault::Memory`] may come at any line that is
-/// not too long.
+/// The tokens of a text, or its first fault.
 #[tactic(auto, unfolding(crate::specs::Tokens::tokens_of))]
-pub fn tokens(alloc: Global, text: &[u8]) -> Result<Vec<Token>, TextFault>
+fn tokens_of(alloc: Global, text: &[u8]) -> Result<Vec<Token>, TextFault>
     ensures is { Gives (λ v. v.items) result (tokens_of text.now) }
     ensures inside { IfOk result (λ v. AreTokensIn text.now v.items) }
+    ensures too_long { (result ≡ Err TextFault.LineTooLong) ↔ (120 < length text.now) }
 {
     if 120 < text.len() {
         return Err(TextFault::LineTooLong);
@@ -134,4 +126,23 @@ pub fn tokens(alloc: Global, text: &[u8]) -> Result<Vec<Token>, TextFault>
         return Err(TextFault::BadNumber);
     }
     Ok(tokens)
+}
+
+/// The tokens of a line, in order.
+///
+/// The text is one line without its line end. It begins with a label or with a blank; then come blanks, the operation,
+/// blanks, and the operands up to a blank. Blanks separate tokens. What follows the operands is a remark and is not read.
+/// The operands of DC and SCHED give no tokens; those of other lines are filled by theirs. Small letters are read as
+/// capitals. A line that is empty, all blanks, or begins with an asterisk has no tokens.
+///
+/// The first fault in this order is the answer: [`TextFault::LineTooLong`] above 120 bytes; [`TextFault::BadToken`]
+/// anywhere in the line; [`TextFault::BadNumber`] anywhere in the line. [`TextFault::Memory`] may come at any line that is
+/// not too long.
+pub fn tokens(alloc: Global, text: &[u8]) -> Result<Vec<Token>, TextFault>
+    ensures is { Gives (λ v. v.items) result (tokens_of text.now) }
+    ensures inside { IfOk result (λ v. AreTokensIn text.now v.items) }
+    ensures too_long { (result ≡ Err TextFault.LineTooLong) ↔ (120 < length text.now) }
+    ensures filled { IfOk result (λ v. FillOperands (as_read text.now) v.items) }
+{
+    tokens_of(alloc, text)
 }
