@@ -1,7 +1,7 @@
 -- The longest expression, by the grammar.
-use Rattle.std.proofs.Common.{◌≡◌, ℕ, zero, suc, ◌+◌, ◌-◌, ◌<◌, ◌≤◌, ◌==◌, ◌&&◌, Bool, true, false, List, [], ◌∷◌, length, take, drop, Option, Some, None, length-drop, refl, sym, ap, ◌∙◌, subst, arith}
+use Rattle.std.proofs.Common.{◌≡◌, ℕ, zero, suc, ◌+◌, ◌-◌, ◌<◌, ◌≤◌, ◌==◌, ◌&&◌, Bool, true, false, List, [], ◌∷◌, length, take, drop, Some, None, length-drop, refl, ap, ◌∙◌, arith}
 use Rattle.std.specs.Prelude.{if◌then◌else◌}
-use Rattle.z_text.specs.Expressions.{are_signed_terms, begins_term, end_after, end_of, expression_size, is_expression, is_sign, is_term, IsLongest, part, signed_terms_size}
+use Rattle.z_text.specs.Expressions.{are_signed_terms, end_of, expression_size, is_expression, is_sign, is_term, IsLongest, signed_terms_size}
 use Rattle.z_text.specs.declared.token.Token.{Token}
 
 pair_longest : (b r : Bool) (k m : ℕ) → (if b then 2 + k else 0) < suc (suc m) → (k < m → r ≡ false) → (b && r) ≡ false

@@ -9,7 +9,7 @@ use Rattle.z_text.specs.declared.token.ExprFault.{ExprFault}
 use Rattle.z_text.specs.declared.token.ExprFault.TheVariants.{BadToken, UnknownLabel}
 use Rattle.z_text.specs.declared.token.Token.{Token}
 use Rattle.z_text.specs.declared.token.TokenKind.{TokenKind}
-use Rattle.z_text.specs.declared.token.TokenKind.TheVariants.{Name, Number, Hex, Sign, Open, Close, Comma, Star}
+use Rattle.z_text.specs.declared.token.TokenKind.TheVariants.{Name, Number, Hex, Sign, Star}
 
 abbrev pub is_sign : TokenKind → Bool
 is_sign Sign = true

@@ -1,5 +1,5 @@
 -- What a table of labels says.
-use Rattle.std.specs.Prelude.{ℕ, ℤ, pos, negsuc, ◌≤ℤ◌, ◌-◌, ◌^◌, List, Option, option_map}
+use Rattle.std.specs.Prelude.{ℕ, ℤ, List, Option, option_map}
 use Rattle.std.specs.BTreeMap.{get_by}
 use Rattle.std.specs.Ordering.{nat_cmp}
 use Rattle.std.specs.Cmp.Lexicographic.{slice_cmp}

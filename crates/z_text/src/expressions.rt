@@ -96,7 +96,13 @@ pub fn expression_end(tokens: &[Token], at: usize) -> Option<usize>
 /// stands for `here`. The sum is exact. [`ExprFault::BadToken`] comes exactly where no expression begins at `at`, else
 /// [`ExprFault::UnknownLabel`] exactly where the expression has a label without a value.
 #[tactic(auto, unfolding(crate::specs::Expressions::expression_of))]
-pub fn expression(text: &[u8], tokens: &[Token], at: usize, labels: &Labels, here: u64) -> Result<(i128, usize), ExprFault>
+pub fn expression(
+    text: &[u8],
+    tokens: &[Token],
+    at: usize,
+    labels: &Labels,
+    here: u64,
+) -> Result<(i128, usize), ExprFault>
     requires tokens { AreTokensIn text.now tokens.now }
     requires at { at ≤ length tokens.now }
     requires here { here ≤ 1048576 }

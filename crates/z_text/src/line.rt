@@ -93,7 +93,10 @@ fn is_good_number(text: &[u8], token: Token) -> bool
     ensures { result ≡ is_good_number text.now token }
 {
     match token.kind {
-        TokenKind::Number | TokenKind::Hex => number_of(token.kind, &text[token.first..token.end]).is_some(),
+        TokenKind::Number | TokenKind::Hex => number_of(
+            token.kind,
+            &text[token.first..token.end],
+        ).is_some(),
         _ => true,
     }
 }

@@ -66,7 +66,12 @@ fn is_too_long(kind: TokenKind, size: usize) -> bool
 }
 
 /// Pushes the tokens of the bytes from `first` to `end`.
-pub(crate) fn split(tokens: &mut Vec<Token>, line: &[u8], first: usize, end: usize) -> Result<(), TextFault>
+pub(crate) fn split(
+    tokens: &mut Vec<Token>,
+    line: &[u8],
+    first: usize,
+    end: usize,
+) -> Result<(), TextFault>
     requires order { first ≤ end }
     requires within { end ≤ length line.now }
     requires inside { All (LiesIn (length line.now)) tokens.old.items }

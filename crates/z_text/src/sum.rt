@@ -72,7 +72,13 @@ fn with_value(sum: RunningSum, value: i128) -> RunningSum
 
 #[tactic(auto, unfolding(crate::specs::Expressions::sum_of))]
 /// The sum with one more token, a sign or a term; `None` at a label without a value.
-fn with_token(sum: RunningSum, text: &[u8], token: Token, labels: &Labels, here: u64) -> Option<RunningSum>
+fn with_token(
+    sum: RunningSum,
+    text: &[u8],
+    token: Token,
+    labels: &Labels,
+    here: u64,
+) -> Option<RunningSum>
     requires low { negsuc (2 ^ 72) ≤ℤ sum.value }
     requires high { sum.value ≤ℤ pos (2 ^ 72) }
     requires inside { LiesIn (length text.now) token }

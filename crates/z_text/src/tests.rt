@@ -53,7 +53,10 @@ static LINES: [(&str, &str); 99] = [
     (" B 2*3", "N1-2 D3-4 *4-5 D5-6"),
     (" B **", "N1-2 *3-4 *4-5"),
     (" B *+4", "N1-2 *3-4 S4-5 D5-6"),
-    (" MVC 0(3,2),D(4)", "N1-4 D5-6 (6-7 D7-8 ,8-9 D9-10 )10-11 ,11-12 N12-13 (13-14 D14-15 )15-16"),
+    (
+        " MVC 0(3,2),D(4)",
+        "N1-4 D5-6 (6-7 D7-8 ,8-9 D9-10 )10-11 ,11-12 N12-13 (13-14 D14-15 )15-16",
+    ),
     (" B ;", "BadToken"),
     (" B '", "BadToken"),
     (" B A.B", "BadToken"),
@@ -98,12 +101,30 @@ static LINES: [(&str, &str); 99] = [
     (" TEND\r", "BadToken"),
     (" LGHI 1 \r", "N1-5 D6-7"),
     ("\r", "BadToken"),
-    (" B 1 xxxxxxxxxxxxxxxxxxxxxxxxxxxxxxxxxxxxxxxxxxxxxxxxxxxxxxxxxxxxxxxxxxxxxxxxxxxxxxxxxxxxxxxxxxxxxxxxxxxxxxxxxxxxxxxxxxx", "N1-2 D3-4"),
-    (" B 1 xxxxxxxxxxxxxxxxxxxxxxxxxxxxxxxxxxxxxxxxxxxxxxxxxxxxxxxxxxxxxxxxxxxxxxxxxxxxxxxxxxxxxxxxxxxxxxxxxxxxxxxxxxxxxxxxxxxx", "LineTooLong"),
-    ("*;;;;;;;;;;;;;;;;;;;;;;;;;;;;;;;;;;;;;;;;;;;;;;;;;;;;;;;;;;;;;;;;;;;;;;;;;;;;;;;;;;;;;;;;;;;;;;;;;;;;;;;;;;;;;;;;;;;;;;;", ""),
-    ("*;;;;;;;;;;;;;;;;;;;;;;;;;;;;;;;;;;;;;;;;;;;;;;;;;;;;;;;;;;;;;;;;;;;;;;;;;;;;;;;;;;;;;;;;;;;;;;;;;;;;;;;;;;;;;;;;;;;;;;;;", "LineTooLong"),
-    ("                                                                                                                        ", ""),
-    ("                                                                                                                         ", "LineTooLong"),
+    (
+        " B 1 xxxxxxxxxxxxxxxxxxxxxxxxxxxxxxxxxxxxxxxxxxxxxxxxxxxxxxxxxxxxxxxxxxxxxxxxxxxxxxxxxxxxxxxxxxxxxxxxxxxxxxxxxxxxxxxxxxx",
+        "N1-2 D3-4",
+    ),
+    (
+        " B 1 xxxxxxxxxxxxxxxxxxxxxxxxxxxxxxxxxxxxxxxxxxxxxxxxxxxxxxxxxxxxxxxxxxxxxxxxxxxxxxxxxxxxxxxxxxxxxxxxxxxxxxxxxxxxxxxxxxxx",
+        "LineTooLong",
+    ),
+    (
+        "*;;;;;;;;;;;;;;;;;;;;;;;;;;;;;;;;;;;;;;;;;;;;;;;;;;;;;;;;;;;;;;;;;;;;;;;;;;;;;;;;;;;;;;;;;;;;;;;;;;;;;;;;;;;;;;;;;;;;;;;",
+        "",
+    ),
+    (
+        "*;;;;;;;;;;;;;;;;;;;;;;;;;;;;;;;;;;;;;;;;;;;;;;;;;;;;;;;;;;;;;;;;;;;;;;;;;;;;;;;;;;;;;;;;;;;;;;;;;;;;;;;;;;;;;;;;;;;;;;;;",
+        "LineTooLong",
+    ),
+    (
+        "                                                                                                                        ",
+        "",
+    ),
+    (
+        "                                                                                                                         ",
+        "LineTooLong",
+    ),
 ];
 
 fn mark(kind: TokenKind) -> char {
@@ -155,7 +176,11 @@ static EXPRESSIONS: [(&str, usize, &str); 25] = [
     (" B *+4", 1, "16388 4, Some(4)"),
     (" B -*-*", 1, "-32768 5, Some(5)"),
     (" B 2*3", 1, "2 2, Some(2)"),
-    (" B X'FFFFFFFFFFFFFFFF'+1-1", 1, "18446744073709551615 6, Some(6)"),
+    (
+        " B X'FFFFFFFFFFFFFFFF'+1-1",
+        1,
+        "18446744073709551615 6, Some(6)",
+    ),
     (" B 1+2-3+X'10'", 1, "16 8, Some(8)"),
     (" B 1-a", 1, "-4 4, Some(4)"),
     (" B BIG+BIG", 1, "36893488147419103230 4, Some(4)"),
