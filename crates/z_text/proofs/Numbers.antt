@@ -3,19 +3,19 @@ use Rattle.std.proofs.Common.{◌≡◌, ℕ, ◌+◌, ◌*◌, ◌<◌, ◌≤�
 use Rattle.std.proofs.Math.Seq.{drop-cons}
 use Rattle.std.specs.Char.{is_digit, digit_value}
 use Rattle.std.proofs.lemmas.Grind.{common_steps}
-use Rattle.z_text.specs.Numbers.{value_behind, number_behind}
+use Rattle.std.specs.Str.Parse.{digits_value_after}
+use Rattle.z_text.specs.Numbers.{number_behind}
 
 no_digit : (base n b : ℕ) (bs : List ℕ) → is_digit b base ≡ false → number_behind base n (b ∷ bs) ≡ None
 unfolding number_behind
 no_digit base n b bs e = rw e refl
 
 one_digit : (base n b : ℕ) (bs : List ℕ) → is_digit b base ≡ true → number_behind base n (b ∷ bs) ≡ number_behind base (n * base + digit_value b) bs
-unfolding number_behind value_behind
+unfolding number_behind
 one_digit base n b bs e = rw e refl
 
 -- More digits make no smaller number.
-value_grows : (base n : ℕ) (bs : List ℕ) → 2 ≤ base → n ≤ value_behind base n bs
-unfolding value_behind
+value_grows : (base n : ℕ) (bs : List ℕ) → 2 ≤ base → n ≤ digits_value_after base n bs
 value_grows base n [] h = omega arith
 value_grows base n (b ∷ bs) h =
     let rest = value_grows base (n * base + digit_value b) bs h in
@@ -24,10 +24,10 @@ value_grows base n (b ∷ bs) h =
 pub number_too_big : (base n : ℕ) (bs : List ℕ) → 2 ≤ base → 2 ^ 64 ≤ n → number_behind base n bs ≡ None
 unfolding number_behind
 number_too_big base n bs h big =
-    let no : nat_lt (value_behind base n bs) (2 ^ 64) ≡ false = le-ltb _ _ (omega (arith, value_grows base n bs h)) in grind arith
+    let no : nat_lt (digits_value_after base n bs) (2 ^ 64) ≡ false = le-ltb _ _ (omega (arith, value_grows base n bs h)) in grind arith
 
 no_more : (base n : ℕ) (bs : List ℕ) → n < 2 ^ 64 → length bs ≤ 0 → number_behind base n bs ≡ Some n
-unfolding number_behind value_behind
+unfolding number_behind
 no_more base n [] h e = rw (lt-ltb n (2 ^ 64) h) refl
 no_more base n (b ∷ bs) h e = absurd (omega arith)
 

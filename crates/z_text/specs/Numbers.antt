@@ -1,19 +1,15 @@
 -- The numbers of the listing: decimal digits, or hex digits in quotes behind an X, below 2 ^ 64.
-use Rattle.std.specs.Prelude.{ℕ, ◌+◌, ◌-◌, ◌*◌, ◌^◌, ◌&&◌, List, [], ◌∷◌, length, take, drop, Option, Some, None, nat_lt, nat_le, ◌==◌, if◌then◌else◌, slice_index}
+use Rattle.std.specs.Prelude.{ℕ, ◌-◌, ◌^◌, ◌&&◌, List, length, take, drop, Option, Some, None, nat_lt, nat_le, ◌==◌, if◌then◌else◌, slice_index}
 use Rattle.std.specs.List.{list_all}
-use Rattle.std.specs.Char.{digit_value, is_digit}
+use Rattle.std.specs.Char.{is_digit}
+use Rattle.std.specs.Str.Parse.{digits_value_after}
 use Rattle.z_text.specs.declared.token.TokenKind.{TokenKind}
 use Rattle.z_text.specs.declared.token.TokenKind.TheVariants.{Number, Hex}
 
--- what digits stand for, behind digits that stand for n
-unfoldable pub value_behind : ℕ → ℕ → List ℕ → ℕ
-value_behind base n [] = n
-value_behind base n (b ∷ bs) = value_behind base (n * base + digit_value b) bs
-
--- the same, where they are digits and the value fits
+-- the number that digits write behind those of n, where they are digits and it fits 64 bits
 unfoldable pub number_behind : ℕ → ℕ → List ℕ → Option ℕ
 number_behind base n bs =
-    if list_all (λ b. is_digit b base) bs && nat_lt (value_behind base n bs) (2 ^ 64) then Some (value_behind base n bs) else None
+    if list_all (λ b. is_digit b base) bs && nat_lt (digits_value_after base n bs) (2 ^ 64) then Some (digits_value_after base n bs) else None
 
 abbrev pub number_in : ℕ → List ℕ → Option ℕ
 number_in base bs = number_behind base 0 bs

@@ -70,8 +70,8 @@ fn with_value(sum: RunningSum, value: i128) -> RunningSum
     }
 }
 
-#[tactic(auto, unfolding(crate::specs::Expressions::sum_of))]
 /// The sum with one more token, a sign or a term; `None` at a label without a value.
+#[tactic(auto, unfolding(crate::specs::Expressions::sum_of))]
 fn with_token(
     sum: RunningSum,
     text: &[u8],
