@@ -5,3 +5,4 @@ pub mod Table
 pub mod Terms
 pub mod Longest
 pub mod Filled
+pub mod Causes

@@ -1,5 +1,6 @@
 -- Expressions: a term or a signed term, and signed terms behind it.
-use Rattle.std.specs.Prelude.{◌≡◌, ℕ, ◌+◌, ◌-◌, ◌^◌, ◌<◌, ◌≤◌, ℤ, pos, negsuc, ◌+ℤ◌, ◌-ℤ◌, ◌≤ℤ◌, Bool, true, false, ◌&&◌, List, [], ◌∷◌, length, take, drop, Option, Some, None, option_map, Result, Ok, Err, ◌==◌, if◌then◌else◌, slice_index}
+use Rattle.std.specs.Prelude.{◌≡◌, ℕ, ◌+◌, ◌-◌, ◌^◌, ◌<◌, ◌≤◌, ℤ, pos, negsuc, ◌+ℤ◌, ◌-ℤ◌, ◌≤ℤ◌, Bool, true, false, ◌&&◌, List, [], ◌∷◌, length, take, drop, Option, Some, None, is_none, option_map, Result, Ok, Err, ◌==◌, if◌then◌else◌, slice_index}
+use Rattle.std.specs.List.{list_any}
 use Rattle.z_text.specs.Labels.{value_in}
 use Rattle.z_text.specs.Line.{as_read, span}
 use Rattle.z_text.specs.Numbers.{number_of}
@@ -105,6 +106,20 @@ value_to text ts at labels here (Some end) = with_value (sum_of text labels here
 -- the value of the longest expression at a place, and the place after it
 unfoldable pub expression_of : List ℕ → List Token → ℕ → Labels → ℕ → Result (ℤ × ℕ) ExprFault
 expression_of text ts at labels here = value_to text ts at labels here (end_of ts at)
+
+abbrev pub is_label : TokenKind → Bool
+is_label Name = true
+is_label _ = false
+
+-- The token is a label without a value.
+abbrev pub lacks_value : List ℕ → Labels → Token → Bool
+lacks_value text labels t = is_label t.kind && is_none (value_in labels (as_read (span t.first t.end text)))
+
+-- A value comes where there is an expression and each of its labels has a value, and each fault where it has its cause.
+abbrev pub HasCause : List ℕ → List Token → ℕ → Labels → Result (ℤ × ℕ) ExprFault → Type 0
+HasCause text ts at labels (Ok r) = (end_of ts at ≡ Some r.1) × (list_any (lacks_value text labels) (part at r.1 ts) ≡ false)
+HasCause text ts at labels (Err BadToken) = end_of ts at ≡ None
+HasCause text ts at labels (Err UnknownLabel) = (end : ℕ) × (end_of ts at ≡ Some end) × (list_any (lacks_value text labels) (part at end ts) ≡ true)
 
 -- from -2 ^ 64 to 2 ^ 64
 abbrev pub IsNear : ℤ → Type 0

@@ -1,6 +1,6 @@
 ghost use Rattle.std.specs.Prelude.{◌≡◌, ◌<◌, ◌≤◌, length, IfOk, IfSome, IsTrue};
 ghost use Rattle.z_text.specs.Tokens.{AreTokensIn};
-ghost use Rattle.z_text.specs.Expressions.{is_sign, is_term, begins_term, begins_signed_term, signed_terms_size, expression_size, end_of, expression_of, IsLongest};
+ghost use Rattle.z_text.specs.Expressions.{is_sign, is_term, begins_term, begins_signed_term, signed_terms_size, expression_size, end_of, expression_of, IsLongest, HasCause};
 
 use crate::labels::Labels;
 use crate::sum::sum_of;
@@ -90,13 +90,8 @@ pub fn expression_end(tokens: &[Token], at: usize) -> Option<usize>
     end_of(tokens, at)
 }
 
-/// The value of the longest expression that begins at `at`, and the place after it.
-///
-/// An expression is a term or a signed term, and behind it signed terms. A term is a number, a label or an asterisk, which
-/// stands for `here`. The sum is exact. [`ExprFault::BadToken`] comes exactly where no expression begins at `at`, else
-/// [`ExprFault::UnknownLabel`] exactly where the expression has a label without a value.
 #[tactic(auto, unfolding(crate::specs::Expressions::expression_of))]
-pub fn expression(
+fn value_at(
     text: &[u8],
     tokens: &[Token],
     at: usize,
@@ -117,4 +112,27 @@ pub fn expression(
         Some(value) => Ok((value, end)),
         None => Err(ExprFault::UnknownLabel),
     }
+}
+
+/// The value of the longest expression that begins at `at`, and the place after it.
+///
+/// An expression is a term or a signed term, and behind it signed terms. A term is a number, a label or an asterisk, which
+/// stands for `here`. The sum is exact. [`ExprFault::BadToken`] comes exactly where no expression begins at `at`, else
+/// [`ExprFault::UnknownLabel`] exactly where the expression has a label without a value.
+pub fn expression(
+    text: &[u8],
+    tokens: &[Token],
+    at: usize,
+    labels: &Labels,
+    here: u64,
+) -> Result<(i128, usize), ExprFault>
+    requires tokens { AreTokensIn text.now tokens.now }
+    requires at { at ≤ length tokens.now }
+    requires here { here ≤ 1048576 }
+    ensures is { result ≡ expression_of text.now tokens.now at labels.now here }
+    ensures cause { HasCause text.now tokens.now at labels.now result }
+    ensures later { IfOk result (λ r. at < r.1) }
+    ensures within { IfOk result (λ r. r.1 ≤ length tokens.now) }
+{
+    value_at(text, tokens, at, labels, here)
 }
