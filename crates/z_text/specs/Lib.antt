@@ -1,0 +1,6 @@
+pub mod Line
+pub mod Numbers
+pub mod Tokens
+pub mod Splits
+pub mod Labels
+pub mod Expressions

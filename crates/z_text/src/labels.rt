@@ -1,0 +1,76 @@
+ghost use Rattle.std.specs.Prelude.{◌≡◌, ◌^◌, ◌-◌, pos, negsuc, ◌≤ℤ◌};
+
+use crate::token::NoMemory;
+use std::alloc::Global;
+use std::collections::BTreeMap;
+
+/// A label's value: from -2^63 to 2^64 - 1.
+#[derive(Clone, Copy, Debug)]
+struct LabelValue {
+    value: i128,
+    ghost low: { negsuc (2 ^ 63 - 1) ≤ℤ value },
+    ghost high: { value ≤ℤ pos (2 ^ 64 - 1) },
+}
+
+impl LabelValue {
+    fn new(value: i128) -> LabelValue
+        requires low { negsuc (2 ^ 63 - 1) ≤ℤ value }
+        requires high { value ≤ℤ pos (2 ^ 64 - 1) }
+        ensures { result.value ≡ value }
+    {
+        LabelValue { value }
+    }
+}
+
+/// Labels and their values, from -2^63 to 2^64 - 1: a finite map from names to values.
+#[derive(Drop)]
+pub struct Labels {
+    alloc: Global,
+    values: BTreeMap<Vec<u8>, LabelValue>,
+}
+
+impl Labels {
+    ghost use Rattle.std.specs.Prelude.{ℕ, List, Option, Some, None, IfOk, IfSome, OnErr, IsTrue, is_none, true, false, if◌then◌else◌};
+    ghost use Rattle.std.specs.Str.{bytes_eq};
+    ghost use Rattle.z_text.specs.Labels.{value_in};
+
+    /// No labels. Memory for those that are added comes from the allocator.
+    pub fn new(alloc: Global) -> Labels
+        ensures { (name : List ℕ) → value_in result name ≡ None }
+    {
+        Labels {
+            alloc,
+            values: BTreeMap::new(alloc),
+        }
+    }
+
+    /// The value of the label of this name, if there is one.
+    pub fn value(&self, name: &[u8]) -> Option<i128>
+        ensures is { result ≡ value_in self.now name.now }
+        ensures low { IfSome result (λ v. negsuc (2 ^ 63 - 1) ≤ℤ v) }
+        ensures high { IfSome result (λ v. v ≤ℤ pos (2 ^ 64 - 1)) }
+    {
+        match self.values.get(name) {
+            Some(found) => Some(found.value),
+            None => None,
+        }
+    }
+
+    /// Adds a label, and says whether it was new. Where it was not, and where there is no memory, the labels stay as they
+    /// are.
+    pub fn add(&mut self, name: &[u8], value: i128) -> Result<bool, NoMemory>
+        requires low { negsuc (2 ^ 63 - 1) ≤ℤ value }
+        requires high { value ≤ℤ pos (2 ^ 64 - 1) }
+        ensures new { IfOk result (λ added. added ≡ is_none (value_in self.old name.now)) }
+        ensures labels { IfOk result (λ added. (other : List ℕ) → value_in self.new other ≡ (if added then (if bytes_eq other name.now then Some value else value_in self.old other) else value_in self.old other)) }
+        ensures err { OnErr result ((other : List ℕ) → value_in self.new other ≡ value_in self.old other) }
+    {
+        if self.values.contains_key(name) {
+            return Ok(false);
+        }
+        let key = Vec::from_slice(self.alloc, name)?;
+        let entry = LabelValue::new(value);
+        self.values.insert(key, entry)?;
+        Ok(true)
+    }
+}

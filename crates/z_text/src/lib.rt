@@ -1,0 +1,20 @@
+//! The text of the listing, line by line: tokens, labels and expressions.
+#![tactic(auto)]
+
+mod expressions;
+mod fields;
+mod labels;
+mod line;
+mod number;
+mod running;
+mod scan;
+mod sum;
+mod token;
+
+pub use expressions::{expression, expression_end};
+pub use labels::Labels;
+pub use line::tokens;
+pub use token::{ExprFault, NoMemory, TextFault, Token, TokenKind};
+
+#[cfg(test)]
+mod tests;

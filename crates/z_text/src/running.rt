@@ -1,0 +1,8 @@
+/// The sum of an expression's first terms, and whether a minus stands behind them.
+#[derive(Clone, Copy, Debug, PartialEq, Eq)]
+pub struct RunningSum {
+    /// The sum of the terms so far.
+    pub value: i128,
+    /// Whether the next term is taken away.
+    pub negative: bool,
+}
