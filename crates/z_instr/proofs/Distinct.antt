@@ -13,7 +13,7 @@ use Rattle.z_instr.specs.Layout.{place, lead, length_by, format_length}
 use Rattle.z_instr.specs.Facts.{all_pairs, have_other_names, have_other_opcodes, is_same_place}
 use Rattle.z_instr.specs.Places.{opcode_at, HasOpcode}
 use Rattle.z_instr.specs.Reading.{AreBytes}
-use Rattle.z_instr.proofs.Tests.{passes, and_left, and_right}
+use Rattle.z_instr.proofs.Passing.{passes, and_left, and_right}
 use Rattle.z_instr.proofs.TableFacts.{same_table, opcode_length}
 
 passes_pair : (test : Entry → Entry → Bool) (es : List Entry) (m n : ℕ) (d : Entry) → all_pairs test es ≡ true → m < n → n < length es → test (get_or es m d) (get_or es n d) ≡ true
@@ -61,7 +61,7 @@ other_opcodes : (m n : ℕ) → m < n → n < ROWS → have_other_opcodes (entry
 other_opcodes = passes_rows have_other_opcodes refl
 
 -- bytes that have an opcode in its place begin with its first byte
-leads : (p : Place) (bytes : List ℕ) → AreBytes bytes → lead p (opcode_at p bytes) ≡ get_or bytes 0 0
+pub leads : (p : Place) (bytes : List ℕ) → AreBytes bytes → lead p (opcode_at p bytes) ≡ get_or bytes 0 0
 leads First bytes b = refl
 leads FirstTwo bytes b = omega (arith, b 1)
 leads FirstHalf bytes b = omega arith

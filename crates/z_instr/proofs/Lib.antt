@@ -1,7 +1,12 @@
-pub mod Tests
+pub mod Passing
 pub mod TableFacts
 pub mod Within
 pub mod OneSpelling
+pub mod Bytes
 pub mod Distinct
 pub mod Spelled
 pub mod OneReading
+pub mod Pieces
+pub mod PlainImmediates
+pub mod SmallOperands
+pub mod Examples

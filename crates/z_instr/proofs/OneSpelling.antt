@@ -101,7 +101,7 @@ same_shared : (m : Bool) (a b c d : ℕ) → a < unless m → b < given m → c 
 same_shared true a b c d f g h k e = (omega arith, omega arith)
 same_shared false a b c d f g h k e = (omega arith, omega arith)
 
-shared_below : (m : Bool) (a b : ℕ) → a < unless m → b < given m → a + b < 16
+pub shared_below : (m : Bool) (a b : ℕ) → a < unless m → b < given m → a + b < 16
 shared_below true a b f g = omega arith
 shared_below false a b f g = omega arith
 

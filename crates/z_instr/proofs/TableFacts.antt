@@ -1,6 +1,8 @@
 -- The code's table is the table, and facts that are computed over all its rows.
 use Rattle.std.proofs.Common.{◌≡◌, ℕ, ◌<◌, ◌≤◌, refl, map, sym, ap, subst, ◌∙◌, get_or, true, Bool, List, length}
 use Rattle.std.specs.List.{list_all}
+use Rattle.std.specs.Str.{IsAscii}
+use Rattle.std.proofs.Common.{nat_lt, [], ◌∷◌, zero, suc, lit<}
 use Rattle.std.proofs.lemmas.List.{get_or-map}
 use Rattle.std.proofs.lemmas.Bool.{leb-true, ltb-true, eqb-true}
 use Rattle.z_instr.specs.declared.table.Line.{Line}
@@ -9,7 +11,7 @@ use Rattle.z_instr.specs.Table.{Entry, table, entry_at, no_entry}
 use Rattle.z_instr.specs.Lines.{entry_of}
 use Rattle.z_instr.specs.Layout.{place, room, lead, length_by, format_length}
 use Rattle.z_instr.specs.Facts.{has_fitting_opcode, has_fitting_count, has_fitting_name, is_refused_alike}
-use Rattle.z_instr.proofs.Tests.{passes, and_left, and_right}
+use Rattle.z_instr.proofs.Passing.{passes, and_left, and_right}
 
 pub same_table : map entry_of TABLE ≡ table
 unfolding table
@@ -43,3 +45,12 @@ fitting_name = passes_row has_fitting_name refl
 
 pub refused_alike : (n : ℕ) → n < ROWS → is_refused_alike (entry_at n) ≡ true
 refused_alike = passes_row is_refused_alike refl
+
+-- letters that all pass the test are ASCII
+ascii : (letters : List ℕ) → list_all (λ letter. nat_lt letter 128) letters ≡ true → IsAscii letters
+ascii [] h i = lit< tt
+ascii (b ∷ bs) h zero = ltb-true _ _ (and_left _ _ h)
+ascii (b ∷ bs) h (suc i) = ascii bs (and_right _ _ h) i
+
+pub name_ascii : (n : ℕ) → n < ROWS → IsAscii (entry_at n).name
+name_ascii n h = ascii _ (and_right _ _ (and_right _ _ (fitting_name n h)))

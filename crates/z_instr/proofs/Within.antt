@@ -8,7 +8,7 @@ use Rattle.z_instr.specs.declared.format.Format.TheVariants.{RR, I, RX, RRE, RRF
 use Rattle.z_instr.specs.Ranges.{are_within, are_registers_within, are_numbers_within, is_within, limits_in, limits_of, AreBelowSixteen, unless, given}
 use Rattle.z_instr.specs.Table.{Entry, entry_at}
 use Rattle.z_instr.specs.declared.instr.Instr.{Instr}
-use Rattle.z_instr.proofs.Tests.{and_left, and_right}
+use Rattle.z_instr.proofs.Passing.{and_left, and_right}
 
 pub record RegistersWithin (l : Limits) (r1 r2 r3 x b b2 mask : ℕ) : Type 0 where
   pub r1_in : r1 < l.r1

@@ -1,11 +1,16 @@
 -- Facts of the whole table, as tests of its rows that compute.
-use Rattle.std.specs.Prelude.{Bool, true, false, ◌&&◌, ◌||◌, not, nat_eq, nat_lt, nat_le, length, List, [], ◌∷◌}
+use Rattle.std.specs.Prelude.{ℕ, Bool, true, false, ◌&&◌, ◌||◌, not, nat_eq, nat_lt, nat_le, length, List, [], ◌∷◌}
 use Rattle.std.specs.List.{list_all}
 use Rattle.std.specs.Str.{bytes_eq}
 use Rattle.z_instr.specs.declared.format.Place.{Place}
 use Rattle.z_instr.specs.declared.format.Place.TheVariants.{First, FirstTwo, FirstHalf, Ends}
 use Rattle.z_instr.specs.declared.table.Line.{Line}
+use Rattle.z_instr.specs.declared.operand.Operands.{Operands}
+use Rattle.z_instr.specs.declared.operand.Operands.TheVariants.{StoredAndFetched, BothFetched}
+use Rattle.z_instr.specs.declared.operand.Demand.{Demand}
+use Rattle.z_instr.specs.declared.operand.Demand.TheVariants.{Begin, BeginConstrained, ServiceZero}
 use Rattle.z_instr.specs.Table.{Entry}
+use Rattle.z_instr.specs.Ranges.{limits_of}
 use Rattle.z_instr.specs.Layout.{place, room, lead, length_by, format_length}
 
 abbrev pub is_same_place : Place → Place → Bool
@@ -34,9 +39,9 @@ abbrev pub has_fitting_opcode : Entry → Bool
 has_fitting_opcode e =
     nat_lt e.opcode (room (place e.format)) && nat_eq (length_by (lead (place e.format) e.opcode)) (format_length e.format)
 
--- the name has one to eight letters
+-- the name has one to eight letters, each of them ASCII
 abbrev pub has_fitting_name : Entry → Bool
-has_fitting_name e = nat_lt 0 (length e.name) && nat_le (length e.name) 8
+has_fitting_name e = nat_lt 0 (length e.name) && (nat_le (length e.name) 8 && list_all (λ letter. nat_lt letter 128) e.name)
 
 -- what every transaction refuses, constrained ones refuse too
 abbrev pub is_refused_alike : Entry → Bool
@@ -45,3 +50,27 @@ is_refused_alike e = not (e.restricted && e.permitted)
 -- a line of the code's table has no more letters than there is room for
 abbrev pub has_fitting_count : Line → Bool
 has_fitting_count l = nat_le l.count 8
+
+abbrev pub has_two_lists : Operands → Bool
+has_two_lists StoredAndFetched = true
+has_two_lists BothFetched = true
+has_two_lists _ = false
+
+abbrev pub is_begin : Demand → Bool
+is_begin Begin = true
+is_begin BeginConstrained = true
+is_begin _ = false
+
+abbrev pub is_service : Demand → Bool
+is_service ServiceZero = true
+is_service _ = false
+
+-- the immediate has no sign, and is below k
+abbrev pub is_plain_below : ℕ → Entry → Bool
+is_plain_below k e = nat_eq (limits_of e).imm.below 0 && nat_le (limits_of e).imm.above k
+
+-- length codes and numbers of service calls are bytes, the controls of a begin a halfword, all without a sign
+abbrev pub has_fitting_immediate : Entry → Bool
+has_fitting_immediate e =
+    (not (has_two_lists e.operands) || is_plain_below 256 e)
+    && ((not (is_service e.demand) || is_plain_below 256 e) && (not (is_begin e.demand) || is_plain_below 65536 e))

@@ -13,6 +13,7 @@ entry_of l =
       restricted = l.restricted;
       permitted = l.permitted;
       signed = l.signed;
+      relative = l.relative;
       masked = l.masked;
       single = l.single;
       operands = l.operands;

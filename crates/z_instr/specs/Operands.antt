@@ -1,5 +1,5 @@
 -- The operands in storage of an instruction, and the tests that it has to pass before it is executed.
-use Rattle.std.specs.Prelude.{ℕ, ◌+◌, ◌*◌, ◌-◌, ◌/◌, ◌%◌, zero, suc, ℤ, pos, ◌+ℤ◌, Bool, true, false, ◌&&◌, ◌||◌, not, cond, nat_eq, nat_lt, List, [], ◌∷◌, get_or, Option, Some, None}
+use Rattle.std.specs.Prelude.{◌≡◌, ℕ, ◌<◌, ◌≤◌, ◌+◌, ◌*◌, ◌-◌, ◌/◌, ◌%◌, zero, suc, ℤ, pos, ◌+ℤ◌, Bool, true, false, ◌&&◌, ◌||◌, not, cond, nat_eq, nat_lt, List, [], ◌∷◌, get_or, Option, Some, None}
 use Rattle.std.specs.List.{list_any, list_all}
 use Rattle.z_instr.specs.declared.instr.Instr.{Instr}
 use Rattle.z_instr.specs.declared.operand.Size.{Size}
@@ -38,6 +38,11 @@ pub record Span : Type 0 where
 abbrev pub span : ℕ → ℕ → Bool → Span
 span first length store = record { first = first; length = length; store = store }
 
+-- no operand has more bytes than 256
+pub record IsSmall (s : Span) : Type 0 where
+  pub some : 0 < s.length
+  pub most : s.length ≤ 256
+
 -- numbers one after the other
 abbrev pub from_up : ℕ → ℕ → List ℕ
 from_up first zero = []
@@ -49,6 +54,10 @@ pieces size s =
     let first = s.first / size in
     let last = (s.first + s.length - 1) / size in
     from_up first (last + 1 - first)
+
+-- some byte of the range is in the piece
+abbrev pub HoldsByteOf : ℕ → Span → ℕ → Type 0
+HoldsByteOf size s piece = (k : ℕ) × (k < s.length) × ((s.first + k) / size ≡ piece)
 
 abbrev pub bytes_of : Size → ℕ
 bytes_of Byte = 1

@@ -11,8 +11,9 @@ use Rattle.z_instr.specs.declared.operand.Demand.{Demand}
 use Rattle.z_instr.specs.declared.operand.Demand.TheVariants.{Nothing, EvenPair, Boundary, AbortCode, Begin, BeginConstrained, ServiceZero}
 
 -- A row: the letters of its name, its opcode, its format, whether every transaction refuses it and whether constrained
--- ones may have it, whether its immediate has a sign, whether a mask stands in place of a register, whether its last
--- register or its address is left out, which operands in storage it touches, and what it demands of its fields.
+-- ones may have it, whether its immediate has a sign and is the distance of a target, whether a mask stands in place of a
+-- register, whether its last register or its address is left out, which operands in storage it touches, and what it
+-- demands of its fields.
 pub record Entry : Type 0 where
   pub name : List ℕ
   pub opcode : ℕ
@@ -20,6 +21,7 @@ pub record Entry : Type 0 where
   pub restricted : Bool
   pub permitted : Bool
   pub signed : Bool
+  pub relative : Bool
   pub masked : Bool
   pub single : Bool
   pub operands : Operands
@@ -58,7 +60,8 @@ signed_names =
 -- with a target: how far it is from the instruction, in halfwords, which has a sign too
 abbrev pub relative_names : Names
 relative_names =
-    codes "BRAS" ∷ codes "BRC" ∷ codes "BRCT" ∷ codes "BRCTG" ∷ codes "LARL" ∷ codes "BRASL" ∷ codes "BRCL" ∷ []
+    codes "BRAS" ∷ codes "BRC" ∷ codes "BRCT" ∷ codes "BRCTG" ∷ codes "LARL" ∷ codes "BRASL" ∷ codes "BRCL" ∷ codes "CGRJ" ∷
+    codes "CLGRJ" ∷ codes "CRJ" ∷ codes "CGIJ" ∷ []
 
 -- with a mask in the place of a register
 abbrev pub masked_names : Names
@@ -156,6 +159,7 @@ entry f c =
       restricted = is_among restricted_names c.name;
       permitted = not (is_among barred_names c.name);
       signed = is_among signed_names c.name || is_among relative_names c.name;
+      relative = is_among relative_names c.name;
       masked = is_among masked_names c.name;
       single = is_among single_names c.name;
       operands = operands_among operand_groups c.name;

@@ -1,9 +1,12 @@
 // What holds of the whole table, and of every reading. Each law is the contract of a function that does
 // nothing.
-ghost use Rattle.std.specs.Prelude.{◌≡◌, ◌<◌, ℕ, List, length, get_or, true};
+ghost use Rattle.std.specs.Prelude.{◌≡◌, ◌<◌, ℕ, List, length, get_or, true, nat_eq, ◌≤◌, All};
+ghost use Rattle.std.specs.List.{list_any};
+ghost use Rattle.z_instr.specs.Operands.{Span, IsSmall, pieces, spans, HoldsByteOf};
 ghost use Rattle.z_instr.specs.Table.{entry_at};
 ghost use Rattle.z_instr.specs.Layout.{length_by, format_length, place, room};
-ghost use Rattle.z_instr.specs.Facts.{has_fitting_name, is_refused_alike};
+ghost use Rattle.z_instr.specs.Facts.{has_fitting_name, is_refused_alike, has_two_lists, is_service, is_begin};
+ghost use Rattle.z_instr.specs.Ranges.{is_within, bounds};
 ghost use Rattle.z_instr.specs.Places.{HasOpcode};
 ghost use Rattle.z_instr.specs.Reading.{AreBytes, AreSame, Reads};
 ghost use Rattle.z_instr.specs.declared.instr.Instr.{Instr};
@@ -15,7 +18,7 @@ pub fn rows_are_distinct()
     ensures opcodes { (m n : ℕ) (bytes : List ℕ) → m < ROWS → n < ROWS → AreBytes bytes → HasOpcode (entry_at m) bytes → HasOpcode (entry_at n) bytes → m ≡ n }
 {}
 
-/// Each name has one to eight letters, each opcode fits its place, and what every transaction refuses is
+/// Each name has one to eight ASCII letters, each opcode fits its place, and what every transaction refuses is
 /// not permitted in constrained ones.
 pub fn rows_are_sound()
     ensures names { (n : ℕ) → n < ROWS → has_fitting_name (entry_at n) ≡ true }
@@ -23,10 +26,31 @@ pub fn rows_are_sound()
     ensures refused { (n : ℕ) → n < ROWS → is_refused_alike (entry_at n) ≡ true }
 {}
 
-/// No bytes have two readings, no instruction is read from two lists of bytes, and a reading is as long as
-/// its first byte says.
+/// No list has two readings, no instruction is read from two lists, and what has a reading is a list of
+/// bytes, as long as its first byte says.
 pub fn readings_are_unique()
-    ensures instruction { (bytes : List ℕ) (i j : Instr) → AreBytes bytes → Reads bytes i → Reads bytes j → AreSame i j }
+    ensures instruction { (bytes : List ℕ) (i j : Instr) → Reads bytes i → Reads bytes j → AreSame i j }
     ensures bytes { (some others : List ℕ) (i : Instr) → Reads some i → Reads others i → some ≡ others }
-    ensures length { (bytes : List ℕ) (i : Instr) → AreBytes bytes → Reads bytes i → length bytes ≡ length_by (get_or bytes 0 0) }
+    ensures list { (bytes : List ℕ) (i : Instr) → Reads bytes i → AreBytes bytes }
+    ensures length { (bytes : List ℕ) (i : Instr) → Reads bytes i → length bytes ≡ length_by (get_or bytes 0 0) }
+{}
+
+/// The pages, lines, blocks or octowords of a range are exactly those that hold a byte of it.
+pub fn pieces_hold_bytes()
+    ensures held { (size : ℕ) (s : Span) (piece : ℕ) → 0 < size → 0 < s.length → list_any (nat_eq piece) (pieces size s) ≡ true → HoldsByteOf size s piece }
+    ensures all { (size : ℕ) (s : Span) (piece : ℕ) → 0 < size → 0 < s.length → HoldsByteOf size s piece → list_any (nat_eq piece) (pieces size s) ≡ true }
+{}
+
+/// The immediate of an instruction on two lists of bytes, and of a service call, is from 0 to 255; that of a
+/// begin is from 0 to 65535.
+pub fn immediates_are_plain()
+    ensures lists { (i : Instr) → has_two_lists (entry_at i.op.number).operands ≡ true → is_within (bounds 0 256) i.imm ≡ true }
+    ensures services { (i : Instr) → is_service (entry_at i.op.number).demand ≡ true → is_within (bounds 0 256) i.imm ≡ true }
+    ensures begins { (i : Instr) → is_begin (entry_at i.op.number).demand ≡ true → is_within (bounds 0 65536) i.imm ≡ true }
+{}
+
+/// An instruction has at most two operands in storage, each of 1 to 256 bytes.
+pub fn operands_are_small()
+    ensures count { (i : Instr) (general : List ℕ) (code : ℕ) → length (spans i general code) ≤ 2 }
+    ensures size { (i : Instr) (general : List ℕ) (code : ℕ) → All IsSmall (spans i general code) }
 {}

@@ -1,4 +1,6 @@
-// The instructions of the machine: their table, their fields, and how their bytes are read.
+// The instructions of the machine: their table, their fields, and how their bytes are read. Names, formats, opcodes
+// and operands are those of z/Architecture, as its Principles of Operation gives them; which operations
+// transactions refuse is this machine's choice.
 #![tactic(auto)]
 
 pub mod format;
@@ -11,3 +13,5 @@ pub mod op;
 pub mod operand;
 pub mod row;
 pub mod table;
+#[cfg(test)]
+mod tests;

@@ -66,6 +66,13 @@ const NOTHING: Limits = Limits {
     mask: 1,
 };
 
+/// The limits of these fields, the others being left out.
+macro_rules! fields {
+    ($($field:ident $values:expr),*) => {
+        Limits { $($field: $values,)* ..NOTHING }
+    };
+}
+
 impl Bounds {
     /// Whether a number is among them.
     pub fn has(self, number: i64) -> bool
@@ -131,120 +138,24 @@ fn format_limits(format: Format, signed: bool, masked: bool, single: bool) -> Li
     let last = unless_left_out(single);
     let mask = where_given(masked);
     match format {
-        Format::RR => Limits {
-            r1: first,
-            r2: last,
-            mask,
-            ..NOTHING
-        },
-        Format::I => Limits {
-            imm: BYTE,
-            ..NOTHING
-        },
-        Format::RX => Limits {
-            r1: first,
-            x: 16,
-            b: 16,
-            d: SHORT,
-            mask,
-            ..NOTHING
-        },
-        Format::RRE => Limits {
-            r1: 16,
-            r2: last,
-            ..NOTHING
-        },
-        Format::RRFa => Limits {
-            r1: 16,
-            r2: 16,
-            r3: 16,
-            ..NOTHING
-        },
-        Format::RRFc => Limits {
-            r1: 16,
-            r2: 16,
-            mask: 16,
-            ..NOTHING
-        },
-        Format::RXY => Limits {
-            r1: 16,
-            x: 16,
-            b: 16,
-            d: LONG,
-            ..NOTHING
-        },
-        Format::RI => Limits {
-            r1: first,
-            imm: half_bounds(signed),
-            mask,
-            ..NOTHING
-        },
-        Format::RIL => Limits {
-            r1: first,
-            imm: full_bounds(signed),
-            mask,
-            ..NOTHING
-        },
-        Format::RS => Limits {
-            r1: 16,
-            r3: last,
-            b: 16,
-            d: SHORT,
-            ..NOTHING
-        },
-        Format::RSY => Limits {
-            r1: 16,
-            r3: first,
-            b: 16,
-            d: LONG,
-            mask,
-            ..NOTHING
-        },
-        Format::SI => Limits {
-            b: 16,
-            d: SHORT,
-            imm: BYTE,
-            ..NOTHING
-        },
-        Format::SIY => Limits {
-            b: 16,
-            d: LONG,
-            imm: SIGNED_BYTE,
-            ..NOTHING
-        },
-        Format::SIL => Limits {
-            b: 16,
-            d: SHORT,
-            imm: half_bounds(signed),
-            ..NOTHING
-        },
-        Format::S => Limits {
-            b: last,
-            d: if single { ZERO_ALONE } else { SHORT },
-            ..NOTHING
-        },
-        Format::SS => Limits {
-            b: 16,
-            d: SHORT,
-            b2: 16,
-            d2: SHORT,
-            imm: BYTE,
-            ..NOTHING
-        },
-        Format::RIEb => Limits {
-            r1: 16,
-            r2: 16,
-            imm: half_bounds(true),
-            mask: 16,
-            ..NOTHING
-        },
-        Format::RIEc => Limits {
-            r1: 16,
-            d2: SIGNED_BYTE,
-            imm: half_bounds(true),
-            mask: 16,
-            ..NOTHING
-        },
+        Format::RR => fields!(r1 first, r2 last, mask mask),
+        Format::I => fields!(imm BYTE),
+        Format::RX => fields!(r1 first, x 16, b 16, d SHORT, mask mask),
+        Format::RRE => fields!(r1 16, r2 last),
+        Format::RRFa => fields!(r1 16, r2 16, r3 16),
+        Format::RRFc => fields!(r1 16, r2 16, mask 16),
+        Format::RXY => fields!(r1 16, x 16, b 16, d LONG),
+        Format::RI => fields!(r1 first, imm half_bounds(signed), mask mask),
+        Format::RIL => fields!(r1 first, imm full_bounds(signed), mask mask),
+        Format::RS => fields!(r1 16, r3 last, b 16, d SHORT),
+        Format::RSY => fields!(r1 16, r3 first, b 16, d LONG, mask mask),
+        Format::SI => fields!(b 16, d SHORT, imm BYTE),
+        Format::SIY => fields!(b 16, d LONG, imm SIGNED_BYTE),
+        Format::SIL => fields!(b 16, d SHORT, imm half_bounds(signed)),
+        Format::S => fields!(b last, d if single { ZERO_ALONE } else { SHORT }),
+        Format::SS => fields!(b 16, d SHORT, b2 16, d2 SHORT, imm BYTE),
+        Format::RIEb => fields!(r1 16, r2 16, imm half_bounds(true), mask 16),
+        Format::RIEc => fields!(r1 16, d2 SIGNED_BYTE, imm half_bounds(true), mask 16),
     }
 }
 

@@ -1,5 +1,6 @@
 // Rows by operations and by names.
-ghost use Rattle.std.specs.Prelude.{◌≡◌, ◌<◌, ◌≤◌, ℕ, IfSome, IfNone};
+ghost use Rattle.std.specs.Prelude.{◌≡◌, ◌<◌, ◌≤◌, ℕ, IfSome, IfNone, take};
+ghost use Rattle.std.specs.Str.{IsAscii};
 ghost use Rattle.z_instr.specs.Table.{entry_at};
 ghost use Rattle.z_instr.specs.Layout.{place, room};
 ghost use Rattle.z_instr.specs.declared.table.TheConstants.{ROWS};
@@ -14,6 +15,7 @@ use crate::table::{Line, ROWS, TABLE};
 pub fn line(op: Op) -> Line
     ensures row { entry_of result ≡ entry_at op.number }
     ensures count { result.count ≤ 8 }
+    ensures ascii { IsAscii (take result.count result.letters) }
     ensures room { result.opcode < room (place result.format) }
 {
     TABLE[op.number as usize]

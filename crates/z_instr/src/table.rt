@@ -19,8 +19,10 @@ pub struct Line {
     pub restricted: bool,
     /// Constrained transactions may have it.
     pub permitted: bool,
-    /// The immediate, or the relative displacement, has a sign.
+    /// The immediate has a sign.
     pub signed: bool,
+    /// The immediate is the distance of a target in halfwords; it has a sign.
+    pub relative: bool,
     /// A mask stands in the place of R1, or of R3 in the formats with a long displacement.
     pub masked: bool,
     /// The last register, or the only address, is left out, and its bits are zero.
@@ -55,36 +57,49 @@ const RESTRICTED: Use = Use {
 #[derive(Clone, Copy)]
 struct Shape {
     signed: bool,
+    relative: bool,
     masked: bool,
     single: bool,
 }
 
 const PLAIN: Shape = Shape {
     signed: false,
+    relative: false,
     masked: false,
     single: false,
 };
 
 const SIGNED: Shape = Shape {
     signed: true,
+    relative: false,
+    masked: false,
+    single: false,
+};
+
+const RELATIVE: Shape = Shape {
+    signed: true,
+    relative: true,
     masked: false,
     single: false,
 };
 
 const MASKED: Shape = Shape {
     signed: false,
+    relative: false,
     masked: true,
     single: false,
 };
 
-const SIGNED_MASKED: Shape = Shape {
+const RELATIVE_MASKED: Shape = Shape {
     signed: true,
+    relative: true,
     masked: true,
     single: false,
 };
 
 const SINGLE: Shape = Shape {
     signed: false,
+    relative: false,
     masked: false,
     single: true,
 };
@@ -99,6 +114,7 @@ macro_rules! line {
             restricted: $use.restricted,
             permitted: $use.permitted,
             signed: $shape.signed,
+            relative: $shape.relative,
             masked: $shape.masked,
             single: $shape.single,
             operands: $operands,
@@ -226,10 +242,10 @@ pub static TABLE: [Line; 188] = [
     line!(b"OILL    " 4 => 0xA5B RI, FREE PLAIN, Absent, Nothing),
     line!(b"LLILL   " 5 => 0xA5F RI, FREE PLAIN, Absent, Nothing),
     line!(b"TMLL    " 4 => 0xA71 RI, FREE PLAIN, Absent, Nothing),
-    line!(b"BRC     " 3 => 0xA74 RI, FREE SIGNED_MASKED, Absent, Nothing),
-    line!(b"BRAS    " 4 => 0xA75 RI, BARRED SIGNED, Absent, Nothing),
-    line!(b"BRCT    " 4 => 0xA76 RI, FREE SIGNED, Absent, Nothing),
-    line!(b"BRCTG   " 5 => 0xA77 RI, FREE SIGNED, Absent, Nothing),
+    line!(b"BRC     " 3 => 0xA74 RI, FREE RELATIVE_MASKED, Absent, Nothing),
+    line!(b"BRAS    " 4 => 0xA75 RI, BARRED RELATIVE, Absent, Nothing),
+    line!(b"BRCT    " 4 => 0xA76 RI, FREE RELATIVE, Absent, Nothing),
+    line!(b"BRCTG   " 5 => 0xA77 RI, FREE RELATIVE, Absent, Nothing),
     line!(b"LHI     " 3 => 0xA78 RI, FREE SIGNED, Absent, Nothing),
     line!(b"LGHI    " 4 => 0xA79 RI, FREE SIGNED, Absent, Nothing),
     line!(b"AHI     " 3 => 0xA7A RI, FREE SIGNED, Absent, Nothing),
@@ -238,10 +254,10 @@ pub static TABLE: [Line; 188] = [
     line!(b"MGHI    " 4 => 0xA7D RI, BARRED SIGNED, Absent, Nothing),
     line!(b"CHI     " 3 => 0xA7E RI, FREE SIGNED, Absent, Nothing),
     line!(b"CGHI    " 4 => 0xA7F RI, FREE SIGNED, Absent, Nothing),
-    line!(b"LARL    " 4 => 0xC00 RIL, FREE SIGNED, Absent, Nothing),
+    line!(b"LARL    " 4 => 0xC00 RIL, FREE RELATIVE, Absent, Nothing),
     line!(b"LGFI    " 4 => 0xC01 RIL, FREE SIGNED, Absent, Nothing),
-    line!(b"BRCL    " 4 => 0xC04 RIL, FREE SIGNED_MASKED, Absent, Nothing),
-    line!(b"BRASL   " 5 => 0xC05 RIL, BARRED SIGNED, Absent, Nothing),
+    line!(b"BRCL    " 4 => 0xC04 RIL, FREE RELATIVE_MASKED, Absent, Nothing),
+    line!(b"BRASL   " 5 => 0xC05 RIL, BARRED RELATIVE, Absent, Nothing),
     line!(b"XILF    " 4 => 0xC07 RIL, FREE PLAIN, Absent, Nothing),
     line!(b"NILF    " 4 => 0xC0B RIL, FREE PLAIN, Absent, Nothing),
     line!(b"OILF    " 4 => 0xC0D RIL, FREE PLAIN, Absent, Nothing),
@@ -296,8 +312,8 @@ pub static TABLE: [Line; 188] = [
     line!(b"CLC     " 3 => 0xD5 SS, BARRED PLAIN, BothFetched, Nothing),
     line!(b"OC      " 2 => 0xD6 SS, BARRED PLAIN, StoredAndFetched, Nothing),
     line!(b"XC      " 2 => 0xD7 SS, BARRED PLAIN, StoredAndFetched, Nothing),
-    line!(b"CGRJ    " 4 => 0xEC64 RIEb, FREE PLAIN, Absent, Nothing),
-    line!(b"CLGRJ   " 5 => 0xEC65 RIEb, FREE PLAIN, Absent, Nothing),
-    line!(b"CRJ     " 3 => 0xEC76 RIEb, FREE PLAIN, Absent, Nothing),
-    line!(b"CGIJ    " 4 => 0xEC7C RIEc, FREE PLAIN, Absent, Nothing),
+    line!(b"CGRJ    " 4 => 0xEC64 RIEb, FREE RELATIVE, Absent, Nothing),
+    line!(b"CLGRJ   " 5 => 0xEC65 RIEb, FREE RELATIVE, Absent, Nothing),
+    line!(b"CRJ     " 3 => 0xEC76 RIEb, FREE RELATIVE, Absent, Nothing),
+    line!(b"CGIJ    " 4 => 0xEC7C RIEc, FREE RELATIVE, Absent, Nothing),
 ];

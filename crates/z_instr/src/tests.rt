@@ -1,0 +1,88 @@
+// Row numbers and columns as the instruction table lists them, and fields at the edges of their ranges.
+
+use crate::format::{Format, Place, length_in, place_of};
+use crate::instr::{Fields, Instr};
+use crate::laws;
+use crate::limits::field_limits;
+use crate::lookup::{find, line, row};
+use crate::name::Name;
+use crate::operand::{Demand, Operands, Size};
+use std::test::Fail;
+
+#[test]
+fn names_are_found_whole(rt: HostRuntime) -> Result<(), Fail> {
+    assert_eq!(rt; find(b"LPR").ok_or("LPR")?.number, 0);
+    assert_eq!(rt; find(b"AGR").ok_or("AGR")?.number, 49);
+    assert_eq!(rt; find(b"AGRK").ok_or("AGRK")?.number, 77);
+    assert_eq!(rt; find(b"CGIJ").ok_or("CGIJ")?.number, 187);
+    assert!(rt; find(b"AG R").is_none());
+    assert!(rt; find(b"AGRKX").is_none());
+    assert!(rt; find(b"TBEG").is_none());
+    assert!(rt; find(b"").is_none());
+    Ok(())
+}
+
+#[test]
+fn rows_have_their_columns(rt: HostRuntime) -> Result<(), Fail> {
+    let store = row(find(b"STG").ok_or("STG")?);
+    assert_eq!(rt; store.name.bytes(), b"STG".as_slice());
+    assert_eq!(rt; store.opcode, 0xE324);
+    assert!(rt; store.format == Format::RXY);
+    assert!(rt; !store.restricted && store.permitted);
+    let service = row(find(b"SVC").ok_or("SVC")?);
+    assert!(rt; service.restricted && !service.permitted);
+    let access = row(find(b"SAR").ok_or("SAR")?);
+    assert!(rt; !access.restricted && !access.permitted);
+    let swap = line(find(b"CSG").ok_or("CSG")?);
+    assert!(rt; swap.operands == Operands::Stored(Size::Doubleword));
+    assert!(rt; swap.demand == Demand::Boundary);
+    assert!(rt;
+        line(find(b"LARL").ok_or("LARL")?).relative && !line(find(b"LGFI").ok_or("LGFI")?).relative
+    );
+    assert!(rt; place_of(Format::RIL) == Place::FirstHalf);
+    assert_eq!(rt; length_in(Format::SIL), 6);
+    assert_eq!(rt; Name::new(*b"BCR     ", 3).bytes(), b"BCR".as_slice());
+    Ok(())
+}
+
+#[test]
+fn fields_are_held_to_their_ranges(rt: HostRuntime) -> Result<(), Fail> {
+    let store = find(b"STG").ok_or("STG")?;
+    let low = Fields {
+        r1: 15,
+        d: -524288,
+        ..Fields::zero()
+    };
+    assert_eq!(rt;
+        Instr::new(store, low).ok_or("lowest displacement")?.d,
+        -524288
+    );
+    assert!(rt; Instr::new(store, Fields { d: -524289, ..low }).is_none());
+    assert!(rt; Instr::new(store, Fields { d: 524288, ..low }).is_none());
+    assert!(rt; Instr::new(store, Fields { r1: 16, ..low }).is_none());
+    assert!(rt; Instr::new(store, Fields { r2: 1, ..low }).is_none());
+    let mask = find(b"NILL").ok_or("NILL")?;
+    let top = Fields {
+        imm: 65535,
+        ..Fields::zero()
+    };
+    assert_eq!(rt;
+        Instr::new(mask, top).ok_or("highest immediate")?.imm,
+        65535
+    );
+    assert!(rt; Instr::new(mask, Fields { imm: -1, ..top }).is_none());
+    let load = find(b"LGHI").ok_or("LGHI")?;
+    assert!(rt; Instr::new(load, top).is_none());
+    assert!(rt; field_limits(load).imm.has(-32768) && !field_limits(load).imm.has(-32769));
+    Ok(())
+}
+
+#[test]
+fn laws_are_called() {
+    laws::rows_are_distinct();
+    laws::rows_are_sound();
+    laws::readings_are_unique();
+    laws::pieces_hold_bytes();
+    laws::operands_are_small();
+    laws::immediates_are_plain();
+}
