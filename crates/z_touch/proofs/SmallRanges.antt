@@ -1,5 +1,5 @@
 -- Pages of small ranges, and sets of pages as lists.
-use Rattle.std.proofs.Common.{◌≡◌, ℕ, zero, suc, ◌+◌, ◌-◌, ◌/◌, ◌<◌, ◌≤◌, Bool, true, false, ◌&&◌, ◌||◌, nat_eq, min, leb, ltb, List, take, Some, ◌⊎◌, inl, inr, refl, ap, sym, ◌∙◌, arith}
+use Rattle.std.proofs.Common.{◌≡◌, ℕ, zero, suc, ◌+◌, ◌-◌, ◌/◌, ◌<◌, ◌≤◌, Bool, true, false, ◌&&◌, ◌||◌, nat_eq, min, leb, ltb, List, take, Some, ◌⊎◌, ◌↔◌, inl, inr, refl, ap, sym, ◌∙◌, arith}
 use Rattle.std.specs.List.{list_any, list_all}
 use Rattle.std.specs.Ordering.{nat_cmp}
 use Rattle.std.specs.Cmp.{unsigned_tied}
@@ -9,7 +9,7 @@ use Rattle.std.proofs.lemmas.Bool.Decides.{nat_tests}
 use Rattle.std.proofs.lemmas.Bool.{cases_lt}
 use Rattle.std.proofs.lemmas.Option.{get_or_from_slice_get, slice_get_within}
 use Rattle.std.proofs.lemmas.List.Folds.{list_all_at, list_all_more, list_any_at, list_any_more}
-use Rattle.z_instr.specs.Operands.{Span, from_up, pieces, IsSmall}
+use Rattle.z_instr.specs.Operands.{Span, from_up, pieces, IsSmall, is_inside}
 use Rattle.z_touch.specs.Refusals.{accessible_pages}
 
 any-from_up : (p first n : ℕ) → list_any (nat_eq p) (from_up first n) ≡ (leb first p && ltb p (first + n))
@@ -101,3 +101,32 @@ module _ {X : Type 0} (p : X → Bool) where
   list_any_longer xs i x at before fails =
       list_any_more p xs i x (slice_get_within xs i x at)
       ∙ (λ k. before k || (ap p (get_or_from_slice_get xs i x x at) ∙ fails) k)
+
+-- ---- a range is inside exactly where its first and its last byte are
+
+from_pages : (first n : ℕ) → 0 < n → ((leb 2 (first / 4096) && ltb (first / 4096) 256) && (leb 2 ((first + n - 1) / 4096) && ltb ((first + n - 1) / 4096) 256)) ≡ true
+    → (8192 ≤ first) × (first + n ≤ 1048576)
+from_pages first n some h =
+    let low : 2 ≤ first / 4096 = grind (arith, nat_tests) in
+    let high : (first + n - 1) / 4096 < 256 = grind (arith, nat_tests) in
+    (omega arith, omega arith)
+
+to_pages : (first n : ℕ) → 0 < n → (8192 ≤ first) × (first + n ≤ 1048576)
+    → ((leb 2 (first / 4096) && ltb (first / 4096) 256) && (leb 2 ((first + n - 1) / 4096) && ltb ((first + n - 1) / 4096) 256)) ≡ true
+to_pages first n some h =
+    let low : 2 ≤ first / 4096 = omega arith in
+    let low_end : first / 4096 < 256 = omega arith in
+    let high : 2 ≤ (first + n - 1) / 4096 = omega arith in
+    let high_end : (first + n - 1) / 4096 < 256 = omega arith in
+    grind (arith, nat_tests)
+
+inside-pages : (s : Span) → IsSmall s → is_inside accessible_pages s ≡ ((leb 2 (s.first / 4096) && ltb (s.first / 4096) 256) && (leb 2 ((s.first + s.length - 1) / 4096) && ltb ((s.first + s.length - 1) / 4096) 256))
+inside-pages s small =
+    all-pieces (λ p. list_any (nat_eq p) accessible_pages) s small
+    ∙ (λ k. any-accessible_pages (s.first / 4096) k && any-accessible_pages ((s.first + s.length - 1) / 4096) k)
+
+pub inside_is_accessible : (s : Span) → IsSmall s → (is_inside accessible_pages s ≡ true) ↔ ((8192 ≤ s.first) × (s.first + s.length ≤ 1048576))
+inside_is_accessible s small = (
+  λ h. from_pages s.first s.length small.some (sym (inside-pages s small) ∙ h),
+  λ h. inside-pages s small ∙ to_pages s.first s.length small.some h,
+)

@@ -4,6 +4,7 @@
 mod access;
 mod addresses;
 mod demands;
+pub mod laws;
 mod operands;
 mod pages;
 

@@ -1,4 +1,5 @@
-use crate::{specified, touches};
+use crate::laws::operands_inside_are_accessible;
+use crate::{first_address, second_address, specified, touches};
 use std::test::Fail;
 use tx_control::{Exception, codes};
 use z_instr::instr::{Fields, Instr};
@@ -139,5 +140,24 @@ fn special_operation_comes_first(rt: HostRuntime) -> Result<(), Fail> {
         ..outside
     };
     assert_eq!(rt; specified(&instr, &image, 1), Err(reserved));
+    Ok(())
+}
+
+#[test]
+fn addresses_wrap(rt: HostRuntime) -> Result<(), Fail> {
+    operands_inside_are_accessible();
+    let op = find(b"MVC").ok_or("no such mnemonic")?;
+    let fields = Fields {
+        b: 1,
+        d: 8,
+        d2: 7,
+        ..Fields::zero()
+    };
+    let instr = Instr::new(op, fields).ok_or("no such instruction")?;
+    let mut image = CpuImage::entering(0x4000);
+    image.general[0] = 1;
+    image.general[1] = u64::MAX;
+    assert_eq!(rt; first_address(&instr, &image), 7);
+    assert_eq!(rt; second_address(&instr, &image), 7);
     Ok(())
 }
