@@ -1,2 +1,3 @@
--- A CPU as plain data.
+-- A CPU as plain data, and sets of pages.
 pub mod Cpu
+pub mod Pages

@@ -2,11 +2,13 @@
 #![tactic(auto)]
 
 mod bytes;
+mod guard;
 mod image;
 mod ranges;
 mod storage;
 
 pub use bytes::Bytes;
+pub use guard::{Guard, PAGES};
 pub use image::{CpuImage, RunState};
 pub use ranges::{Range, Touches};
 pub use storage::{NoMemory, Storage};

@@ -1,4 +1,4 @@
-use crate::{Bytes, CpuImage, Range, RunState, Storage, Touches};
+use crate::{Bytes, CpuImage, Guard, Range, RunState, Storage, Touches};
 use std::test::Fail;
 
 #[test]
@@ -39,4 +39,14 @@ fn a_cpu_enters(rt: HostRuntime) {
     assert_eq!(rt; image.address, 0x4000);
     assert_eq!(rt; image.state, RunState::Running);
     assert_eq!(rt; image.general, [0; 16]);
+}
+
+#[test]
+fn pages_added_are_there(rt: HostRuntime) {
+    let mut guard = Guard::none();
+    assert!(rt; !guard.has(4));
+    guard.add(4);
+    guard.add(255);
+    assert!(rt; guard.has(4) && guard.has(255));
+    assert!(rt; !guard.has(5));
 }

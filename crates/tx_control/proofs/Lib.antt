@@ -1,0 +1,2 @@
+-- What `==` of two begins says.
+pub mod SameBegins

@@ -1,0 +1,3 @@
+-- Pages of ranges, and sets of pages as lists.
+pub mod SmallRanges
+pub mod Reach

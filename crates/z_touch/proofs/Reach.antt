@@ -1,0 +1,68 @@
+-- Which exception ranges meet, by the tests on them one by one.
+use Rattle.std.proofs.Common.{◌≡◌, ℕ, Bool, true, false, ◌||◌, not, List, [], ◌∷◌, map, Option, None, Some, Ok, Err, refl, ap, ◌∙◌}
+use Rattle.std.specs.List.{list_any, list_all}
+use Rattle.std.specs.Prelude.{All}
+use Rattle.std.proofs.lemmas.List.Folds.{list_all-map}
+use Rattle.std.proofs.lemmas.List.Elements.{All-map}
+use Rattle.z_instr.specs.declared.instr.Instr.{Instr}
+use Rattle.z_instr.specs.declared.operand.Demand.{Demand}
+use Rattle.z_instr.specs.declared.operand.Operands.{Operands}
+use Rattle.tx_control.specs.declared.exceptions.Exception.{Exception}
+use Rattle.z_instr.specs.Table.{entry_at}
+use Rattle.z_instr.specs.Operands.{Span, IsSmall, spans, spans_in, inaccessible, inaccessible_in, is_inside, is_stored_into, where_wrong, addressing, protection}
+use Rattle.z_regs.specs.declared.ranges.Range.{Range}
+use Rattle.z_touch.specs.Refusals.{range_of, span_of, accessible_pages, unreachable, denial, answer, refused}
+
+list_any-map : (p : Span → Bool) (ranges : List Range) → list_any p (map span_of ranges) ≡ list_any (λ r. p (span_of r)) ranges
+list_any-map p [] = refl
+list_any-map p (r ∷ ranges) = ap (λ b. p (span_of r) || b) (list_any-map p ranges)
+
+-- ---- which exception
+
+pub beyond : (ranges : List Range) (text : List ℕ) (after : Option ℕ) → list_all (λ r. is_inside accessible_pages (span_of r)) ranges ≡ false
+    → unreachable (map span_of ranges) text after ≡ Some addressing
+beyond ranges text after e =
+    ap (λ b. where_wrong (not b) addressing (where_wrong (list_any (is_stored_into text) (map span_of ranges)) protection after))
+    (list_all-map (is_inside accessible_pages) span_of ranges ∙ e)
+
+pub inside : (ranges : List Range) (text : List ℕ) (after : Option ℕ) (b : Bool) → list_all (λ r. is_inside accessible_pages (span_of r)) ranges ≡ true
+    → list_any (λ r. is_stored_into text (span_of r)) ranges ≡ b
+    → unreachable (map span_of ranges) text after ≡ where_wrong b protection after
+inside ranges text after b e f =
+    ap (λ a. where_wrong (not a) addressing (where_wrong (list_any (is_stored_into text) (map span_of ranges)) protection after))
+    (list_all-map (is_inside accessible_pages) span_of ranges ∙ e)
+    ∙ ap (λ a. where_wrong a protection after) (list_any-map (is_stored_into text) ranges ∙ f)
+
+-- ---- ranges and spans
+
+pub spans_back : (s : List Span) → map span_of (map range_of s) ≡ s
+spans_back [] = refl
+spans_back (x ∷ xs) = ap (λ t. x ∷ t) (spans_back xs)
+
+pub small_ranges : (s : List Span) → All IsSmall s → All (λ r. IsSmall (span_of r)) (map range_of s)
+small_ranges s h = All-map (λ r. IsSmall (span_of r)) range_of s h
+
+pub denial_is : (i : Instr) (general : List ℕ) (condition depth : ℕ) (text : List ℕ)
+    → denial (entry_at i.op.number).demand (spans i general condition) i general depth text ≡ inaccessible i general condition depth accessible_pages text
+unfolding inaccessible_in
+denial_is i general condition depth text = refl
+
+pub denied_is : (i : Instr) (general : List ℕ) (condition depth : ℕ) (text : List ℕ) (demand : Demand) (ranges : List Range)
+    → demand ≡ (entry_at i.op.number).demand → ranges ≡ map range_of (spans i general condition)
+    → denial demand (map span_of ranges) i general depth text ≡ inaccessible i general condition depth accessible_pages text
+denied_is i general condition depth text demand ranges e f =
+    (λ k. denial (e k) (map span_of (f k)) i general depth text)
+    ∙ ap (λ s. denial (entry_at i.op.number).demand s i general depth text) (spans_back (spans i general condition))
+    ∙ denial_is i general condition depth text
+
+pub ranges_of_row : (i : Instr) (general : List ℕ) (condition : ℕ) (o : Operands) (ranges : List Range)
+    → o ≡ (entry_at i.op.number).operands → ranges ≡ map range_of (spans_in o i general condition) → ranges ≡ map range_of (spans i general condition)
+ranges_of_row i general condition o ranges e f = f ∙ ap (λ p. map range_of (spans_in p i general condition)) e
+
+-- ---- answers
+
+pub answer_fits : (o : Option ℕ) (i : Instr) (x y : List Range) → None ≡ o → x ≡ y → Ok x ≡ answer o i y
+answer_fits o i x y e f = ap Ok f ∙ ap (λ p. answer p i y) e
+
+pub answer_refused : (o : Option ℕ) (i : Instr) (code : ℕ) (x : Exception) (y : List Range) → Some code ≡ o → x ≡ refused i code → Err x ≡ answer o i y
+answer_refused o i code x y e f = ap Err f ∙ ap (λ p. answer p i y) e

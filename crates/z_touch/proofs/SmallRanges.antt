@@ -1,0 +1,132 @@
+-- Pages of small ranges, and sets of pages as lists.
+use Rattle.std.proofs.Common.{◌≡◌, ℕ, zero, suc, ◌+◌, ◌-◌, ◌/◌, ◌<◌, ◌≤◌, Bool, true, false, ◌&&◌, ◌||◌, nat_eq, min, leb, ltb, List, take, Some, ◌⊎◌, ◌↔◌, inl, inr, refl, ap, sym, ◌∙◌, arith}
+use Rattle.std.specs.List.{list_any, list_all}
+use Rattle.std.specs.Ordering.{nat_cmp}
+use Rattle.std.specs.Cmp.{unsigned_tied}
+use Rattle.std.specs.FinSet.{FinSet, contains, items, contains-items}
+use Rattle.std.specs.List.{slice_get}
+use Rattle.std.proofs.lemmas.Bool.Decides.{nat_tests}
+use Rattle.std.proofs.lemmas.Bool.{cases_lt}
+use Rattle.std.proofs.lemmas.Option.{get_or_from_slice_get, slice_get_within}
+use Rattle.std.proofs.lemmas.List.Folds.{list_all_at, list_all_more, list_any_at, list_any_more}
+use Rattle.z_instr.specs.Operands.{Span, from_up, pieces, IsSmall, is_inside}
+use Rattle.z_touch.specs.Refusals.{accessible_pages}
+
+any-from_up : (p first n : ℕ) → list_any (nat_eq p) (from_up first n) ≡ (leb first p && ltb p (first + n))
+any-from_up p first zero = grind (arith, nat_tests)
+any-from_up p first (suc n) = grind (arith, nat_tests, any-from_up p (suc first) n)
+
+pub any-accessible_pages : (p : ℕ) → list_any (nat_eq p) accessible_pages ≡ (leb 2 p && ltb p 256)
+unfolding accessible_pages
+any-accessible_pages p = any-from_up p 2 254
+
+-- a page is in the list of a set exactly where it is in the set
+pub any-items : (pages : FinSet nat_cmp) (p : ℕ) → list_any (nat_eq p) (items pages) ≡ contains pages p
+any-items pages p = sym (contains-items pages p ∙ (λ i. list_any (λ k. unsigned_tied p k i) (items pages)))
+
+-- a page beyond the last one is in the set as little as a large page that stands for it
+pub any-items_capped : (pages : FinSet nat_cmp) (p m : ℕ) → m ≡ min p 4294967295 → ((q : ℕ) → 256 ≤ q → contains pages q ≡ false) → contains pages m ≡ list_any (nat_eq p) (items pages)
+any-items_capped pages p m e below =
+    elim (cases_lt p 4294967295) [
+      | inl small ↦ ap (contains pages) (let same : m ≡ p = omega arith in same) ∙ sym (any-items pages p)
+      | inr large ↦ below m (omega arith) ∙ sym (any-items pages p ∙ below p (omega arith))
+    ]
+
+-- ---- the one or two pages of a small range
+
+page_after : (first n : ℕ) → 0 < n → n ≤ 256 → ((first + n - 1) / 4096 ≡ first / 4096) ⊎ ((first + n - 1) / 4096 ≡ suc (first / 4096))
+page_after first n some most =
+    elim (cases_lt ((first + n - 1) / 4096) (suc (first / 4096))) [
+      | inl same ↦ inl (omega arith)
+      | inr next ↦ inr (omega arith)
+    ]
+
+and_twice : (b : Bool) → (b && true) ≡ (b && b)
+and_twice true = refl
+and_twice false = refl
+
+and_true : (b c : Bool) → (b && (c && true)) ≡ (b && c)
+and_true true true = refl
+and_true true false = refl
+and_true false c = refl
+
+or_twice : (b : Bool) → (b || false) ≡ (b || b)
+or_twice true = refl
+or_twice false = refl
+
+or_false : (b c : Bool) → (b || (c || false)) ≡ (b || c)
+or_false true c = refl
+or_false false true = refl
+or_false false false = refl
+
+all_of_two : (t : ℕ → Bool) (f l n : ℕ) → n ≡ l + 1 - f → (l ≡ f) ⊎ (l ≡ suc f) → list_all t (from_up f n) ≡ (t f && t l)
+all_of_two t f l n e (inl same) =
+    let one : n ≡ 1 = omega arith in
+    ap (λ m. list_all t (from_up f m)) one ∙ and_twice (t f) ∙ ap (λ m. t f && t m) (sym same)
+all_of_two t f l n e (inr next) =
+    let two : n ≡ 2 = omega arith in
+    ap (λ m. list_all t (from_up f m)) two ∙ and_true (t f) (t (suc f)) ∙ ap (λ m. t f && t m) (sym next)
+
+any_of_two : (t : ℕ → Bool) (f l n : ℕ) → n ≡ l + 1 - f → (l ≡ f) ⊎ (l ≡ suc f) → list_any t (from_up f n) ≡ (t f || t l)
+any_of_two t f l n e (inl same) =
+    let one : n ≡ 1 = omega arith in
+    ap (λ m. list_any t (from_up f m)) one ∙ or_twice (t f) ∙ ap (λ m. t f || t m) (sym same)
+any_of_two t f l n e (inr next) =
+    let two : n ≡ 2 = omega arith in
+    ap (λ m. list_any t (from_up f m)) two ∙ or_false (t f) (t (suc f)) ∙ ap (λ m. t f || t m) (sym next)
+
+pub all-pieces : (t : ℕ → Bool) (s : Span) → IsSmall s → list_all t (pieces 4096 s) ≡ (t (s.first / 4096) && t ((s.first + s.length - 1) / 4096))
+all-pieces t s small = all_of_two t _ _ _ refl (page_after s.first s.length small.some small.most)
+
+pub any-pieces : (t : ℕ → Bool) (s : Span) → IsSmall s → list_any t (pieces 4096 s) ≡ (t (s.first / 4096) || t ((s.first + s.length - 1) / 4096))
+any-pieces t s small = any_of_two t _ _ _ refl (page_after s.first s.length small.some small.most)
+
+-- ---- one range after the other
+
+module _ {X : Type 0} (p : X → Bool) where
+  pub list_all_failed : (xs : List X) (i : ℕ) (x : X) → slice_get xs i ≡ Some x → p x ≡ false → list_all p xs ≡ false
+  list_all_failed xs i x at fails =
+      list_all_at p xs i x (slice_get_within xs i x at) (ap p (get_or_from_slice_get xs i x x at) ∙ fails)
+
+  pub list_all_longer : (xs : List X) (i : ℕ) (x : X) → slice_get xs i ≡ Some x → list_all p (take i xs) ≡ true → p x ≡ true → list_all p (take (i + 1) xs) ≡ true
+  list_all_longer xs i x at before passes =
+      list_all_more p xs i x (slice_get_within xs i x at)
+      ∙ (λ k. before k && (ap p (get_or_from_slice_get xs i x x at) ∙ passes) k)
+
+  pub list_any_passed : (xs : List X) (i : ℕ) (x : X) → slice_get xs i ≡ Some x → p x ≡ true → list_any p xs ≡ true
+  list_any_passed xs i x at passes =
+      list_any_at p xs i x (slice_get_within xs i x at) (ap p (get_or_from_slice_get xs i x x at) ∙ passes)
+
+  pub list_any_longer : (xs : List X) (i : ℕ) (x : X) → slice_get xs i ≡ Some x → list_any p (take i xs) ≡ false → p x ≡ false → list_any p (take (i + 1) xs) ≡ false
+  list_any_longer xs i x at before fails =
+      list_any_more p xs i x (slice_get_within xs i x at)
+      ∙ (λ k. before k || (ap p (get_or_from_slice_get xs i x x at) ∙ fails) k)
+
+-- ---- a range is inside exactly where its first and its last byte are
+
+from_pages : (first n : ℕ) → 0 < n → ((leb 2 (first / 4096) && ltb (first / 4096) 256) && (leb 2 ((first + n - 1) / 4096) && ltb ((first + n - 1) / 4096) 256)) ≡ true
+    → (8192 ≤ first) × (first + n ≤ 1048576)
+from_pages first n some h =
+    let low : 2 ≤ first / 4096 = grind (arith, nat_tests) in
+    let high : (first + n - 1) / 4096 < 256 = grind (arith, nat_tests) in
+    (omega arith, omega arith)
+
+to_pages : (first n : ℕ) → 0 < n → (8192 ≤ first) × (first + n ≤ 1048576)
+    → ((leb 2 (first / 4096) && ltb (first / 4096) 256) && (leb 2 ((first + n - 1) / 4096) && ltb ((first + n - 1) / 4096) 256)) ≡ true
+to_pages first n some h =
+    let low : 2 ≤ first / 4096 = omega arith in
+    let low_end : first / 4096 < 256 = omega arith in
+    let high : 2 ≤ (first + n - 1) / 4096 = omega arith in
+    let high_end : (first + n - 1) / 4096 < 256 = omega arith in
+    grind (arith, nat_tests)
+
+inside-pages : (s : Span) → IsSmall s → is_inside accessible_pages s ≡ ((leb 2 (s.first / 4096) && ltb (s.first / 4096) 256) && (leb 2 ((s.first + s.length - 1) / 4096) && ltb ((s.first + s.length - 1) / 4096) 256))
+inside-pages s small =
+    all-pieces (λ p. list_any (nat_eq p) accessible_pages) s small
+    ∙ (λ k. any-accessible_pages (s.first / 4096) k && any-accessible_pages ((s.first + s.length - 1) / 4096) k)
+
+pub inside_is_accessible : (s : Span) → IsSmall s → (is_inside accessible_pages s ≡ true) ↔ ((8192 ≤ s.first) × (s.first + s.length ≤ 1048576))
+inside_is_accessible s small = (
+  λ h. from_pages s.first s.length small.some (sym (inside-pages s small) ∙ h),
+  λ h. inside-pages s small ∙ to_pages s.first s.length small.some h,
+)

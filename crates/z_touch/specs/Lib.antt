@@ -1,0 +1,2 @@
+-- Ranges as definitions see them, and the outcome of the tests before an instruction is executed.
+pub mod Refusals
