@@ -32,40 +32,57 @@ fn take(footprint: &mut Footprint, first: u64, store: bool) -> Result<(), Overfl
 #[test]
 fn counts_a_line_once(rt: HostRuntime) -> Result<(), Fail> {
     let mut footprint = Footprint::open(rt.alloc())?;
-    let mut other = Footprint::open(rt.alloc())?;
     take(&mut footprint, 0x9000, false)?;
     take(&mut footprint, 0x9080, true)?;
-    assert_eq!(rt; footprint.lines(), 1);
-    assert_eq!(rt; footprint.blocks(), 1);
+    assert!(rt; footprint.lines() == 1 && footprint.blocks() == 1);
     assert!(rt; footprint.fetched(144) && footprint.stored(144) && !footprint.stored(145));
-    take(&mut footprint, 0x90fc, true)?;
-    assert_eq!(rt; footprint.lines(), 2);
-    assert_eq!(rt; footprint.blocks(), 2);
-    assert!(rt; !footprint.same(&other));
-    other.copy_from(&footprint);
-    assert!(rt; footprint.same(&other));
-    other.clear();
-    assert_eq!(rt; other.lines(), 0);
     Ok(())
 }
 
 #[test]
-fn keeps_its_limits(rt: HostRuntime) -> Result<(), Fail> {
+fn counts_both_lines_of_a_range(rt: HostRuntime) -> Result<(), Fail> {
+    let mut footprint = Footprint::open(rt.alloc())?;
+    take(&mut footprint, 0x9000, false)?;
+    take(&mut footprint, 0x9080, true)?;
+    take(&mut footprint, 0x90fc, true)?;
+    assert!(rt; footprint.lines() == 2 && footprint.blocks() == 2);
+    Ok(())
+}
+
+#[test]
+fn copies_and_clears(rt: HostRuntime) -> Result<(), Fail> {
+    let mut footprint = Footprint::open(rt.alloc())?;
+    let mut other = Footprint::open(rt.alloc())?;
+    take(&mut footprint, 0x9000, true)?;
+    assert!(rt; !footprint.same(&other));
+    other.copy_from(&footprint);
+    assert!(rt; footprint.same(&other));
+    other.clear();
+    assert!(rt; other.lines() == 0);
+    Ok(())
+}
+
+#[test]
+fn takes_384_lines(rt: HostRuntime) -> Result<(), Fail> {
     let mut footprint = Footprint::open(rt.alloc())?;
     for line in 0..384u64 {
         take(&mut footprint, line * 256, false)?;
     }
-    assert_eq!(rt;
-        take(&mut footprint, 384 * 256, false),
-        Err(Overflow::Fetch)
-    );
-    assert_eq!(rt; take(&mut footprint, 383 * 256, true), Ok(()));
-    footprint.clear();
+    let one_more = take(&mut footprint, 384 * 256, false);
+    assert!(rt; matches!(one_more, Err(Overflow::Fetch)));
+    take(&mut footprint, 383 * 256, true)?;
+    Ok(())
+}
+
+#[test]
+fn takes_64_blocks(rt: HostRuntime) -> Result<(), Fail> {
+    let mut footprint = Footprint::open(rt.alloc())?;
     for block in 0..64u64 {
         take(&mut footprint, block * 128, true)?;
     }
-    assert_eq!(rt; take(&mut footprint, 64 * 128, true), Err(Overflow::Store));
-    assert_eq!(rt; take(&mut footprint, 64 * 128, false), Ok(()));
+    let one_more = take(&mut footprint, 64 * 128, true);
+    assert!(rt; matches!(one_more, Err(Overflow::Store)));
+    take(&mut footprint, 64 * 128, false)?;
     Ok(())
 }
 
