@@ -17,6 +17,7 @@ mod sums;
 pub use comparisons::{
     compare_logical, compare_signed, leftmost_one, test_halfword, test_under_mask,
 };
+pub use numbers::{doubleword, low, number, word};
 pub use products::{multiply_logical, multiply_low, multiply_word};
 pub use quotients::{divide_double, divide_logical, divide_word};
 pub use sums::{add, add_logical, complement, negative, positive, subtract, subtract_logical};

@@ -628,3 +628,15 @@ fn first_ones() -> bool {
         .iter()
         .all(|&(value, found)| leftmost_one(value) == found)
 }
+
+#[test]
+fn patterns_and_numbers(rt: HostRuntime) -> Result<(), Fail> {
+    assert_eq!(rt; low(Word, ONES), 0xffff_ffff);
+    assert_eq!(rt; low(Double, ONES), ONES);
+    assert_eq!(rt; number(Word, 0x8000_0000), -0x8000_0000);
+    assert_eq!(rt; number(Double, HIGHEST), i64::MAX);
+    assert_eq!(rt; doubleword(-1), ONES);
+    assert_eq!(rt; word(-1), 0xffff_ffff);
+    assert_eq!(rt; word(0x1_0000_0007), 7);
+    Ok(())
+}

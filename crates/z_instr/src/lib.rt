@@ -3,6 +3,7 @@
 // transactions refuse is this machine's choice.
 #![tactic(auto)]
 
+pub mod addresses;
 pub mod format;
 pub mod instr;
 pub mod laws;

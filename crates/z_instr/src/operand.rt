@@ -1,4 +1,6 @@
 // The operands in storage, and what an operation demands of its fields and operands.
+ghost use Rattle.std.specs.Prelude.{◌≡◌, ◌<◌};
+ghost use Rattle.z_instr.specs.Operands.{bytes_of};
 
 /// The bytes of one item in storage.
 #[derive(Clone, Copy, PartialEq, Eq)]
@@ -7,6 +9,21 @@ pub enum Size {
     Halfword,
     Word,
     Doubleword,
+}
+
+impl Size {
+    /// How many bytes the item has: 1, 2, 4 or 8.
+    pub fn bytes(self) -> u8
+        ensures count { result ≡ bytes_of self }
+        ensures few { result < 9 }
+    {
+        match self {
+            Size::Byte => 1,
+            Size::Halfword => 2,
+            Size::Word => 4,
+            Size::Doubleword => 8,
+        }
+    }
 }
 
 /// Which operands in storage an operation touches. Those of one address stand at the first address of

@@ -6,12 +6,12 @@ ghost use Rattle.z_instr.specs.Facts.{is_service};
 ghost use Rattle.z_instr.specs.Ranges.{is_within, bounds};
 ghost use Rattle.z_touch.specs.Refusals.{range_of, span_of, denial, answer, refusal, accessible_pages};
 
-use crate::addresses::first_address;
 use crate::demands::{exception, specified};
 use crate::operands::{operands_in, single};
 use crate::pages::forbidden;
 use tx_control::Exception;
 use tx_control::codes::OPERATION;
+use z_instr::addresses::first_address;
 use z_instr::instr::Instr;
 use z_instr::laws::{immediates_are_plain, operands_are_small};
 use z_instr::lookup::line;
@@ -35,7 +35,7 @@ fn denied(
 {
     match demand {
         Demand::Begin if depth == 0 && instr.b != 0 => {
-            let block = single(first_address(instr, image), 256, true);
+            let block = single(first_address(instr, &image.general), 256, true);
             forbidden(&block, guard, None)
         }
         Demand::ServiceZero if instr.imm != 0 => forbidden(operands, guard, Some(OPERATION)),

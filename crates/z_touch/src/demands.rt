@@ -6,34 +6,21 @@ ghost use Rattle.z_instr.specs.Facts.{is_begin};
 ghost use Rattle.z_instr.specs.Ranges.{is_within, bounds};
 ghost use Rattle.z_touch.specs.Refusals.{answer, refused};
 
-use crate::addresses::first_address;
 use tx_control::Exception;
 use tx_control::codes::{SPECIAL_OPERATION, SPECIFICATION};
+use z_instr::addresses::first_address;
 use z_instr::format::length_in;
 use z_instr::instr::Instr;
 use z_instr::laws::immediates_are_plain;
 use z_instr::lookup::line;
-use z_instr::operand::{Demand, Operands, Size};
+use z_instr::operand::{Demand, Operands};
 use z_regs::CpuImage;
-
-/// How many bytes an item has.
-pub fn bytes_in(size: Size) -> u32
-    ensures count { result ≡ bytes_of size }
-    ensures few { result < 9 }
-{
-    match size {
-        Size::Byte => 1,
-        Size::Halfword => 2,
-        Size::Word => 4,
-        Size::Doubleword => 8,
-    }
-}
 
 fn boundary_of(operands: Operands) -> u64
     ensures { result ≡ boundary operands }
 {
     match operands {
-        Operands::Stored(size) | Operands::Fetched(size) => u64::from(bytes_in(size)),
+        Operands::Stored(size) | Operands::Fetched(size) => u64::from(size.bytes()),
         _ => 1,
     }
 }
@@ -71,12 +58,13 @@ fn unmet(
         Demand::Nothing | Demand::ServiceZero => None,
         Demand::EvenPair => specification_where(instr.r1 % 2 == 1),
         Demand::Boundary => {
-            specification_where(first_address(instr, image) % boundary_of(operands) != 0)
+            specification_where(first_address(instr, &image.general) % boundary_of(operands) != 0)
         }
         Demand::AbortCode if depth == 0 => Some(SPECIAL_OPERATION),
-        Demand::AbortCode => specification_where(first_address(instr, image) < 256),
+        Demand::AbortCode => specification_where(first_address(instr, &image.general) < 256),
         Demand::Begin => specification_where(
-            instr.imm as u64 % 4 == 3 || (instr.b != 0 && first_address(instr, image) % 8 != 0),
+            instr.imm as u64 % 4 == 3
+                || (instr.b != 0 && first_address(instr, &image.general) % 8 != 0),
         ),
         Demand::BeginConstrained => specification_where(instr.b != 0),
     }

@@ -1,7 +1,8 @@
 use crate::laws::operands_inside_are_accessible;
-use crate::{first_address, second_address, specified, touches};
+use crate::{specified, touches};
 use std::test::Fail;
 use tx_control::{Exception, codes};
+use z_instr::addresses::{first_address, second_address};
 use z_instr::instr::{Fields, Instr};
 use z_instr::lookup::find;
 use z_regs::{CpuImage, Guard, Range, Touches};
@@ -157,7 +158,7 @@ fn addresses_wrap(rt: HostRuntime) -> Result<(), Fail> {
     let mut image = CpuImage::entering(0x4000);
     image.general[0] = 1;
     image.general[1] = u64::MAX;
-    assert_eq!(rt; first_address(&instr, &image), 7);
-    assert_eq!(rt; second_address(&instr, &image), 7);
+    assert_eq!(rt; first_address(&instr, &image.general), 7);
+    assert_eq!(rt; second_address(&instr, &image.general), 7);
     Ok(())
 }

@@ -1,0 +1,19 @@
+//! What one instruction does, and the steps that the instruction crates share.
+//!
+//! The effects are those of z/Architecture (Principles of Operation, SA22-7832, "General Instructions" and
+//! "Transactional-Execution Facility").
+#![tactic(auto)]
+
+pub mod kind;
+pub mod laws;
+mod lookup;
+mod operations;
+mod steps;
+mod table;
+
+pub use lookup::kind_of;
+pub use operations::{combine, compare, extend, immediate, item, logic, shift, size_in, zero_code};
+pub use steps::{
+    advance, after, conclude, exception, next_address, operand, put, put_pair, register, settle,
+    target,
+};
