@@ -1,17 +1,11 @@
 -- What a whole input, or one that is too long, says of the bytes that the source had left.
 use Rattle.std.proofs.Common.{◌≡◌, ◌≢◌, ◌∙◌, ℕ, ◌≤◌, ◌⊎◌, List, ◌++◌, length, Option, Some, None, IfSome, sym, ap, subst, arith, inl, inr, append-nil, zero, suc, refl}
 use Rattle.std.specs.Io.KnownBytes.{Appends}
-use Rattle.std.proofs.lemmas.List.{length-append}
 use Rattle.ztx_io.specs.Faults.{Rose}
-use Rattle.ztx_io.specs.Reads.{PassesLimit, ReadsWhole}
+use Rattle.ztx_io.specs.Reads.{ReadsWhole}
 use Rattle.ztx_io.specs.Writes.{AppendsPrefix}
 use Rattle.ztx_top.specs.Image.{Image, Stands}
 use Rattle.ztx_top.specs.Answers.{IsReport, WritesReport, WritesCutReport, IsRefused, StandsForNothing, IsCut, not_built, most_bytes}
-
-pub too_long_is_refused : (left after : Option (List ℕ)) → PassesLimit 16777216 left after → IfSome left IsRefused
-too_long_is_refused None after got = tt
-too_long_is_refused (Some input) None got = absurd got.1
-too_long_is_refused (Some input) (Some rest) got = inr (omega (arith, ap length got.1, length-append got.0 rest, got.2))
 
 -- a fact of the bytes that were read is one of the input
 pub whole_is : (left after : Option (List ℕ)) (bytes : List ℕ) (P : List ℕ → Type 0) → ReadsWhole 16777216 left after bytes → P bytes → IfSome left P
