@@ -53,10 +53,6 @@ pub blocks_after : (touched fetched stored blocks : List Bool) (lines stored_blo
 blocks_after touched fetched stored blocks lines stored_blocks added ranges kept counted =
     omega (arith, kept.counted_blocks, counted)
 
-pub lines_now : (touched fetched stored blocks : List Bool) (lines stored_blocks : ℕ) → IsKept touched fetched stored blocks lines stored_blocks → lines ≡ line_count (sets_of (record { fetched = fetched; stored = stored; blocks = blocks }))
-lines_now touched fetched stored blocks lines stored_blocks kept =
-    kept.counted_lines ∙ count_agree LINES (λ line. get_or touched line false) (λ line. get_or fetched line false || get_or stored line false) (λ line _. kept.union line)
-
 -- ---- whether sets fit
 
 pub too_many_lines : (sets : Sets) → MOST_LINES < line_count sets → fit_of sets ≡ Err Fetch
@@ -78,14 +74,6 @@ fits_from sets e =
     (λ le. cases (cases_lt MOST_BLOCKS (block_count sets))
     (λ over. let n : Err Store ≡ Ok tt = sym (too_many_blocks sets le over) ∙ e in cc)
     (λ few. (le, few)))
-
-pub fetch_from : (sets : Sets) → fit_of sets ≡ Err Fetch → MOST_LINES < line_count sets
-fetch_from sets e =
-    cases (cases_lt MOST_LINES (line_count sets))
-    (λ over. over)
-    (λ le. cases (cases_lt MOST_BLOCKS (block_count sets))
-    (λ over. let n : Err Store ≡ Err Fetch = sym (too_many_blocks sets le over) ∙ e in cc)
-    (λ few. let n : Ok tt ≡ Err Fetch = sym (all_fit sets le few) ∙ e in cc))
 
 -- ---- what is kept
 
@@ -128,10 +116,6 @@ added_kept touched fetched stored blocks touched' fetched' stored' blocks' lines
     union_at k =
         t_is k ∙ together k
         ∙ sym (ap (λ b. b || get_or stored' k false) (f_is k) ∙ ap (λ b. (get_or fetched k false || fetches ranges k) || b) (s_is k))
-
-pub sets_after : (fetched stored blocks fetched' stored' blocks' : List Bool) (ranges : List Range) → ((k : ℕ) → get_or fetched' k false ≡ marked_or_touched fetched FetchedLine ranges k) → ((k : ℕ) → get_or stored' k false ≡ marked_or_touched stored StoredLine ranges k) → ((k : ℕ) → get_or blocks' k false ≡ marked_or_touched blocks StoredBlock ranges k) → sets_of (record { fetched = fetched'; stored = stored'; blocks = blocks' }) ≡ touching (sets_of (record { fetched = fetched; stored = stored; blocks = blocks })) ranges
-sets_after fetched stored blocks fetched' stored' blocks' ranges f_is s_is b_is =
-    λ i. record { fetched = λ k. f_is k i; stored = λ k. s_is k i; blocks = λ k. b_is k i }
 
 -- marks of one size are equal where their sets are
 pub same_marks : (a b : List Bool) → length a ≡ length b → ((k : ℕ) → get_or a k false ≡ get_or b k false) → a ≡ b

@@ -1,9 +1,9 @@
 -- Marking and counting the places of ranges, one range and one place after the other.
-use Rattle.std.proofs.Common.{◌≡◌, ◌≢◌, ℕ, ◌+◌, ◌<◌, ◌≤◌, Bool, true, false, ltb, leb, List, length, get_or, set, take, Some, refl, sym, ap, subst, ◌∙◌, arith}
+use Rattle.std.proofs.Common.{◌≡◌, ◌≢◌, ℕ, ◌+◌, ◌<◌, ◌≤◌, Bool, true, false, ltb, leb, List, length, get_or, take, Some, refl, sym, ap, subst, ◌∙◌, arith}
 use Rattle.std.specs.Prelude.{◌||◌, ◌&&◌, not, All, slice_get}
 use Rattle.std.specs.Int.{from_bool}
-use Rattle.std.proofs.lemmas.Bool.{cases_eq, cases_lt, and_left, and_right, and_from, or_from, le-leb, lt-leb, lt-ltb, le-ltb}
-use Rattle.std.proofs.lemmas.List.{get_or-set_same, get_or-set_other, get_or-take, length-take}
+use Rattle.std.proofs.lemmas.Bool.{cases_eq, cases_lt, and_right, and_from, or_from, le-leb, lt-ltb, le-ltb}
+use Rattle.std.proofs.lemmas.List.{get_or-take, length-take}
 use Rattle.std.proofs.lemmas.List.Folds.{list_any_more, list_any_at}
 use Rattle.std.proofs.lemmas.Option.{get_or_from_slice_get, slice_get_within}
 use Rattle.bit_set.specs.Counts.{one_if, count_below, but_at}
@@ -52,12 +52,6 @@ marked_more marks kind ranges i r place e =
 
 -- ---- spans, place by place
 
-pub lies_at_start : (first k : ℕ) → lies_in first first k ≡ false
-lies_at_start first k =
-    cases (cases_lt k first)
-    (λ low. and_left (leb first k) (ltb k first) (lt-leb first k low))
-    (λ high. and_right (leb first k) (ltb k first) (le-ltb k first high))
-
 lies_next : (first at k : ℕ) → k ≢ at → lies_in first (at + 1) k ≡ lies_in first at k
 lies_next first at k ne =
     cases (cases_lt k at)
@@ -69,17 +63,6 @@ lies_last first at le = and_from (leb first at) (ltb at (at + 1)) (le-leb first 
 
 lies_not_yet : (first at : ℕ) → lies_in first at at ≡ false
 lies_not_yet first at = and_right (leb first at) (ltb at at) (le-ltb at at (omega arith))
-
--- the mark that is set is the next place of the span
-pub mark_next : (old marks : List Bool) (first at : ℕ) → first ≤ at → at < length marks → ((k : ℕ) → get_or marks k false ≡ (get_or old k false || lies_in first at k)) → (k : ℕ) → get_or (set marks at true) k false ≡ (get_or old k false || lies_in first (at + 1) k)
-mark_next old marks first at le lt so_far k =
-    cases (cases_eq k at)
-    (λ e.
-    ap (λ n. get_or (set marks at true) n false) e ∙ get_or-set_same marks at true false lt
-    ∙ sym (ap (λ n. get_or old n false || lies_in first (at + 1) n) e ∙ ap (λ b. get_or old at false || b) (lies_last first at le) ∙ or_true (get_or old at false)))
-    (λ ne.
-    get_or-set_other marks at k true false ne ∙ so_far k
-    ∙ ap (λ b. get_or old k false || b) (sym (lies_next first at k ne)))
 
 -- one place more: it counts where it was not there
 pub count_next : (n : ℕ) (there : ℕ → Bool) (first at : ℕ) → first ≤ at → at < n → count_below n (λ k. there k || lies_in first (at + 1) k) ≡ count_below n (λ k. there k || lies_in first at k) + from_bool (not (there at))
@@ -99,10 +82,6 @@ count_next n there first at le lt =
     split : (b : Bool) → one_if b + from_bool (not b) ≡ 1
     split true = refl
     split false = refl
-
--- before the first place nothing more is there
-pub count_start : (n : ℕ) (there : ℕ → Bool) (first : ℕ) → count_below n (λ k. there k || lies_in first first k) ≡ count_below n there
-count_start n there first = count_agree n (λ k. there k || lies_in first first k) there (λ k _. ap (λ b. there k || b) (lies_at_start first k) ∙ or_false (there k))
 
 -- after the last place all of the range is
 pub count_end : (n : ℕ) (marks : List Bool) (kind : Kind) (ranges : List Range) (i first end : ℕ) (r : Range) → slice_get ranges i ≡ Some r → ((k : ℕ) → lies_in first end k ≡ covers kind r k) → count_below n (λ k. marked_or_touched marks kind (take i ranges) k || lies_in first end k) ≡ count_below n (marked_or_touched marks kind (take (i + 1) ranges))

@@ -9,10 +9,6 @@ use Rattle.z_instr.specs.Reading.{AreBytes, Reads}
 use Rattle.z_instr.proofs.Distinct.{one_row}
 use Rattle.z_instr.proofs.Spelled.{reads_opcode, reads_spare}
 
--- no row has their opcode
-pub no_opcode : (bytes : List ℕ) → ((n : ℕ) → n < ROWS → HasOpcode (entry_at n) bytes → ⊥) → (i : Instr) → Reads bytes i → ⊥
-no_opcode bytes none i r = none i.op.number i.op.known (reads_opcode bytes i r)
-
 -- a row has it, and bits that no field uses are not zero
 pub spare_not_zero : (bytes : List ℕ) (n : ℕ) → AreBytes bytes → n < ROWS → HasOpcode (entry_at n) bytes →
     is_spare_zero (entry_at n).format (entry_at n).single bytes ≡ false → (i : Instr) → Reads bytes i → ⊥

@@ -50,15 +50,6 @@ and_true true true = refl
 and_true true false = refl
 and_true false c = refl
 
-or_twice : (b : Bool) → (b || false) ≡ (b || b)
-or_twice true = refl
-or_twice false = refl
-
-or_false : (b c : Bool) → (b || (c || false)) ≡ (b || c)
-or_false true c = refl
-or_false false true = refl
-or_false false false = refl
-
 all_of_two : (t : ℕ → Bool) (f l n : ℕ) → n ≡ l + 1 - f → (l ≡ f) ⊎ (l ≡ suc f) → list_all t (from_up f n) ≡ (t f && t l)
 all_of_two t f l n e (inl same) =
     let one : n ≡ 1 = omega arith in
@@ -67,19 +58,8 @@ all_of_two t f l n e (inr next) =
     let two : n ≡ 2 = omega arith in
     ap (λ m. list_all t (from_up f m)) two ∙ and_true (t f) (t (suc f)) ∙ ap (λ m. t f && t m) (sym next)
 
-any_of_two : (t : ℕ → Bool) (f l n : ℕ) → n ≡ l + 1 - f → (l ≡ f) ⊎ (l ≡ suc f) → list_any t (from_up f n) ≡ (t f || t l)
-any_of_two t f l n e (inl same) =
-    let one : n ≡ 1 = omega arith in
-    ap (λ m. list_any t (from_up f m)) one ∙ or_twice (t f) ∙ ap (λ m. t f || t m) (sym same)
-any_of_two t f l n e (inr next) =
-    let two : n ≡ 2 = omega arith in
-    ap (λ m. list_any t (from_up f m)) two ∙ or_false (t f) (t (suc f)) ∙ ap (λ m. t f || t m) (sym next)
-
 pub all-pieces : (t : ℕ → Bool) (s : Span) → IsSmall s → list_all t (pieces 4096 s) ≡ (t (s.first / 4096) && t ((s.first + s.length - 1) / 4096))
 all-pieces t s small = all_of_two t _ _ _ refl (page_after s.first s.length small.some small.most)
-
-pub any-pieces : (t : ℕ → Bool) (s : Span) → IsSmall s → list_any t (pieces 4096 s) ≡ (t (s.first / 4096) || t ((s.first + s.length - 1) / 4096))
-any-pieces t s small = any_of_two t _ _ _ refl (page_after s.first s.length small.some small.most)
 
 -- ---- one range after the other
 

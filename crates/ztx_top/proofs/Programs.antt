@@ -198,10 +198,6 @@ rest_follows live most after end next follows is =
     same_rest : (a b : List ℕ) → 32 ∷ a ≡ 32 ∷ b → a ≡ b
     same_rest a b is = cc
 
-pub none_left : (live : Bool) (rest end : List ℕ) → Remains live 0 rest end → ⊥
-none_left live rest end remains =
-    let line = first_line live 0 rest end remains in omega (arith, line.program.few)
-
 -- ---- no text has two programs
 
 pub record SameProgram (is js : List Instruction) (a b : List ℕ) : Type 0 where

@@ -1,5 +1,5 @@
 -- What the top call answers: which text is due, and with which status.
-use Rattle.std.specs.Prelude.{◌≡◌, ℕ, ◌<◌, ◌⊎◌, List, [], ◌∷◌, length, Option, IfSome, codes}
+use Rattle.std.specs.Prelude.{◌≡◌, ℕ, ◌<◌, ◌≤◌, ◌⊎◌, List, [], ◌∷◌, length, Option, IfSome, codes}
 use Rattle.std.specs.Io.KnownBytes.{Appends, Keeps}
 use Rattle.ztx_io.specs.Writes.{AppendsPrefix}
 use Rattle.ztx_top.specs.Image.{Image, Stands}
@@ -30,16 +30,18 @@ pub record IsReport (input text : List ℕ) (status : ℕ) : Type 0 where
   pub text_is : text ≡ report_of image default_limits image.schedule
   pub status_is : status ≡ status_of image (meaning image default_limits image.schedule)
 
--- the report of the input was written
+-- the input is not too long, and its report was written
 pub record WritesReport (input : List ℕ) (status : ℕ) (held after : Option (List ℕ)) : Type 0 where
   pub text : List ℕ
+  pub few : length input ≤ most_bytes
   pub report : IsReport input text status
   pub written : Appends held after text
 
--- a beginning of the report of the input was written
+-- the input is not too long, and a beginning of its report was written
 pub record WritesCutReport (input : List ℕ) (held after : Option (List ℕ)) : Type 0 where
   pub text : List ℕ
   pub status : ℕ
+  pub few : length input ≤ most_bytes
   pub report : IsReport input text status
   pub written : AppendsPrefix held after text
 
@@ -55,3 +57,9 @@ IsRefused input = StandsForNothing input ⊎ (most_bytes < length input)
 abbrev pub IsCut : Option (List ℕ) → Option (List ℕ) → Option (List ℕ) → Type 0
 IsCut left held after =
     Keeps held after ⊎ IfSome left (λ input. (IsRefused input × AppendsPrefix held after not_built) ⊎ WritesCutReport input held after)
+
+-- the text was written whole, and the answer is its status; or memory was short: the answer is 1, and a beginning of the text
+-- was written, perhaps nothing
+abbrev pub Tells : ℕ → ℕ → List ℕ → Option (List ℕ) → Option (List ℕ) → Type 0
+Tells answer status text held after =
+    ((answer ≡ status) × Appends held after text) ⊎ ((answer ≡ 1) × AppendsPrefix held after text)

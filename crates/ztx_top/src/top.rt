@@ -4,7 +4,9 @@ ghost use Rattle.std.specs.Io.KnownBytes.{Appends, Keeps};
 ghost use Rattle.ztx_io.specs.Faults.{Rose};
 ghost use Rattle.ztx_io.specs.Writes.{AppendsPrefix};
 ghost use Rattle.ztx_top.specs.Image.{Image, Stands};
-ghost use Rattle.ztx_top.specs.Answers.{command, bad_words, not_built, most_bytes, IsReport, WritesReport, IsRefused, StandsForNothing, IsCut};
+ghost use Rattle.ztx_top.specs.Answers.{command, bad_words, not_built, most_bytes, IsReport, WritesReport, IsRefused, StandsForNothing, IsCut, Tells};
+ghost use Rattle.ztx_top.specs.Meaning.{meaning, default_limits};
+ghost use Rattle.ztx_top.specs.Report.{report_of, status_of};
 
 use crate::form::read_form;
 use crate::report::{report, status};
@@ -136,16 +138,29 @@ pub fn ztx_top<S: Source, K: Sink>(
     run_listing(alloc, source, sink)
 }
 
-/// The same over a source and a sink that never fail: 2 and 3 never come, and but for want of memory the answer is the one that
-/// is due.
+/// The same over a source and a sink that never fail, so that words and input alone say what comes: one status and one text, as
+/// in the table of `ztx_top`, or 1 for want of memory, with a beginning of that text, perhaps nothing. 2 and 3 never come.
 pub fn sure_top(alloc: Global, words: &[String], source: &mut SureSource, sink: &mut SureSink) -> u8
+    ensures statuses { result ≤ 6 }
     ensures never { (result ≢ 2) × (result ≢ 3) }
-    ensures no_command { (map string_bytes words.now ≢ command) → (result ≡ 1) ⊎ (result ≡ 4) }
-    ensures no_form { (map string_bytes words.now ≡ command) → IfSome (⟦<SureSource as Source>⟧.left source.old) StandsForNothing
-        → (result ≡ 1) ⊎ (result ≡ 5) }
+
+    // Words that are no command, whatever the input is.
+    ensures no_command { (map string_bytes words.now ≢ command)
+        → Tells result 4 bad_words (⟦<SureSink as Sink>⟧.held sink.old) (⟦<SureSink as Sink>⟧.held sink.new) }
+
+    // An input that is no first form, or is too long.
+    ensures no_form { (map string_bytes words.now ≡ command) → IfSome (⟦<SureSource as Source>⟧.left source.old) IsRefused
+        → Tells result 5 not_built (⟦<SureSink as Sink>⟧.held sink.old) (⟦<SureSink as Sink>⟧.held sink.new) }
+
+    // A first form: the status and the report of the image that it stands for, under its own schedule.
     ensures form { (image : Image) → (map string_bytes words.now ≡ command)
         → IfSome (⟦<SureSource as Source>⟧.left source.old) (λ input. (length input ≤ most_bytes) × Stands input image)
-        → (result ≡ 1) ⊎ ((result ≡ 0) ⊎ (result ≡ 6)) }
+        → Tells result (status_of image (meaning image default_limits image.schedule)) (report_of image default_limits image.schedule)
+        (⟦<SureSink as Sink>⟧.held sink.old) (⟦<SureSink as Sink>⟧.held sink.new) }
+
+    // What was written with 0 and 6 is the report of a legal history.
+    ensures report { ((result ≡ 0) ⊎ (result ≡ 6)) → IfSome (⟦<SureSource as Source>⟧.left source.old)
+        (λ input. WritesReport input result (⟦<SureSink as Sink>⟧.held sink.old) (⟦<SureSink as Sink>⟧.held sink.new)) }
 {
     ztx_top(alloc, words, source, sink)
 }
