@@ -11,3 +11,6 @@ mod results;
 mod run;
 
 pub use run::{execute, is_mine};
+
+#[cfg(test)]
+mod tests;
