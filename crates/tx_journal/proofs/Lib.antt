@@ -1,0 +1,4 @@
+-- Numbers, hexadecimal, and lines.
+pub mod Decimals
+pub mod Hexadecimal
+pub mod Readings

@@ -1,0 +1,17 @@
+//! What a run is given and what it leaves: the image that a listing stands for, events, the entries of the serial
+//! history, and the texts of entries and events, both ways.
+#![tactic(auto)]
+
+mod entries;
+mod events;
+mod lines;
+mod numbers;
+mod reading;
+mod writing;
+
+pub use entries::{Entry, EntryText};
+pub use events::Event;
+pub use lines::{Detail, Line, Reason};
+pub use numbers::read_number;
+pub use reading::read_entry;
+pub use writing::{NoMemory, add_history, add_schedule, entry_text, schedule_text};
