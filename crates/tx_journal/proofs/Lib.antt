@@ -2,3 +2,5 @@
 pub mod Decimals
 pub mod Hexadecimal
 pub mod Readings
+pub mod OneLine
+pub mod ToldEntries

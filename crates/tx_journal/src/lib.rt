@@ -4,6 +4,7 @@
 
 mod entries;
 mod events;
+mod laws;
 mod lines;
 mod numbers;
 mod reading;
@@ -11,7 +12,11 @@ mod writing;
 
 pub use entries::{Entry, EntryText};
 pub use events::Event;
+pub use laws::{a_text_is_one_line, entries_read_back};
 pub use lines::{Detail, Line, Reason};
 pub use numbers::read_number;
 pub use reading::read_entry;
 pub use writing::{NoMemory, add_history, add_schedule, entry_text, schedule_text};
+
+#[cfg(test)]
+mod tests;
