@@ -1,7 +1,7 @@
 -- Halfwords and doublewords in hexadecimal.
-use Rattle.std.proofs.Common.{◌≡◌, ℕ, ◌<◌, ◌^◌, ◌*◌, zero, suc, List, [], ◌∷◌, length, get_or, Bool, true, false, Result, Ok, Err, arith, sym, ap, ◌∙◌, refl}
+use Rattle.std.proofs.Common.{◌≡◌, ℕ, ◌<◌, ◌^◌, zero, suc, List, Result, Ok, arith, sym, ap, ◌∙◌, refl}
 use Rattle.std.specs.Int.{to_be_bytes, from_be_bytes, bytes_high_first, byte_at}
-use mir.Syntax.{Width, w16, w64}
+use mir.Syntax.{w16, w64}
 use Rattle.std.proofs.lemmas.Nat.{from_be_bytes-to_be_bytes_2, from_be_bytes-to_be_bytes_8}
 use Rattle.hex.specs.declared.error.FromHexError.{FromHexError}
 use Rattle.hex.specs.Hex.{encode_lower, decode_sized, IsBytes}

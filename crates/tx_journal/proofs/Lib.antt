@@ -4,3 +4,4 @@ pub mod Hexadecimal
 pub mod Readings
 pub mod OneLine
 pub mod ToldEntries
+pub mod Pictures

@@ -1,5 +1,5 @@
 -- The lines of entries that a machine can write: they are lines, and tell all but the origin of an exception.
-use Rattle.std.proofs.Common.{◌≡◌, ◌≢◌, ℕ, ◌<◌, ◌≤◌, ◌^◌, ◌*◌, ◌/◌, List, true, false, nat_eq, arith, rules, sym, ap, ap₂, ◌∙◌, refl}
+use Rattle.std.proofs.Common.{◌≡◌, ℕ, ◌<◌, ◌*◌, ◌/◌, true, false, nat_eq, arith, sym, ap, ap₂, ◌∙◌, refl}
 use Rattle.std.specs.Prelude.{if◌then◌else◌}
 use Rattle.std.proofs.lemmas.Bool.Decides.{nat_tests}
 use Rattle.tx_control.specs.declared.causes.Why.{Why}
@@ -10,7 +10,6 @@ use Rattle.tx_journal.specs.declared.entries.Entry.TheVariants as entry
 use Rattle.tx_journal.specs.declared.entries.EntryText.{EntryText}
 use Rattle.tx_journal.specs.declared.lines.Detail.{Detail}
 use Rattle.tx_journal.specs.declared.lines.Detail.TheVariants.{Nothing, Exception, Line as AtLine}
-use Rattle.tx_journal.specs.declared.lines.Line.{Line}
 use Rattle.tx_journal.specs.Lines.{IsLine, IsReason, IsLineAddress, says_nothing, detail_of, reason_of, line_of, entry_text, fields_of, Spells}
 use Rattle.tx_journal.specs.Sound.{IsCause, IsSound, by_code, told_cause, told}
 use Rattle.tx_journal.proofs.OneLine.{same_line, same_fields}

@@ -1,12 +1,12 @@
 -- The lines of the history, and the parts of which each is made.
-use Rattle.std.specs.Prelude.{◌≡◌, ℕ, ◌<◌, ◌^◌, ◌*◌, ◌%◌, Bool, true, false, ◌||◌, nat_eq, nat_lt, cond, List, ◌++◌, codes}
+use Rattle.std.specs.Prelude.{◌≡◌, ℕ, ◌<◌, ◌^◌, ◌*◌, ◌%◌, Bool, true, ◌||◌, nat_eq, nat_lt, List, ◌++◌, codes}
 use Rattle.std.specs.List.{flat_map}
 use Rattle.std.specs.Fmt.{decimal}
 use Rattle.std.specs.Int.{to_be_bytes}
 use Rattle.hex.specs.Hex.{encode_lower}
 use mir.Syntax.{w16, w64}
 use Rattle.tx_control.specs.declared.causes.Why.{Why}
-use Rattle.tx_control.specs.declared.causes.Why.TheVariants.{External, Program, FetchConflict, StoreConflict, FetchOverflow, StoreOverflow, Restricted, Filtered, Depth, Starved, Tabort}
+use Rattle.tx_control.specs.declared.causes.Why.TheVariants.{Program, FetchConflict, StoreConflict, Filtered}
 use Rattle.tx_control.specs.Causes.{code_number}
 use Rattle.tx_journal.specs.declared.entries.Entry.{Entry}
 use Rattle.tx_journal.specs.declared.entries.Entry.TheVariants as entry

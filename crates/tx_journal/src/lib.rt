@@ -4,6 +4,7 @@
 
 mod entries;
 mod events;
+mod image;
 mod laws;
 mod lines;
 mod numbers;
@@ -12,8 +13,8 @@ mod writing;
 
 pub use entries::{Entry, EntryText};
 pub use events::Event;
+pub use image::{Image, Show};
 pub use laws::{a_text_is_one_line, entries_read_back};
-pub use lines::{Detail, Line, Reason};
 pub use numbers::read_number;
 pub use reading::read_entry;
 pub use writing::{NoMemory, add_history, add_schedule, entry_text, schedule_text};

@@ -7,7 +7,7 @@ use tx_control::Why;
 
 /// What the text of an abort says more of its cause than the abort code.
 #[derive(Clone, Copy)]
-pub enum Detail {
+pub(crate) enum Detail {
     /// Nothing.
     Nothing,
     /// The interruption code of a program exception.
@@ -18,7 +18,7 @@ pub enum Detail {
 
 /// The cause of an abort as its text gives it: the abort code and the detail.
 #[derive(Clone, Copy)]
-pub struct Reason {
+pub(crate) struct Reason {
     /// The abort code.
     pub code: u64,
     /// What is said beside it.
@@ -27,7 +27,7 @@ pub struct Reason {
 
 /// A line of the history in its parts: its kind, the CPU, completed instructions, and the cause of an abort.
 #[derive(Clone, Copy)]
-pub enum Line {
+pub(crate) enum Line {
     /// One instruction of the CPU.
     Step(u32),
     /// A commit.
@@ -41,7 +41,7 @@ pub enum Line {
 impl Detail {
     /// What the text of an abort says of this cause: the code of an exception, without the bit that marks an aborted
     /// transaction, or the first address of a line.
-    pub fn of(why: Why) -> Detail
+    pub(crate) fn of(why: Why) -> Detail
         ensures { result ≡ detail_of why }
     {
         match why {
@@ -54,7 +54,7 @@ impl Detail {
     }
 
     /// The number that is said, 0 where none is.
-    pub fn value(self) -> u64
+    pub(crate) fn value(self) -> u64
         ensures { result ≡ detail_value self }
     {
         match self {
@@ -67,7 +67,7 @@ impl Detail {
 
 impl Line {
     /// The line of an entry.
-    pub fn of(entry: &Entry) -> Line
+    pub(crate) fn of(entry: &Entry) -> Line
         ensures { result ≡ line_of entry.now }
     {
         match *entry {
@@ -86,7 +86,7 @@ impl Line {
     }
 
     /// The line in numbers; what it does not say is 0.
-    pub fn fields(self) -> EntryText
+    pub(crate) fn fields(self) -> EntryText
         ensures { result ≡ fields_of self }
     {
         match self {

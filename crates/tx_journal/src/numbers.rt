@@ -109,17 +109,17 @@ pub(crate) fn read_halfword(text: &[u8]) -> Option<u16>
     Some(halfword)
 }
 
-/// The doubleword that sixteen lower-case hexadecimal digits are; None exactly where the text is none.
-pub(crate) fn read_doubleword(text: &[u8]) -> Option<u64>
-    ensures some { IfSome result (λ n. text.now ≡ encode_lower (to_be_bytes w64 n)) }
-    ensures none { IfNone result ((n : ℕ) → n < 2 ^ 64 → text.now ≢ encode_lower (to_be_bytes w64 n)) }
+/// The doubleword that sixteen lower-case hexadecimal digits are; None exactly where they are none.
+pub(crate) fn read_doubleword(digits: &[u8]) -> Option<u64>
+    ensures some { IfSome result (λ n. digits.now ≡ encode_lower (to_be_bytes w64 n)) }
+    ensures none { IfNone result ((n : ℕ) → n < 2 ^ 64 → digits.now ≢ encode_lower (to_be_bytes w64 n)) }
 {
     let mut bytes = [0u8; 8];
-    let Ok(()) = hex::decode_to_slice(text, &mut bytes) else {
+    let Ok(()) = hex::decode_to_slice(digits, &mut bytes) else {
         return None;
     };
     let doubleword = u64::from_be_bytes(bytes);
-    if !is_hexadecimal(text, &doubleword.to_be_bytes()) {
+    if !is_hexadecimal(digits, &doubleword.to_be_bytes()) {
         return None;
     }
     Some(doubleword)

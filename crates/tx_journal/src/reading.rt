@@ -9,8 +9,9 @@ ghost use Rattle.tx_journal.specs.declared.lines.Reason.{Reason};
 ghost use Rattle.tx_journal.specs.declared.lines.Line.{Line};
 ghost use Rattle.tx_journal.specs.Lines.{says_nothing, says_exception, says_line, IsLineAddress, HasDetail, IsReason, IsLine, detail_text, reason_text, words_text, line_text, Spells};
 
+use crate::EntryText;
+use crate::lines::{Detail, Line, Reason};
 use crate::numbers::{first_number, first_small, read_doubleword, read_halfword, read_small};
-use crate::{Detail, EntryText, Line, Reason};
 
 /// The bytes of storage.
 const STORAGE_SIZE: u64 = 1_048_576;

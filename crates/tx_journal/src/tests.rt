@@ -1,10 +1,13 @@
+ghost use Rattle.std.specs.Prelude.{◌≡◌, IfOk, length};
+
 use crate::{
-    Entry, EntryText, Event, add_history, add_schedule, entry_text, read_entry, read_number,
-    schedule_text,
+    Entry, EntryText, Event, Image, Show, add_history, add_schedule, entry_text, read_entry,
+    read_number, schedule_text,
 };
 use std::alloc::Global;
 use std::test::Fail;
 use tx_control::{Exception, Why, codes};
+use z_regs::{CpuImage, Guard};
 
 /// An exception that a load or a store meets.
 fn exception(code: u16) -> Exception {
@@ -152,4 +155,51 @@ fn numbers_have_one_spelling(rt: HostRuntime) {
     assert!(rt; read_number(b"18446744073709551616").is_none());
     assert!(rt; read_number(b"+7").is_none());
     assert!(rt; read_number(b"").is_none());
+}
+
+/// An image without instructions, with one CPU that enters at hex 4000, and one schedule or another.
+fn image(alloc: Global, scheduled: bool) -> Result<Image, Fail>
+    ensures { IfOk result (λ image. (length image.cpus ≡ 1) × (image.scheduled ≡ scheduled)) }
+{
+    let storage = vec![in alloc; 0u8; 1048576]?;
+    let cpus = vec![in alloc; CpuImage::entering(0x4000); 1]?;
+    let first_bytes = Show {
+        first: 8192,
+        length: 16,
+        fields: false,
+    };
+    let shows = vec![in alloc; first_bytes; 1]?;
+    let schedule = vec![in alloc; Event::Turn(0); 3]?;
+    let starts = Vec::new(alloc);
+    Ok(Image::new(
+        storage,
+        Guard::none(),
+        starts,
+        cpus,
+        shows,
+        schedule,
+        scheduled,
+    ))
+}
+
+#[test]
+fn images_are_compared(rt: HostRuntime) -> Result<(), Fail> {
+    let given = image(rt.alloc(), true)?;
+    let again = image(rt.alloc(), true)?;
+    let other = image(rt.alloc(), false)?;
+    assert_eq!(rt; given.cpu_count(), 1);
+    assert_eq!(rt; given.storage.len(), 1048576);
+    assert!(rt; given.same(&again));
+    assert!(rt; !given.same(&other));
+    Ok(())
+}
+
+/// Whether values of a type may move between threads and be shared by them.
+fn is_shared<T: Send + Sync>() -> bool {
+    true
+}
+
+#[test]
+fn images_are_shared_by_threads(rt: HostRuntime) {
+    assert!(rt; is_shared::<Image>());
 }

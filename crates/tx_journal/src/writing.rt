@@ -4,7 +4,8 @@ ghost use Rattle.std.specs.Fmt.{decimal};
 ghost use Rattle.tx_journal.specs.Lines.{detail_text, reason_text, words_text, line_text, entry_text, history_text};
 ghost use Rattle.tx_journal.specs.Schedule.{event_text, further_text, events_text, row_text, rows_text, schedule_text};
 
-use crate::{Detail, Entry, Event, Line, Reason};
+use crate::lines::{Detail, Line, Reason};
+use crate::{Entry, Event};
 use std::alloc::{AllocError, Global};
 
 /// There was no memory.

@@ -1,4 +1,4 @@
-use Rattle.std.proofs.Common.{rules, ◌≡◌, ◌∙◌, sym, ap}
+use Rattle.std.proofs.Common.{◌≡◌, ◌∙◌, sym, ap}
 use Rattle.std.specs.Fmt.{decimal}
 use Rattle.tx_journal.proofs.Decimals.{decimal_is_text, decimal_is_parsed, decimal_is_value, not_other}
 use Rattle.tx_journal.proofs.numbers.read_number.Goals as goal

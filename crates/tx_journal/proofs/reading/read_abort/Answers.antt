@@ -17,5 +17,5 @@ returns-in_default-read_reason-clause-none c = no_abort c.args.text.now (λ cpu 
     let fits' = c.in-Some-first_small.ensures.fits in
     let same = same_start c.args.text.now c.in-Some.cpu cpu c.in-Some.rest.now (number_before count (reason_text r)) (omega arith) (omega arith) c.in-Some.ensures.some is in
     let also = same_start c.in-Some.rest.now c.in-Some-first_small.count count c.in-Some-first_small.rest.now (reason_text r) (omega arith) (omega arith)
-        c.in-Some-first_small.ensures.some same.rest in
+    c.in-Some-first_small.ensures.some same.rest in
     c.in_default-read_reason.ensures.none r sound also.rest)

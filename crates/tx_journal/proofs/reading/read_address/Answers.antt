@@ -1,4 +1,4 @@
-use Rattle.std.proofs.Common.{rules, arith, ◌≡◌, subst, sym}
+use Rattle.std.proofs.Common.{rules, arith, subst, sym}
 use Rattle.tx_journal.specs.Lines.{IsLineAddress}
 use Rattle.tx_journal.proofs.Hexadecimal.{doubleword_injective}
 use Rattle.tx_journal.proofs.reading.read_address.Goals as goal

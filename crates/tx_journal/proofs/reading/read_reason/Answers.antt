@@ -1,4 +1,4 @@
-use Rattle.std.proofs.Common.{arith, subst, sym}
+use Rattle.std.proofs.Common.{subst, sym}
 use Rattle.tx_journal.specs.Lines.{HasDetail, detail_text}
 use Rattle.tx_journal.proofs.Decimals.{same_start}
 use Rattle.tx_journal.proofs.reading.read_reason.Goals as goal
