@@ -1,4 +1,4 @@
-ghost use Rattle.std.specs.Prelude.{◌≡◌, IfOk, length};
+ghost use Rattle.std.specs.Prelude.{◌≡◌, ℕ, IfOk, length, slice_index};
 
 use crate::{
     Entry, EntryText, Event, Image, Show, add_history, add_schedule, entry_text, read_entry,
@@ -157,19 +157,28 @@ fn numbers_have_one_spelling(rt: HostRuntime) {
     assert!(rt; read_number(b"").is_none());
 }
 
+/// So many zeros.
+fn zeros(alloc: Global, count: usize) -> Result<Vec<u8>, Fail>
+    ensures size { IfOk result (λ bytes. length bytes.items ≡ count) }
+    ensures zero { IfOk result (λ bytes. (k : ℕ) → slice_index bytes.items k ≡ 0) }
+{
+    let bytes = vec![in alloc; 0u8; count]?;
+    Ok(bytes)
+}
+
 /// An image without instructions, with one CPU that enters at hex 4000, and one schedule or another.
 fn image(alloc: Global, scheduled: bool) -> Result<Image, Fail>
     ensures { IfOk result (λ image. (length image.cpus ≡ 1) × (image.scheduled ≡ scheduled)) }
 {
-    let storage = vec![in alloc; 0u8; 1048576]?;
-    let cpus = vec![in alloc; CpuImage::entering(0x4000); 1]?;
+    let storage = zeros(alloc, 1048576)?;
+    let cpus = Vec::from_array(alloc, [CpuImage::entering(0x4000)])?;
     let first_bytes = Show {
         first: 8192,
         length: 16,
         fields: false,
     };
-    let shows = vec![in alloc; first_bytes; 1]?;
-    let schedule = vec![in alloc; Event::Turn(0); 3]?;
+    let shows = Vec::from_array(alloc, [first_bytes])?;
+    let schedule = Vec::from_array(alloc, [Event::Turn(0), Event::External(0)])?;
     let starts = Vec::new(alloc);
     Ok(Image::new(
         storage,
