@@ -1,5 +1,6 @@
--- Classes of exceptions and filtering, begins, and nests.
+-- Classes of exceptions and filtering, causes of aborts, begins, and nests.
 pub mod Filtering
+pub mod Causes
 pub mod Halfword
 pub mod Begins
 pub mod Nesting

@@ -1,4 +1,5 @@
 //! Why a transaction aborts.
+ghost use Rattle.std.specs.Prelude.{◌≡◌};
 
 use crate::Exception;
 
@@ -27,4 +28,27 @@ pub enum Why {
     Starved,
     /// TABORT, with its abort code.
     Tabort(u64),
+}
+
+impl Why {
+    ghost use Rattle.tx_control.specs.Causes.{code_number};
+
+    /// The abort code of the cause: 2 to 13 and 255 for what the machine finds, and for TABORT the code that it gives.
+    pub fn code(self) -> u64
+        ensures { result ≡ code_number self }
+    {
+        match self {
+            Why::External => 2,
+            Why::Program(_) => 4,
+            Why::FetchOverflow => 7,
+            Why::StoreOverflow => 8,
+            Why::FetchConflict(_) => 9,
+            Why::StoreConflict(_) => 10,
+            Why::Restricted => 11,
+            Why::Filtered(_) => 12,
+            Why::Depth => 13,
+            Why::Starved => 255,
+            Why::Tabort(code) => code,
+        }
+    }
 }

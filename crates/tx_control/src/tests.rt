@@ -1,4 +1,4 @@
-use crate::{Begin, Exception, Nest, class_of, codes, is_filtered};
+use crate::{Begin, Exception, Nest, Why, class_of, codes, is_filtered};
 
 const OUTER: Begin = Begin {
     mask: 0xC0,
@@ -102,4 +102,19 @@ fn sixteen_levels(rt: HostRuntime) {
         }
     }
     assert_eq!(rt; nest.depth(), 16);
+}
+
+#[test]
+fn codes_of_causes(rt: HostRuntime) {
+    let exception = Exception {
+        code: codes::SPECIFICATION,
+        fetch: false,
+        length: 4,
+    };
+    assert_eq!(rt; Why::External.code(), 2);
+    assert_eq!(rt; Why::Program(exception).code(), 4);
+    assert_eq!(rt; Why::FetchConflict(144).code(), 9);
+    assert_eq!(rt; Why::StoreConflict(144).code(), 10);
+    assert_eq!(rt; Why::Filtered(exception).code(), 12);
+    assert_eq!(rt; Why::Tabort(257).code(), 257);
 }

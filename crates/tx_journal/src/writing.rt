@@ -1,0 +1,203 @@
+//! The texts of entries and of events.
+ghost use Rattle.std.specs.Prelude.{◌≡◌, ◌++◌, ◌*◌, ◌+◌, ◌/◌, ◌<◌, IfOk, OnOk, length, take, drop, codes};
+ghost use Rattle.std.specs.Fmt.{decimal};
+ghost use Rattle.tx_journal.specs.Lines.{detail_text, reason_text, words_text, line_text, entry_text, history_text};
+ghost use Rattle.tx_journal.specs.Schedule.{event_text, further_text, events_text, row_text, rows_text, schedule_text};
+
+use crate::lines::{Detail, Line, Reason};
+use crate::{Entry, Event};
+use std::alloc::{AllocError, Global};
+
+/// There was no memory.
+#[derive(Clone, Copy, Debug, PartialEq, Eq)]
+pub struct NoMemory;
+
+/// Events in a line.
+const ROW: usize = 16;
+
+/// The bytes of a full line of events whose CPUs have two digits, each behind an X.
+const ROW_ROOM: usize = 71;
+
+/// The bytes of the longest line of an abort other than by TABORT, with a CPU of two digits and a count of six.
+const ENTRY_ROOM: usize = 32;
+
+/// Adds a number in decimal.
+fn add_number(text: &mut Vec<u8>, number: u64) -> Result<(), AllocError>
+    ensures { OnOk result (text.new.items ≡ text.old.items ++ decimal number) }
+{
+    let mut digits = itoa::Buffer::new();
+    text.extend_from_slice(digits.format(number).as_bytes())
+}
+
+/// Adds the detail of an abort.
+fn add_detail(text: &mut Vec<u8>, detail: Detail) -> Result<(), AllocError>
+    ensures { OnOk result (text.new.items ≡ text.old.items ++ detail_text detail) }
+{
+    match detail {
+        Detail::Nothing => text.extend_from_slice(b"-"),
+        Detail::Exception(code) => {
+            let mut digits = [0u8; 4];
+            match hex::encode_to_slice(code.to_be_bytes(), &mut digits) {
+                Ok(()) => text.extend_from_slice(&digits),
+                Err(_) => unreachable!(),
+            }
+        }
+        Detail::Line(address) => {
+            let mut digits = [0u8; 16];
+            match hex::encode_to_slice(address.to_be_bytes(), &mut digits) {
+                Ok(()) => text.extend_from_slice(&digits),
+                Err(_) => unreachable!(),
+            }
+        }
+    }
+}
+
+/// Adds the cause of an abort.
+fn add_reason(text: &mut Vec<u8>, reason: Reason) -> Result<(), AllocError>
+    ensures { OnOk result (text.new.items ≡ text.old.items ++ reason_text reason) }
+{
+    add_number(text, reason.code)?;
+    text.extend_from_slice(b" ")?;
+    add_detail(text, reason.detail)
+}
+
+/// Adds a letter, a blank and a number.
+fn add_step(text: &mut Vec<u8>, letter: &[u8], cpu: u32) -> Result<(), AllocError>
+    ensures { OnOk result (text.new.items ≡ text.old.items ++ (letter.now ++ decimal cpu)) }
+{
+    text.extend_from_slice(letter)?;
+    add_number(text, u64::from(cpu))
+}
+
+/// Adds the words of a line, without its end.
+fn add_words(text: &mut Vec<u8>, line: Line) -> Result<(), AllocError>
+    ensures { OnOk result (text.new.items ≡ text.old.items ++ words_text line) }
+{
+    match line {
+        Line::Step(cpu) => add_step(text, b"S ", cpu),
+        Line::Commit(cpu, count) => {
+            add_step(text, b"C ", cpu)?;
+            add_step(text, b" ", count)
+        }
+        Line::Abort(cpu, count, reason) => {
+            add_step(text, b"A ", cpu)?;
+            add_step(text, b" ", count)?;
+            text.extend_from_slice(b" ")?;
+            add_reason(text, reason)
+        }
+        Line::Tdb(cpu) => add_step(text, b"T ", cpu),
+    }
+}
+
+/// Adds the line of an entry.
+fn add_entry(text: &mut Vec<u8>, entry: &Entry) -> Result<(), AllocError>
+    ensures { OnOk result (text.new.items ≡ text.old.items ++ entry_text entry.now) }
+{
+    add_words(text, Line::of(entry))?;
+    text.extend_from_slice(b"\n")
+}
+
+/// Adds the lines of entries.
+fn add_entries(text: &mut Vec<u8>, entries: &[Entry]) -> Result<(), AllocError>
+    ensures { OnOk result (text.new.items ≡ text.old.items ++ history_text entries.now) }
+{
+    text.try_reserve(entries.len().saturating_mul(ENTRY_ROOM))?;
+    for entry in entries {
+        add_entry(text, entry)?;
+    }
+    Ok(())
+}
+
+/// Adds an event.
+fn add_event(text: &mut Vec<u8>, event: Event) -> Result<(), AllocError>
+    ensures { OnOk result (text.new.items ≡ text.old.items ++ event_text event) }
+{
+    match event {
+        Event::Turn(cpu) => add_number(text, u64::from(cpu)),
+        Event::External(cpu) => add_step(text, b"X", cpu),
+    }
+}
+
+/// Adds events with commas between them.
+fn add_events(text: &mut Vec<u8>, events: &[Event]) -> Result<(), AllocError>
+    ensures { OnOk result (text.new.items ≡ text.old.items ++ events_text events.now) }
+{
+    let Some((first, others)) = events.split_first() else {
+        return Ok(());
+    };
+    add_event(text, *first)?;
+    for event in others {
+        text.extend_from_slice(b",")?;
+        add_event(text, *event)?;
+    }
+    Ok(())
+}
+
+/// The events of a line: sixteen, or what is left.
+fn row_at(events: &[Event], row: usize) -> &[Event]
+    requires { 16 * row < length events.now }
+    ensures { result.now ≡ take 16 (drop (16 * row) events.now) }
+{
+    let rest = &events[ROW * row..];
+    &rest[..rest.len().min(ROW)]
+}
+
+/// Adds a line of events.
+fn add_row(text: &mut Vec<u8>, events: &[Event]) -> Result<(), AllocError>
+    ensures { OnOk result (text.new.items ≡ text.old.items ++ row_text events.now) }
+{
+    text.extend_from_slice(b" SCHED ")?;
+    add_events(text, events)?;
+    text.extend_from_slice(b"\n")
+}
+
+/// Adds the lines of events.
+fn add_rows(text: &mut Vec<u8>, events: &[Event]) -> Result<(), AllocError>
+    ensures { OnOk result (text.new.items ≡ text.old.items ++ schedule_text events.now) }
+{
+    let rows = events.len().div_ceil(ROW);
+    text.try_reserve(rows.saturating_mul(ROW_ROOM))?;
+    for row in 0..rows {
+        add_row(text, row_at(events, row))?;
+    }
+    Ok(())
+}
+
+/// Adds the lines of a history to a text, in the order of its entries. `NoMemory` comes for want of memory; what stands behind
+/// the text that was there is then unknown.
+///
+/// The room for all lines is reserved first, so that a long history is written without an allocation for each line.
+pub fn add_history(text: &mut Vec<u8>, entries: &[Entry]) -> Result<(), NoMemory>
+    ensures { OnOk result (text.new.items ≡ text.old.items ++ history_text entries.now) }
+{
+    add_entries(text, entries).map_err(|_| NoMemory)
+}
+
+/// Adds events to a text as SCHED lines of the listing, sixteen events to a line. `NoMemory` comes for want of memory; what stands
+/// behind the text that was there is then unknown.
+pub fn add_schedule(text: &mut Vec<u8>, events: &[Event]) -> Result<(), NoMemory>
+    ensures { OnOk result (text.new.items ≡ text.old.items ++ schedule_text events.now) }
+{
+    add_rows(text, events).map_err(|_| NoMemory)
+}
+
+/// The line of an entry, with its line feed. `NoMemory` comes for want of memory.
+pub fn entry_text(alloc: Global, entry: &Entry) -> Result<Vec<u8>, NoMemory>
+    ensures { IfOk result (λ text. text.items ≡ entry_text entry.now) }
+{
+    let mut text = Vec::new(alloc);
+    match add_entry(&mut text, entry) {
+        Ok(()) => Ok(text),
+        Err(_) => Err(NoMemory),
+    }
+}
+
+/// Events as SCHED lines of the listing, sixteen events to a line, each with its line feed; no line where there is no event.
+/// `NoMemory` comes for want of memory.
+pub fn schedule_text(alloc: Global, events: &[Event]) -> Result<Vec<u8>, NoMemory>
+    ensures { IfOk result (λ text. text.items ≡ schedule_text events.now) }
+{
+    let mut text = Vec::new(alloc);
+    add_schedule(&mut text, events)?;
+    Ok(text)
+}
