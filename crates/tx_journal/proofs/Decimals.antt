@@ -7,6 +7,7 @@ use Rattle.std.specs.Str.Parse.{ParsesUnsigned, AllDigits, digits_value}
 use Rattle.std.proofs.lemmas.Str.{IsUtf8-from_ascii}
 use Rattle.std.proofs.lemmas.Str.Parse.{IsNumeralModel, numerals_by_value, tells_digits, not_in_digits}
 use Rattle.std.proofs.lemmas.Fmt.{IsAscii-decimal, parse-decimal, digits_decimal, decimal_injective}
+use Rattle.std.specs.Int.{IsInRange}
 use Rattle.tx_journal.specs.Numbers.{Lacks, number_before}
 
 own : IsNumeralModel (AllDigits 10) (digits_value 10)
@@ -23,19 +24,19 @@ decimal_is_value text m n small is parsed = let ok = parse-decimal {E = ℕ} 64 
 
 -- ---- texts up to a blank
 
-lacks_rest : (c d : ℕ) (xs : List ℕ) → Lacks c (d ∷ xs) → Lacks c xs
+pub lacks_rest : (c d : ℕ) (xs : List ℕ) → Lacks c (d ∷ xs) → Lacks c xs
 lacks_rest c d xs lacks = λ i below. lacks (suc i) (omega arith)
 
-lacks_not_there : (c : ℕ) (xs ys : List ℕ) → Lacks c (xs ++ c ∷ ys) → ⊥
+pub lacks_not_there : (c : ℕ) (xs ys : List ℕ) → Lacks c (xs ++ c ∷ ys) → ⊥
 lacks_not_there c [] ys lacks = lacks 0 (omega arith) refl
 lacks_not_there c (x ∷ xs) ys lacks = lacks_not_there c xs ys (lacks_rest c x (xs ++ c ∷ ys) lacks)
 
-record SameCut (xs xs' ys ys' : List ℕ) : Type 0 where
-  front : xs ≡ xs'
-  behind : ys ≡ ys'
+pub record SameCut (xs xs' ys ys' : List ℕ) : Type 0 where
+  pub front : xs ≡ xs'
+  pub behind : ys ≡ ys'
 
 -- where a byte first stands, there is one front and one rest
-same_cut : (c : ℕ) (xs xs' ys ys' : List ℕ) → Lacks c xs → Lacks c xs' → xs ++ c ∷ ys ≡ xs' ++ c ∷ ys' → SameCut xs xs' ys ys'
+pub same_cut : (c : ℕ) (xs xs' ys ys' : List ℕ) → Lacks c xs → Lacks c xs' → xs ++ c ∷ ys ≡ xs' ++ c ∷ ys' → SameCut xs xs' ys ys'
 same_cut c [] [] ys ys' lacks lacks' is = record { front = refl; behind = cc }
 same_cut c [] (x ∷ xs') ys ys' lacks lacks' is = let e : x ≡ c = cc in absurd (lacks' 0 (omega arith) e)
 same_cut c (x ∷ xs) [] ys ys' lacks lacks' is = let e : x ≡ c = cc in absurd (lacks 0 (omega arith) e)
@@ -45,15 +46,21 @@ same_cut c (x ∷ xs) (y ∷ xs') ys ys' lacks lacks' is =
     let rest = same_cut c xs xs' ys ys' (lacks_rest c x xs lacks) (lacks_rest c y xs' lacks') tail in
     record { front = let f = rest.front in cc; behind = rest.behind }
 
-lacks_blank : (n : ℕ) → n < 2 ^ 64 → Lacks 32 (decimal n)
-lacks_blank n small = not_in_digits own (decimal n) 32 (digits_decimal own n small) (λ within. omega (arith, within))
+lacks_other : (c n : ℕ) → n < 2 ^ 64 → ¬ (IsInRange 48 57 c) → Lacks c (decimal n)
+lacks_other c n small other = not_in_digits own (decimal n) c (digits_decimal own n small) other
+
+pub lacks_number : (c n : ℕ) → n < 2 ^ 64 → c < 48 → Lacks c (decimal n)
+lacks_number c n small low = lacks_other c n small (λ within. omega (arith, within))
+
+pub above_digits : (n : ℕ) → n < 2 ^ 64 → Lacks 88 (decimal n)
+above_digits n small = lacks_other 88 n small (λ within. omega (arith, within))
 
 pub no_number_before : (text : List ℕ) (n : ℕ) (rest : List ℕ) → Lacks 32 text → text ≢ number_before n rest
 no_number_before text n rest lacks is = lacks_not_there 32 (decimal n) rest (subst (Lacks 32) is lacks)
 
 pub first_is_number : (text digits rest : List ℕ) (n : ℕ) (behind : List ℕ) → n < 2 ^ 64 → Lacks 32 digits → text ≡ digits ++ 32 ∷ rest
     → text ≡ number_before n behind → digits ≡ decimal n
-first_is_number text digits rest n behind small lacks is begins = (same_cut 32 digits (decimal n) rest behind lacks (lacks_blank n small) (sym is ∙ begins)).front
+first_is_number text digits rest n behind small lacks is begins = (same_cut 32 digits (decimal n) rest behind lacks (lacks_number 32 n small (omega arith)) (sym is ∙ begins)).front
 
 -- a text begins with one number at most
 pub record SameStart (m n : ℕ) (xs ys : List ℕ) : Type 0 where
@@ -62,7 +69,7 @@ pub record SameStart (m n : ℕ) (xs ys : List ℕ) : Type 0 where
 
 pub same_start : (text : List ℕ) (m n : ℕ) (xs ys : List ℕ) → m < 2 ^ 64 → n < 2 ^ 64 → text ≡ number_before m xs → text ≡ number_before n ys → SameStart m n xs ys
 same_start text m n xs ys m_in n_in is also =
-    let cut = same_cut 32 (decimal m) (decimal n) xs ys (lacks_blank m m_in) (lacks_blank n n_in) (sym is ∙ also) in
+    let cut = same_cut 32 (decimal m) (decimal n) xs ys (lacks_number 32 m m_in (omega arith)) (lacks_number 32 n n_in (omega arith)) (sym is ∙ also) in
     record { number = decimal_injective m n m_in n_in cut.front; rest = cut.behind }
 
 -- equal texts are not found to differ

@@ -5,3 +5,4 @@ pub mod Readings
 pub mod OneLine
 pub mod ToldEntries
 pub mod Pictures
+pub mod OneSchedule

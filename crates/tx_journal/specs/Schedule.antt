@@ -1,5 +1,5 @@
 -- Events as lines of the listing.
-use Rattle.std.specs.Prelude.{ℕ, zero, suc, ◌+◌, ◌*◌, ◌/◌, List, [], ◌∷◌, ◌++◌, length, take, drop, codes}
+use Rattle.std.specs.Prelude.{ℕ, ◌<◌, ◌^◌, zero, suc, ◌+◌, ◌*◌, ◌/◌, List, [], ◌∷◌, ◌++◌, length, take, drop, codes}
 use Rattle.std.specs.List.{flat_map}
 use Rattle.std.specs.Fmt.{decimal}
 use Rattle.tx_journal.specs.declared.events.Event.{Event}
@@ -31,3 +31,8 @@ rows_text events (suc k) = rows_text events k ++ row_text (take 16 (drop (16 * k
 -- all events, sixteen to a line; no line where there is none
 abbrev pub schedule_text : List Event → List ℕ
 schedule_text events = rows_text events ((length events + 15) / 16)
+
+-- the CPU's number fits 32 bits
+abbrev pub IsNumbered : Event → Type 0
+IsNumbered (Turn cpu) = cpu < 2 ^ 32
+IsNumbered (External cpu) = cpu < 2 ^ 32

@@ -14,7 +14,7 @@ mod writing;
 pub use entries::{Entry, EntryText};
 pub use events::Event;
 pub use image::{Image, Show};
-pub use laws::{a_text_is_one_line, entries_read_back};
+pub use laws::{a_text_is_one_line, a_text_is_one_schedule, entries_read_back};
 pub use numbers::read_number;
 pub use reading::read_entry;
 pub use writing::{NoMemory, add_history, add_schedule, entry_text, schedule_text};
