@@ -1,5 +1,6 @@
 // Row numbers and columns as the instruction table lists them, and fields at the edges of their ranges.
 
+use crate::addresses::{first_address, is_selected, registers_named, second_address};
 use crate::format::{Format, Place, length_in, place_of};
 use crate::instr::{Fields, Instr};
 use crate::laws;
@@ -85,4 +86,43 @@ fn laws_are_called() {
     laws::pieces_hold_bytes();
     laws::operands_are_small();
     laws::immediates_are_plain();
+}
+
+// An address takes base, index and displacement; register number 0 adds nothing, and the sum goes on from 2^64 at 0.
+#[test]
+fn addresses_of_operands(rt: HostRuntime) -> Result<(), Fail> {
+    let load = find(b"LG").ok_or("LG")?;
+    let fields = Fields {
+        b: 5,
+        x: 7,
+        d: -8,
+        ..Fields::zero()
+    };
+    let load = Instr::new(load, fields).ok_or("LG 0,-8(7,5)")?;
+    let mut general = [3; 16];
+    general[5] = 0x9000;
+    general[7] = 0x100;
+    assert_eq!(rt; first_address(&load, &general), 0x90f8);
+    assert_eq!(rt; second_address(&load, &general), 0);
+    general[5] = u64::MAX;
+    assert_eq!(rt; first_address(&load, &general), 0xf7);
+    Ok(())
+}
+
+// The registers from 15 up to 1 are three, and a mask of 8 is for code 0 alone.
+#[test]
+fn registers_and_codes_named(rt: HostRuntime) -> Result<(), Fail> {
+    let store = find(b"STM").ok_or("STM")?;
+    let fields = Fields {
+        r1: 15,
+        r3: 1,
+        ..Fields::zero()
+    };
+    let store = Instr::new(store, fields).ok_or("STM 15,1,0")?;
+    assert_eq!(rt; registers_named(&store), 3);
+    assert!(rt; is_selected(8, 0) && !is_selected(8, 3));
+    assert!(rt; is_selected(1, 3) && !is_selected(1, 0));
+    assert_eq!(rt; Size::Halfword.bytes(), 2);
+    assert_eq!(rt; Size::Doubleword.bytes(), 8);
+    Ok(())
 }
