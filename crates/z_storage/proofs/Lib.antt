@@ -1,0 +1,3 @@
+-- Bytes that are written, and numbers in them.
+pub mod Writes
+pub mod Numbers

@@ -1,0 +1,6 @@
+//! Instructions with operands in storage.
+//!
+//! Their effects are those of z/Architecture (Principles of Operation, SA22-7832, "General Instructions").
+#![tactic(auto)]
+
+mod access;
