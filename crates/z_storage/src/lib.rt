@@ -4,3 +4,6 @@
 #![tactic(auto)]
 
 mod access;
+mod fetched;
+mod registers;
+mod stored;
