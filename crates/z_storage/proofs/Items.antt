@@ -1,8 +1,8 @@
 -- The items of several registers, one after the other.
-use Rattle.std.proofs.Common.{◌≡◌, ℕ, zero, suc, ◌<◌, ◌≤◌, ◌+◌, ◌-◌, ◌*◌, ◌%◌, List, [], ◌++◌, length, take, drop, refl, sym, ap, ◌∙◌, arith, length-append}
-use Rattle.std.proofs.lemmas.List.{drop-take, drop-drop, take_all, append-nil, take-append-drop}
+use Rattle.std.proofs.Common.{◌≡◌, ℕ, zero, suc, ◌<◌, ◌≤◌, ◌+◌, ◌-◌, ◌*◌, ◌%◌, List, length, take, drop, refl, sym, ap, ◌∙◌, arith, length-append}
+use Rattle.std.proofs.lemmas.List.{drop-take, drop-drop, take_all}
 use Rattle.std.proofs.Math.Numerals.{add-one}
-use Rattle.std.proofs.Math.Nat.{zero-mul, add-zero}
+use Rattle.std.proofs.Math.Nat.{zero-mul}
 use Rattle.byteorder.specs.Endian.{big_from}
 use Rattle.byteorder.specs.Numbers.{big_from-take, length-bytes_high_first}
 use Rattle.z_arith.specs.declared.Width.{Width}
@@ -14,7 +14,7 @@ use Rattle.z_effect.specs.Registers.{register, with_register}
 use Rattle.z_effect.specs.StorageEffect.{item, number, stored, items, with_items}
 use Rattle.z_effect.specs.After.{range_at, written}
 use Rattle.z_effect.proofs.Stored.{length-written}
-use Rattle.z_storage.proofs.Writes.{written_then}
+use Rattle.z_storage.proofs.Writes.{written_none, written_then}
 
 -- ---- stored
 
@@ -35,11 +35,7 @@ whole_items k w r c = take_all (k * bytes_of (item w)) (items k w r c) (omega (a
 
 pub none_stored : (w : Width) (r : ℕ) (s : List ℕ) (address : ℕ) (c : Cpu) → s ≡ written s address (items zero w r c)
 unfolding items
-none_stored w r s address c =
-    sym
-    (ap (λ k. take address s ++ [] ++ drop k s) (add-zero address)
-    ∙ ap (λ t. t ++ drop address s) (append-nil (take address s))
-    ∙ take-append-drop address s)
+none_stored w r s address c = written_none s address
 
 -- a step of the loop that stores registers
 pub store_step : (k : ℕ) (w : Width) (r : ℕ) (s now new : List ℕ) (address : ℕ) (c : Cpu) → address ≤ length s → now ≡ written s address (items k w r c)

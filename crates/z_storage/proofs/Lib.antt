@@ -4,3 +4,8 @@ pub mod Numbers
 pub mod Ranges
 pub mod Items
 pub mod Swaps
+pub mod Bytewise
+pub mod Order
+pub mod Whole
+pub mod Executing
+pub mod LowOperands

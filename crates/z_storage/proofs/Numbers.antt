@@ -8,11 +8,3 @@ use Rattle.byteorder.proofs.Bytes.{pow256}
 -- what is read of n bytes has no more bits than they
 pub number_fits : (x n : ℕ) (buffer : List ℕ) → ((k : ℕ) → slice_index buffer k < 256) → x ≡ big_number n buffer → x < 2 ^ (8 * n)
 number_fits x n buffer h e = omega (arith, big_from-lt 0 n buffer h, pow256 n)
-
--- a byte that is put among bytes leaves bytes
-pub still_bytes : (xs : List ℕ) (i b : ℕ) → ((k : ℕ) → slice_index xs k < 256) → b < 256 → (k : ℕ) → slice_index (set xs i b) k < 256
-still_bytes [] i b h l k = h k
-still_bytes (x ∷ xs) zero b h l zero = l
-still_bytes (x ∷ xs) zero b h l (suc k) = h (suc k)
-still_bytes (x ∷ xs) (suc i) b h l zero = h zero
-still_bytes (x ∷ xs) (suc i) b h l (suc k) = still_bytes xs i b (λ j. h (suc j)) l k

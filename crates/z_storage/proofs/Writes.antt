@@ -1,7 +1,8 @@
 -- Bytes that are written one after the other.
-use Rattle.std.proofs.Common.{◌≡◌, ℕ, ◌<◌, ◌≤◌, ◌+◌, List, [], ◌∷◌, ◌++◌, length, get_or, set, take, drop, sym, ap, ◌∙◌, arith, length-append, length-drop, append_assoc, drop-drop}
+use Rattle.std.proofs.Common.{◌≡◌, ℕ, ◌<◌, ◌≤◌, ◌+◌, List, [], ◌∷◌, ◌++◌, length, get_or, set, take, drop, sym, ap, ◌∙◌, arith, length-append, length-drop, append_assoc, append-nil, drop-drop}
 use Rattle.std.proofs.lemmas.List.{take_more, take_at, set_at, drop_more, length-take-le, take-append-drop, places}
 use Rattle.std.proofs.Math.Seq.{drop-append-add}
+use Rattle.std.proofs.Math.Nat.{add-zero}
 use Rattle.z_effect.specs.After.{range_at, written}
 
 -- what is written begins with so many bytes
@@ -10,6 +11,14 @@ length-before s first bytes h = omega (arith, length-append (take first s) bytes
 
 pub inside : (s : List ℕ) (first : ℕ) (bytes : List ℕ) (k : ℕ) → first ≤ length s → k < length bytes → get_or (written s first bytes) (first + k) 0 ≡ get_or bytes k 0
 inside s first bytes k h l = grind (arith, places)
+
+-- none
+pub written_none : (s : List ℕ) (first : ℕ) → s ≡ written s first []
+written_none s first =
+    sym
+    (ap (λ k. take first s ++ [] ++ drop k s) (add-zero first)
+    ∙ ap (λ t. t ++ drop first s) (append-nil (take first s))
+    ∙ take-append-drop first s)
 
 -- bytes written right behind others
 pub written_then : (s : List ℕ) (first : ℕ) (xs ys : List ℕ) → first ≤ length s → written (written s first xs) (first + length xs) ys ≡ written s first (xs ++ ys)
@@ -51,10 +60,6 @@ written_same s first n h =
     ∙ ap (λ t. take first s ++ (range_at s first n ++ t)) (sym (drop-drop n first s))
     ∙ ap (λ t. take first s ++ t) (take-append-drop n (drop first s))
     ∙ take-append-drop first s
-
--- one byte more of a range
-pub range_more : (s : List ℕ) (first k : ℕ) → first + k < length s → range_at s first (k + 1) ≡ range_at s first k ++ get_or s (first + k) 0 ∷ []
-range_more s first k h = grind (arith, places, take_more (drop first s) k 0 (omega (arith, length-drop first s)))
 
 -- a step of a loop that writes bytes from the left
 pub write_step : (s now bytes : List ℕ) (first k : ℕ) → k < length bytes → first + length bytes ≤ length s → now ≡ written s first (take k bytes)

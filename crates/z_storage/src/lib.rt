@@ -5,5 +5,12 @@
 
 mod access;
 mod fetched;
+mod lists;
 mod registers;
+mod run;
 mod stored;
+
+pub use run::{execute, is_mine};
+
+#[cfg(test)]
+mod tests;
