@@ -1,5 +1,5 @@
 -- Numbers in the first bytes of a buffer.
-use Rattle.std.proofs.Common.{◌≡◌, ℕ, zero, suc, ◌<◌, ◌*◌, ◌^◌, List, ◌∷◌, [], set, arith}
+use Rattle.std.proofs.Common.{◌≡◌, ℕ, ◌<◌, ◌*◌, ◌^◌, List, arith}
 use Rattle.std.specs.Prelude.{slice_index}
 use Rattle.byteorder.specs.Endian.{big_number}
 use Rattle.byteorder.specs.Numbers.{big_from-lt}

@@ -1,4 +1,4 @@
-use Rattle.std.proofs.Common.{◌≡◌, arith, ◌∙◌, ap, ◌*◌, ◌+◌}
+use Rattle.std.proofs.Common.{◌≡◌, arith, ◌*◌, ◌+◌}
 use Rattle.z_instr.specs.Operands.{bytes_of}
 use Rattle.z_regs.specs.Cpu.{cpu_of}
 use Rattle.z_effect.specs.StorageEffect.{item, number}
@@ -15,7 +15,6 @@ loop-k-preserved g c =
     let w = c.args.w in
     let s = g.V.Bytes.bytes c.args.view.now in
     let b = bytes_of (item w) in
-    let value : c.fetch_item-value.result ≡ number (item w) (range_at s (c.args.address + c.loop-k.k * b) b) =
-    c.fetch_item-value.ensures.value ∙ ap (λ a. number (item w) (range_at s a b)) c.place.ensures in
+    let value : c.fetch_item-value.result ≡ number (item w) (range_at s (c.args.address + c.loop-k.k * b) b) = cc in
     load_step c.loop-k.k w c.args.first c.args.count s c.args.address (cpu_of c.args.image.now) (cpu_of c.loop-k.image) (cpu_of c.put.new.image) c.fetch_item-value.result (omega arith) c.loop-k.invariant
     value c.put.ensures
