@@ -1,4 +1,4 @@
-//! Numbers in storage, the leftmost byte first.
+//! Numbers in storage, the leftmost byte first, and the byte of an immediate.
 ghost use Rattle.std.specs.Prelude.{◌≡◌, ◌<◌, ◌≤◌, ◌+◌, ◌^◌, length};
 ghost use Rattle.z_instr.specs.Operands.{bytes_of};
 ghost use Rattle.z_instr.specs.declared.operand.Size.TheVariants.{Byte};
@@ -73,7 +73,7 @@ pub fn immediate_byte(instr: &Instr) -> u8
 }
 
 /// Stores bytes, one after the other.
-pub fn put_all<V: Bytes>(view: &mut V, address: u64, bytes: &[u8])
+fn put_all<V: Bytes>(view: &mut V, address: u64, bytes: &[u8])
     requires size { length (V.bytes view.old) ≡ 1048576 }
     requires inside { address + length bytes.now ≤ length (V.bytes view.old) }
     ensures { V.bytes view.new ≡ written (V.bytes view.old) address bytes.now }

@@ -8,6 +8,7 @@ use crate::{execute, is_mine};
 use std::alloc::Global;
 use std::test::Fail;
 use tx_control::codes::FIXED_POINT_OVERFLOW;
+use z_effect::register;
 use z_instr::addresses::{first_address, second_address};
 use z_instr::instr::{Fields, Instr};
 use z_instr::laws::operands_are_small;
@@ -304,8 +305,8 @@ fn registers_wrap_after_the_last(rt: HostRuntime) -> Result<(), Fail> {
     put(&mut storage, 0x3AE0_4115);
     storage.put(PLACE + 7, 0x2B);
     assert_eq!(rt; step(b"LM", around(), &mut image, &mut storage)?, 0);
-    assert_eq!(rt; image.general[15], 0x3AE0_4115);
-    assert_eq!(rt; image.general[0], 0xC3A5_F00D_0000_002B);
+    assert_eq!(rt; register(&image, 15), 0x3AE0_4115);
+    assert_eq!(rt; register(&image, 0), 0xC3A5_F00D_0000_002B);
     image.general[2] = PLACE - 4;
     assert_eq!(rt; step(b"STM", around(), &mut image, &mut storage)?, 0);
     assert_eq!(rt; word(&storage), 0x2B);
