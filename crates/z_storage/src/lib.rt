@@ -1,0 +1,4 @@
+//! The instructions with operands in storage.
+#![tactic(auto)]
+
+mod lists;
