@@ -1,4 +1,5 @@
-//! Operations on the bytes of two operands in storage, which may overlap in any way.
+//! Operations on the bytes of two operands in storage, which may overlap in any way (Principles of Operation, "Move", "And",
+//! "Compare Logical": operands are processed a byte at a time, from the left).
 ghost use Rattle.std.specs.Prelude.{◌≡◌, ◌<◌, ◌≤◌, ◌+◌, ℕ, List, true, length, nat_eq};
 ghost use Rattle.std.specs.List.{list_all};
 ghost use Rattle.z_instr.specs.Operands.{length_of};
@@ -87,7 +88,9 @@ fn set_code(combination: Combination, zero: bool, image: &mut CpuImage)
     }
 }
 
-/// MVC, NC, OC and XC, of `n` bytes: byte by byte from the left, where later bytes see earlier results.
+/// MVC, NC, OC and XC, the instruction having `n` bytes. From the left, each byte of the first operand becomes that of the
+/// combination with the byte of the second, where later bytes see the results of earlier ones. The code becomes 0 where all
+/// results are zero and 1 where one is not; a move leaves it. There is no error.
 #[tactic(auto, unfolding(z_instr::specs::Operands::spans_in))]
 pub fn byte_by_byte<V: Bytes>(
     combination: Combination,
@@ -109,7 +112,8 @@ pub fn byte_by_byte<V: Bytes>(
     Ok(())
 }
 
-/// CLC, of `n` bytes: the first bytes that differ decide.
+/// CLC, the instruction having `n` bytes. The leftmost bytes that differ decide: the code becomes 1 where that of the first
+/// operand is low, 2 where it is high, 0 where none differ. Storage stays. There is no error.
 #[tactic(auto, unfolding(z_effect::specs::StorageEffect::storage_effect, z_instr::specs::Operands::spans_in))]
 pub fn compare_bytes<V: Bytes>(
     n: u8,
