@@ -1,3 +1,4 @@
 -- The code's table of kinds is the table, and facts computed over all its rows.
 pub mod TableFacts
 pub mod Stored
+pub mod Storeless
