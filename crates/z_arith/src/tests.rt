@@ -7,6 +7,7 @@ use super::shifts::shift;
 use super::*;
 use Shift::*;
 use Width::*;
+use std::test::Fail;
 
 // As a doubleword with a sign -1, the highest number and the lowest.
 const ONES: u64 = 0xffff_ffff_ffff_ffff;

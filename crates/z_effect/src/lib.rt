@@ -17,3 +17,6 @@ pub use steps::{
     advance, after, conclude, exception, next_address, operand, put, put_pair, register, settle,
     target,
 };
+
+#[cfg(test)]
+mod tests;

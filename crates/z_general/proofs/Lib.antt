@@ -1,0 +1,1 @@
+-- Instructions without an operand in storage.

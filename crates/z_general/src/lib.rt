@@ -1,0 +1,16 @@
+//! Instructions without an operand in storage that do not branch: what each does to a CPU.
+//!
+//! The effects are those of z/Architecture (Principles of Operation, SA22-7832, "General Instructions").
+#![tactic(auto)]
+
+mod controls;
+mod halfwords;
+mod operands;
+mod pairs;
+mod results;
+mod run;
+
+pub use run::{execute, is_mine};
+
+#[cfg(test)]
+mod tests;
