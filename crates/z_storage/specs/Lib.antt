@@ -1,0 +1,2 @@
+-- What an operation on storage leaves.
+pub mod Performs

@@ -1,0 +1,99 @@
+//! Numbers in storage, the leftmost byte first.
+ghost use Rattle.std.specs.Prelude.{◌≡◌, ◌<◌, ◌≤◌, ◌+◌, ◌^◌, length};
+ghost use Rattle.z_instr.specs.Operands.{bytes_of};
+ghost use Rattle.z_instr.specs.declared.operand.Size.TheVariants.{Byte};
+ghost use Rattle.z_arith.specs.Whole.{bits, modulo};
+ghost use Rattle.z_effect.specs.Operations.{bits_in, size_of};
+ghost use Rattle.z_effect.specs.StorageEffect.{item as item_of, number, piece, stored};
+ghost use Rattle.z_effect.specs.After.{range_at, written};
+
+use byteorder::{BigEndian, ByteOrder};
+use z_arith::{Width, doubleword};
+use z_effect::kind::Part;
+use z_effect::{extend, size_in};
+use z_instr::instr::Instr;
+use z_instr::operand::Size;
+use z_regs::Bytes;
+
+/// The most bytes of an item.
+const MOST: usize = 8;
+
+/// The number in an item of storage.
+pub fn fetch<V: Bytes>(view: &V, address: u64, size: Size) -> u64
+    requires size { length (V.bytes view.now) ≡ 1048576 }
+    requires inside { address + bytes_of size ≤ length (V.bytes view.now) }
+    ensures value { result ≡ number size (range_at (V.bytes view.now) address (bytes_of size)) }
+    ensures fits { result < 2 ^ bits_in size }
+{
+    let count = usize::from(size.bytes());
+    let mut item = [0u8; MOST];
+    for k in 0..count {
+        item[k] = view.get(address + k as u64);
+    }
+    BigEndian::read_uint(&item, count)
+}
+
+/// The number in an item that has a register's width.
+pub fn fetch_item<V: Bytes>(view: &V, address: u64, w: Width) -> u64
+    requires size { length (V.bytes view.now) ≡ 1048576 }
+    requires inside { address + bytes_of (item_of w) ≤ length (V.bytes view.now) }
+    ensures value { result ≡ number (item_of w) (range_at (V.bytes view.now) address (bytes_of (item_of w))) }
+    ensures fits { result < 2 ^ bits w }
+{
+    match w {
+        Width::Word => fetch(view, address, Size::Word),
+        Width::Double => fetch(view, address, Size::Doubleword),
+    }
+}
+
+/// The number in an item, brought to a width.
+pub fn fetch_piece<V: Bytes>(view: &V, address: u64, w: Width, part: Part) -> u64
+    requires size { length (V.bytes view.now) ≡ 1048576 }
+    requires inside { address + bytes_of (size_of part) ≤ length (V.bytes view.now) }
+    ensures value { result ≡ piece w part (range_at (V.bytes view.now) address (bytes_of (size_of part))) }
+    ensures fits { result < 2 ^ bits w }
+{
+    extend(w, part, fetch(view, address, size_in(part)))
+}
+
+/// A byte of storage.
+pub fn fetch_byte<V: Bytes>(view: &V, address: u64) -> u8
+    requires size { length (V.bytes view.now) ≡ 1048576 }
+    requires inside { address + 1 ≤ length (V.bytes view.now) }
+    ensures { result ≡ number Byte (range_at (V.bytes view.now) address 1) }
+{
+    fetch(view, address, Size::Byte) as u8
+}
+
+/// The rightmost byte of the immediate.
+pub fn immediate_byte(instr: &Instr) -> u8
+    ensures { result ≡ modulo 8 instr.now.imm }
+{
+    (doubleword(instr.imm) % 256) as u8
+}
+
+/// Stores bytes, one after the other.
+pub fn put_all<V: Bytes>(view: &mut V, address: u64, bytes: &[u8])
+    requires size { length (V.bytes view.old) ≡ 1048576 }
+    requires inside { address + length bytes.now ≤ length (V.bytes view.old) }
+    ensures { V.bytes view.new ≡ written (V.bytes view.old) address bytes.now }
+{
+    for (k, byte) in bytes.iter().enumerate() {
+        view.put(address + k as u64, *byte);
+    }
+}
+
+/// Stores the rightmost bytes of a number, as many as the item has.
+pub fn store<V: Bytes>(view: &mut V, address: u64, size: Size, value: u64)
+    requires size { length (V.bytes view.old) ≡ 1048576 }
+    requires inside { address + bytes_of size ≤ length (V.bytes view.old) }
+    ensures { V.bytes view.new ≡ written (V.bytes view.old) address (stored size value) }
+{
+    let mut doubleword = [0u8; MOST];
+    BigEndian::write_u64(&mut doubleword, value);
+    put_all(
+        view,
+        address,
+        &doubleword[MOST - usize::from(size.bytes())..],
+    );
+}

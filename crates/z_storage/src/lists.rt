@@ -1,0 +1,133 @@
+//! Operations on the bytes of two operands in storage, which may overlap in any way.
+ghost use Rattle.std.specs.Prelude.{◌≡◌, ◌<◌, ◌≤◌, ◌+◌, ℕ, List, true, length, nat_eq};
+ghost use Rattle.std.specs.List.{list_all};
+ghost use Rattle.z_instr.specs.Operands.{length_of};
+ghost use Rattle.z_instr.specs.Ranges.{is_within, bounds};
+ghost use Rattle.z_regs.specs.Cpu.{cpu_of};
+ghost use Rattle.z_effect.specs.declared.kind.Storage.TheVariants.{ByteByByte, CompareBytes};
+ghost use Rattle.z_effect.specs.StorageEffect.{mixed, lead, results, with_code_of, order_of_bytes};
+ghost use Rattle.z_effect.specs.After.{range_at, written, AreInside};
+ghost use Rattle.z_storage.specs.Performs.{ranges, Performs};
+
+use tx_control::Exception;
+use z_arith::Width;
+use z_effect::kind::{Combination, Order};
+use z_effect::{advance, compare, logic};
+use z_instr::addresses::{first_address, second_address};
+use z_instr::instr::Instr;
+use z_regs::{Bytes, CpuImage};
+
+/// How many bytes each operand has, 1 to 256.
+fn bytes_named(instr: &Instr) -> u64
+    requires { is_within (bounds 0 256) instr.now.imm ≡ true }
+    ensures count { result ≡ length_of instr.now }
+    ensures few { result ≤ 256 }
+{
+    instr.imm as u64 + 1
+}
+
+/// What becomes of a byte of the first operand and one of the second.
+fn mix(combination: Combination, first: u8, second: u8) -> u8
+    ensures { result ≡ mixed combination first second }
+{
+    match combination {
+        Combination::Move => second,
+        Combination::Logic(kind) => logic(kind, u64::from(first), u64::from(second)) as u8,
+    }
+}
+
+/// Makes `count` bytes of the target, from the left, each of a byte of both operands as it is by then. The answer is whether
+/// all results are zero.
+fn combine_bytes<V: Bytes>(
+    combination: Combination,
+    view: &mut V,
+    target: u64,
+    source: u64,
+    count: u64,
+) -> bool
+    requires size { length (V.bytes view.old) ≡ 1048576 }
+    requires target_in { target + count ≤ 1048576 }
+    requires source_in { source + count ≤ 1048576 }
+    ensures stored { V.bytes view.new ≡ written (V.bytes view.old) target (results count combination (lead count target source) (range_at (V.bytes view.old) target count) (range_at (V.bytes view.old) source count)) }
+    ensures zero { result ≡ list_all (λ b. nat_eq b 0) (results count combination (lead count target source) (range_at (V.bytes view.old) target count) (range_at (V.bytes view.old) source count)) }
+{
+    let mut zero = true;
+    for k in 0..count {
+        let byte = mix(combination, view.get(target + k), view.get(source + k));
+        view.put(target + k, byte);
+        zero &= byte == 0;
+    }
+    zero
+}
+
+/// Compares `count` bytes from the left: 0 equal, 1 where the first list is low, 2 where it is high.
+fn order_in<V: Bytes>(view: &V, first: u64, second: u64, count: u64) -> u8
+    requires size { length (V.bytes view.now) ≡ 1048576 }
+    requires first_in { first + count ≤ 1048576 }
+    requires second_in { second + count ≤ 1048576 }
+    ensures order { result ≡ order_of_bytes (range_at (V.bytes view.now) first count) (range_at (V.bytes view.now) second count) }
+    ensures code { result < 4 }
+{
+    for k in 0..count {
+        let a = view.get(first + k);
+        let b = view.get(second + k);
+        if a != b {
+            return compare(Order::Logical, Width::Word, u64::from(a), u64::from(b));
+        }
+    }
+    0
+}
+
+/// Sets the code by whether all results are zero, where a combination sets it.
+fn set_code(combination: Combination, zero: bool, image: &mut CpuImage)
+    ensures { (made : List ℕ) → zero ≡ list_all (λ b. nat_eq b 0) made → cpu_of image.new ≡ with_code_of combination made (cpu_of image.old) }
+{
+    if let Combination::Logic(_) = combination {
+        image.condition = if zero { 0 } else { 1 };
+    }
+}
+
+/// MVC, NC, OC and XC, of `n` bytes: byte by byte from the left, where later bytes see earlier results.
+#[tactic(auto, unfolding(z_instr::specs::Operands::spans_in))]
+pub fn byte_by_byte<V: Bytes>(
+    combination: Combination,
+    n: u8,
+    instr: &Instr,
+    image: &mut CpuImage,
+    view: &mut V,
+) -> Result<(), Exception>
+    requires size { length (V.bytes view.old) ≡ 1048576 }
+    requires code { is_within (bounds 0 256) instr.now.imm ≡ true }
+    requires inside { AreInside (ranges (ByteByByte combination) instr.now (cpu_of image.old)) (V.bytes view.old) }
+    ensures { Performs (ByteByByte combination) n instr.now (cpu_of image.old) (cpu_of image.new) (V.bytes view.old) (V.bytes view.new) result }
+{
+    let target = first_address(instr, &image.general);
+    let source = second_address(instr, &image.general);
+    let zero = combine_bytes(combination, view, target, source, bytes_named(instr));
+    set_code(combination, zero, image);
+    advance(image, n);
+    Ok(())
+}
+
+/// CLC, of `n` bytes: the first bytes that differ decide.
+#[tactic(auto, unfolding(z_effect::specs::StorageEffect::storage_effect, z_instr::specs::Operands::spans_in))]
+pub fn compare_bytes<V: Bytes>(
+    n: u8,
+    instr: &Instr,
+    image: &mut CpuImage,
+    view: &V,
+) -> Result<(), Exception>
+    requires size { length (V.bytes view.now) ≡ 1048576 }
+    requires code { is_within (bounds 0 256) instr.now.imm ≡ true }
+    requires inside { AreInside (ranges CompareBytes instr.now (cpu_of image.old)) (V.bytes view.now) }
+    ensures { Performs CompareBytes n instr.now (cpu_of image.old) (cpu_of image.new) (V.bytes view.now) (V.bytes view.now) result }
+{
+    let first = first_address(instr, &image.general);
+    let second = second_address(instr, &image.general);
+    image.condition = order_in(view, first, second, bytes_named(instr));
+    advance(image, n);
+    Ok(())
+}
+
+#[cfg(test)]
+mod tests;

@@ -1,0 +1,107 @@
+//! Operations that load or store several registers, 0 after 15.
+ghost use Rattle.std.specs.Prelude.{◌≡◌, ◌<◌, ◌≤◌, ◌+◌, ◌*◌, length};
+ghost use Rattle.z_instr.specs.Operands.{bytes_of};
+ghost use Rattle.z_regs.specs.Cpu.{cpu_of};
+ghost use Rattle.z_effect.specs.declared.kind.Storage.TheVariants.{LoadMany, StoreMany};
+ghost use Rattle.z_effect.specs.StorageEffect.{item as item_of, items, with_items};
+ghost use Rattle.z_effect.specs.After.{AreInside, range_at, written};
+ghost use Rattle.z_storage.specs.Performs.{ranges, Performs};
+
+use crate::access::{fetch_item, store};
+use tx_control::Exception;
+use z_arith::Width;
+use z_effect::{advance, item, put, register};
+use z_instr::addresses::{first_address, registers_named};
+use z_instr::instr::Instr;
+use z_regs::{Bytes, CpuImage};
+
+/// The address of an item behind `k` others.
+fn place(address: u64, w: Width, k: u8) -> u64
+    requires { address + k * bytes_of (item_of w) ≤ 1048576 }
+    ensures { result ≡ address + k * bytes_of (item_of w) }
+{
+    match w {
+        Width::Word => address + u64::from(k) * 4,
+        Width::Double => address + u64::from(k) * 8,
+    }
+}
+
+/// Stores the items of some registers, from the register `first` on.
+fn store_registers<V: Bytes>(
+    w: Width,
+    first: u8,
+    count: u8,
+    image: &CpuImage,
+    address: u64,
+    view: &mut V,
+)
+    requires size { length (V.bytes view.old) ≡ 1048576 }
+    requires first_in { first < 16 }
+    requires few { count < 17 }
+    requires inside { address + count * bytes_of (item_of w) ≤ length (V.bytes view.old) }
+    ensures { V.bytes view.new ≡ written (V.bytes view.old) address (items count w first (cpu_of image.now)) }
+{
+    for k in 0..count {
+        let value = register(image, (first + k) % 16);
+        store(view, place(address, w, k), item(w), value);
+    }
+}
+
+/// Loads items into some registers, from the register `first` on.
+fn load_registers<V: Bytes>(
+    w: Width,
+    first: u8,
+    count: u8,
+    image: &mut CpuImage,
+    address: u64,
+    view: &V,
+)
+    requires size { length (V.bytes view.now) ≡ 1048576 }
+    requires first_in { first < 16 }
+    requires few { count < 17 }
+    requires inside { address + count * bytes_of (item_of w) ≤ length (V.bytes view.now) }
+    ensures { cpu_of image.new ≡ with_items count w first (range_at (V.bytes view.now) address (count * bytes_of (item_of w))) (cpu_of image.old) }
+{
+    for k in 0..count {
+        let value = fetch_item(view, place(address, w, k), w);
+        put(image, w, (first + k) % 16, value);
+    }
+}
+
+/// Loads the registers from R1 up to R3.
+#[tactic(auto, unfolding(z_effect::specs::StorageEffect::storage_effect, z_instr::specs::Operands::spans_in))]
+pub fn load_many<V: Bytes>(
+    w: Width,
+    n: u8,
+    instr: &Instr,
+    image: &mut CpuImage,
+    view: &V,
+) -> Result<(), Exception>
+    requires size { length (V.bytes view.now) ≡ 1048576 }
+    requires inside { AreInside (ranges (LoadMany w) instr.now (cpu_of image.old)) (V.bytes view.now) }
+    ensures { Performs (LoadMany w) n instr.now (cpu_of image.old) (cpu_of image.new) (V.bytes view.now) (V.bytes view.now) result }
+{
+    let address = first_address(instr, &image.general);
+    load_registers(w, instr.r1, registers_named(instr), image, address, view);
+    advance(image, n);
+    Ok(())
+}
+
+/// Stores the registers from R1 up to R3.
+#[tactic(auto, using(crate::proofs::Items::whole_items), unfolding(z_effect::specs::StorageEffect::storage_effect, z_instr::specs::Operands::spans_in))]
+pub fn store_many<V: Bytes>(
+    w: Width,
+    n: u8,
+    instr: &Instr,
+    image: &mut CpuImage,
+    view: &mut V,
+) -> Result<(), Exception>
+    requires size { length (V.bytes view.old) ≡ 1048576 }
+    requires inside { AreInside (ranges (StoreMany w) instr.now (cpu_of image.old)) (V.bytes view.old) }
+    ensures { Performs (StoreMany w) n instr.now (cpu_of image.old) (cpu_of image.new) (V.bytes view.old) (V.bytes view.new) result }
+{
+    let address = first_address(instr, &image.general);
+    store_registers(w, instr.r1, registers_named(instr), image, address, view);
+    advance(image, n);
+    Ok(())
+}
