@@ -1,0 +1,61 @@
+// One instruction.
+ghost use Rattle.std.specs.Prelude.{◌≡◌, ℕ, true};
+ghost use Rattle.z_regs.specs.Cpu.{cpu_of};
+ghost use Rattle.z_effect.specs.Kinds.{kind_at};
+ghost use Rattle.z_effect.specs.Facts.{is_branch};
+ghost use Rattle.z_effect.specs.BranchEffect.{branch_effect};
+ghost use Rattle.z_effect.specs.After.{Sets, Executes};
+
+use crate::families;
+use tx_control::Exception;
+use z_effect::kind::{Branch, Kind};
+use z_effect::kind_of;
+use z_instr::format::length_in;
+use z_instr::instr::Instr;
+use z_instr::lookup::line;
+use z_instr::op::Op;
+use z_regs::{Bytes, CpuImage};
+
+/// Whether this crate executes an operation: whether it says where to go on.
+pub fn is_mine(op: Op) -> bool
+    ensures { result ≡ is_branch (kind_at op.number) }
+{
+    matches!(kind_of(op), Kind::Branch(_))
+}
+
+/// Does what the kind says.
+fn run(branch: Branch, n: u8, instr: &Instr, image: &mut CpuImage)
+    ensures { Sets (branch_effect branch n instr.now (cpu_of image.old)) n (cpu_of image.old) (cpu_of image.new) (Ok tt) }
+{
+    match branch {
+        Branch::OnCondition(place) => families::on_condition(place, n, instr, image),
+        Branch::OnCount(place, w) => families::on_count(place, w, n, instr, image),
+        Branch::AndSave(place) => families::and_save(place, n, instr, image),
+        Branch::OnCompare(order, w) => families::on_compare(order, w, n, instr, image),
+        Branch::OnCompareImmediate => families::on_compare_immediate(n, instr, image),
+        Branch::ServiceCall => families::service_call(n, instr, image),
+    }
+}
+
+/// Executes an instruction that says where to go on. It touches no storage and raises no exception.
+///
+/// Registers, condition code, program mask, state and the address of the next instruction become those that the definition of
+/// one instruction gives, at any nesting depth.
+pub fn execute<V: Bytes>(
+    instr: &Instr,
+    image: &mut CpuImage,
+    _view: &mut V,
+) -> Result<(), Exception>
+    requires mine { is_branch (kind_at instr.now.op.number) ≡ true }
+    ensures does { (depth : ℕ) → Executes depth instr.now (cpu_of image.old) (cpu_of image.new) (V.bytes _view.old) (V.bytes _view.new) result }
+    ensures view { V.bytes _view.new ≡ V.bytes _view.old }
+{
+    let n = length_in(line(instr.op).format);
+    match kind_of(instr.op) {
+        Kind::Branch(branch) => {
+            run(branch, n, instr, image);
+            Ok(())
+        }
+        _ => unreachable!(),
+    }
+}

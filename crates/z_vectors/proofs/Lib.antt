@@ -1,0 +1,2 @@
+-- Operands of instructions that pass the operand tests.
+pub mod LetThrough

@@ -1,0 +1,58 @@
+//! Pieces of storage.
+ghost use Rattle.std.specs.Prelude.{◌≡◌, ◌+◌, ◌-◌, ◌<◌, ◌≤◌, vec_len, slice_get, None};
+
+use crate::fault::Fault;
+use crate::numbers::hexadecimal;
+use std::alloc::Global;
+
+/// How many bytes storage has.
+pub const SIZE: u64 = 1_048_576;
+
+/// Bytes of storage from an address on, all inside.
+#[derive(Drop)]
+pub struct Piece {
+    pub first: u64,
+    pub bytes: Vec<u8>,
+    ghost inside: { first + vec_len bytes ≤ 1048576 },
+}
+
+impl Piece {
+    /// A piece as `ADDRESS:BYTES`, both hexadecimal.
+    fn read(alloc: Global, text: &str) -> Result<Piece, Fault> {
+        let (first, bytes) = text.split_once(':').ok_or(Fault::Malformed)?;
+        let first = hexadecimal(first)?;
+        let bytes = hex::decode(alloc, bytes)?;
+        if first > SIZE || bytes.len() as u64 > SIZE - first {
+            return Err(Fault::Malformed);
+        }
+        Ok(Piece { first, bytes })
+    }
+
+    /// The byte at an address, if the piece has one.
+    fn byte_at(&self, address: u64) -> Option<u8>
+        ensures before { address < self.now.first → result ≡ None }
+        ensures from { self.now.first ≤ address → result ≡ slice_get self.now.bytes.items (address - self.now.first) }
+    {
+        let place = address.checked_sub(self.first)?;
+        self.bytes.get(place as usize).copied()
+    }
+}
+
+/// Pieces behind `m=`, with commas between them.
+pub fn pieces_of(alloc: Global, text: &str) -> Result<Vec<Piece>, Fault> {
+    let mut pieces = Vec::new(alloc);
+    for piece in text.split(',') {
+        pieces.push(Piece::read(alloc, piece)?)?;
+    }
+    Ok(pieces)
+}
+
+/// The byte that pieces have at an address, if any.
+pub fn byte_in(pieces: &[Piece], address: u64) -> Option<u8> {
+    for piece in pieces {
+        if let Some(byte) = piece.byte_at(address) {
+            return Some(byte);
+        }
+    }
+    None
+}

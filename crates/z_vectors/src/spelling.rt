@@ -1,0 +1,147 @@
+//! Lines of the listing as people write them.
+
+use crate::fault::Fault;
+use crate::numbers::listed;
+use crate::operand::{Operand, operands};
+use std::alloc::Global;
+use z_instr::instr::Instr;
+use z_instr::lookup::row;
+
+/// A mnemonic that stands for another one with this mask.
+struct Extended {
+    mnemonic: &'static str,
+    base: &'static str,
+    mask: i64,
+}
+
+macro_rules! extended {
+    ($mnemonic:literal $base:literal $mask:literal) => {
+        Extended {
+            mnemonic: $mnemonic,
+            base: $base,
+            mask: $mask,
+        }
+    };
+}
+
+static EXTENDED: [Extended; 14] = [
+    extended!("J" "BRC" 15),
+    extended!("JE" "BRC" 8),
+    extended!("JZ" "BRC" 8),
+    extended!("JNE" "BRC" 7),
+    extended!("JNZ" "BRC" 7),
+    extended!("JH" "BRC" 2),
+    extended!("JP" "BRC" 2),
+    extended!("JL" "BRC" 4),
+    extended!("JM" "BRC" 4),
+    extended!("JO" "BRC" 1),
+    extended!("JNH" "BRC" 13),
+    extended!("JNL" "BRC" 11),
+    extended!("JNO" "BRC" 14),
+    extended!("BR" "BCR" 15),
+];
+
+/// The mnemonic of the table, and the mask that is its first operand, where that is not written.
+fn base_of(mnemonic: &str) -> (&str, Option<i64>) {
+    for extended in &EXTENDED {
+        if extended.mnemonic == mnemonic {
+            return (extended.base, Some(extended.mask));
+        }
+    }
+    (mnemonic, None)
+}
+
+/// The first operand, and what stands behind its comma.
+fn cut(text: &str) -> Result<(&str, &str), Fault> {
+    let end = match text.find('(') {
+        Some(open) if text.find(',').is_none_or(|comma| open < comma) => text
+            .find("),")
+            .map(|at| at + 1),
+        _ => text.find(','),
+    };
+    let Some(end) = end else {
+        return Ok((text, ""));
+    };
+    let (operand, rest) = text.split_at_checked(end).ok_or(Fault::Malformed)?;
+    let rest = rest.strip_prefix(',').ok_or(Fault::Malformed)?;
+    if rest.is_empty() {
+        return Err(Fault::Malformed);
+    }
+    Ok((operand, rest))
+}
+
+/// The displacement, and what stands in parentheses behind it, if they are there.
+fn parts(text: &str) -> Result<(i64, Option<&str>), Fault> {
+    match text.split_once('(') {
+        Some((displacement, inner)) => {
+            let inner = inner.strip_suffix(')').ok_or(Fault::Malformed)?;
+            Ok((listed(displacement)?, Some(inner)))
+        }
+        None => Ok((listed(text)?, None)),
+    }
+}
+
+/// The two numbers in parentheses.
+fn pair(inner: &str) -> Result<(i64, i64), Fault> {
+    let (first, second) = inner.split_once(',').ok_or(Fault::Malformed)?;
+    Ok((listed(first)?, listed(second)?))
+}
+
+/// An operand of the same form as another one. The register of an index or a base that is left out is 0.
+fn read_as(form: &Operand, text: &str) -> Result<Operand, Fault> {
+    match form {
+        Operand::Number(_) => Ok(Operand::Number(listed(text)?)),
+        Operand::Target(_) => {
+            let distance = text.strip_prefix('*').ok_or(Fault::Malformed)?;
+            Ok(Operand::Target(listed(distance)?))
+        }
+        Operand::Indexed(..) => match parts(text)? {
+            (d, None) => Ok(Operand::Indexed(d, 0, 0)),
+            (d, Some(inner)) if inner.contains(',') => {
+                let (x, b) = pair(inner)?;
+                Ok(Operand::Indexed(d, x, b))
+            }
+            (d, Some(x)) => Ok(Operand::Indexed(d, listed(x)?, 0)),
+        },
+        Operand::Based(..) => match parts(text)? {
+            (d, None) => Ok(Operand::Based(d, 0)),
+            (d, Some(b)) => Ok(Operand::Based(d, listed(b)?)),
+        },
+        Operand::Counted(..) => {
+            let (d, inner) = parts(text)?;
+            let (count, b) = pair(inner.ok_or(Fault::Malformed)?)?;
+            Ok(Operand::Counted(d, count, b))
+        }
+    }
+}
+
+/// Whether operands, all but those that the mnemonic stands for, are written like this.
+fn are_written(operands: &[Operand], text: &str) -> Result<bool, Fault> {
+    let mut rest = text;
+    for operand in operands {
+        let (text, further) = cut(rest)?;
+        if read_as(operand, text)? != *operand {
+            return Ok(false);
+        }
+        rest = further;
+    }
+    Ok(rest.is_empty())
+}
+
+/// Whether a line of the listing is a spelling of an instruction.
+pub fn is_spelling(alloc: Global, line: &str, instr: &Instr) -> Result<bool, Fault> {
+    let line = line.to_ascii_uppercase(alloc)?;
+    let (mnemonic, text) = line.as_str().split_once(' ').unwrap_or((line.as_str(), ""));
+    let (base, mask) = base_of(mnemonic);
+    if row(instr.op).name.bytes() != base.as_bytes() {
+        return Ok(false);
+    }
+    let operands = operands(alloc, instr)?;
+    match (mask, operands.as_slice()) {
+        (None, operands) => are_written(operands, text),
+        (Some(mask), [first, others @ ..]) => Ok(
+            *first == Operand::Number(mask) && are_written(others, text)?,
+        ),
+        (Some(_), []) => Ok(false),
+    }
+}

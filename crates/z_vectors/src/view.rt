@@ -1,0 +1,85 @@
+//! Storage that remembers where bytes were put.
+ghost use Rattle.std.specs.Prelude.{◌≡◌, ◌<◌, All, IfOk, length, replicate};
+
+use crate::piece::{Piece, SIZE};
+use std::alloc::{AllocError, Global};
+use z_regs::{Bytes, Storage};
+
+/// Storage, and the addresses at which bytes were put since all was zero.
+#[derive(Drop)]
+pub struct Watched {
+    storage: Storage,
+    puts: Vec<u64>,
+    /// There was no memory for some address.
+    has_forgotten: bool,
+    ghost size: { length storage ≡ 1048576 },
+    ghost inside: { All (λ a. a < 1048576) puts.items },
+}
+
+impl Bytes for Watched {
+    ghost bytes = { λ w. w.storage };
+
+    fn get(&self, address: u64) -> u8 {
+        self.storage.get(address)
+    }
+
+    fn put(&mut self, address: u64, byte: u8) {
+        self.storage.put(address, byte);
+        if self.puts.push(address).is_err() {
+            self.has_forgotten = true;
+        }
+    }
+}
+
+impl Watched {
+    /// Storage of zeros.
+    pub fn open(alloc: Global) -> Result<Watched, AllocError> {
+        let zeros = vec![in alloc; 0u8; SIZE as usize]?;
+        let storage = Storage::open(alloc, zeros.as_slice()).map_err(|_| AllocError)?;
+        Ok(Watched {
+            storage,
+            puts: Vec::new(alloc),
+            has_forgotten: false,
+        })
+    }
+
+    /// Puts the bytes of pieces.
+    pub fn lay(&mut self, pieces: &[Piece]) {
+        for piece in pieces {
+            self.lay_one(piece);
+        }
+    }
+
+    fn lay_one(&mut self, piece: &Piece) {
+        for (k, byte) in piece.bytes.iter().enumerate() {
+            self.put(piece.first + k as u64, *byte);
+        }
+    }
+
+    /// The addresses at which bytes were put, in order; an error where there was no memory for one.
+    pub fn puts(&self) -> Result<&[u64], AllocError>
+        ensures { IfOk result (λ puts. All (λ a. a < 1048576) puts.now) }
+    {
+        if self.has_forgotten {
+            return Err(AllocError);
+        }
+        Ok(self.puts.as_slice())
+    }
+
+    /// Makes the bytes zero again that were put.
+    pub fn undo(&mut self) {
+        erase(&mut self.storage, self.puts.as_slice());
+        self.puts.clear();
+    }
+}
+
+/// Makes the bytes at addresses zero.
+fn erase(storage: &mut Storage, addresses: &[u64])
+    requires size { length storage.old ≡ 1048576 }
+    requires inside { All (λ a. a < 1048576) addresses.now }
+    ensures { length storage.new ≡ 1048576 }
+{
+    for address in addresses {
+        storage.put(*address, 0);
+    }
+}
