@@ -35,10 +35,11 @@ IsRising starts = (i : ℕ) → i + 1 < length starts → slice_index starts i <
 
 -- ---- CPUs, shown bytes, events
 
--- the CPU enters in storage and runs, its program mask and its access registers are zero
+-- the CPU enters in storage and runs, its condition code, its program mask and its access registers are zero
 pub record IsStarting (c : Cpu) : Type 0 where
   pub address : c.address < 1048576
   pub runs : c.state ≡ Running
+  pub code : c.condition ≡ 0
   pub mask : c.mask ≡ 0
   pub access : c.access ≡ replicate 16 0
 

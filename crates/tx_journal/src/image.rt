@@ -25,7 +25,7 @@ pub struct Show {
 ///
 /// - storage of 1,048,576 bytes, of which the first 8,192 are zero;
 /// - the addresses of instructions in rising order, each with bytes that have a reading, and exactly the pages of these bytes;
-/// - 1 to 16 CPUs that run, each with an entry address in storage, the program mask 0 and zeros in its access registers;
+/// - 1 to 16 CPUs that run, each with an entry address in storage, condition code and program mask 0 and zeros in its access registers;
 /// - at most 64 ranges to be shown, with at most 65,536 bytes together, each of them accessible and not empty;
 /// - a schedule of at most 4,194,304 events of these CPUs.
 #[derive(Drop)]

@@ -37,7 +37,7 @@ is_image storage scheduled size zero = record {
   text = λ page. (λ has. let none = contains-empty nat_cmp page in cc, λ held. absurd (omega (arith, held.within)));
   some_cpu = omega arith;
   few_cpus = omega arith;
-  starting = All-cons IsStarting (started 16384) [] (record { address = omega arith; runs = refl; mask = refl; access = refl }) (All-nil IsStarting);
+  starting = All-cons IsStarting (started 16384) [] (record { address = omega arith; runs = refl; code = refl; mask = refl; access = refl }) (All-nil IsStarting);
   shown = All-cons IsShown (record { first = 8192; length = 16; fields = false }) [] (record { some = omega arith; low = omega arith; high = omega arith; block = λ on. cc }) (All-nil _);
   few_shows = omega arith;
   few_shown = omega arith;
