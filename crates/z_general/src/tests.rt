@@ -9,20 +9,24 @@ use z_instr::instr::{Fields, Instr};
 use z_instr::lookup::find;
 use z_regs::{Bytes, CpuImage};
 
-/// Storage without a byte.
+/// A view of one byte.
 #[derive(Drop)]
-struct Nothing;
+struct OneByte {
+    byte: u8,
+}
 
-impl Bytes for Nothing {
-    ghost use Rattle.std.specs.Prelude.{[]};
+impl Bytes for OneByte {
+    ghost use Rattle.std.specs.Prelude.{[], ◌∷◌};
 
-    ghost bytes = { λ s. [] };
+    ghost bytes = { λ view. view.byte ∷ [] };
 
     fn get(&self, _address: u64) -> u8 {
-        0
+        self.byte
     }
 
-    fn put(&mut self, _address: u64, _byte: u8) {}
+    fn put(&mut self, _address: u64, byte: u8) {
+        self.byte = byte;
+    }
 }
 
 /// A CPU at 4000, in hexadecimal, with these values in registers 0 to 3.
@@ -75,7 +79,7 @@ fn step(name: &[u8], fields: Fields, image: &mut CpuImage) -> Result<u16, Fail> 
     if !is_mine(instr.op) {
         return Err("not one of these instructions")?;
     }
-    match execute(&instr, image, &mut Nothing) {
+    match execute(&instr, image, &mut OneByte { byte: 0 }) {
         Ok(()) => Ok(0),
         Err(exception) => Ok(exception.code),
     }
