@@ -2,3 +2,4 @@
 pub mod TableFacts
 pub mod Stored
 pub mod Storeless
+pub mod Examples

@@ -313,3 +313,43 @@ fn registers_wrap_after_the_last(rt: HostRuntime) -> Result<(), Fail> {
     assert_eq!(rt; storage.get(PLACE - 1), 0x15);
     Ok(())
 }
+
+// By the rule: each byte is moved after the ones before it, so the first one spreads.
+#[test]
+fn a_move_over_itself_spreads_the_first_byte(rt: HostRuntime) -> Result<(), Fail> {
+    let mut storage = zeros(rt.alloc())?;
+    put(&mut storage, 0x0102_0304);
+    let fields = Fields {
+        b: 2,
+        d: 1,
+        b2: 2,
+        imm: 2,
+        ..Fields::zero()
+    };
+    let mut image = cpu([0, 0, PLACE, 0], 3, 0);
+    assert_eq!(rt; step(b"MVC", fields, &mut image, &mut storage)?, 0);
+    assert_eq!(rt; word(&storage), 0x0101_0101);
+    assert_eq!(rt; image.condition, 3);
+    Ok(())
+}
+
+// By the rule: the word of register 15, and behind it that of register 0.
+#[test]
+fn words_are_stored_from_fifteen_to_zero(rt: HostRuntime) -> Result<(), Fail> {
+    let mut storage = zeros(rt.alloc())?;
+    let mut image = cpu([0xC3A5_F00D_0000_00AB, 0, PLACE, 0], 0, 0);
+    image.general[15] = 0x1122_3344_5566_7788;
+    assert_eq!(rt; step(b"STM", around(), &mut image, &mut storage)?, 0);
+    assert_eq!(rt; word(&storage), 0x5566_7788);
+    assert_eq!(rt; storage.get(PLACE + 7), 0xAB);
+    Ok(())
+}
+
+// By the rule: the other value is loaded, and the operand stays.
+#[test]
+fn a_swap_that_finds_another_value(rt: HostRuntime) -> Result<(), Fail> {
+    let image = cpu([0, 1, PLACE, 9], 0, 0);
+    let found = result(rt.alloc(), b"CS", with_third(0), image, 2)?;
+    assert_eq!(rt; found, (2, 1, 0, 2));
+    Ok(())
+}
