@@ -10,3 +10,7 @@ pub mod Pieces
 pub mod PlainImmediates
 pub mod SmallOperands
 pub mod Examples
+pub mod SameInstr
+pub mod TakenApart
+pub mod ComputedReading
+pub mod ReadingExamples

@@ -5,5 +5,6 @@ pub mod Ranges
 pub mod Facts
 pub mod Made
 pub mod Reading
+pub mod Computing
 pub mod Operands
 pub mod Places
