@@ -6,11 +6,11 @@ pub mod Bytes
 pub mod Distinct
 pub mod Spelled
 pub mod OneReading
-pub mod Pieces
-pub mod PlainImmediates
-pub mod SmallOperands
-pub mod Examples
 pub mod SameInstr
 pub mod TakenApart
 pub mod ComputedReading
 pub mod ReadingExamples
+pub mod Pieces
+pub mod PlainImmediates
+pub mod SmallOperands
+pub mod Examples

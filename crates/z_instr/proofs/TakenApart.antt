@@ -8,27 +8,14 @@ use Rattle.z_instr.specs.declared.instr.Fields.{Fields}
 use Rattle.z_instr.specs.declared.format.Format.{Format}
 use Rattle.z_instr.specs.declared.format.Format.TheVariants.{RR, I, RX, RRE, RRFa, RRFc, RXY, RI, RIL, RS}
 use Rattle.z_instr.specs.declared.format.Format.TheVariants.{RSY, SI, SIY, SIL, S, SS, RIEb, RIEc}
-use Rattle.z_instr.specs.Ranges.{limits_in, is_within, bounds, zero_alone, short, long, half, full, unless, given}
+use Rattle.z_instr.specs.Ranges.{limits_in, is_within, bounds, zero_alone, short, long, half, full}
+use Rattle.z_instr.specs.Ranges.{unless, given}
 use Rattle.z_instr.specs.Reading.{spelled, modulo, halves}
-use Rattle.z_instr.specs.Computing.{fields_in, signed_number, number, register_unless, mask_where, left_half, right_half}
+use Rattle.z_instr.specs.Computing.{fields_in, signed_number, number, register_unless, mask_where}
+use Rattle.z_instr.specs.Computing.{left_half, right_half}
 use Rattle.z_instr.proofs.Within.{Fits, RegistersWithin, registers_of, numbers_of}
 use Rattle.z_instr.proofs.OneSpelling.{modulo_below, shared_below}
-
--- the plain fields of an instruction
-abbrev pub fields_of : Instr → Fields
-fields_of i =
-    record {
-      r1 = i.r1;
-      r2 = i.r2;
-      r3 = i.r3;
-      x = i.x;
-      b = i.b;
-      d = i.d;
-      b2 = i.b2;
-      d2 = i.d2;
-      imm = i.imm;
-      mask = i.mask;
-    }
+use Rattle.z_instr.proofs.SameInstr.{fields_of}
 
 -- ---- numbers from their bits
 
@@ -279,7 +266,8 @@ module _ (s m o : Bool) (c : ℕ) (i : Instr) where
       record { d = short_own i.b i.d n.d_in; d2 = none_own i.d2 n.d2_in; imm = plain_own 8 i.imm n.imm_in }
   own_numbers SIY h =
       let n = numbers_of (limits_in SIY s m o) i h in
-      record { d = long_own i.b i.d n.d_in; d2 = none_own i.d2 n.d2_in; imm = signed_own 8 i.imm refl n.imm_in }
+      let imm_is = signed_own 8 i.imm refl n.imm_in in
+      record { d = long_own i.b i.d n.d_in; d2 = none_own i.d2 n.d2_in; imm = imm_is }
   own_numbers SIL h =
       let n = numbers_of (limits_in SIL s m o) i h in
       record { d = short_own i.b i.d n.d_in; d2 = none_own i.d2 n.d2_in; imm = half_own s i.imm n.imm_in }
@@ -289,13 +277,15 @@ module _ (s m o : Bool) (c : ℕ) (i : Instr) where
       record { d = short_own i.b i.d d_in; d2 = none_own i.d2 n.d2_in; imm = none_own i.imm n.imm_in }
   own_numbers SS h =
       let n = numbers_of (limits_in SS s m o) i h in
-      record { d = short_own i.b i.d n.d_in; d2 = short_own i.b2 i.d2 n.d2_in; imm = plain_own 8 i.imm n.imm_in }
+      let imm_is = plain_own 8 i.imm n.imm_in in
+      record { d = short_own i.b i.d n.d_in; d2 = short_own i.b2 i.d2 n.d2_in; imm = imm_is }
   own_numbers RIEb h =
       let n = numbers_of (limits_in RIEb s m o) i h in
       record { d = none_own i.d n.d_in; d2 = none_own i.d2 n.d2_in; imm = half_own true i.imm n.imm_in }
   own_numbers RIEc h =
       let n = numbers_of (limits_in RIEc s m o) i h in
-      record { d = none_own i.d n.d_in; d2 = signed_own 8 i.d2 refl n.d2_in; imm = half_own true i.imm n.imm_in }
+      let imm_is = half_own true i.imm n.imm_in in
+      record { d = none_own i.d n.d_in; d2 = signed_own 8 i.d2 refl n.d2_in; imm = imm_is }
 
   pub taken_apart : (f : Format) → Fits (limits_in f s m o) i → fields_in f s m (spelled f c i) ≡ fields_of i
   taken_apart f h = own_fields (taken f) i (own_registers f h) (own_numbers f h)

@@ -1,11 +1,13 @@
--- The instruction that bytes read as, computed: the row whose opcode they have in its place, the fields that they hold by
--- its format, and both kept where the instruction is spelled with these very bytes.
-use Rattle.std.specs.Prelude.{◌≡◌, ℕ, ◌+◌, ◌-◌, ◌*◌, ◌/◌, ◌%◌, ◌^◌, ℤ, pos, negsuc, Bool, true, false, T, cond, if◌then◌else◌, nat_eq, nat_lt, List, get_or, Option, Some, None}
+-- The instruction that bytes read as, computed: the row whose opcode they have in its place, the fields that
+-- they hold by its format, and both kept where the instruction is spelled with these very bytes.
+use Rattle.std.specs.Prelude.{◌≡◌, ℕ, ◌+◌, ◌-◌, ◌*◌, ◌/◌, ◌%◌, ◌^◌, ℤ, pos, negsuc, nat_eq, nat_lt}
+use Rattle.std.specs.Prelude.{Bool, true, false, T, cond, if◌then◌else◌, List, get_or, Option, Some, None}
 use Rattle.std.specs.List.{position_or_len}
 use Rattle.std.specs.Str.{bytes_eq}
 use Rattle.std.proofs.Common.{refl, lit<}
 use Rattle.z_instr.specs.declared.format.Format.{Format}
-use Rattle.z_instr.specs.declared.format.Format.TheVariants.{RR, I, RX, RRE, RRFa, RRFc, RXY, RI, RIL, RS, RSY, SI, SIY, SIL, S, SS, RIEb, RIEc}
+use Rattle.z_instr.specs.declared.format.Format.TheVariants.{RR, I, RX, RRE, RRFa, RRFc, RXY, RI, RIL, RS}
+use Rattle.z_instr.specs.declared.format.Format.TheVariants.{RSY, SI, SIY, SIL, S, SS, RIEb, RIEc}
 use Rattle.z_instr.specs.declared.instr.Fields.{Fields}
 use Rattle.z_instr.specs.declared.instr.Instr.{Instr}
 use Rattle.z_instr.specs.declared.table.TheConstants.{ROWS}
@@ -21,7 +23,7 @@ use Rattle.z_instr.specs.Table.{Entry, table, entry_at}
 abbrev pub has_opcode_of : List ℕ → Entry → Bool
 has_opcode_of bytes e = nat_eq (opcode_at (place e.format) bytes) e.opcode
 
--- the number of the first row whose opcode the bytes have in its place; where there is none, that past the last row
+-- the number of the first row whose opcode the bytes have in its place; past the last row where there is none
 unfoldable pub row_number : List ℕ → ℕ
 row_number bytes = position_or_len (has_opcode_of bytes) table
 
@@ -81,8 +83,10 @@ fields_in RX s m bytes =
       mask = mask_where m (left_half bytes 1);
     }
 fields_in RRE s m bytes = record no_fields { r1 = left_half bytes 3; r2 = right_half bytes 3 }
-fields_in RRFa s m bytes = record no_fields { r1 = left_half bytes 3; r2 = right_half bytes 3; r3 = left_half bytes 2 }
-fields_in RRFc s m bytes = record no_fields { r1 = left_half bytes 3; r2 = right_half bytes 3; mask = left_half bytes 2 }
+fields_in RRFa s m bytes =
+    record no_fields { r1 = left_half bytes 3; r2 = right_half bytes 3; r3 = left_half bytes 2 }
+fields_in RRFc s m bytes =
+    record no_fields { r1 = left_half bytes 3; r2 = right_half bytes 3; mask = left_half bytes 2 }
 fields_in RXY s m bytes =
     record no_fields {
       r1 = left_half bytes 1;
@@ -126,7 +130,11 @@ fields_in SIY s m bytes =
       imm = signed_number 8 (get_or bytes 1 0);
     }
 fields_in SIL s m bytes =
-    record no_fields { b = left_half bytes 2; d = pos (short_at bytes 2); imm = number s 16 (halfword_at bytes 4) }
+    record no_fields {
+      b = left_half bytes 2;
+      d = pos (short_at bytes 2);
+      imm = number s 16 (halfword_at bytes 4);
+    }
 fields_in S s m bytes = record no_fields { b = left_half bytes 2; d = pos (short_at bytes 2) }
 fields_in SS s m bytes =
     record no_fields {
@@ -208,7 +216,8 @@ only_if_spelled bytes (Some i) = if bytes_eq bytes (spelling (entry_at i.op.numb
 -- the instruction of the bytes, in a row of a number
 abbrev pub reading_in : ℕ → List ℕ → Option Instr
 reading_in n bytes =
-    only_if_spelled bytes (instruction_of n (fields_in (entry_at n).format (entry_at n).signed (entry_at n).masked bytes))
+    let e = entry_at n in
+    only_if_spelled bytes (instruction_of n (fields_in e.format e.signed e.masked bytes))
 
 -- the instruction that the bytes read as; None where they read as none
 unfoldable pub reading_of : List ℕ → Option Instr

@@ -4,7 +4,7 @@ pub mod Layout
 pub mod Ranges
 pub mod Facts
 pub mod Made
-pub mod Reading
 pub mod Computing
+pub mod Reading
 pub mod Operands
 pub mod Places
