@@ -136,6 +136,12 @@ end : reads_as (0xB2 ∷ 0xF8 ∷ 0x00 ∷ 0x00 ∷ []) ≡
 unfolding reading_of row_number entry_at table
 end = refl
 
+-- TABORT 256
+abort : reads_as (0xB2 ∷ 0xFC ∷ 0x01 ∷ 0x00 ∷ []) ≡
+    Some (codes "TABORT", record no_fields { d = pos 256 })
+unfolding reading_of row_number entry_at table
+abort = refl
+
 -- MVC 0(8,1),12(2)
 moved : reads_as (0xD2 ∷ 0x07 ∷ 0x10 ∷ 0x00 ∷ 0x20 ∷ 0x0C ∷ []) ≡
     Some (codes "MVC", record no_fields { b = 1; b2 = 2; d2 = pos 12; imm = pos 7 })
