@@ -12,7 +12,7 @@ use Rattle.tx_journal.specs.declared.lines.Detail.{Detail}
 use Rattle.tx_journal.specs.declared.lines.Detail.TheVariants.{Nothing, Exception, Line as AtLine}
 use Rattle.tx_journal.specs.declared.lines.Reason.{Reason}
 use Rattle.tx_journal.specs.declared.lines.Line.{Line}
-use Rattle.tx_journal.specs.declared.lines.Line.TheVariants.{Step, Commit, Abort, Tdb}
+use Rattle.tx_journal.specs.declared.lines.Line.TheVariants.{Step, Commit, Abort, Tdb, Interrupt}
 use Rattle.tx_journal.specs.Lines.{IsLine, IsReason, HasDetail, detail_text, reason_text, words_text, line_text, fields_of, Spells}
 use Rattle.tx_journal.proofs.Decimals.{same_start}
 use Rattle.tx_journal.proofs.Hexadecimal.{halfword_injective, doubleword_injective}
@@ -54,26 +54,27 @@ same_words (Step cpu) (Step cpu') sound also is =
     ap Step (decimal_injective cpu cpu' (omega arith) (omega arith) (same_tail _ _ _ _ is))
 same_words (Tdb cpu) (Tdb cpu') sound also is =
     ap Tdb (decimal_injective cpu cpu' (omega arith) (omega arith) (same_tail _ _ _ _ is))
+same_words (Interrupt cpu) (Interrupt cpu') sound also is =
+    ap Interrupt (decimal_injective cpu cpu' (omega arith) (omega arith) (same_tail _ _ _ _ is))
 same_words (Commit cpu count) (Commit cpu' count') sound also is =
-    let starts = same_start _ cpu cpu' (decimal count) (decimal count') (omega (arith, sound.0)) (omega (arith, also.0)) refl (same_tail _ _ _ _ is) in
-    ap₂ Commit starts.number (decimal_injective count count' (omega (arith, sound.1)) (omega (arith, also.1)) starts.rest)
+    let starts =
+    same_start _ cpu cpu' (decimal count) (decimal count') (omega (arith, sound.0)) (omega (arith, also.0)) refl
+    (same_tail _ _ _ _ is) in
+    ap₂ Commit starts.number
+    (decimal_injective count count' (omega (arith, sound.1)) (omega (arith, also.1)) starts.rest)
 same_words (Abort cpu count r) (Abort cpu' count' s) sound also is =
-    let starts = same_start _ cpu cpu' _ _ (omega (arith, sound.0)) (omega (arith, also.0)) refl (same_tail _ _ _ _ is) in
-    let counts = same_start _ count count' (reason_text r) (reason_text s) (omega (arith, sound.1)) (omega (arith, also.1)) refl starts.rest in
+    let starts =
+    same_start _ cpu cpu' _ _ (omega (arith, sound.0)) (omega (arith, also.0)) refl (same_tail _ _ _ _ is) in
+    let counts =
+    same_start _ count count' (reason_text r) (reason_text s) (omega (arith, sound.1)) (omega (arith, also.1)) refl
+    starts.rest in
     let reasons = same_reason r s sound.2 also.2 counts.rest in
     λ i. Abort (starts.number i) (counts.number i) (reasons i)
-same_words (Step cpu) (Commit cpu' count) sound also is = absurd (omega (arith, same_head _ _ _ _ is))
-same_words (Step cpu) (Abort cpu' count r) sound also is = absurd (omega (arith, same_head _ _ _ _ is))
-same_words (Step cpu) (Tdb cpu') sound also is = absurd (omega (arith, same_head _ _ _ _ is))
-same_words (Commit cpu count) (Step cpu') sound also is = absurd (omega (arith, same_head _ _ _ _ is))
-same_words (Commit cpu count) (Abort cpu' count' r) sound also is = absurd (omega (arith, same_head _ _ _ _ is))
-same_words (Commit cpu count) (Tdb cpu') sound also is = absurd (omega (arith, same_head _ _ _ _ is))
-same_words (Abort cpu count r) (Step cpu') sound also is = absurd (omega (arith, same_head _ _ _ _ is))
-same_words (Abort cpu count r) (Commit cpu' count') sound also is = absurd (omega (arith, same_head _ _ _ _ is))
-same_words (Abort cpu count r) (Tdb cpu') sound also is = absurd (omega (arith, same_head _ _ _ _ is))
-same_words (Tdb cpu) (Step cpu') sound also is = absurd (omega (arith, same_head _ _ _ _ is))
-same_words (Tdb cpu) (Commit cpu' count) sound also is = absurd (omega (arith, same_head _ _ _ _ is))
-same_words (Tdb cpu) (Abort cpu' count r) sound also is = absurd (omega (arith, same_head _ _ _ _ is))
+same_words (Step cpu) m sound also is = absurd (omega (arith, same_head _ _ _ _ is))
+same_words (Commit cpu count) m sound also is = absurd (omega (arith, same_head _ _ _ _ is))
+same_words (Abort cpu count r) m sound also is = absurd (omega (arith, same_head _ _ _ _ is))
+same_words (Tdb cpu) m sound also is = absurd (omega (arith, same_head _ _ _ _ is))
+same_words (Interrupt cpu) m sound also is = absurd (omega (arith, same_head _ _ _ _ is))
 
 pub same_line : (l m : Line) → IsLine l → IsLine m → line_text l ≡ line_text m → l ≡ m
 same_line l m sound also is = same_words l m sound also (append_cancel_right (words_text l) (words_text m) (codes "\n") is)

@@ -45,23 +45,33 @@ alike_at some others k d e within also is =
     sym (get_or-map cpu_of some k d (cpu_of d) within) ∙ ap (λ (l : List Cpu). get_or l k (cpu_of d)) is ∙ get_or-map cpu_of others k e (cpu_of d) also
 
 -- images are the same where their parts are
-pub same_content : (v w : Content) → v.storage ≡ w.storage → v.guard ≡ w.guard → v.starts ≡ w.starts → v.cpus ≡ w.cpus → v.shows ≡ w.shows → v.schedule ≡ w.schedule
-    → v.scheduled ≡ w.scheduled → v ≡ w
-same_content v w storage guard starts cpus shows schedule scheduled = λ i. record {
-  storage = storage i;
-  guard = guard i;
-  starts = starts i;
-  cpus = cpus i;
-  shows = shows i;
-  schedule = schedule i;
-  scheduled = scheduled i;
+pub record SameParts (v w : Content) : Type 0 where
+  pub storage : v.storage ≡ w.storage
+  pub guard : v.guard ≡ w.guard
+  pub starts : v.starts ≡ w.starts
+  pub cpus : v.cpus ≡ w.cpus
+  pub shows : v.shows ≡ w.shows
+  pub schedule : v.schedule ≡ w.schedule
+  pub scheduled : v.scheduled ≡ w.scheduled
+  pub parms : v.parms ≡ w.parms
+
+pub same_content : (v w : Content) → SameParts v w → v ≡ w
+same_content v w same = λ i. record {
+  storage = same.storage i;
+  guard = same.guard i;
+  starts = same.starts i;
+  cpus = same.cpus i;
+  shows = same.shows i;
+  schedule = same.schedule i;
+  scheduled = same.scheduled i;
+  parms = same.parms i;
 }
 
 -- what differs in no part but perhaps the schedule is the same where the schedules are
-pub decided : (v w : Content) (b : Bool) → v.storage ≡ w.storage → v.guard ≡ w.guard → v.starts ≡ w.starts → v.cpus ≡ w.cpus → v.shows ≡ w.shows
-    → v.scheduled ≡ w.scheduled → IsTrue b ↔ (v.schedule ≡ w.schedule) → IsTrue b ↔ (v ≡ w)
-decided v w b storage guard starts cpus shows scheduled schedule = (
-  λ h. same_content v w storage guard starts cpus shows (schedule.0 h) scheduled,
+pub decided : (v w : Content) (b : Bool) → (v.schedule ≡ w.schedule → SameParts v w)
+    → IsTrue b ↔ (v.schedule ≡ w.schedule) → IsTrue b ↔ (v ≡ w)
+decided v w b same schedule = (
+  λ h. same_content v w (same (schedule.0 h)),
   λ h. schedule.1 (ap (λ (p : Content). p.schedule) h),
 )
 

@@ -38,6 +38,7 @@ line_is (entry.Step cpu) sound = sound
 line_is (entry.Commit cpu count) sound = sound
 line_is (entry.Abort cpu count why) sound = (sound.0, sound.1, reason_is why sound.2)
 line_is (entry.Tdb cpu) sound = sound
+line_is (entry.Interrupt cpu) sound = sound
 
 pub spelled : (e : Entry) → IsSound e → Spells (entry_text e) (fields_of (line_of e))
 spelled e sound = record { line = line_of e; sound = line_is e sound; text_is = refl; fields = refl }
@@ -85,18 +86,12 @@ same_told (entry.Abort cpu count why) (entry.Abort cpu' count' why') sound also 
     let causes = same_cause why why' sound.2 also.2 (ap (λ r. r.code) reasons) (ap (λ r. r.detail) reasons) in
     λ i. entry.Abort (cpus i) (counts i) (causes i)
 same_told (entry.Tdb cpu) (entry.Tdb cpu') sound also is = ap entry.Tdb cc
-same_told (entry.Step cpu) (entry.Commit cpu' count) sound also is = absurd cc
-same_told (entry.Step cpu) (entry.Abort cpu' count why) sound also is = absurd cc
-same_told (entry.Step cpu) (entry.Tdb cpu') sound also is = absurd cc
-same_told (entry.Commit cpu count) (entry.Step cpu') sound also is = absurd cc
-same_told (entry.Commit cpu count) (entry.Abort cpu' count' why) sound also is = absurd cc
-same_told (entry.Commit cpu count) (entry.Tdb cpu') sound also is = absurd cc
-same_told (entry.Abort cpu count why) (entry.Step cpu') sound also is = absurd cc
-same_told (entry.Abort cpu count why) (entry.Commit cpu' count') sound also is = absurd cc
-same_told (entry.Abort cpu count why) (entry.Tdb cpu') sound also is = absurd cc
-same_told (entry.Tdb cpu) (entry.Step cpu') sound also is = absurd cc
-same_told (entry.Tdb cpu) (entry.Commit cpu' count) sound also is = absurd cc
-same_told (entry.Tdb cpu) (entry.Abort cpu' count why) sound also is = absurd cc
+same_told (entry.Interrupt cpu) (entry.Interrupt cpu') sound also is = ap entry.Interrupt cc
+same_told (entry.Step cpu) f sound also is = absurd cc
+same_told (entry.Commit cpu count) f sound also is = absurd cc
+same_told (entry.Abort cpu count why) f sound also is = absurd cc
+same_told (entry.Tdb cpu) f sound also is = absurd cc
+same_told (entry.Interrupt cpu) f sound also is = absurd cc
 
 pub told_apart : (e f : Entry) → IsSound e → IsSound f → entry_text e ≡ entry_text f → told e ≡ told f
 told_apart e f sound also is = same_told e f sound also (same_line (line_of e) (line_of f) (line_is e sound) (line_is f also) is)

@@ -12,6 +12,10 @@ ghost use Rattle.tx_journal.specs.Lines.{says_nothing, says_exception, says_line
 use crate::EntryText;
 use crate::lines::{Detail, Line, Reason};
 use crate::numbers::{first_number, first_small, read_doubleword, read_halfword, read_small};
+use tx_control::abort_codes::{
+    EXTERNAL_INTERRUPTION, FETCH_CONFLICT, FETCH_OVERFLOW, FILTERED_EXCEPTION, NESTING_DEPTH,
+    PROGRAM_INTERRUPTION, RESTRICTED_INSTRUCTION, STARVED, STORE_CONFLICT, STORE_OVERFLOW,
+};
 
 /// The bytes of storage.
 const STORAGE_SIZE: u64 = 1_048_576;
@@ -23,21 +27,29 @@ const LINE_SIZE: u64 = 256;
 fn says_nothing(code: u64) -> bool
     ensures { result ≡ says_nothing code }
 {
-    matches!(code, 2 | 7 | 8 | 11 | 13 | 255..)
+    matches!(
+        code,
+        EXTERNAL_INTERRUPTION
+            | FETCH_OVERFLOW
+            | STORE_OVERFLOW
+            | RESTRICTED_INSTRUCTION
+            | NESTING_DEPTH
+            | STARVED..
+    )
 }
 
 /// Whether aborts of this code name an exception.
 fn says_exception(code: u64) -> bool
     ensures { result ≡ says_exception code }
 {
-    matches!(code, 4 | 12)
+    matches!(code, PROGRAM_INTERRUPTION | FILTERED_EXCEPTION)
 }
 
 /// Whether aborts of this code name a line.
 fn says_line(code: u64) -> bool
     ensures { result ≡ says_line code }
 {
-    matches!(code, 9 | 10)
+    matches!(code, FETCH_CONFLICT | STORE_CONFLICT)
 }
 
 /// Whether a line of storage begins at this address.
@@ -149,6 +161,12 @@ fn read_words(text: &[u8]) -> Option<Line>
                 return None;
             };
             Some(Line::Tdb(cpu))
+        }
+        [b'I', b' ', rest @ ..] => {
+            let Some(cpu) = read_small(rest) else {
+                return None;
+            };
+            Some(Line::Interrupt(cpu))
         }
         _ => None,
     }

@@ -86,6 +86,7 @@ fn add_words(text: &mut Vec<u8>, line: Line) -> Result<(), AllocError>
             add_reason(text, reason)
         }
         Line::Tdb(cpu) => add_step(text, b"T ", cpu),
+        Line::Interrupt(cpu) => add_step(text, b"I ", cpu),
     }
 }
 
