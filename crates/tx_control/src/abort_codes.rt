@@ -1,4 +1,5 @@
-//! The transaction abort codes that the machine gives by itself. TABORT gives codes above the greatest of these.
+//! The transaction abort codes that the machine gives by itself. TABORT gives codes above the greatest of
+//! these.
 
 /// An external interruption.
 pub const EXTERNAL_INTERRUPTION: u64 = 2;

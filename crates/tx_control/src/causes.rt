@@ -7,8 +7,8 @@ use crate::abort_codes::{
     PROGRAM_INTERRUPTION, RESTRICTED_INSTRUCTION, STARVED, STORE_CONFLICT, STORE_OVERFLOW,
 };
 
-/// The cause of an abort. A line is named by its number, its first address divided by 256. `==` says whether two causes
-/// are the same.
+/// The cause of an abort. A line is named by its number, its first address divided by 256. `==` says whether
+/// two causes are the same.
 #[derive(Clone, Copy, PartialEq, Eq)]
 pub enum Why {
     /// An external interruption.
@@ -38,7 +38,8 @@ pub enum Why {
 impl Why {
     ghost use Rattle.tx_control.specs.Causes.{code_number};
 
-    /// The abort code of the cause: one of `abort_codes` for what the machine finds, and for TABORT the code that it gives.
+    /// The abort code of the cause: one of `abort_codes` for what the machine finds, and for TABORT the code
+    /// that it gives.
     pub fn code(self) -> u64
         ensures { result ≡ code_number self }
     {

@@ -1,4 +1,5 @@
--- Worked values of what holds of every image. The greatest numbers stand here as numbers, and not as lists that compute.
+-- Worked values of what holds of every image. The greatest numbers stand here as numbers, and not as lists
+-- that compute.
 use Rattle.std.proofs.Common.{◌≡◌, ℕ, ◌<◌, ◌≤◌, ◌*◌, ◌+◌, true, false, IsTrue, List, [], ◌∷◌, length, get_or}
 use Rattle.std.proofs.Common.{slice_index, sum_by, replicate, AllPairs, Option, Some, None}
 use Rattle.std.proofs.Common.{arith, refl, sym, ap, ◌∙◌, subst}
@@ -13,7 +14,8 @@ use Rattle.tx_ladder.specs.Parameters.{IsAllowed, usual}
 use Rattle.tx_journal.specs.declared.events.Event.TheVariants.{Turn}
 use Rattle.tx_journal.specs.declared.image.Show.{Show}
 use Rattle.tx_journal.specs.Content.{Content}
-use Rattle.tx_journal.specs.Image.{IsImage, IsStarting, IsShown, AreApart, HasFreeArea, IsInArea, cpu_of_event}
+use Rattle.tx_journal.specs.Image.{IsImage, IsStarting, IsShown, AreApart, HasFreeArea, IsInArea}
+use Rattle.tx_journal.specs.Image.{cpu_of_event}
 
 -- ---- parts of an image
 
@@ -80,32 +82,34 @@ large_is : (cpus ranges each events : ℕ) (storage : List ℕ)
     → 0 < cpus → cpus ≤ 16 → ranges ≤ 64 → 0 < each → ranges * each ≤ 65536 → each ≤ 65536 → events ≤ 4194304
     → IsImage (large cpus ranges each events storage)
 unfolding large
-large_is cpus ranges each events storage size zero some few few_ranges one few_bytes short few_events = record {
-  size = size;
-  low = λ address below. zero address;
-  rising = λ i within. absurd (omega (arith, within));
-  readings = All-nil _;
-  text = λ page. (λ has. let none = no_text page in cc, λ held. absurd (omega (arith, held.within)));
-  some_cpu = omega (arith, length-replicate cpus (entering None));
-  few_cpus = omega (arith, length-replicate cpus (entering None));
-  starting = All-replicate IsStarting cpus (entering None) (enters None refl);
-  apart = without_prefix cpus;
-  free = All-replicate (HasFreeArea empty) cpus (entering None) (λ page inside. no_text page);
-  shown = All-replicate IsShown ranges (bytes each) (shown each one (omega arith));
-  few_shows = omega (arith, length-replicate ranges (bytes each));
-  few_shown = omega (arith, sum_by-replicate (λ (s : Show). s.length) ranges (bytes each));
-  few_events = omega (arith, length-replicate events (Turn 0));
-  known =
-      All-replicate (λ e. cpu_of_event e < length (replicate cpus (entering None))) events (Turn 0)
-      (omega (arith, length-replicate cpus (entering None)));
-  allowed = usual_allowed;
-}
+large_is cpus ranges each events storage size zero some few few_ranges one few_bytes short few_events =
+    record {
+      size = size;
+      low = λ address below. zero address;
+      rising = λ i within. absurd (omega (arith, within));
+      readings = All-nil _;
+      text = λ page. (λ has. let none = no_text page in cc, λ held. absurd (omega (arith, held.within)));
+      some_cpu = omega (arith, length-replicate cpus (entering None));
+      few_cpus = omega (arith, length-replicate cpus (entering None));
+      starting = All-replicate IsStarting cpus (entering None) (enters None refl);
+      apart = without_prefix cpus;
+      free = All-replicate (HasFreeArea empty) cpus (entering None) (λ page inside. no_text page);
+      shown = All-replicate IsShown ranges (bytes each) (shown each one (omega arith));
+      few_shows = omega (arith, length-replicate ranges (bytes each));
+      few_shown = omega (arith, sum_by-replicate (λ (s : Show). s.length) ranges (bytes each));
+      few_events = omega (arith, length-replicate events (Turn 0));
+      known =
+          All-replicate (λ e. cpu_of_event e < length (replicate cpus (entering None))) events (Turn 0)
+          (omega (arith, length-replicate cpus (entering None)));
+      allowed = usual_allowed;
+    }
 
 -- 16 CPUs, 64 ranges with 65,536 bytes, and 4,194,304 events
 largest : (storage : List ℕ) → length storage ≡ 1048576 → ((k : ℕ) → slice_index storage k ≡ 0)
     → IsImage (large 16 64 1024 4194304 storage)
 largest storage size zero =
-    large_is 16 64 1024 4194304 storage size zero (omega arith) (omega arith) (omega arith) (omega arith) (omega arith)
+    large_is 16 64 1024 4194304 storage size zero (omega arith) (omega arith) (omega arith) (omega arith)
+    (omega arith)
     (omega arith) (omega arith)
 
 -- ---- one more of each is none
@@ -139,7 +143,8 @@ not_another_event i more image = omega (arith, image.few_events)
 not_equal_starts : (i : Content) (start : ℕ) → i.starts ≡ start ∷ start ∷ [] → ¬ (IsImage i)
 not_equal_starts i start twice image =
     let rising : start < start =
-    (subst (λ (starts : List ℕ). (k : ℕ) → k + 1 < length starts → slice_index starts k < slice_index starts (k + 1))
+    (subst (λ (starts : List ℕ). (k : ℕ) → k + 1 < length starts
+    → slice_index starts k < slice_index starts (k + 1))
     twice image.rising) 0 (omega arith) in
     omega arith
 
@@ -188,7 +193,8 @@ other_prefixes p some other =
     omega arith
 
 -- both pages of the area of hex A000 hold no instruction, and the next page may
-not_text_in_an_area : (guard : FinSet nat_cmp) → contains guard 11 ≡ true → ¬ (HasFreeArea guard (entering (Some 40960)))
+not_text_in_an_area : (guard : FinSet nat_cmp) → contains guard 11 ≡ true
+    → ¬ (HasFreeArea guard (entering (Some 40960)))
 not_text_in_an_area guard has free =
     let no = free 11 (record { first = 40960; begins = refl; low = omega arith; high = omega arith }) in cc
 

@@ -1,5 +1,6 @@
 -- Where a text has no reading as a line.
-use Rattle.std.proofs.Common.{◌≡◌, ◌≢◌, ℕ, ◌<◌, ◌^◌, List, ◌∷◌, ◌++◌, codes, Option, Some, None, IfSome, arith, ap}
+use Rattle.std.proofs.Common.{◌≡◌, ◌≢◌, ℕ, ◌<◌, ◌^◌, List, ◌∷◌, ◌++◌, codes, Option, Some, None, IfSome}
+use Rattle.std.proofs.Common.{arith, ap}
 use Rattle.std.proofs.Common.{◌∙◌}
 use Rattle.std.specs.Fmt.{decimal}
 use Rattle.tx_journal.specs.declared.lines.Reason.{Reason}
@@ -31,7 +32,8 @@ no_abort text none (Abort cpu count reason) sound is = none cpu count reason sou
 no_abort text none (Tdb cpu) sound is = omega (arith, same_head _ _ _ _ is)
 no_abort text none (Interrupt cpu) sound is = omega (arith, same_head _ _ _ _ is)
 
-pub with_end : (text words : List ℕ) (o : Option Line) → text ≡ words ++ codes "\n" → IfSome o (λ l. IsLine l × (words ≡ words_text l))
+pub with_end : (text words : List ℕ) (o : Option Line) → text ≡ words ++ codes "\n"
+    → IfSome o (λ l. IsLine l × (words ≡ words_text l))
     → IfSome o (λ l. IsLine l × (text ≡ line_text l))
 with_end text words None ends told = tt
 with_end text words (Some l) ends told = (told.0, ends ∙ ap (λ w. w ++ codes "\n") told.1)

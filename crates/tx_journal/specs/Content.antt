@@ -24,7 +24,8 @@ pub record Content : Type 0 where
   pub scheduled : Bool
   pub parms : Parameters
 
-abbrev pub content : List ℕ → FinSet nat_cmp → List ℕ → List CpuImage → List Show → List Event → Bool → Parameters
+abbrev pub content : List ℕ → FinSet nat_cmp → List ℕ → List CpuImage → List Show → List Event → Bool
+    → Parameters
     → Content
 content storage guard starts cpus shows schedule scheduled parms = record {
   storage = storage;
@@ -66,10 +67,11 @@ parameters_code =
 
 abbrev pub content_code : Coded Content
 content_code =
-    code_by (List ℕ × (FinSet nat_cmp × (List ℕ × (List Cpu × (List Show × (List Event × (Bool × Parameters)))))))
-    (coded× (coded_list coded_ℕ) (coded× (set.code coded_ℕ) (coded× (coded_list coded_ℕ) (coded× (coded_list cpu_code)
-    (coded× (coded_list show.the_row.coded) (coded× (coded_list event.the_row.coded)
-    (coded× coded_bool parameters_code)))))))
+    code_by
+    (List ℕ × (FinSet nat_cmp × (List ℕ × (List Cpu × (List Show × (List Event × (Bool × Parameters)))))))
+    (coded× (coded_list coded_ℕ) (coded× (set.code coded_ℕ) (coded× (coded_list coded_ℕ)
+    (coded× (coded_list cpu_code) (coded× (coded_list show.the_row.coded)
+    (coded× (coded_list event.the_row.coded) (coded× coded_bool parameters_code)))))))
     (λ c. (c.storage, (c.guard, (c.starts, (c.cpus, (c.shows, (c.schedule, (c.scheduled, c.parms))))))))
     (λ p. record {
       storage = p.0;

@@ -47,8 +47,8 @@ IsRising starts = (i : ℕ) → i + 1 < length starts → slice_index starts i <
 
 -- ---- CPUs, shown bytes, events
 
--- the CPU enters in storage and runs, its condition code, its program mask and its access registers are zero, and it
--- has no prefix or one that a CPU may have
+-- the CPU enters in storage and runs, its condition code, its program mask and its access registers are zero,
+-- and it has no prefix or one that a CPU may have
 pub record IsStarting (c : Cpu) : Type 0 where
   pub address : c.address < storage_size
   pub runs : c.state ≡ Running

@@ -1,5 +1,6 @@
 -- The lines of the history, and the parts of which each is made.
-use Rattle.std.specs.Prelude.{◌≡◌, ℕ, ◌<◌, ◌^◌, ◌*◌, ◌%◌, Bool, true, ◌||◌, nat_eq, nat_lt, List, ◌++◌, codes, slice_index}
+use Rattle.std.specs.Prelude.{◌≡◌, ℕ, ◌<◌, ◌^◌, ◌*◌, ◌%◌, Bool, true, ◌||◌, nat_eq, nat_lt, List, ◌++◌, codes}
+use Rattle.std.specs.Prelude.{slice_index}
 use Rattle.std.specs.List.{flat_map}
 use Rattle.std.specs.Fmt.{decimal}
 use Rattle.std.specs.Int.{to_be_bytes}
@@ -70,11 +71,13 @@ history_text history = flat_map entry_text history
 
 -- ---- which lines there are
 
--- external interruption, overflows, a restricted instruction, the nesting depth, starvation, and TABORT say no more
--- than their code; program interruption and filtered exception name the exception, and conflicts the line
+-- external interruption, overflows, a restricted instruction, the nesting depth, starvation, and TABORT say
+-- no more than their code; program interruption and filtered exception name the exception, and conflicts the
+-- line
 abbrev pub says_nothing : ℕ → Bool
 says_nothing code =
-    nat_eq code abort.EXTERNAL_INTERRUPTION || (nat_eq code abort.FETCH_OVERFLOW || (nat_eq code abort.STORE_OVERFLOW
+    nat_eq code abort.EXTERNAL_INTERRUPTION
+    || (nat_eq code abort.FETCH_OVERFLOW || (nat_eq code abort.STORE_OVERFLOW
     || (nat_eq code abort.RESTRICTED_INSTRUCTION || (nat_eq code abort.NESTING_DEPTH
     || (nat_eq code abort.STARVED || nat_lt abort.STARVED code)))))
 

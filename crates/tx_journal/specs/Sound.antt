@@ -3,12 +3,13 @@ use Rattle.std.specs.Prelude.{ℕ, ◌<◌, ◌^◌, false}
 use Rattle.tx_control.specs.declared.abort_codes.TheConstants as abort
 use Rattle.tx_control.specs.declared.exceptions.Exception.{Exception}
 use Rattle.tx_control.specs.declared.causes.Why.{Why}
-use Rattle.tx_control.specs.declared.causes.Why.TheVariants.{Program, FetchConflict, StoreConflict, Filtered, Tabort}
+use Rattle.tx_control.specs.declared.causes.Why.TheVariants.{Program, FetchConflict, StoreConflict, Filtered}
+use Rattle.tx_control.specs.declared.causes.Why.TheVariants.{Tabort}
 use Rattle.tx_journal.specs.declared.entries.Entry.{Entry}
 use Rattle.tx_journal.specs.declared.entries.Entry.TheVariants.{Step, Commit, Abort, Tdb, Interrupt}
 
--- a conflict is on a line of storage, TABORT gives a code above those of the machine, and an exception's code is a
--- halfword
+-- a conflict is on a line of storage, TABORT gives a code above those of the machine, and an exception's code
+-- is a halfword
 abbrev pub IsCause : Why → Type 0
 IsCause (Program e) = e.code < 2 ^ 16
 IsCause (Filtered e) = e.code < 2 ^ 16

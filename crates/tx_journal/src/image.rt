@@ -14,21 +14,25 @@ pub struct Show {
     pub first: u32,
     /// The number of bytes, at least 1.
     pub length: u32,
-    /// Whether they are shown as the fields of a transaction diagnostic block, which has 256 bytes; else as plain bytes.
+    /// Whether they are shown as the fields of a transaction diagnostic block, which has 256 bytes; else as
+    /// plain bytes.
     pub fields: bool,
 }
 
-/// What a machine starts from. Contracts see the fields as plain data: each vector as a list, the guard as the set of its pages, and
-/// the CPUs without the proofs of their ranges.
+/// What a machine starts from. Contracts see the fields as plain data: each vector as a list, the guard as
+/// the set of its pages, and the CPUs without the proofs of their ranges.
 ///
-/// An image is made by [`Image::new`], or by naming the fields; either asks for one fact, `IsImage` of what the fields hold. It has
-/// these parts:
+/// An image is made by [`Image::new`], or by naming the fields; either asks for one fact, `IsImage` of what
+/// the fields hold. It has these parts:
 ///
 /// - storage of 1,048,576 bytes, of which the first 8,192 are zero;
-/// - the addresses of instructions in rising order, each with bytes that have a reading, and exactly the pages of these bytes;
-/// - 1 to 16 CPUs that run, each with an entry address in storage, condition code and program mask 0 and zeros in its
-///   access registers; no two with one prefix, and no prefix whose area of two pages holds a text page;
-/// - at most 64 ranges to be shown, with at most 65,536 bytes together, each of them accessible and not empty;
+/// - the addresses of instructions in rising order, each with bytes that have a reading, and exactly the
+///   pages of these bytes;
+/// - 1 to 16 CPUs that run, each with an entry address in storage, condition code and program mask 0 and
+///   zeros in its access registers; no two with one prefix, and no prefix whose area of two pages holds a
+///   text page;
+/// - at most 64 ranges to be shown, with at most 65,536 bytes together, each of them accessible and not
+///   empty;
 /// - a schedule of at most 4,194,304 events of these CPUs.
 #[derive(Drop)]
 pub struct Image {
@@ -59,11 +63,11 @@ impl Model for Image {
 
     ghost use Rattle.tx_journal.specs.Image.{IsImage};
 
-    ghost view = { λ i. content i.storage.items i.guard i.starts.items i.cpus.items i.shows.items i.schedule.items
-        i.scheduled i.parms };
+    ghost view = { λ i. content i.storage.items i.guard i.starts.items i.cpus.items i.shows.items
+        i.schedule.items i.scheduled i.parms };
 
-    ghost invariant = { λ i. IsImage (content i.storage.items i.guard i.starts.items i.cpus.items i.shows.items i.schedule.items
-        i.scheduled i.parms) };
+    ghost invariant = { λ i. IsImage (content i.storage.items i.guard i.starts.items i.cpus.items
+        i.shows.items i.schedule.items i.scheduled i.parms) };
 }
 
 impl Image {
@@ -81,10 +85,10 @@ impl Image {
         scheduled: bool,
         parms: Parms,
     ) -> Image
-        requires { IsImage (content storage.items guard starts.items cpus.items shows.items schedule.items scheduled
-            parms) }
-        ensures { result ≡ content storage.items guard starts.items cpus.items shows.items schedule.items scheduled
-            parms }
+        requires { IsImage (content storage.items guard starts.items cpus.items shows.items schedule.items
+            scheduled parms) }
+        ensures { result ≡ content storage.items guard starts.items cpus.items shows.items schedule.items
+            scheduled parms }
     {
         Image {
             storage,

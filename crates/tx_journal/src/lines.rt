@@ -41,8 +41,8 @@ pub(crate) enum Line {
 }
 
 impl Detail {
-    /// What the text of an abort says of this cause: the code of an exception, without the bit that marks an aborted
-    /// transaction, or the first address of a line.
+    /// What the text of an abort says of this cause: the code of an exception, without the bit that marks an
+    /// aborted transaction, or the first address of a line.
     pub(crate) fn of(why: Why) -> Detail
         ensures { result ≡ detail_of why }
     {

@@ -7,7 +7,9 @@ ghost use Rattle.hex.specs.Hex.{encode_lower};
 ghost use Rattle.tx_journal.specs.declared.lines.Detail.{Detail};
 ghost use Rattle.tx_journal.specs.declared.lines.Reason.{Reason};
 ghost use Rattle.tx_journal.specs.declared.lines.Line.{Line};
-ghost use Rattle.tx_journal.specs.Lines.{says_nothing, says_exception, says_line, IsLineAddress, HasDetail, IsReason, IsLine, detail_text, reason_text, words_text, line_text, Spells};
+ghost use Rattle.tx_journal.specs.Lines.{says_nothing, says_exception, says_line, IsLineAddress, HasDetail};
+ghost use Rattle.tx_journal.specs.Lines.{IsReason, IsLine, detail_text, reason_text, words_text, line_text};
+ghost use Rattle.tx_journal.specs.Lines.{Spells};
 
 use crate::EntryText;
 use crate::lines::{Detail, Line, Reason};
@@ -183,9 +185,10 @@ fn read_line(text: &[u8]) -> Option<Line>
     read_words(words)
 }
 
-/// What the line of an entry says. The text is one line with its line feed. None exactly where it is the line of no entry: all
-/// numbers are without leading zeros and fit their fields, an abort has a code that aborts have, and its detail is the one that
-/// this code has: nothing, four hexadecimal digits in lower case, or the sixteen of a line's first address.
+/// What the line of an entry says. The text is one line with its line feed. None exactly where it is the line
+/// of no entry: all numbers are without leading zeros and fit their fields, an abort has a code that aborts
+/// have, and its detail is the one that this code has: nothing, four hexadecimal digits in lower case, or the
+/// sixteen of a line's first address.
 pub fn read_entry(text: &[u8]) -> Option<EntryText>
     ensures some { IfSome result (Spells text.now) }
     ensures none { IfNone result ((l : Line) → IsLine l → text.now ≢ line_text l) }

@@ -66,7 +66,8 @@ fn lines_of_entries(rt: HostRuntime) -> Result<(), Fail> {
     Ok(())
 }
 
-/// The abort of CPU 1 after two instructions by this cause has this line, which is read as this code and detail.
+/// The abort of CPU 1 after two instructions by this cause has this line, which is read as this code and
+/// detail.
 fn abort_both_ways(
     rt: &impl Abort,
     alloc: Global,

@@ -1,4 +1,5 @@
-use Rattle.std.proofs.Common.{arith, ◌≡◌, ℕ, ◌<◌, Bool, List, [], ◌∷◌, length, map, slice_index, Option, IsTrue}
+use Rattle.std.proofs.Common.{arith, ◌≡◌, ℕ, ◌<◌, Bool, List, [], ◌∷◌, length, map, slice_index, Option}
+use Rattle.std.proofs.Common.{IsTrue}
 use Rattle.std.proofs.Common.{sym, ap, ◌∙◌, refl, subst}
 use Rattle.std.proofs.lemmas.List.Elements.{All-nil, All-cons}
 use Rattle.std.specs.FinSet.{empty}
@@ -30,7 +31,8 @@ abbrev Known : Event → Type 0
 Known e = cpu_of_event e < 1
 
 is_image : (storage : List ℕ) (prefix : Option ℕ) (scheduled : Bool) (parms : Parameters)
-    → length storage ≡ 1048576 → ((k : ℕ) → slice_index storage k ≡ 0) → IsTrue (is_prefix prefix) → IsAllowed parms
+    → length storage ≡ 1048576 → ((k : ℕ) → slice_index storage k ≡ 0) → IsTrue (is_prefix prefix)
+    → IsAllowed parms
     → IsImage (only storage prefix scheduled parms)
 unfolding only
 is_image storage prefix scheduled parms size zero may allowed = record {
@@ -76,5 +78,6 @@ new-requires c =
       parms = refl;
     }) in
     subst IsImage (sym same)
-    (is_image c.in_ok-storage.storage.items c.args.prefix c.args.scheduled c.args.parms c.in_ok-storage.ensures.size
+    (is_image c.in_ok-storage.storage.items c.args.prefix c.args.scheduled c.args.parms
+    c.in_ok-storage.ensures.size
     c.in_ok-storage.ensures.zero c.requires (subst IsAllowed c.parms.view_is c.parms.invariant))

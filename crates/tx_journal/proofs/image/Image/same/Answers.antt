@@ -6,8 +6,10 @@ use Rattle.tx_journal.proofs.image.Image.same.Goals as goal
 
 pub returns : goal.returns
 returns c =
-    let storage : c.self.inside.storage.items ≡ c.other.inside.storage.items = search (rules, bytes_eq-Decides) in
-    let starts : c.self.inside.starts.items ≡ c.other.inside.starts.items = search (rules, bytes_eq-Decides) in
+    let storage : c.self.inside.storage.items ≡ c.other.inside.storage.items =
+    search (rules, bytes_eq-Decides) in
+    let starts : c.self.inside.starts.items ≡ c.other.inside.starts.items =
+    search (rules, bytes_eq-Decides) in
     let cpus : map cpu_of c.self.inside.cpus.items ≡ map cpu_of c.other.inside.cpus.items = search rules in
     let shows : c.self.inside.shows.items ≡ c.other.inside.shows.items = search rules in
     let parms : c.self.inside.parms ≡ c.other.inside.parms = search rules in
