@@ -39,7 +39,8 @@ fn pages_of(address: u64, code: &Code) -> Guard {
     guard
 }
 
-/// The CPU behind an instruction that an exception has stopped before it was completed: only the address has moved.
+/// The CPU behind an instruction that an exception has stopped before it was completed: only the address has
+/// moved.
 fn stopped(mut image: CpuImage, code: u16, length: u8) -> Answer {
     image.address = image.address.wrapping_add(u64::from(length));
     Answer {
@@ -48,8 +49,8 @@ fn stopped(mut image: CpuImage, code: u16, length: u8) -> Answer {
     }
 }
 
-/// The CPU behind an instruction that has been executed: an overflow comes when it is complete, a divide exception leaves the
-/// address.
+/// The CPU behind an instruction that has been executed: an overflow comes when it is complete, a divide
+/// exception leaves the address.
 fn executed(image: CpuImage, outcome: Result<(), Exception>) -> Answer {
     match outcome {
         Ok(()) => Answer {
@@ -70,7 +71,8 @@ fn execute(
     mut image: CpuImage,
     view: &mut Watched,
 ) -> Result<Answer, NobodysOperation>
-    requires { (s : List ℕ) → length s ≡ 1048576 → is_storage (kind_at instr.now.op.number) ≡ true → AreInside (ranges_of instr.now (cpu_of image)) s }
+    requires { (s : List ℕ) → length s ≡ 1048576 → is_storage (kind_at instr.now.op.number) ≡ true →
+        AreInside (ranges_of instr.now (cpu_of image)) s }
 {
     if z_general::is_mine(instr.op) {
         let outcome = z_general::execute(instr, &mut image, view);
@@ -87,7 +89,8 @@ fn execute(
     Err(NobodysOperation)
 }
 
-/// What the bytes do to a CPU and to storage, outside of any transaction, where only the pages of the bytes hold text.
+/// What the bytes do to a CPU and to storage, outside of any transaction, where only the pages of the bytes
+/// hold text.
 pub fn attempt(
     code: &Code,
     image: CpuImage,
