@@ -1,5 +1,5 @@
 //! An index of keys in slots.
-ghost use Rattle.std.specs.Prelude.{◌≡◌, ℕ, ◌+◌, ◌<◌, ◌≤◌, ◌^◌, List, [], ◌∷◌, ◌++◌, length, slice_index, Some, None, IfOk};
+ghost use Rattle.std.specs.Prelude.{◌≡◌, ℕ, ◌+◌, ◌<◌, ◌≤◌, ◌^◌, List, [], ◌∷◌, ◌++◌, length, slice_index, Some, None, IfOk, IfSome};
 ghost use Rattle.std.specs.List.{swap_remove};
 ghost use Rattle.bit_set.specs.Counts.{count_below};
 ghost use Rattle.slot_index.specs.Slots.{slot_in, slot_without, is_key};
@@ -44,13 +44,15 @@ impl SlotIndex {
         ensures value { result ≡ length self.now.keys }
         ensures keys { result ≡ count_below self.now.limit (is_key self.now.keys) }
         ensures within { result ≤ self.now.most }
+        ensures below { (key : ℕ) → self.now.limit ≤ key → slot_in self.now.keys key ≡ None }
     {
         self.keys.len()
     }
 
     /// The slot of a key; None exactly where it has none.
     pub fn slot_of(&self, key: usize) -> Option<usize>
-        ensures { result ≡ slot_in self.now.keys key }
+        ensures value { result ≡ slot_in self.now.keys key }
+        ensures within { IfSome result (λ slot. slot < self.now.most) }
     {
         if key >= self.slots.len() {
             return None;
