@@ -1,15 +1,15 @@
 -- The copy of a line, found by its slot, after each change.
-use Rattle.std.proofs.Common.{◌≡◌, ◌≢◌, ℕ, ◌+◌, ◌-◌, ◌<◌, ◌≤◌, Bool, true, false, cond, eqb, List, [], ◌∷◌, ◌++◌, length, get_or, set, Option, Some, None, is_some, IfSome, ⊎_elim, refl, sym, ap, subst, ◌∙◌, arith}
+use Rattle.std.proofs.Common.{◌≡◌, ◌≢◌, ℕ, ◌-◌, ◌<◌, ◌≤◌, true, false, cond, eqb, List, [], ◌∷◌, ◌++◌, length, get_or, set, Option, Some, None, is_some, IfSome, refl, sym, ap, subst, ◌∙◌, arith}
 use Rattle.std.specs.List.{slice_get}
 use Rattle.std.specs.Option.{option_and_then, option_map}
 use Rattle.std.proofs.lemmas.Bool.{cases_eq, cond-true, cond-false, eq-eqb, ne_eqb}
-use Rattle.std.proofs.lemmas.List.{get_or-set_same, get_or-set_other, length_push}
+use Rattle.std.proofs.lemmas.List.{get_or-set_same, get_or-set_other}
 use Rattle.std.proofs.lemmas.Option.{slice_get-get_or}
 use Rattle.bit_set.specs.Counts.{count_below}
 use Rattle.bit_set.proofs.Counts.{count_agree}
 use Rattle.slot_index.specs.Slots.{Slots, slot_in, slot_without, is_key}
-use Rattle.slot_index.proofs.Found.{cases, Has, slot_in-has, slot_in-add, slot_in-none, slot_cases}
-use Rattle.l1_data.specs.declared.copies.TheConstants.{LINES, LINE_SIZE, MOST_COPIES}
+use Rattle.slot_index.proofs.Found.{cases, slot_in-has, slot_in-add, slot_in-none, slot_cases}
+use Rattle.l1_data.specs.declared.copies.TheConstants.{LINES, LINE_SIZE}
 use Rattle.l1_data.specs.Copies.{Kept, Copies, copies_of, with_copy, no_copies, copy_count, byte_in, IsSound, IsKept}
 
 -- the copy in the slot of a line
@@ -143,9 +143,9 @@ sound index copies kept within counted below =
       few = omega (arith, kept.most, within, number);
       in_storage = λ line past. at_none index.keys copies line (below line (omega (arith, past, kept.limit)));
       sized = λ line. cases (slot_cases index.keys line)
-        (λ found. subst (λ o. IfSome o (λ copy. length copy ≡ LINE_SIZE)) (sym (at_found index.keys copies line found.0 found.1))
+          (λ found. subst (λ o. IfSome o (λ copy. length copy ≡ LINE_SIZE)) (sym (at_found index.keys copies line found.0 found.1))
           (kept.sized found.0 (omega (arith, (slot_in-has index.keys line found.0 found.1).within, within, kept.most))))
-        (λ none. subst (λ o. IfSome o (λ copy. length copy ≡ LINE_SIZE)) (sym (at_none index.keys copies line none)) tt);
+          (λ none. subst (λ o. IfSome o (λ copy. length copy ≡ LINE_SIZE)) (sym (at_none index.keys copies line none)) tt);
     }
   where
     number : length index.keys ≡ copy_count (copy_at index.keys copies)

@@ -1,12 +1,8 @@
-use Rattle.std.proofs.Common.{◌≡◌, ℕ, ◌+◌, ◌-◌, ◌<◌, ◌≤◌, List, [], ◌∷◌, ◌++◌, length, get_or, set, Option, Some, None, is_some, true, refl, sym, ap, subst, ◌∙◌, arith}
-use Rattle.std.specs.Option.{option_map}
-use Rattle.std.specs.List.{swap_remove}
+use Rattle.std.proofs.Common.{◌≡◌, ◌-◌, ◌<◌, [], length, get_or, set, None, is_some, sym, ap, ◌∙◌, arith}
 use Rattle.std.proofs.lemmas.List.{get_or_read}
-use Rattle.slot_index.specs.Slots.{Slots, slot_in, is_key, slot_without}
-use Rattle.slot_index.proofs.Found.{slot_in-has, slot_cases}
-use Rattle.l1_data.specs.declared.copies.TheConstants.{LINES, LINE_SIZE, MOST_COPIES}
-use Rattle.l1_data.specs.Copies.{Kept, Copies, copies_of, with_copy, no_copies, copy_count, byte_in, IsSound}
-use Rattle.l1_data.proofs.Slotted.{copy_at, copies_of-kept, copies_of-is, is_some-copy_at, none_kept, installed, changed, dropped, byte_found, counted_copies, sound, none_before}
+use Rattle.slot_index.proofs.Found.{slot_in-has}
+use Rattle.l1_data.specs.Copies.{Copies, copies_of, with_copy}
+use Rattle.l1_data.proofs.Slotted.{copy_at, copies_of-kept, copies_of-is, is_some-copy_at, dropped}
 use Rattle.l1_data.proofs.copies.L1.drop_line.Goals as goal
 
 pub slot_of-slot-requires : goal.slot_of-slot-requires
@@ -32,7 +28,7 @@ returns c =
     let within : slot < length copies = omega (arith, (slot_in-has lines c.args.line slot c.slot_of-slot.ensures.value).within, c.count-last.ensures.value, c.count-last.ensures.within, c.self.invariant.room, c.self.invariant.most) in
     let last : length lines - 1 < length copies = omega (arith, within, (slot_in-has lines c.args.line slot c.slot_of-slot.ensures.value).within, c.count-last.ensures.value, c.count-last.ensures.within, c.self.invariant.room, c.self.invariant.most) in
     let moved : c.index.result.now ≡ get_or copies (length lines - 1) [] =
-        get_or_read copies (c.count-last.result - 1) c.index.result.now (omega (arith, last, c.count-last.ensures.value)) c.index.ensures [] ∙ ap (λ n. get_or copies (n - 1) []) c.count-last.ensures.value in
+    get_or_read copies (c.count-last.result - 1) c.index.result.now (omega (arith, last, c.count-last.ensures.value)) c.index.ensures [] ∙ ap (λ n. get_or copies (n - 1) []) c.count-last.ensures.value in
     copies_of-is c.remove.new.self.keys (set copies slot c.index.result.now)
     ∙ dropped lines c.remove.new.self.keys copies c.args.line slot c.index.result.now c.slot_of-slot.ensures.value within moved c.remove.ensures.slots
     ∙ ap (λ (cs : Copies). with_copy cs c.args.line None) (sym now)

@@ -1,12 +1,8 @@
-use Rattle.std.proofs.Common.{◌≡◌, ℕ, ◌+◌, ◌-◌, ◌<◌, ◌≤◌, List, [], ◌∷◌, ◌++◌, length, get_or, set, Option, Some, None, is_some, true, refl, sym, ap, subst, ◌∙◌, arith}
-use Rattle.std.specs.Option.{option_map}
-use Rattle.std.specs.List.{swap_remove}
+use Rattle.std.proofs.Common.{◌≡◌, ◌<◌, [], length, get_or, Some, is_some, sym, ap, ◌∙◌, arith}
 use Rattle.std.proofs.lemmas.List.{get_or_read}
-use Rattle.slot_index.specs.Slots.{Slots, slot_in, is_key, slot_without}
-use Rattle.slot_index.proofs.Found.{slot_in-has, slot_cases}
-use Rattle.l1_data.specs.declared.copies.TheConstants.{LINES, LINE_SIZE, MOST_COPIES}
-use Rattle.l1_data.specs.Copies.{Kept, Copies, copies_of, with_copy, no_copies, copy_count, byte_in, IsSound}
-use Rattle.l1_data.proofs.Slotted.{copy_at, copies_of-kept, copies_of-is, is_some-copy_at, none_kept, installed, changed, dropped, byte_found, counted_copies, sound, none_before}
+use Rattle.l1_data.specs.declared.copies.TheConstants.{LINE_SIZE, MOST_COPIES}
+use Rattle.l1_data.specs.Copies.{Copies, copies_of, byte_in}
+use Rattle.l1_data.proofs.Slotted.{copy_at, copies_of-kept, is_some-copy_at, byte_found}
 use Rattle.l1_data.proofs.copies.L1.get.Goals as goal
 
 pub slot_of-requires : goal.slot_of-requires
