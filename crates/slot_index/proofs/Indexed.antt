@@ -1,5 +1,5 @@
 -- The invariant of an index, after each change.
-use Rattle.std.proofs.Common.{◌≡◌, ◌≢◌, ℕ, zero, suc, ◌+◌, ◌-◌, ◌<◌, ◌≤◌, Bool, true, false, cond, eqb, List, [], ◌∷◌, ◌++◌, length, get_or, set, take, Option, Some, None, refl, sym, ap, ◌∙◌, arith}
+use Rattle.std.proofs.Common.{◌≡◌, ◌≢◌, ℕ, zero, suc, ◌-◌, ◌<◌, ◌≤◌, true, false, cond, eqb, List, [], ◌∷◌, ◌++◌, length, get_or, set, take, Option, Some, None, refl, sym, ap, ◌∙◌, arith}
 use Rattle.std.specs.Prelude.{is_some}
 use Rattle.std.specs.List.{swap_remove}
 use Rattle.std.specs.Option.{option_and_then}
@@ -8,7 +8,7 @@ use Rattle.std.proofs.lemmas.List.{length_push, get_or_push, get_or_append_left,
 use Rattle.bit_set.specs.Counts.{one_if, count_below, but_at}
 use Rattle.bit_set.proofs.Counts.{count_agree, count_but_at, count_none}
 use Rattle.slot_index.specs.Slots.{slot_in, slot_without, is_key, IsIndexed}
-use Rattle.slot_index.proofs.Found.{cases, Has, HasOneSlot, slot_in-has, slot_in-at, slot_in-none, slot_in-absent, slot_in-one, slot_in-add, slot_cases}
+use Rattle.slot_index.proofs.Found.{cases, Has, HasOneSlot, slot_in-has, slot_in-at, slot_in-none, slot_in-absent, slot_in-one, slot_cases}
 
 -- no two slots have one key
 pub one_slot : {slots keys : List ℕ} {most capacity : ℕ} → IsIndexed slots keys most capacity → HasOneSlot keys

@@ -124,6 +124,7 @@ mod tests {
     use std::test::Fail;
 
     #[test]
+    #[tactic(auto, unfolding(crate::specs::Slots::slot_in))]
     fn keys_have_slots(rt: HostRuntime) -> Result<(), Fail> {
         let mut index = SlotIndex::open(rt.alloc(), 4096, 3)?;
         assert_eq!(rt; index.slot_of(7), None);

@@ -1,6 +1,6 @@
-use Rattle.std.proofs.Common.{◌≡◌, ◌∷◌, ◌++◌, [], ℕ, List, ◌<◌, ◌≤◌, length, is_ok, set, cond, true, None, sym, ap, subst, ◌∙◌, arith}
+use Rattle.std.proofs.Common.{◌≡◌, ◌∷◌, ◌++◌, [], ℕ, List, ◌<◌, length, is_ok, set, true, None, sym, ap, subst, ◌∙◌, arith}
 use Rattle.std.proofs.lemmas.Bool.{cond-true}
-use Rattle.std.specs.Vec.{vec_len, vec_capacity}
+use Rattle.std.specs.Vec.{vec_capacity}
 use Rattle.slot_index.specs.Slots.{Slots, slot_in, IsIndexed}
 use Rattle.slot_index.proofs.Indexed.{added, wider}
 use Rattle.slot_index.proofs.index.SlotIndex.add.Goals as goal

@@ -1,4 +1,4 @@
-use Rattle.std.proofs.Common.{◌≡◌, ℕ, ◌<◌, length, take, get_or, Some, None, sym, ap, ◌∙◌, arith}
+use Rattle.std.proofs.Common.{◌≡◌, take, get_or, Some, sym, ap, ◌∙◌, arith}
 use Rattle.slot_index.specs.Slots.{Slots, slot_in}
 use Rattle.slot_index.proofs.Found.{slot_in-take}
 use Rattle.slot_index.proofs.index.SlotIndex.copy_from.Goals as goal

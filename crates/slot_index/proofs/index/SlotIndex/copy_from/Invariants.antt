@@ -1,6 +1,5 @@
 -- The keys so far are the first ones of the other index.
 use Rattle.std.proofs.Common.{◌≡◌, take}
-use Rattle.slot_index.specs.Slots.{Slots}
 use Rattle.slot_index.proofs.index.SlotIndex.copy_from.Given as goal
 
 abbrev pub invariant-loop-slot : goal.invariant-loop-slot

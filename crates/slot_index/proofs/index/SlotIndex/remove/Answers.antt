@@ -1,4 +1,4 @@
-use Rattle.std.proofs.Common.{◌≡◌, ℕ, ◌<◌, length, Some, sym, ap, ◌∙◌, arith}
+use Rattle.std.proofs.Common.{◌<◌, length, ap, ◌∙◌, arith}
 use Rattle.slot_index.specs.Slots.{Slots, slot_in, slot_without}
 use Rattle.slot_index.proofs.Indexed.{slot_in-removed}
 use Rattle.slot_index.proofs.index.SlotIndex.remove.Goals as goal
