@@ -65,10 +65,10 @@ emptied index bytes marks values value_marks limit most byte_room mark_room valu
       unmarked = λ cell le. unmarked cell;
       no_value = λ cell le. no_value cell;
       stored = λ block.
-        ap (λ keys. has_block (items_of BLOCK_SIZE keys bytes marks) block) none
-        ∙ ap (λ (o : Overlay). has_block o block) (items_of-empty BLOCK_SIZE bytes marks)
-        ∙ has_block-nothing block
-        ∙ sym (ap is_some (ap (λ keys. slot_in keys block) none ∙ slot_in-none [] block (λ j lt. absurd (omega (arith, lt)))));
+          ap (λ keys. has_block (items_of BLOCK_SIZE keys bytes marks) block) none
+          ∙ ap (λ (o : Overlay). has_block o block) (items_of-empty BLOCK_SIZE bytes marks)
+          ∙ has_block-nothing block
+          ∙ sym (ap is_some (ap (λ keys. slot_in keys block) none ∙ slot_in-none [] block (λ j lt. absurd (omega (arith, lt)))));
     }
 
 -- ---- an entry for a block
@@ -132,14 +132,14 @@ byte_kept old index bytes marks values value_marks address slot cell byte kept i
       value_room = kept.value_room;
       value_mark_room = kept.value_mark_room;
       unmarked = λ k le.
-        get_or-set_other marks cell k true false (λ e. absurd (omega (arith, e, le, is, used)))
-        ∙ kept.unmarked k (omega (arith, le, in_entry.longer));
+          get_or-set_other marks cell k true false (λ e. absurd (omega (arith, e, le, is, used)))
+          ∙ kept.unmarked k (omega (arith, le, in_entry.longer));
       no_value = λ k le. kept.no_value k (omega (arith, le, in_entry.longer));
       stored = λ block.
-        ap (λ (o : Overlay). has_block o block) (byte_shown old index bytes marks values value_marks address slot cell byte kept in_entry found is within)
-        ∙ cases (cases_eq block (address / BLOCK_SIZE))
-        (λ e. has_block-here (items_of BLOCK_SIZE old.keys bytes marks) address byte block e ∙ sym (ap (is_key index.keys) e ∙ in_entry.here))
-        (λ ne. has_block-other (items_of BLOCK_SIZE old.keys bytes marks) address byte block ne ∙ kept.stored block ∙ sym (in_entry.others block ne));
+          ap (λ (o : Overlay). has_block o block) (byte_shown old index bytes marks values value_marks address slot cell byte kept in_entry found is within)
+          ∙ cases (cases_eq block (address / BLOCK_SIZE))
+          (λ e. has_block-here (items_of BLOCK_SIZE old.keys bytes marks) address byte block e ∙ sym (ap (is_key index.keys) e ∙ in_entry.here))
+          (λ ne. has_block-other (items_of BLOCK_SIZE old.keys bytes marks) address byte block ne ∙ kept.stored block ∙ sym (in_entry.others block ne));
     }
   where
     used : slot < length index.keys
@@ -162,8 +162,8 @@ value_kept index bytes marks values value_marks doubleword slot cell value kept 
       value_mark_room = length-set value_marks cell true ∙ kept.value_mark_room;
       unmarked = kept.unmarked;
       no_value = λ k le.
-        get_or-set_other value_marks cell k true false (λ e. absurd (omega (arith, e, le, is, used)))
-        ∙ kept.no_value k le;
+          get_or-set_other value_marks cell k true false (λ e. absurd (omega (arith, e, le, is, used)))
+          ∙ kept.no_value k le;
       stored = kept.stored;
     }
   where

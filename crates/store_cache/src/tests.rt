@@ -1,7 +1,7 @@
 use crate::{BLOCK_SIZE, STORAGE_SIZE, StoreCache};
 use std::alloc::{AllocError, Global};
 use std::test::Fail;
-use z_regs::{Bytes, Storage};
+use z_regs::Storage;
 
 /// The address of the doubleword of most tests.
 const PLACE: u64 = 36864;
@@ -49,23 +49,36 @@ fn three_then_four(alloc: Global) -> Result<StoreCache, Fail> {
     Ok(cache)
 }
 
+/// The attempt ends in a commit or an abort, where storage has its size.
+fn end(cache: &mut StoreCache, storage: &mut Storage, is_commit: bool) -> bool {
+    if storage.as_slice().len() != STORAGE_SIZE {
+        return false;
+    }
+    if is_commit {
+        cache.commit(storage);
+    } else {
+        cache.abort(storage);
+    }
+    true
+}
+
+/// A byte of storage.
+fn byte_of(storage: &Storage, address: u64) -> Option<u8> {
+    storage.as_slice().get(address as usize).copied()
+}
+
 #[test]
 fn the_last_ntstg_lasts(rt: HostRuntime) -> Result<(), Fail> {
     let mut cache = three_then_four(rt.alloc())?;
     let mut copy = StoreCache::open(rt.alloc())?;
     copy.copy_from(&cache);
-    assert_eq!(rt; copy.byte(PLACE + 7), Some(4));
-    assert_eq!(rt; cache.blocks(), 1);
     let mut storage = zeros(rt.alloc())?;
-    assert_eq!(rt; storage.as_slice().len(), STORAGE_SIZE);
-    cache.abort(&mut storage);
+    assert!(rt; end(&mut cache, &mut storage, false));
+    assert_eq!(rt; byte_of(&storage, PLACE + 7), Some(3));
     assert_eq!(rt; cache.blocks(), 0);
-    assert_eq!(rt; storage.as_slice().len(), STORAGE_SIZE);
-    assert_eq!(rt; storage.get(PLACE + 7), 3);
-    assert_eq!(rt; cache.byte(PLACE + 7), None);
-    copy.abort(&mut storage);
-    assert_eq!(rt; storage.as_slice().len(), STORAGE_SIZE);
-    assert_eq!(rt; storage.get(PLACE + 7), 3);
+    assert_eq!(rt; copy.byte(PLACE + 7), Some(4));
+    assert!(rt; end(&mut copy, &mut storage, false));
+    assert_eq!(rt; byte_of(&storage, PLACE + 7), Some(3));
     Ok(())
 }
 
@@ -73,11 +86,9 @@ fn the_last_ntstg_lasts(rt: HostRuntime) -> Result<(), Fail> {
 fn a_commit_leaves_the_last_store(rt: HostRuntime) -> Result<(), Fail> {
     let mut cache = three_then_four(rt.alloc())?;
     let mut storage = zeros(rt.alloc())?;
-    assert_eq!(rt; storage.as_slice().len(), STORAGE_SIZE);
-    cache.commit(&mut storage);
-    assert_eq!(rt; storage.as_slice().len(), STORAGE_SIZE);
-    assert_eq!(rt; storage.get(PLACE + 7), 4);
-    assert_eq!(rt; storage.get(PLACE + 8), 0);
+    assert!(rt; end(&mut cache, &mut storage, true));
+    assert_eq!(rt; byte_of(&storage, PLACE + 7), Some(4));
+    assert_eq!(rt; byte_of(&storage, PLACE + 8), Some(0));
     assert_eq!(rt; cache.blocks(), 0);
     Ok(())
 }
@@ -123,12 +134,14 @@ fn lay(pairs: &Pairs, plain: &mut Vec<u8>) {
     }
 }
 
-/// A cache beside plain lists that do the same.
+/// A cache and storage, and beside them plain lists that do the same.
 #[derive(Drop)]
 struct Beside {
     cache: StoreCache,
+    storage: Storage,
     stores: Pairs,
     lasting: Pairs,
+    plain: Vec<u8>,
 }
 
 impl Beside {
@@ -141,62 +154,61 @@ impl Beside {
     }
 
     /// A doubleword is stored as NTSTG does, where it may be.
-    fn ntstg(&mut self, address: u64, value: u64) -> Result<(), AllocError> {
-        if !ntstg(&mut self.cache, address, value) {
-            return Ok(());
+    fn ntstg(&mut self, address: u64, value: u64) -> Result<bool, AllocError> {
+        if ntstg(&mut self.cache, address, value) {
+            for (at, byte) in value.to_be_bytes().iter().enumerate() {
+                let pair = (address.wrapping_add(at as u64), *byte);
+                self.stores.push(pair)?;
+                self.lasting.push(pair)?;
+            }
         }
-        for (at, byte) in value.to_be_bytes().iter().enumerate() {
-            let pair = (address.wrapping_add(at as u64), *byte);
-            self.stores.push(pair)?;
-            self.lasting.push(pair)?;
-        }
-        Ok(())
+        Ok(true)
     }
 
-    /// The attempt ends in a commit or an abort.
-    fn end(&mut self, is_commit: bool, storage: &mut Storage, plain: &mut Vec<u8>) {
-        if storage.as_slice().len() != STORAGE_SIZE {
-            return;
+    /// The attempt ends in a commit or an abort. Answers whether storage is what it should be.
+    fn end(&mut self, is_commit: bool) -> bool {
+        if !end(&mut self.cache, &mut self.storage, is_commit) {
+            return false;
         }
         if is_commit {
-            self.cache.commit(storage);
-            lay(&self.stores, plain);
+            lay(&self.stores, &mut self.plain);
         } else {
-            self.cache.abort(storage);
-            lay(&self.lasting, plain);
+            lay(&self.lasting, &mut self.plain);
         }
         self.stores.clear();
         self.lasting.clear();
+        self.storage.as_slice() == self.plain.as_slice()
+    }
+
+    /// What a number says.
+    fn turn(&mut self, number: u64) -> Result<bool, AllocError> {
+        let place = (number >> 33) % 12288;
+        let byte = ((number >> 50) % 256) as u8;
+        match (number >> 20) % 64 {
+            0 => Ok(self.end(true)),
+            1 => Ok(self.end(false)),
+            2..=20 => self.ntstg(PLACE + place / 8 * 8, number),
+            21..=40 => self.store(PLACE + place, byte),
+            _ => self.store(PLACE + place % 64, byte),
+        }
     }
 }
 
 #[test]
 fn walks_beside_plain_lists(rt: HostRuntime) -> Result<(), Fail> {
-    let mut storage = zeros(rt.alloc())?;
-    let mut plain = vec![in rt.alloc(); 0u8; STORAGE_SIZE]?;
     let mut beside = Beside {
         cache: StoreCache::open(rt.alloc())?,
+        storage: zeros(rt.alloc())?,
         stores: Vec::new(rt.alloc()),
         lasting: Vec::new(rt.alloc()),
+        plain: vec![in rt.alloc(); 0u8; STORAGE_SIZE]?,
     };
-    let mut random = 1u64;
-    for _ in 0..6000u32 {
-        random = random
+    let mut number = 1u64;
+    for _ in 0..1500u32 {
+        number = number
             .wrapping_mul(6364136223846793005)
             .wrapping_add(1442695040888963407);
-        let place = (random >> 33) % 12288;
-        let byte = ((random >> 50) % 256) as u8;
-        match (random >> 20) % 64 {
-            0 => beside.end(true, &mut storage, &mut plain),
-            1 => beside.end(false, &mut storage, &mut plain),
-            2..=20 => beside.ntstg(PLACE + place / 8 * 8, random)?,
-            21..=40 => assert!(rt; beside.store(PLACE + place, byte)?),
-            _ => assert!(rt; beside.store(PLACE + place % 64, byte)?),
-        }
-        if (random >> 20) % 64 < 2 {
-            assert!(rt; storage.as_slice() == plain.as_slice());
-            assert_eq!(rt; beside.cache.blocks(), 0);
-        }
+        assert!(rt; beside.turn(number)?);
     }
     Ok(())
 }

@@ -28,10 +28,10 @@ loop-cell-preserved g c =
     let step = one_below BLOCK_SIZE (omega arith) keys c.args.bytes.now c.args.marks.now c.loop-cell.from (c.count-end.result * BLOCK_SIZE) cell address (cell / BLOCK_SIZE) c.in-Some.ensures.found found (omega arith) in
     record {
       laid =
-        c.put.ensures
-        ∙ ap (λ (bytes : List ℕ). set bytes address (get_or c.args.bytes.now cell 0)) c.loop-cell.invariant.laid
-        ∙ sym (bytes_through-with_one before base address (get_or c.args.bytes.now cell 0))
-        ∙ ap (λ (o : Overlay). bytes_through o base) (sym step);
+          c.put.ensures
+          ∙ ap (λ (bytes : List ℕ). set bytes address (get_or c.args.bytes.now cell 0)) c.loop-cell.invariant.laid
+          ∙ sym (bytes_through-with_one before base address (get_or c.args.bytes.now cell 0))
+          ∙ ap (λ (o : Overlay). bytes_through o base) (sym step);
       size = ap length c.put.ensures ∙ length-set (g.V.Bytes.bytes c.loop-cell.into) address (get_or c.args.bytes.now cell 0) ∙ c.loop-cell.invariant.size;
     }
 

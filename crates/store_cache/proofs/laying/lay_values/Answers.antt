@@ -14,9 +14,9 @@ loop-cell-init g c =
     let base = g.V.Bytes.bytes c.args.into.now in
     record {
       laid = sym (
-        ap (λ (o : Overlay). bytes_through (lasting_bytes o) base) (none_below DOUBLEWORDS c.args.index.now.keys c.args.values.now c.args.marks.now)
-        ∙ ap (λ (o : Overlay). bytes_through o base) lasting_bytes-nothing
-        ∙ bytes_through-nothing base);
+          ap (λ (o : Overlay). bytes_through (lasting_bytes o) base) (none_below DOUBLEWORDS c.args.index.now.keys c.args.values.now c.args.marks.now)
+          ∙ ap (λ (o : Overlay). bytes_through o base) lasting_bytes-nothing
+          ∙ bytes_through-nothing base);
       size = c.requires.storage;
     }
 
@@ -32,10 +32,10 @@ loop-cell-preserved g c =
     let before : Overlay = items_of DOUBLEWORDS keys c.args.values.now (take c.loop-cell.from c.args.marks.now) in
     let step = one_below DOUBLEWORDS (omega arith) keys c.args.values.now c.args.marks.now c.loop-cell.from (c.count-end.result * DOUBLEWORDS) cell doubleword (cell / DOUBLEWORDS) c.in-Some.ensures.found found (omega arith) in
     let laid : g.V.Bytes.bytes c.put_all.new.into ≡ bytes_through (lasting_bytes (items_of DOUBLEWORDS keys c.args.values.now (take (cell + 1) c.args.marks.now))) base =
-        c.put_all.ensures (lasting_bytes before) base c.loop-cell.invariant.laid
-        ∙ ap (λ (bytes : List ℕ). bytes_through (with_bytes (lasting_bytes before) (doubleword * 8) bytes) base) c.write_u64.ensures
-        ∙ ap (λ (o : Overlay). bytes_through o base) (sym (lasting_bytes-with_one before doubleword value))
-        ∙ ap (λ (o : Overlay). bytes_through (lasting_bytes o) base) (sym step) in
+    c.put_all.ensures (lasting_bytes before) base c.loop-cell.invariant.laid
+    ∙ ap (λ (bytes : List ℕ). bytes_through (with_bytes (lasting_bytes before) (doubleword * 8) bytes) base) c.write_u64.ensures
+    ∙ ap (λ (o : Overlay). bytes_through o base) (sym (lasting_bytes-with_one before doubleword value))
+    ∙ ap (λ (o : Overlay). bytes_through (lasting_bytes o) base) (sym step) in
     record {
       laid = laid;
       size = ap length laid ∙ length-bytes_through (lasting_bytes (items_of DOUBLEWORDS keys c.args.values.now (take (cell + 1) c.args.marks.now))) base ∙ c.requires.storage;

@@ -19,12 +19,12 @@ loop-at-preserved g c =
     let so_far : length (take at bytes) ≡ at = length-take-le at bytes (omega arith) in
     record {
       stored = λ overlay base e.
-        c.put.ensures
-        ∙ ap (λ (now : List ℕ). set now (c.args.address + at) (get_or bytes at 0)) (c.loop-at.invariant.stored overlay base e)
-        ∙ sym (bytes_through-with_one (with_bytes overlay c.args.address (take at bytes)) base (c.args.address + at) (get_or bytes at 0))
-        ∙ ap (λ n. bytes_through (with_one (with_bytes overlay c.args.address (take at bytes)) (c.args.address + n) (get_or bytes at 0)) base) (sym so_far)
-        ∙ ap (λ (o : Overlay). bytes_through o base) (sym (with_bytes-more overlay c.args.address (take at bytes) (get_or bytes at 0)))
-        ∙ ap (λ (bs : List ℕ). bytes_through (with_bytes overlay c.args.address bs) base) (sym (take_more bytes at 0 here));
+          c.put.ensures
+          ∙ ap (λ (now : List ℕ). set now (c.args.address + at) (get_or bytes at 0)) (c.loop-at.invariant.stored overlay base e)
+          ∙ sym (bytes_through-with_one (with_bytes overlay c.args.address (take at bytes)) base (c.args.address + at) (get_or bytes at 0))
+          ∙ ap (λ n. bytes_through (with_one (with_bytes overlay c.args.address (take at bytes)) (c.args.address + n) (get_or bytes at 0)) base) (sym so_far)
+          ∙ ap (λ (o : Overlay). bytes_through o base) (sym (with_bytes-more overlay c.args.address (take at bytes) (get_or bytes at 0)))
+          ∙ ap (λ (bs : List ℕ). bytes_through (with_bytes overlay c.args.address bs) base) (sym (take_more bytes at 0 here));
       size = ap length c.put.ensures ∙ length-set (g.V.Bytes.bytes c.loop-at.into) (c.args.address + at) (get_or bytes at 0) ∙ c.loop-at.invariant.size;
     }
 

@@ -22,7 +22,7 @@ returns-in_err-slot c =
     let none : slot_in c.self.inside.index.keys (c.args.address / BLOCK_SIZE) ≡ None = sym c.slot_of.ensures.value ∙ c.in_err-slot.was in
     c.from_residual.ensures
     ∙ sym (ap (λ (s : Stores). s.overlay c.args.address) now
-      ∙ items_of-none BLOCK_SIZE c.self.inside.index.keys c.self.inside.bytes.items c.self.inside.marks c.args.address none)
+    ∙ items_of-none BLOCK_SIZE c.self.inside.index.keys c.self.inside.bytes.items c.self.inside.marks c.args.address none)
 
 pub returns-then-not-has : goal.returns-then-not-has
 returns-then-not-has c =
@@ -31,8 +31,8 @@ returns-then-not-has c =
     let cell = c.in_ok-slot.slot * BLOCK_SIZE + c.args.address % BLOCK_SIZE in
     let off : get_or c.self.inside.marks cell false ≡ false = sym c.has.ensures ∙ c.if-not-has.true in
     sym (ap (λ (s : Stores). s.overlay c.args.address) now
-      ∙ items_of-at BLOCK_SIZE c.self.inside.index.keys c.self.inside.bytes.items c.self.inside.marks c.args.address c.in_ok-slot.slot found
-      ∙ cond-false (get_or c.self.inside.marks cell false) (Some (get_or c.self.inside.bytes.items cell 0)) None off)
+    ∙ items_of-at BLOCK_SIZE c.self.inside.index.keys c.self.inside.bytes.items c.self.inside.marks c.args.address c.in_ok-slot.slot found
+    ∙ cond-false (get_or c.self.inside.marks cell false) (Some (get_or c.self.inside.bytes.items cell 0)) None off)
 
 pub returns : goal.returns
 returns c =
@@ -43,5 +43,5 @@ returns c =
     let within : cell < length c.self.inside.bytes.items = omega (arith, c.in_ok-slot.ensures.within, c.self.invariant.most, c.self.invariant.byte_room) in
     ap Some (get_or_read c.self.inside.bytes.items cell c.index.result.now within c.index.ensures 0)
     ∙ sym (ap (λ (s : Stores). s.overlay c.args.address) now
-      ∙ items_of-at BLOCK_SIZE c.self.inside.index.keys c.self.inside.bytes.items c.self.inside.marks c.args.address c.in_ok-slot.slot found
-      ∙ cond-true (get_or c.self.inside.marks cell false) (Some (get_or c.self.inside.bytes.items cell 0)) None on)
+    ∙ items_of-at BLOCK_SIZE c.self.inside.index.keys c.self.inside.bytes.items c.self.inside.marks c.args.address c.in_ok-slot.slot found
+    ∙ cond-true (get_or c.self.inside.marks cell false) (Some (get_or c.self.inside.bytes.items cell 0)) None on)

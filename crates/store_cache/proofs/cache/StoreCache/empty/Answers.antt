@@ -26,11 +26,11 @@ invariant_of-self c =
     (c.unmark-2.ensures.size ∙ c.self.invariant.value_mark_room)
     (ap (λ (v : Slots). v.keys) c.clear.ensures)
     (λ k. c.unmark.ensures.value k ∙ cases (cases_lt k (c.count-count.result * BLOCK_SIZE))
-      (λ lt. cond-true (ltb k (c.count-count.result * BLOCK_SIZE)) false (get_or c.self.inside.marks k false) (lt-ltb _ _ lt))
-      (λ le. cond-false (ltb k (c.count-count.result * BLOCK_SIZE)) false (get_or c.self.inside.marks k false) (le-ltb _ _ le) ∙ c.self.invariant.unmarked k (omega (arith, le, c.count-count.ensures.value))))
+    (λ lt. cond-true (ltb k (c.count-count.result * BLOCK_SIZE)) false (get_or c.self.inside.marks k false) (lt-ltb _ _ lt))
+    (λ le. cond-false (ltb k (c.count-count.result * BLOCK_SIZE)) false (get_or c.self.inside.marks k false) (le-ltb _ _ le) ∙ c.self.invariant.unmarked k (omega (arith, le, c.count-count.ensures.value))))
     (λ k. c.unmark-2.ensures.value k ∙ cases (cases_lt k (c.count-count.result * DOUBLEWORDS))
-      (λ lt. cond-true (ltb k (c.count-count.result * DOUBLEWORDS)) false (get_or c.self.inside.value_marks k false) (lt-ltb _ _ lt))
-      (λ le. cond-false (ltb k (c.count-count.result * DOUBLEWORDS)) false (get_or c.self.inside.value_marks k false) (le-ltb _ _ le) ∙ c.self.invariant.no_value k (omega (arith, le, c.count-count.ensures.value))))
+    (λ lt. cond-true (ltb k (c.count-count.result * DOUBLEWORDS)) false (get_or c.self.inside.value_marks k false) (lt-ltb _ _ lt))
+    (λ le. cond-false (ltb k (c.count-count.result * DOUBLEWORDS)) false (get_or c.self.inside.value_marks k false) (le-ltb _ _ le) ∙ c.self.invariant.no_value k (omega (arith, le, c.count-count.ensures.value))))
 
 pub returns : goal.returns
 returns c =

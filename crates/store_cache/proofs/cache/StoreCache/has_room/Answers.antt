@@ -23,7 +23,7 @@ returns-then-is_some c =
     let key : is_key c.self.inside.index.keys c.args.block ≡ true = ap is_some (sym c.slot_of.ensures.value) ∙ sym c.is_some.ensures ∙ c.if-is_some.true in
     c.if-is_some.true
     ∙ sym (ap (λ (s : Stores). has_room s.overlay c.args.block) now
-      ∙ or_left (has_block overlay c.args.block) (ltb (block_count overlay) MOST_BLOCKS) (c.self.invariant.stored c.args.block ∙ key))
+    ∙ or_left (has_block overlay c.args.block) (ltb (block_count overlay) MOST_BLOCKS) (c.self.invariant.stored c.args.block ∙ key))
 
 pub returns-else-is_some : goal.returns-else-is_some
 returns-else-is_some c =
@@ -33,4 +33,4 @@ returns-else-is_some c =
     let number : c.count.result ≡ block_count overlay = c.count.ensures.keys ∙ counted_blocks c.self.inside.index c.self.inside.bytes.items c.self.inside.marks c.self.inside.values.items c.self.inside.value_marks c.self.invariant in
     ap (λ n. ltb n MOST_BLOCKS) number
     ∙ sym (ap (λ (s : Stores). has_room s.overlay c.args.block) now
-      ∙ ap (λ b. b || ltb (block_count overlay) MOST_BLOCKS) (c.self.invariant.stored c.args.block ∙ key))
+    ∙ ap (λ b. b || ltb (block_count overlay) MOST_BLOCKS) (c.self.invariant.stored c.args.block ∙ key))

@@ -37,7 +37,7 @@ returns c =
     let in_entry = entered c.self.inside.index c.slot_for-slot.new.index c.self.inside.bytes.items c.self.inside.marks c.self.inside.values.items c.self.inside.value_marks (c.args.address / BLOCK_SIZE) c.self.invariant c.slot_for-slot.ensures.index in
     let cell = c.slot_for-slot.result * BLOCK_SIZE + c.args.address % BLOCK_SIZE in
     let bytes : items_of BLOCK_SIZE c.slot_for-slot.new.index.keys (set c.self.inside.bytes.items cell c.args.byte) (set c.self.inside.marks cell true) ≡ with_one (items_of BLOCK_SIZE c.self.inside.index.keys c.self.inside.bytes.items c.self.inside.marks) c.args.address c.args.byte =
-        byte_shown c.self.inside.index c.slot_for-slot.new.index c.self.inside.bytes.items c.self.inside.marks c.self.inside.values.items c.self.inside.value_marks c.args.address c.slot_for-slot.result cell c.args.byte c.self.invariant in_entry c.slot_for-slot.ensures.slot refl (omega (arith, c.slot_for-slot.ensures.within, c.self.invariant.most)) in
+    byte_shown c.self.inside.index c.slot_for-slot.new.index c.self.inside.bytes.items c.self.inside.marks c.self.inside.values.items c.self.inside.value_marks c.args.address c.slot_for-slot.result cell c.args.byte c.self.invariant in_entry c.slot_for-slot.ensures.slot refl (omega (arith, c.slot_for-slot.ensures.within, c.self.invariant.most)) in
     stores_of-is c.slot_for-slot.new.index.keys (set c.self.inside.bytes.items cell c.args.byte) c.insert.new.self c.self.inside.values.items c.self.inside.value_marks
     ∙ ap (λ (marks : List Bool). shown c.slot_for-slot.new.index.keys (set c.self.inside.bytes.items cell c.args.byte) marks c.self.inside.values.items c.self.inside.value_marks) c.insert.ensures
     ∙ ap (λ (o : Overlay). record { overlay = o; lasting = items_of DOUBLEWORDS c.slot_for-slot.new.index.keys c.self.inside.values.items c.self.inside.value_marks }) bytes
