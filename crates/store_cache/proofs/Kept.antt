@@ -7,7 +7,8 @@ use Rattle.bit_set.specs.Counts.{count_below}
 use Rattle.bit_set.proofs.Counts.{count_agree}
 use Rattle.slot_index.specs.Slots.{Slots, slot_in, is_key}
 use Rattle.slot_index.proofs.Found.{cases, slot_in-has, slot_in-add, slot_in-none, slot_cases}
-use Rattle.store_cache.specs.declared.cache.TheConstants.{BLOCKS, BLOCK_SIZE, DOUBLEWORDS, MOST_BLOCKS, STORAGE_SIZE}
+use Rattle.z_regs.specs.declared.prefix.TheConstants.{STORAGE_SIZE}
+use Rattle.store_cache.specs.declared.cache.TheConstants.{BLOCKS, BLOCK_SIZE, DOUBLEWORDS, MOST_BLOCKS}
 use Rattle.store_cache.specs.Overlay.{Overlay, nothing, with_one, with_bytes, has_block, block_count}
 use Rattle.store_cache.specs.Stores.{Stores, no_stores, with_store, has_room, IsSound}
 use Rattle.store_cache.specs.Entries.{Entries, items_of, stores_of, IsKept}

@@ -2,7 +2,8 @@
 use Rattle.std.specs.Prelude.{◌≡◌, ◌≢◌, ℕ, ◌+◌, ◌/◌, ◌%◌, ◌<◌, ◌≤◌, Bool, ◌||◌, nat_lt, Option, None, slice_get, List}
 use Rattle.std.specs.Option.{option_and_then}
 use Rattle.byteorder.specs.Endian.{big_bytes}
-use Rattle.store_cache.specs.declared.cache.TheConstants.{STORAGE_SIZE, BLOCK_SIZE, MOST_BLOCKS}
+use Rattle.z_regs.specs.declared.prefix.TheConstants.{STORAGE_SIZE}
+use Rattle.store_cache.specs.declared.cache.TheConstants.{BLOCK_SIZE, MOST_BLOCKS}
 use Rattle.store_cache.specs.Overlay.{Overlay, nothing, with_one, with_bytes, has_block, block_count}
 
 -- the last byte stored at each address, by whatever instruction, and the last value that NTSTG gave each doubleword, by the

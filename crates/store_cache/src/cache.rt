@@ -12,10 +12,7 @@ use byteorder::{BigEndian, ByteOrder};
 use slot_index::SlotIndex;
 use std::alloc::{AllocError, Global};
 use std::marker::Model;
-use z_regs::Bytes;
-
-/// The bytes of storage.
-pub const STORAGE_SIZE: usize = 1_048_576;
+use z_regs::{Bytes, STORAGE_SIZE};
 
 /// The bytes of a block.
 pub const BLOCK_SIZE: usize = 128;

@@ -6,11 +6,11 @@ ghost use Rattle.store_cache.specs.Overlay.{Overlay, with_bytes, bytes_through};
 ghost use Rattle.store_cache.specs.Stores.{lasting_bytes};
 ghost use Rattle.store_cache.specs.Entries.{items_of};
 
-use crate::cache::{BLOCK_SIZE, DOUBLEWORDS, STORAGE_SIZE};
+use crate::cache::{BLOCK_SIZE, DOUBLEWORDS};
 use bit_set::BitSet;
 use byteorder::{BigEndian, ByteOrder};
 use slot_index::SlotIndex;
-use z_regs::Bytes;
+use z_regs::{Bytes, STORAGE_SIZE};
 
 /// Stores the marked bytes of the entries.
 pub fn lay_bytes<V: Bytes>(index: &SlotIndex, bytes: &[u8], marks: &BitSet, into: &mut V)

@@ -1,7 +1,7 @@
-use crate::{BLOCK_SIZE, STORAGE_SIZE, StoreCache};
+use crate::{BLOCK_SIZE, StoreCache};
 use std::alloc::{AllocError, Global};
 use std::test::Fail;
-use z_regs::Storage;
+use z_regs::{STORAGE_SIZE, Storage};
 
 /// The address of the doubleword of most tests.
 const PLACE: u64 = 36864;
@@ -11,7 +11,7 @@ const FOUR: [u8; 8] = [0, 0, 0, 0, 0, 0, 0, 4];
 
 /// Stores a byte, where it may be stored.
 fn store(cache: &mut StoreCache, address: u64, byte: u8) -> bool {
-    if address >= STORAGE_SIZE as u64 || !cache.has_room((address / BLOCK_SIZE as u64) as u32) {
+    if address >= STORAGE_SIZE || !cache.has_room((address / BLOCK_SIZE as u64) as u32) {
         return false;
     }
     cache.store(address, byte);
@@ -20,7 +20,7 @@ fn store(cache: &mut StoreCache, address: u64, byte: u8) -> bool {
 
 /// Stores a doubleword as NTSTG does, where it may be stored.
 fn ntstg(cache: &mut StoreCache, address: u64, value: u64) -> bool {
-    if address >= STORAGE_SIZE as u64 || address % 8 != 0 {
+    if address >= STORAGE_SIZE || address % 8 != 0 {
         return false;
     }
     if !cache.has_room((address / BLOCK_SIZE as u64) as u32) {
@@ -32,7 +32,7 @@ fn ntstg(cache: &mut StoreCache, address: u64, value: u64) -> bool {
 
 /// Storage of zeros.
 fn zeros(alloc: Global) -> Result<Storage, Fail> {
-    let zeros = vec![in alloc; 0u8; STORAGE_SIZE]?;
+    let zeros = vec![in alloc; 0u8; STORAGE_SIZE as usize]?;
     Ok(Storage::open(alloc, zeros.as_slice())?)
 }
 
@@ -51,7 +51,7 @@ fn three_then_four(alloc: Global) -> Result<StoreCache, Fail> {
 
 /// The attempt ends in a commit or an abort, where storage has its size.
 fn end(cache: &mut StoreCache, storage: &mut Storage, is_commit: bool) -> bool {
-    if storage.as_slice().len() != STORAGE_SIZE {
+    if storage.as_slice().len() != STORAGE_SIZE as usize {
         return false;
     }
     if is_commit {
@@ -201,7 +201,7 @@ fn walks_beside_plain_lists(rt: HostRuntime) -> Result<(), Fail> {
         storage: zeros(rt.alloc())?,
         stores: Vec::new(rt.alloc()),
         lasting: Vec::new(rt.alloc()),
-        plain: vec![in rt.alloc(); 0u8; STORAGE_SIZE]?,
+        plain: vec![in rt.alloc(); 0u8; STORAGE_SIZE as usize]?,
     };
     let mut number = 1u64;
     for _ in 0..1500u32 {

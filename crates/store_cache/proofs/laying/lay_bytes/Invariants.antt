@@ -1,6 +1,7 @@
 -- The marked bytes below the place are laid.
 use Rattle.std.proofs.Common.{◌≡◌, ◌≤◌, ◌-◌, take, length}
-use Rattle.store_cache.specs.declared.cache.TheConstants.{BLOCK_SIZE, STORAGE_SIZE}
+use Rattle.z_regs.specs.declared.prefix.TheConstants.{STORAGE_SIZE}
+use Rattle.store_cache.specs.declared.cache.TheConstants.{BLOCK_SIZE}
 use Rattle.store_cache.specs.Overlay.{bytes_through}
 use Rattle.store_cache.specs.Entries.{items_of}
 use Rattle.store_cache.proofs.laying.lay_bytes.Given as goal

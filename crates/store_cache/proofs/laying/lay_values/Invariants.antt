@@ -1,6 +1,7 @@
 -- The marked values below the place are laid.
 use Rattle.std.proofs.Common.{◌≡◌, ◌≤◌, ◌-◌, take, length}
-use Rattle.store_cache.specs.declared.cache.TheConstants.{DOUBLEWORDS, STORAGE_SIZE}
+use Rattle.z_regs.specs.declared.prefix.TheConstants.{STORAGE_SIZE}
+use Rattle.store_cache.specs.declared.cache.TheConstants.{DOUBLEWORDS}
 use Rattle.store_cache.specs.Overlay.{bytes_through}
 use Rattle.store_cache.specs.Stores.{lasting_bytes}
 use Rattle.store_cache.specs.Entries.{items_of}

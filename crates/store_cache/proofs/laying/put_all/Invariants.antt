@@ -1,6 +1,6 @@
 -- The first bytes are stored.
 use Rattle.std.proofs.Common.{◌≡◌, ℕ, List, take, length}
-use Rattle.store_cache.specs.declared.cache.TheConstants.{STORAGE_SIZE}
+use Rattle.z_regs.specs.declared.prefix.TheConstants.{STORAGE_SIZE}
 use Rattle.store_cache.specs.Overlay.{Overlay, bytes_through, with_bytes}
 use Rattle.store_cache.proofs.laying.put_all.Given as goal
 

@@ -7,7 +7,8 @@ use Rattle.bit_set.proofs.Marks.{clear_at}
 use Rattle.byteorder.specs.Endian.{big_bytes}
 use Rattle.slot_index.specs.Slots.{Slots, slot_in, is_key}
 use Rattle.slot_index.proofs.Found.{slot_in-has, slot_in-add, slot_cases, cases}
-use Rattle.store_cache.specs.declared.cache.TheConstants.{BLOCKS, BLOCK_SIZE, DOUBLEWORDS, MOST_BLOCKS, STORAGE_SIZE}
+use Rattle.z_regs.specs.declared.prefix.TheConstants.{STORAGE_SIZE}
+use Rattle.store_cache.specs.declared.cache.TheConstants.{BLOCKS, BLOCK_SIZE, DOUBLEWORDS, MOST_BLOCKS}
 use Rattle.store_cache.specs.Overlay.{Overlay, with_one, with_bytes, has_block, block_count, bytes_through}
 use Rattle.store_cache.specs.Stores.{Stores, no_stores, with_store, with_ntstg, lasting_bytes, has_room, IsSound}
 use Rattle.store_cache.specs.Entries.{Entries, items_of, stores_of, IsKept}
