@@ -1,12 +1,11 @@
 -- What is kept of an attempt, and what that says of its constraints.
-use Rattle.std.proofs.Common.{◌≡◌, ℕ, zero, suc, ◌+◌, ◌-◌, ◌<◌, ◌≤◌, Bool, true, false, ◌&&◌, ◌||◌, not, cond, ltb, leb, List, [], ◌∷◌, ◌++◌, length, Option, Some, None, refl, sym, ap, ◌∙◌, arith}
+use Rattle.std.proofs.Common.{◌≡◌, ℕ, ◌+◌, ◌≤◌, Bool, true, false, ◌&&◌, ◌||◌, not, cond, ltb, leb, List, [], ◌∷◌, ◌++◌, length, Option, None, refl, sym, ap, ◌∙◌, arith}
 use Rattle.std.specs.List.{list_any, flat_map, count_by}
 use Rattle.std.proofs.lemmas.List.{length_push, append-nil}
 use Rattle.std.proofs.lemmas.List.Sums.{sum_by-append, sum_by-cons}
 use Rattle.std.proofs.lemmas.Grind.{flat_map-append}
 use Rattle.std.proofs.lemmas.List.Folds.{list_any-append}
-use Rattle.std.proofs.lemmas.Bool.{cases_Bool, cases_lt, or_parts, ltb-false, leb-true, lt-ltb, le-ltb, le-leb, lt-leb}
-use Rattle.z_regs.specs.declared.ranges.Range.{Range}
+use Rattle.std.proofs.lemmas.Bool.{cases_lt, or_parts, ltb-false, lt-ltb, le-ltb, le-leb, lt-leb}
 use Rattle.tx_constraint.specs.Operations.{is_end, is_permitted, unit_of}
 use Rattle.tx_constraint.specs.Bytes.{touches_own_page}
 use Rattle.tx_constraint.specs.Octowords.{with_octowords}
@@ -67,10 +66,10 @@ kept_step a s = kept_parts a.begin _ _ _ _ (length_push a.steps s) (octowords_st
 
 any_step : (p : Step → Bool) (steps : List Step) (s : Step) → list_any p steps ≡ false → list_any p (steps ++ s ∷ []) ≡ p s
 any_step p steps s none = list_any-append p steps (s ∷ []) ∙ ap (λ b. b || (p s || false)) none ∙ or_false (p s)
-    where
-      or_false : (b : Bool) → (b || false) ≡ b
-      or_false true = refl
-      or_false false = refl
+  where
+    or_false : (b : Bool) → (b || false) ≡ b
+    or_false true = refl
+    or_false false = refl
 
 abbrev no_end : Step → Bool
 no_end s = not (is_end s.instruction)
@@ -99,10 +98,10 @@ too_long n true few = cases (cases_lt n 32)
     (λ below. le-ltb 32 (n + 1) (omega arith) ∙ sym (ap (λ b. b && true) (lt-leb 32 n below)))
     (λ above. lt-ltb 32 (n + 1) (omega arith) ∙ sym (ap (λ b. b && true) (le-leb 32 n above)))
 too_long n false few = le-ltb 32 (n + 0) (omega arith) ∙ sym (and_false (leb 32 n))
-    where
-      and_false : (b : Bool) → (b && false) ≡ false
-      and_false true = refl
-      and_false false = refl
+  where
+    and_false : (b : Bool) → (b && false) ≡ false
+    and_false true = refl
+    and_false false = refl
 
 pub text_step : (a : Attempt) (s : Step) → GoesOn a → text_breach (with_step a s) ≡ next_text_breach (kept a) s.instruction s.at
 unfolding text_breach next_text_breach

@@ -2,14 +2,13 @@
 use Rattle.std.proofs.Common.{◌≡◌, ◌≢◌, ℕ, zero, suc, ◌+◌, ◌-◌, ◌*◌, ◌/◌, ◌%◌, ◌^◌, ◌<◌, ◌≤◌, Bool, true, false, ◌&&◌, ◌||◌, cond, eqb, ltb, leb, List, [], ◌∷◌, ◌++◌, map, refl, sym, ap, ◌∙◌, arith}
 use Rattle.std.specs.List.{list_any, range_with_len}
 use Rattle.std.proofs.Math.Nat.{mul-add-div, div-add-mod}
-use Rattle.std.proofs.lemmas.Nat.{div-add-mod'}
-use Rattle.std.proofs.Math.Nat.{le-div_iff_mul-le, div-lt_iff_lt-mul, div-mul-le_self}
+use Rattle.std.proofs.Math.Nat.{div-mul-le_self}
 use Rattle.std.proofs.lemmas.List.FromFn.{map-range_with_len_more}
 use Rattle.std.proofs.lemmas.List.Folds.{list_any-append}
-use Rattle.std.proofs.lemmas.Bool.{cases_eq, cases_lt, cases_Bool, and_from, and_left, and_right, or_left, or_right, le-leb, lt-leb, lt-ltb, le-ltb, eq-eqb, ne_eqb, leb-true, leb-false}
+use Rattle.std.proofs.lemmas.Bool.{cases_eq, cases_lt, and_from, and_left, and_right, or_left, or_right, le-leb, lt-leb, lt-ltb, le-ltb, eq-eqb, ne_eqb}
 use Rattle.z_regs.specs.declared.ranges.Range.{Range}
-use Rattle.tx_constraint.specs.Bytes.{pieces, first_piece, end_piece, is_own_page, touches_own_page}
-use Rattle.tx_constraint.proofs.Lists.{cases, same_tests}
+use Rattle.tx_constraint.specs.Bytes.{pieces, first_piece, end_piece, touches_own_page}
+use Rattle.tx_constraint.proofs.Lists.{cases}
 
 -- ---- how the code computes the last piece
 
@@ -75,20 +74,20 @@ between f k (suc n) =
     (λ i. between f k n i || (no i || false)) ∙ or_false _
     ∙ ap (λ b. leb (f / 4096) k && b) (same_below k (end_of f n) ((f + n) / 4096) near.0 near.1 other)
     ∙ sym goal_side)
-    where
-      or_false : (b : Bool) → (b || (false || false)) ≡ b
-      or_false true = refl
-      or_false false = refl
+  where
+    or_false : (b : Bool) → (b || (false || false)) ≡ b
+    or_false true = refl
+    or_false false = refl
 
 any_of_two : (p q : ℕ → Bool) (xs : List ℕ) → list_any (λ x. p x || q x) xs ≡ (list_any p xs || list_any q xs)
 any_of_two p q [] = refl
 any_of_two p q (x ∷ xs) = ap (λ b. (p x || q x) || b) (any_of_two p q xs) ∙ swap (p x) (q x) (list_any p xs) (list_any q xs)
-    where
-      swap : (a b c d : Bool) → ((a || b) || (c || d)) ≡ ((a || c) || (b || d))
-      swap true b c d = refl
-      swap false true true d = refl
-      swap false true false d = refl
-      swap false false c d = refl
+  where
+    swap : (a b c d : Bool) → ((a || b) || (c || d)) ≡ ((a || c) || (b || d))
+    swap true b c d = refl
+    swap false true true d = refl
+    swap false true false d = refl
+    swap false false c d = refl
 
 -- an operand touches one of two pages exactly where one of them is among its pages
 pub near_is : (begin : ℕ) (r : Range) → touches_own_page begin r ≡ ((leb (first_piece 4096 r) (begin / 4096) && ltb (begin / 4096) (end_piece 4096 r)) || (leb (first_piece 4096 r) ((begin + 255) / 4096) && ltb ((begin + 255) / 4096) (end_piece 4096 r)))

@@ -1,5 +1,5 @@
 -- Tests of lists, and lists of numbers one after the other.
-use Rattle.std.proofs.Common.{◌≡◌, ℕ, zero, suc, ◌+◌, ◌<◌, ◌≤◌, Bool, true, false, ◌&&◌, ◌||◌, eqb, List, [], ◌∷◌, ◌++◌, length, get_or, take, Option, Some, refl, sym, ap, ◌∙◌, ⊎_elim, arith}
+use Rattle.std.proofs.Common.{◌≡◌, ℕ, zero, suc, ◌+◌, ◌<◌, Bool, true, false, ◌||◌, eqb, List, [], ◌∷◌, ◌++◌, length, get_or, take, Some, refl, sym, ap, ◌∙◌, ⊎_elim, arith}
 use Rattle.std.specs.Prelude.{◌⊎◌, slice_get}
 use Rattle.std.specs.List.{list_any, list_all, range_with_len}
 use Rattle.std.proofs.lemmas.Bool.{cases_Bool, false_from_ne_true, and_parts, and_from, or_cases, or_left, or_right, eqb-true, eq-eqb}
@@ -61,15 +61,17 @@ inside xs i x e = slice_get_inside xs i x e
 pub range-split : (first k m : ℕ) → range_with_len first (k + m) ≡ range_with_len first k ++ range_with_len (first + k) m
 range-split first zero m =
     (λ i. range_with_len (e0 i) (e1 i))
-    where
-      e0 : first ≡ first + 0
-      e0 = omega arith
-      e1 : 0 + m ≡ m
-      e1 = omega arith
+  where
+    e0 : first ≡ first + 0
+    e0 = omega arith
+
+    e1 : 0 + m ≡ m
+    e1 = omega arith
 range-split first (suc k) m =
     ap (range_with_len first) e ∙ ap (λ xs. first ∷ xs) (range-split (first + 1) k m ∙ ap (λ n. range_with_len (first + 1) k ++ range_with_len n m) d)
-    where
-      e : suc k + m ≡ suc (k + m)
-      e = omega arith
-      d : first + 1 + k ≡ first + suc k
-      d = omega arith
+  where
+    e : suc k + m ≡ suc (k + m)
+    e = omega arith
+
+    d : first + 1 + k ≡ first + suc k
+    d = omega arith

@@ -1,5 +1,5 @@
 -- Octowords that are added one after the other, each once.
-use Rattle.std.proofs.Common.{◌≡◌, ℕ, zero, suc, ◌+◌, ◌-◌, ◌*◌, ◌/◌, ◌%◌, ◌<◌, ◌≤◌, Bool, true, false, ◌||◌, cond, eqb, ltb, leb, List, [], ◌∷◌, ◌++◌, length, take, drop, map, Option, Some, refl, sym, ap, ◌∙◌, arith}
+use Rattle.std.proofs.Common.{◌≡◌, ℕ, zero, suc, ◌+◌, ◌-◌, ◌/◌, ◌<◌, ◌≤◌, true, false, ◌||◌, cond, eqb, leb, List, [], ◌∷◌, ◌++◌, length, take, drop, map, Some, refl, sym, ap, ◌∙◌, arith}
 use Rattle.std.specs.Prelude.{slice_get}
 use Rattle.std.specs.List.{list_any, flat_map, fold, range_with_len}
 use Rattle.std.proofs.lemmas.List.{length_push, length-take, take_more, take-append-drop, append-nil}
@@ -7,7 +7,7 @@ use Rattle.std.proofs.lemmas.List.Sums.{fold-append}
 use Rattle.std.proofs.lemmas.Grind.{flat_map-append}
 use Rattle.std.proofs.lemmas.List.FromFn.{map-range_with_len_more}
 use Rattle.std.proofs.lemmas.List.Folds.{list_any-append}
-use Rattle.std.proofs.lemmas.Bool.{cases_eq, cases_Bool, or_left, or_right, eq-eqb, ne_eqb, leb-false, lt-leb, cond-true}
+use Rattle.std.proofs.lemmas.Bool.{cases_eq, cases_Bool, or_left, or_right, eq-eqb, ne_eqb, leb-false, lt-leb}
 use Rattle.z_regs.specs.declared.ranges.Range.{Range}
 use Rattle.tx_constraint.specs.Bytes.{pieces, first_piece, end_piece}
 use Rattle.tx_constraint.specs.Octowords.{with_octoword, with_octowords}
@@ -48,11 +48,12 @@ pub range_with : (first end o : ℕ) → first ≤ o → o < end → range_with_
 range_with first end o low high =
     ap (range_with_len first) (e0 low high) ∙ range-split first (o - first) (suc (end - o - 1))
     ∙ ap (λ n. range_with_len first (o - first) ++ n ∷ range_with_len (n + 1) (end - o - 1)) (e1 low)
-    where
-      e0 : first ≤ o → o < end → end - first ≡ (o - first) + suc (end - o - 1)
-      e0 l h = omega arith
-      e1 : first ≤ o → first + (o - first) ≡ o
-      e1 l = omega arith
+  where
+    e0 : first ≤ o → o < end → end - first ≡ (o - first) + suc (end - o - 1)
+    e0 l h = omega arith
+
+    e1 : first ≤ o → first + (o - first) ≡ o
+    e1 l = omega arith
 
 pub pile_more : (found : List ℕ) (first o : ℕ) → first ≤ o → fold with_octoword found (range_with_len first (o + 1 - first)) ≡ with_octoword (fold with_octoword found (range_with_len first (o - first))) o
 pile_more found first o low =
@@ -62,7 +63,6 @@ pile_more found first o low =
     ap (fold with_octoword found) both ∙ fold-append with_octoword found (range_with_len first (o - first)) (o ∷ [])
 
 -- ---- octowords of the bytes, and octowords one after the other
-
 
 abbrev by_bytes : List ℕ → ℕ → ℕ → List ℕ
 by_bytes found f n = fold with_octoword found (map (λ a. a / 32) (range_with_len f n))

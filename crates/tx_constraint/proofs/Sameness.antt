@@ -1,5 +1,5 @@
 -- Two attempts with one TBEGINC and the same octowords.
-use Rattle.std.proofs.Common.{◌≡◌, ℕ, Bool, true, sym, subst, ◌∙◌}
+use Rattle.std.proofs.Common.{◌≡◌, Bool, true, sym, subst, ◌∙◌}
 use Rattle.std.specs.List.{list_all}
 use Rattle.tx_constraint.specs.Kept.{Kept, AreSame}
 use Rattle.tx_constraint.proofs.Lists.{among, among_all, all_among, same_tests}

@@ -1,5 +1,5 @@
 -- What is kept of an attempt, and the constraints that one more instruction would break, by that.
-use Rattle.std.specs.Prelude.{◌≡◌, ℕ, ◌+◌, Bool, ◌&&◌, not, nat_eq, nat_lt, nat_le, length, List, [], Option, None}
+use Rattle.std.specs.Prelude.{◌≡◌, ℕ, ◌+◌, ◌&&◌, not, nat_eq, nat_lt, nat_le, length, List, [], Option, None}
 use Rattle.std.specs.List.{list_any}
 use Rattle.z_regs.specs.declared.ranges.Range.{Range}
 use Rattle.z_instr.specs.declared.instr.Instr.{Instr}

@@ -1,5 +1,5 @@
 -- The octowords of operands, each once.
-use Rattle.std.specs.Prelude.{ℕ, Bool, nat_eq, if◌then◌else◌, List, [], ◌∷◌, ◌++◌}
+use Rattle.std.specs.Prelude.{ℕ, nat_eq, if◌then◌else◌, List, [], ◌∷◌, ◌++◌}
 use Rattle.std.specs.List.{list_any, flat_map, fold}
 use Rattle.z_regs.specs.declared.ranges.Range.{Range}
 use Rattle.tx_constraint.specs.Bytes.{pieces}

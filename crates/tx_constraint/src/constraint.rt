@@ -1,5 +1,5 @@
 //! What a constrained attempt has done so far, as far as its constraints ask.
-ghost use Rattle.std.specs.Prelude.{◌≡◌, ◌≤◌, ◌↔◌, IsTrue, [], length};
+ghost use Rattle.std.specs.Prelude.{◌≡◌, ◌≤◌, ◌↔◌, IsTrue, OnOk, length};
 ghost use Rattle.tx_constraint.specs.Octowords.{with_octowords};
 ghost use Rattle.tx_constraint.specs.Constraints.{verdict, lies_near};
 ghost use Rattle.tx_constraint.specs.Kept.{Kept, kept_at, added, next_text_breach, next_operand_breach, AreSame};
@@ -81,7 +81,8 @@ impl Constraint {
     /// number of these that it would break; it is never 6.
     #[tactic(auto, unfolding(crate::specs::Kept::next_operand_breach))]
     pub fn admit_operands(&self, instr: &Instr, touches: &Touches) -> Result<(), u8>
-        ensures { result ≡ verdict (next_operand_breach self.now instr.now touches.now) }
+        ensures value { result ≡ verdict (next_operand_breach self.now instr.now touches.now) }
+        ensures room { OnOk result (length (with_octowords self.now.octowords touches.now) ≤ 4) }
     {
         if !self.octowords.has_room(touches) {
             return Err(4);

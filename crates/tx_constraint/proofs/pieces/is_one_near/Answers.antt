@@ -1,4 +1,4 @@
-use Rattle.std.proofs.Common.{sym, ◌∙◌}
+use Rattle.std.proofs.Common.{sym}
 use Rattle.tx_constraint.specs.Bytes.{touches_own_page}
 use Rattle.tx_constraint.proofs.Lists.{passes_at, none_more}
 use Rattle.tx_constraint.proofs.pieces.is_one_near.Goals as goal

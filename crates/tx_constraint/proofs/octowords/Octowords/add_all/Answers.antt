@@ -1,7 +1,7 @@
-use Rattle.std.proofs.Common.{◌≡◌, ℕ, ◌-◌, ◌+◌, ◌≤◌, List, leb, true, false, length, take, subst, sym, ap, ◌∙◌, arith}
+use Rattle.std.proofs.Common.{◌≡◌, ℕ, ◌-◌, ◌≤◌, List, leb, length, subst, sym, ap, ◌∙◌, arith}
 use Rattle.std.specs.List.{fold, range_with_len}
 use Rattle.std.proofs.lemmas.Bool.{leb-true}
-use Rattle.tx_constraint.specs.Octowords.{with_octoword, with_octowords}
+use Rattle.tx_constraint.specs.Octowords.{with_octoword}
 use Rattle.tx_constraint.proofs.Piling.{octowords_more, with_octowords-none, stays_full_after, few_kept}
 use Rattle.tx_constraint.proofs.octowords.Octowords.add_all.Goals as goal
 
@@ -11,8 +11,7 @@ in_turn found first end = fold with_octoword found (range_with_len first (end - 
 
 pub loop-i-init : goal.loop-i-init
 loop-i-init c =
-    let P : List ℕ → Type 0 = λ xs. length xs ≤ 4 in
-    (
+    let P : List ℕ → Type 0 = λ xs. length xs ≤ 4 in (
       sym (with_octowords-none c.args.self.now),
       subst P c.self.view_is (few_kept c.self.inside.numbers c.self.inside.used c.self.invariant.0),
     )
@@ -26,9 +25,8 @@ returns-then-not-add_pieces-clause-room c =
 pub loop-i-preserved : goal.loop-i-preserved
 loop-i-preserved c =
     let added : c.add_pieces.new.self ≡ in_turn c.loop-i.self c.pieces_of.result.first c.pieces_of.result.end = (c.if-not-add_pieces.ensures).added in
-    let few : length (in_turn c.loop-i.self c.pieces_of.result.first c.pieces_of.result.end) ≤ 4 = leb-true _ _ (sym ((c.if-not-add_pieces.ensures).room)) in
-    (
+    let few : length (in_turn c.loop-i.self c.pieces_of.result.first c.pieces_of.result.end) ≤ 4 = leb-true _ _ (sym ((c.if-not-add_pieces.ensures).room)) in (
       added ∙ (λ i. in_turn (c.loop-i.invariant.0 i) (c.pieces_of.ensures.first i) (c.pieces_of.ensures.end i))
-      ∙ sym (octowords_more c.args.self.now c.args.touches.now c.loop-i.i c.at.result c.at.ensures),
+          ∙ sym (octowords_more c.args.self.now c.args.touches.now c.loop-i.i c.at.result c.at.ensures),
       omega (arith, ap length added, few),
     )

@@ -1,4 +1,4 @@
-use Rattle.std.proofs.Common.{◌≡◌, ℕ, ◌-◌, ◌+◌, ◌≤◌, List, leb, true, false, length, take, subst, sym, ap, ◌∙◌, arith}
+use Rattle.std.proofs.Common.{◌≡◌, ℕ, ◌-◌, ◌+◌, ◌≤◌, List, leb, false, length, subst, sym, ap, ◌∙◌, arith}
 use Rattle.std.specs.List.{fold, range_with_len}
 use Rattle.std.proofs.lemmas.Bool.{le-leb, leb-true}
 use Rattle.tx_constraint.specs.Octowords.{with_octoword}
@@ -9,8 +9,7 @@ pub loop-octoword-init : goal.loop-octoword-init
 loop-octoword-init c =
     let found = c.args.self.now in
     let nothing : 0 ≡ c.args.pieces.first - c.args.pieces.first = omega arith in
-    let P : List ℕ → Type 0 = λ xs. length xs ≤ 4 in
-    (
+    let P : List ℕ → Type 0 = λ xs. length xs ≤ 4 in (
       ap (λ n. fold with_octoword found (range_with_len c.args.pieces.first n)) nothing,
       subst P c.self.view_is (few_kept c.self.inside.numbers c.self.inside.used c.self.invariant.0),
       omega arith,
@@ -33,8 +32,7 @@ loop-octoword-preserved c =
     let first = c.args.pieces.first in
     let o = c.loop-octoword.octoword in
     let one : c.add.new.self ≡ with_octoword c.loop-octoword.self o = (c.if-not-add.ensures).added in
-    let few : length (with_octoword c.loop-octoword.self o) ≤ 4 = leb-true _ _ (sym ((c.if-not-add.ensures).room)) in
-    (
+    let few : length (with_octoword c.loop-octoword.self o) ≤ 4 = leb-true _ _ (sym ((c.if-not-add.ensures).room)) in (
       one ∙ ap (λ xs. with_octoword xs o) c.loop-octoword.invariant.0 ∙ sym (pile_more found first o c.loop-octoword.invariant.2),
       omega (arith, ap length one, few),
       omega (arith, c.loop-octoword.invariant.2),

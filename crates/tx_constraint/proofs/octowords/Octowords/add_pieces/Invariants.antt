@@ -1,4 +1,4 @@
-use Rattle.std.proofs.Common.{◌≡◌, ◌-◌, ◌≤◌, leb, true, length}
+use Rattle.std.proofs.Common.{◌≡◌, ◌-◌, ◌≤◌, length}
 use Rattle.std.specs.List.{fold, range_with_len}
 use Rattle.tx_constraint.specs.Octowords.{with_octoword}
 use Rattle.tx_constraint.proofs.octowords.Octowords.add_pieces.Given as goal
