@@ -6,6 +6,10 @@ pub mod Bytes
 pub mod Distinct
 pub mod Spelled
 pub mod OneReading
+pub mod SameInstr
+pub mod TakenApart
+pub mod ComputedReading
+pub mod ReadingExamples
 pub mod Pieces
 pub mod PlainImmediates
 pub mod SmallOperands
