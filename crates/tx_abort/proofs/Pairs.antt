@@ -4,7 +4,8 @@ use Rattle.std.specs.Prelude.{◌⊎◌}
 use Rattle.std.proofs.lemmas.List.{get_or-set_same, get_or-set_other}
 use Rattle.std.proofs.lemmas.List.FromFn.{fill_by_all, get_or-map-range_with_len}
 use Rattle.std.proofs.lemmas.Bool.{cases_eq, cases_lt, lt-ltb, le-ltb, agree_below_at}
-use Rattle.tx_abort.specs.Registers.{saves_pair, restored}
+use Rattle.z_regs.specs.Pairs.{saves_pair}
+use Rattle.tx_abort.specs.Registers.{restored}
 
 cases : {A B C : Type 0} → A ⊎ B → (A → C) → (B → C) → C
 cases s f g = ⊎_elim f g s

@@ -3,7 +3,8 @@ ghost use Rattle.std.specs.Prelude.{◌≡◌, ◌<◌, ◌≤◌, ◌/◌, ℕ,
 ghost use Rattle.tx_control.specs.declared.begins.Begin.{Begin};
 ghost use Rattle.tx_control.specs.declared.causes.Why.{Why};
 ghost use Rattle.tx_abort.specs.Block.{Field, fields, has, byte_in, block};
-ghost use Rattle.tx_abort.specs.Registers.{saves_pair, restored};
+ghost use Rattle.z_regs.specs.Pairs.{saves_pair};
+ghost use Rattle.tx_abort.specs.Registers.{restored};
 
 /// The block has 256 bytes. Each of them belongs to at most one field, and is that field's; a byte that belongs to none
 /// is zero.

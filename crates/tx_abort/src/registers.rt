@@ -1,7 +1,8 @@
 //! The general registers that an abort brings back.
 ghost use Rattle.std.specs.Prelude.{◌≡◌, ◌<◌};
 ghost use Rattle.z_regs.specs.Cpu.{cpu_of};
-ghost use Rattle.tx_abort.specs.Registers.{saves_pair, restored, with_restored};
+ghost use Rattle.z_regs.specs.Pairs.{saves_pair};
+ghost use Rattle.tx_abort.specs.Registers.{restored, with_restored};
 
 use z_regs::CpuImage;
 

@@ -1,5 +1,5 @@
 use Rattle.std.proofs.Common.{◌≡◌, ℕ, ◌/◌, ◌&&◌, ltb, cond, get_or, length}
-use Rattle.tx_abort.specs.Registers.{saves_pair}
+use Rattle.z_regs.specs.Pairs.{saves_pair}
 use Rattle.tx_abort.proofs.registers.bring_back.Given as goal
 
 -- the selected registers so far are brought back, and no other has changed
