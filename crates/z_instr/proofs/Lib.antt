@@ -1,5 +1,6 @@
 pub mod Passing
 pub mod TableFacts
+pub mod RoleFacts
 pub mod Within
 pub mod OneSpelling
 pub mod Bytes
@@ -10,6 +11,7 @@ pub mod SameInstr
 pub mod TakenApart
 pub mod ComputedReading
 pub mod ReadingExamples
+mod AccessExamples
 pub mod Pieces
 pub mod PlainImmediates
 pub mod SmallOperands

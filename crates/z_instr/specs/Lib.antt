@@ -8,3 +8,5 @@ pub mod Computing
 pub mod Reading
 pub mod Operands
 pub mod Places
+pub mod Roles
+pub mod Access
