@@ -50,163 +50,134 @@ const SPECIFICATION: Exception = Exception {
     length: 4,
 };
 
-/// The cause of an abort, the nesting depth and the kind of the outermost begin, the registers, the address that is
-/// told, and the block's doublewords from its first byte on.
-#[derive(Clone, Copy)]
-struct Case {
-    why: Why,
-    depth: u8,
-    constrained: bool,
-    general: [u64; 16],
-    at: u64,
-    head: [u64; 5],
-}
+/// An address whose bytes all differ.
+const FAR: u64 = 0xFEDCBA9876543210;
 
-const fn row(
-    why: Why,
-    depth: u8,
-    constrained: bool,
-    general: [u64; 16],
-    at: u64,
-    head: [u64; 5],
-) -> Case {
-    Case {
-        why,
-        depth,
-        constrained,
-        general,
-        at,
-        head,
-    }
-}
-
-/// One block for each abort code, and four that programs of the model have left.
-fn table() -> [Case; 15] {
-    let r = ALL_DIFFERENT;
-    let far = 0xFEDCBA9876543210;
-    [
-        row(
-            Why::External,
-            2,
-            false,
-            r,
-            0x4020,
-            [0x0100000000000002, 2, 0, 0x4020, 0],
-        ),
-        row(
-            Why::Program(CONSTRAINT),
-            1,
-            true,
-            r,
-            0x4020,
-            [0x0140000000000001, 4, 0, 0x4020, 0x60018],
-        ),
-        row(
-            Why::FetchOverflow,
-            2,
-            false,
-            r,
-            0x4020,
-            [0x0100000000000002, 7, 0, 0x4020, 0],
-        ),
-        row(
-            Why::StoreOverflow,
-            2,
-            false,
-            r,
-            0x4020,
-            [0x0100000000000002, 8, 0, 0x4020, 0],
-        ),
-        row(
-            Why::FetchConflict(144),
-            2,
-            false,
-            r,
-            0x4020,
-            [0x0180000000000002, 9, 0x9000, 0x4020, 0],
-        ),
-        row(
-            Why::StoreConflict(4095),
-            2,
-            false,
-            r,
-            0x4020,
-            [0x0180000000000002, 10, 0xFFF00, 0x4020, 0],
-        ),
-        row(
-            Why::Restricted,
-            2,
-            false,
-            r,
-            0x4020,
-            [0x0100000000000002, 11, 0, 0x4020, 0],
-        ),
-        row(
-            Why::Filtered(SPECIFICATION),
-            2,
-            false,
-            r,
-            0x4020,
-            [0x0100000000000002, 12, 0, 0x4020, 0x40006],
-        ),
-        row(
-            Why::Depth,
-            16,
-            false,
-            r,
-            0x4020,
-            [0x0100000000000010, 13, 0, 0x4020, 0],
-        ),
-        row(
-            Why::Starved,
-            1,
-            true,
-            r,
-            0x4020,
-            [0x0140000000000001, 255, 0, 0x4020, 0],
-        ),
-        row(
-            Why::Tabort(256),
-            2,
-            false,
-            r,
-            far,
-            [0x0100000000000002, 256, 0, far, 0],
-        ),
-        row(
-            Why::Tabort(257),
-            1,
-            false,
-            FEW,
-            0x4020,
-            [0x0100000000000001, 257, 0, 0x4020, 0],
-        ),
-        row(
-            Why::Filtered(SPECIFICATION),
-            1,
-            false,
-            FEW,
-            0x4020,
-            [0x0100000000000001, 12, 0, 0x4020, 0x40006],
-        ),
-        row(
-            Why::Program(SPECIFICATION),
-            1,
-            false,
-            FEW,
-            0x4020,
-            [0x0100000000000001, 4, 0, 0x4020, 0x40006],
-        ),
-        row(
-            Why::Program(CONSTRAINT),
-            1,
-            true,
-            [0; 16],
-            0x4006,
-            [0x0140000000000001, 4, 0, 0x4006, 0x60018],
-        ),
-    ]
-}
+/// Abort codes and blocks: the cause of an abort, the nesting depth and the kind of the outermost begin, the registers,
+/// the address that is told, and the block's doublewords from its first byte on. The last four are blocks that programs
+/// of the model have left.
+const BLOCKS: [(Why, u8, bool, [u64; 16], u64, [u64; 5]); 15] = [
+    (
+        Why::External,
+        2,
+        false,
+        ALL_DIFFERENT,
+        0x4020,
+        [0x0100000000000002, 2, 0, 0x4020, 0],
+    ),
+    (
+        Why::Program(CONSTRAINT),
+        1,
+        true,
+        ALL_DIFFERENT,
+        0x4020,
+        [0x0140000000000001, 4, 0, 0x4020, 0x60018],
+    ),
+    (
+        Why::FetchOverflow,
+        2,
+        false,
+        ALL_DIFFERENT,
+        0x4020,
+        [0x0100000000000002, 7, 0, 0x4020, 0],
+    ),
+    (
+        Why::StoreOverflow,
+        2,
+        false,
+        ALL_DIFFERENT,
+        0x4020,
+        [0x0100000000000002, 8, 0, 0x4020, 0],
+    ),
+    (
+        Why::FetchConflict(144),
+        2,
+        false,
+        ALL_DIFFERENT,
+        0x4020,
+        [0x0180000000000002, 9, 0x9000, 0x4020, 0],
+    ),
+    (
+        Why::StoreConflict(4095),
+        2,
+        false,
+        ALL_DIFFERENT,
+        0x4020,
+        [0x0180000000000002, 10, 0xFFF00, 0x4020, 0],
+    ),
+    (
+        Why::Restricted,
+        2,
+        false,
+        ALL_DIFFERENT,
+        0x4020,
+        [0x0100000000000002, 11, 0, 0x4020, 0],
+    ),
+    (
+        Why::Filtered(SPECIFICATION),
+        2,
+        false,
+        ALL_DIFFERENT,
+        0x4020,
+        [0x0100000000000002, 12, 0, 0x4020, 0x40006],
+    ),
+    (
+        Why::Depth,
+        16,
+        false,
+        ALL_DIFFERENT,
+        0x4020,
+        [0x0100000000000010, 13, 0, 0x4020, 0],
+    ),
+    (
+        Why::Starved,
+        1,
+        true,
+        ALL_DIFFERENT,
+        0x4020,
+        [0x0140000000000001, 255, 0, 0x4020, 0],
+    ),
+    (
+        Why::Tabort(256),
+        2,
+        false,
+        ALL_DIFFERENT,
+        FAR,
+        [0x0100000000000002, 256, 0, FAR, 0],
+    ),
+    (
+        Why::Tabort(257),
+        1,
+        false,
+        FEW,
+        0x4020,
+        [0x0100000000000001, 257, 0, 0x4020, 0],
+    ),
+    (
+        Why::Filtered(SPECIFICATION),
+        1,
+        false,
+        FEW,
+        0x4020,
+        [0x0100000000000001, 12, 0, 0x4020, 0x40006],
+    ),
+    (
+        Why::Program(SPECIFICATION),
+        1,
+        false,
+        FEW,
+        0x4020,
+        [0x0100000000000001, 4, 0, 0x4020, 0x40006],
+    ),
+    (
+        Why::Program(CONSTRAINT),
+        1,
+        true,
+        [0; 16],
+        0x4006,
+        [0x0140000000000001, 4, 0, 0x4006, 0x60018],
+    ),
+];
 
 /// A nest whose outermost begin is of this kind, and has others inside it.
 fn nest_of(depth: u8, constrained: bool) -> Nest {
@@ -238,20 +209,20 @@ fn doubleword(block: &[u8; BLOCK_SIZE], k: usize) -> u64 {
 
 #[test]
 fn blocks_of_all_causes(rt: HostRuntime) {
-    for case in table() {
+    for (why, depth, constrained, general, at, head) in BLOCKS {
         let mut image = CpuImage::entering(0x5000);
-        image.general = case.general;
-        let nest = nest_of(case.depth, case.constrained);
+        image.general = general;
+        let nest = nest_of(depth, constrained);
         assert!(rt; 0 < nest.depth());
-        let block = block_of(case.why, &nest, &image, case.at);
+        let block = block_of(why, &nest, &image, at);
         for k in 0..5 {
-            assert_eq!(rt; doubleword(&block, k), case.head[k]);
+            assert_eq!(rt; doubleword(&block, k), head[k]);
         }
         for k in 5..16 {
             assert_eq!(rt; doubleword(&block, k), 0);
         }
         for k in 0..16 {
-            assert_eq!(rt; doubleword(&block, 16 + k), case.general[k]);
+            assert_eq!(rt; doubleword(&block, 16 + k), general[k]);
         }
     }
 }

@@ -6,7 +6,7 @@ use Rattle.std.proofs.lemmas.List.Sums.{sum_by-append, sum_by-cons}
 use Rattle.std.proofs.lemmas.Grind.{flat_map-append}
 use Rattle.std.proofs.lemmas.List.Folds.{list_any-append}
 use Rattle.std.proofs.lemmas.Bool.{cases_lt, or_parts, ltb-false, lt-ltb, le-ltb, le-leb, lt-leb}
-use Rattle.tx_constraint.specs.Operations.{is_end, is_permitted, unit_of}
+use Rattle.tx_constraint.specs.Operations.{ends, is_permitted, unit_of}
 use Rattle.tx_constraint.specs.Bytes.{touches_own_page}
 use Rattle.tx_constraint.specs.Octowords.{with_octowords}
 use Rattle.tx_constraint.specs.Constraints.{Step, Attempt, with_step, begun, is_too_long, leaves_its_bytes, has_barred, is_too_wide, touches_itself, has_split, lies_near, is_split, octowords, first_of, text_breach, operand_breach, GoesOn}
@@ -72,13 +72,13 @@ any_step p steps s none = list_any-append p steps (s ∷ []) ∙ ap (λ b. b || 
     or_false false = refl
 
 abbrev no_end : Step → Bool
-no_end s = not (is_end s.instruction)
+no_end s = not (ends s.instruction)
 
 -- without an end all steps count
-all_count : (steps : List Step) → list_any (λ s. is_end s.instruction) steps ≡ false → count_by no_end steps ≡ length steps
+all_count : (steps : List Step) → list_any (λ s. ends s.instruction) steps ≡ false → count_by no_end steps ≡ length steps
 all_count [] none = refl
 all_count (s ∷ steps) none =
-    let parts = or_parts (is_end s.instruction) (list_any (λ x. is_end x.instruction) steps) none in
+    let parts = or_parts (ends s.instruction) (list_any (λ x. ends x.instruction) steps) none in
     let one : cond {A = ℕ} (no_end s) 1 0 ≡ 1 = ap (λ b. cond {A = ℕ} (not b) 1 0) parts.0 in
     let rest : count_by no_end steps ≡ length steps = all_count steps parts.1 in
     omega (arith, one, rest, sum_by-cons (λ x. cond {A = ℕ} (no_end x) 1 0) s steps)

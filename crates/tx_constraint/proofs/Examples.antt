@@ -2,8 +2,9 @@
 use Rattle.std.proofs.Common.{◌≡◌, ℕ, true, false, [], ◌∷◌, map, refl}
 use Rattle.std.specs.Prelude.{codes, filter}
 use Rattle.z_regs.specs.declared.ranges.Range.{Range}
+use Rattle.z_instr.specs.Roles.{is_relative_branch}
 use Rattle.z_instr.specs.Table.{Entry, table}
-use Rattle.tx_constraint.specs.Operations.{is_multiple, is_relative_branch}
+use Rattle.tx_constraint.specs.Operations.{is_multiple}
 use Rattle.tx_constraint.specs.Bytes.{lies_in_one, touches_own_page}
 use Rattle.tx_constraint.specs.Octowords.{with_octowords}
 
@@ -17,7 +18,7 @@ multiple = refl
 
 -- the branches with a target
 branches : map (λ (e : Entry). e.name) (filter is_relative_branch table) ≡ codes "BRC" ∷ codes "BRAS" ∷ codes "BRCT" ∷ codes "BRCTG" ∷ codes "BRCL" ∷ codes "BRASL" ∷ codes "CGRJ" ∷ codes "CLGRJ" ∷ codes "CRJ" ∷ codes "CGIJ" ∷ []
-unfolding table is_relative_branch
+unfolding table
 branches = refl
 
 -- a doubleword on its boundary, and across the boundary of an octoword; the second octoword comes once

@@ -3,7 +3,7 @@ use Rattle.std.specs.Prelude.{◌≡◌, ℕ, ◌+◌, Bool, false, ◌&&◌, no
 use Rattle.std.specs.List.{list_any, flat_map, count_by}
 use Rattle.z_regs.specs.declared.ranges.Range.{Range}
 use Rattle.z_instr.specs.declared.instr.Instr.{Instr}
-use Rattle.tx_constraint.specs.Operations.{is_end, is_permitted, unit_of, bytes_of}
+use Rattle.tx_constraint.specs.Operations.{ends, is_permitted, unit_of, bytes_of}
 use Rattle.tx_constraint.specs.Bytes.{lies_in_one, touches_own_page}
 use Rattle.tx_constraint.specs.Octowords.{with_octowords}
 
@@ -28,7 +28,7 @@ with_step a s = record a { steps = a.steps ++ s ∷ [] }
 
 -- 1: more than 32 instructions, TBEGINC and TEND not counted
 abbrev pub is_too_long : Attempt → Bool
-is_too_long a = nat_lt 32 (count_by (λ s. not (is_end s.instruction)) a.steps)
+is_too_long a = nat_lt 32 (count_by (λ s. not (ends s.instruction)) a.steps)
 
 -- 2: an instruction that does not lie in the 256 bytes that begin with TBEGINC
 abbrev pub lies_near : ℕ → Instr → ℕ → Bool
@@ -82,6 +82,6 @@ verdict (Some number) = Err number
 
 -- an attempt that goes on: it has broken nothing, and not come to its end
 pub record GoesOn (a : Attempt) : Type 0 where
-  pub unended : list_any (λ s. is_end s.instruction) a.steps ≡ false
+  pub unended : list_any (λ s. ends s.instruction) a.steps ≡ false
   pub text : text_breach a ≡ None
   pub operands : operand_breach a ≡ None

@@ -3,7 +3,7 @@ use Rattle.std.specs.Prelude.{◌≡◌, ℕ, ◌+◌, ◌&&◌, not, nat_eq, na
 use Rattle.std.specs.List.{list_any}
 use Rattle.z_regs.specs.declared.ranges.Range.{Range}
 use Rattle.z_instr.specs.declared.instr.Instr.{Instr}
-use Rattle.tx_constraint.specs.Operations.{is_end, is_permitted, unit_of}
+use Rattle.tx_constraint.specs.Operations.{ends, is_permitted, unit_of}
 use Rattle.tx_constraint.specs.Bytes.{touches_own_page}
 use Rattle.tx_constraint.specs.Octowords.{with_octowords}
 use Rattle.tx_constraint.specs.Constraints.{Attempt, octowords, lies_near, is_split, first_of}
@@ -23,7 +23,7 @@ added k ranges = record k { count = k.count + 1; octowords = with_octowords k.oc
 
 unfoldable pub next_text_breach : Kept → Instr → ℕ → Option ℕ
 next_text_breach k i at =
-    first_of (nat_le 32 k.count && not (is_end i)) 1
+    first_of (nat_le 32 k.count && not (ends i)) 1
     (first_of (not (lies_near k.begin i at)) 2 (first_of (not (is_permitted i)) 3 None))
 
 unfoldable pub next_operand_breach : Kept → Instr → List Range → Option ℕ

@@ -1,19 +1,15 @@
 -- What the constraints ask of an operation.
-use Rattle.std.specs.Prelude.{ℕ, Bool, true, false, ◌&&◌, ◌||◌, not, if◌then◌else◌, ℤ, pos, negsuc, nat_lt, codes}
-use Rattle.std.specs.Str.{bytes_eq}
+use Rattle.std.specs.Prelude.{ℕ, Bool, true, false, ◌&&◌, ◌||◌, not, if◌then◌else◌, ℤ, pos, negsuc, nat_lt}
 use Rattle.z_instr.specs.declared.instr.Instr.{Instr}
 use Rattle.z_instr.specs.declared.operand.Operands.{Operands}
 use Rattle.z_instr.specs.declared.operand.Operands.TheVariants.{FetchedMany, StoredMany}
-use Rattle.z_instr.specs.Table.{Entry, entry_at}
+use Rattle.z_instr.specs.Table.{entry_at}
 use Rattle.z_instr.specs.Layout.{format_length}
+use Rattle.z_instr.specs.Roles.{is_end, is_relative_branch}
 
--- TEND
-unfoldable pub is_end : Instr → Bool
-is_end i = bytes_eq (entry_at i.op.number).name (codes "TEND")
-
--- the operations with a target but the one that only loads its address
-unfoldable pub is_relative_branch : Entry → Bool
-is_relative_branch e = e.relative && not (bytes_eq e.name (codes "LARL"))
+-- the instruction is TEND, which ends the transaction
+abbrev pub ends : Instr → Bool
+ends i = is_end (entry_at i.op.number)
 
 -- the distance of the target is above zero
 abbrev pub is_ahead : ℤ → Bool

@@ -5,10 +5,11 @@ ghost use Rattle.tx_constraint.specs.Constraints.{verdict, lies_near};
 ghost use Rattle.tx_constraint.specs.Kept.{Kept, kept_at, added, next_text_breach, next_operand_breach, AreSame};
 
 use crate::octowords::Octowords;
-use crate::operations::{is_end, is_permitted, length as bytes_of, unit};
+use crate::operations::{instruction_length, is_permitted, unit};
 use crate::pieces::{is_one_near, is_one_split};
 use std::marker::Model;
 use z_instr::instr::Instr;
+use z_instr::roles::is_end;
 use z_regs::Touches;
 
 /// How many instructions an attempt may have, TBEGINC and TEND not counted.
@@ -41,7 +42,7 @@ impl Model for Constraint {
 fn is_near(begin: u64, instr: &Instr, at: u64) -> bool
     ensures { result ≡ lies_near begin instr.now at }
 {
-    at >= begin && at - begin <= MOST_BYTES - bytes_of(instr)
+    at >= begin && at - begin <= MOST_BYTES - instruction_length(instr)
 }
 
 impl Constraint {
@@ -63,7 +64,7 @@ impl Constraint {
     pub fn admit_text(&self, instr: &Instr, at: u64) -> Result<(), u8>
         ensures { result ≡ verdict (next_text_breach self.now instr.now at) }
     {
-        if self.count >= MOST_INSTRUCTIONS && !is_end(instr) {
+        if self.count >= MOST_INSTRUCTIONS && !is_end(instr.op) {
             return Err(1);
         }
         if !is_near(self.begin, instr, at) {

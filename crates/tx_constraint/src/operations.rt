@@ -1,12 +1,12 @@
 //! What the constraints ask of an operation.
 ghost use Rattle.std.specs.Prelude.{◌≡◌, ◌≤◌};
-ghost use Rattle.z_instr.specs.Table.{entry_at};
-ghost use Rattle.tx_constraint.specs.Operations.{is_end as is_tend, is_relative_branch as branches_ahead, is_permitted as permits, is_multiple as is_many, unit_of, bytes_of};
+ghost use Rattle.tx_constraint.specs.Operations.{is_permitted as permits, is_multiple as is_many, unit_of, bytes_of};
 
 use z_instr::format::length_in;
 use z_instr::instr::Instr;
-use z_instr::lookup::{line, row};
+use z_instr::lookup::line;
 use z_instr::operand::Operands;
+use z_instr::roles::is_relative_branch;
 
 /// The bytes of an octoword.
 pub const OCTOWORD_SIZE: u64 = 32;
@@ -14,28 +14,12 @@ pub const OCTOWORD_SIZE: u64 = 32;
 /// The bytes of a doubleword.
 const DOUBLEWORD_SIZE: u64 = 8;
 
-/// Whether the instruction is TEND.
-#[tactic(auto, unfolding(crate::specs::Operations::is_end))]
-pub fn is_end(instr: &Instr) -> bool
-    ensures { result ≡ is_tend instr.now }
-{
-    row(instr.op).name.bytes() == b"TEND".as_slice()
-}
-
-/// Whether the instruction is a branch with a target.
-#[tactic(auto, unfolding(crate::specs::Operations::is_relative_branch))]
-fn is_relative_branch(instr: &Instr) -> bool
-    ensures { result ≡ branches_ahead (entry_at instr.now.op.number) }
-{
-    line(instr.op).relative && row(instr.op).name.bytes() != b"LARL".as_slice()
-}
-
 /// Whether constrained transactions may have the instruction: the table permits its operation, and a branch with a
 /// target goes ahead.
 pub fn is_permitted(instr: &Instr) -> bool
     ensures { result ≡ permits instr.now }
 {
-    line(instr.op).permitted && (!is_relative_branch(instr) || instr.imm > 0)
+    line(instr.op).permitted && (!is_relative_branch(instr.op) || instr.imm > 0)
 }
 
 /// Whether an operation with these operands is one on several registers.
@@ -63,7 +47,7 @@ pub fn unit(instr: &Instr) -> u64
 }
 
 /// How many bytes the instruction has.
-pub fn length(instr: &Instr) -> u64
+pub fn instruction_length(instr: &Instr) -> u64
     ensures value { result ≡ bytes_of instr.now }
     ensures small { result ≤ 6 }
 {
