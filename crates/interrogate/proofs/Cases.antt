@@ -1,5 +1,5 @@
 -- Which answers come: by whether there is a conflict and whether the holder may reject.
-use Rattle.std.proofs.Common.{◌≡◌, ◌≢◌, Bool, true, false, ◌&&◌, not, refl, sym, ap, ◌∙◌}
+use Rattle.std.proofs.Common.{◌≡◌, ◌≢◌, Bool, true, false, ◌&&◌, not, refl, ap}
 use Rattle.std.specs.Prelude.{◌↔◌, if◌then◌else◌}
 use Rattle.std.proofs.lemmas.Bool.{and_right, and_left}
 use Rattle.tx_control.specs.declared.causes.Why.{Why}

@@ -68,14 +68,54 @@ fn letter(answer: Answer) -> u8 {
 /// whether the attempt is live, whether it is constrained, whether it has given all the rejects that it may, whether the
 /// asker is late, and whether it is the head of the queue, the last changing fastest.
 const ANSWERS: [(bool, bool, Mode, &[u8; 32]); 8] = [
-    (false, false, Mode::Shared, b"YYYYYYYYYYYYYYYYYYYYYYYYYYYYYYYY"),
-    (false, false, Mode::Exclusive, b"YYYYYYYYYYYYYYYYYYYYYYYYYYYYYYYY"),
-    (true, false, Mode::Shared, b"YYYYYYYYYYYYYYYYYYYYYYYYYYYYYYYY"),
-    (true, false, Mode::Exclusive, b"YYYYYYYYYYYYYYYYRFFFFFFFRFRFFFFF"),
-    (false, true, Mode::Shared, b"YYYYYYYYYYYYYYYYRSSSSSSSRSRSSSSS"),
-    (false, true, Mode::Exclusive, b"YYYYYYYYYYYYYYYYRSSSSSSSRSRSSSSS"),
-    (true, true, Mode::Shared, b"YYYYYYYYYYYYYYYYRSSSSSSSRSRSSSSS"),
-    (true, true, Mode::Exclusive, b"YYYYYYYYYYYYYYYYRSSSSSSSRSRSSSSS"),
+    (
+        false,
+        false,
+        Mode::Shared,
+        b"YYYYYYYYYYYYYYYYYYYYYYYYYYYYYYYY",
+    ),
+    (
+        false,
+        false,
+        Mode::Exclusive,
+        b"YYYYYYYYYYYYYYYYYYYYYYYYYYYYYYYY",
+    ),
+    (
+        true,
+        false,
+        Mode::Shared,
+        b"YYYYYYYYYYYYYYYYYYYYYYYYYYYYYYYY",
+    ),
+    (
+        true,
+        false,
+        Mode::Exclusive,
+        b"YYYYYYYYYYYYYYYYRFFFFFFFRFRFFFFF",
+    ),
+    (
+        false,
+        true,
+        Mode::Shared,
+        b"YYYYYYYYYYYYYYYYRSSSSSSSRSRSSSSS",
+    ),
+    (
+        false,
+        true,
+        Mode::Exclusive,
+        b"YYYYYYYYYYYYYYYYRSSSSSSSRSRSSSSS",
+    ),
+    (
+        true,
+        true,
+        Mode::Shared,
+        b"YYYYYYYYYYYYYYYYRSSSSSSSRSRSSSSS",
+    ),
+    (
+        true,
+        true,
+        Mode::Exclusive,
+        b"YYYYYYYYYYYYYYYYRSSSSSSSRSRSSSSS",
+    ),
 ];
 
 #[test]
@@ -111,11 +151,19 @@ fn a_late_holder_is_firm(rt: HostRuntime) -> Result<(), Fail> {
         head: false,
         late: false,
     };
-    for (conflicts, rejects, expected) in [(3u32, 7u32, 1u32), (3, 8, 0), (4, 8, 56), (4, 63, 1), (4, 64, 0)] {
+    for (conflicts, rejects, expected) in [
+        (3u32, 7u32, 1u32),
+        (3, 8, 0),
+        (4, 8, 56),
+        (4, 63, 1),
+        (4, 64, 0),
+    ] {
         let mut ladder = ladder_of(true, conflicts, rejects);
         let mut given = 0u32;
         for _ in 0..100 {
-            if answer(true, &footprint, &mut ladder, LINE, Mode::Exclusive, asker) == Answer::Rejects {
+            if answer(true, &footprint, &mut ladder, LINE, Mode::Exclusive, asker)
+                == Answer::Rejects
+            {
                 given = given.saturating_add(1);
             }
         }
