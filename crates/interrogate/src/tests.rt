@@ -178,3 +178,13 @@ fn laws_hold() {
     crate::who_is_never_rejected();
     crate::only_rejects_are_counted();
 }
+
+/// Whether values of a type may move between threads and be shared by them.
+fn is_shared<T: Send + Sync>() -> bool {
+    true
+}
+
+#[test]
+fn answers_are_shared_by_threads(rt: HostRuntime) {
+    assert!(rt; is_shared::<Answer>() && is_shared::<Asker>());
+}

@@ -203,3 +203,13 @@ fn laws_hold() {
     crate::pages_are_those_of_the_bytes();
     crate::units_hold_all_bytes();
 }
+
+/// Whether values of a type may move between threads and be shared by them.
+fn is_shared<T: Send + Sync>() -> bool {
+    true
+}
+
+#[test]
+fn constraints_are_shared_by_threads(rt: HostRuntime) {
+    assert!(rt; is_shared::<Constraint>());
+}
