@@ -1,7 +1,7 @@
 //! Lines of the listing as people write them.
 
 use crate::fault::Fault;
-use crate::numbers::listed;
+use crate::numbers::listing_number;
 use crate::operand::{Operand, operands};
 use std::alloc::Global;
 use z_instr::instr::Instr;
@@ -75,25 +75,25 @@ fn parts(text: &str) -> Result<(i64, Option<&str>), Fault> {
     match text.split_once('(') {
         Some((displacement, inner)) => {
             let inner = inner.strip_suffix(')').ok_or(Fault::Malformed)?;
-            Ok((listed(displacement)?, Some(inner)))
+            Ok((listing_number(displacement)?, Some(inner)))
         }
-        None => Ok((listed(text)?, None)),
+        None => Ok((listing_number(text)?, None)),
     }
 }
 
 /// The two numbers in parentheses.
 fn pair(inner: &str) -> Result<(i64, i64), Fault> {
     let (first, second) = inner.split_once(',').ok_or(Fault::Malformed)?;
-    Ok((listed(first)?, listed(second)?))
+    Ok((listing_number(first)?, listing_number(second)?))
 }
 
 /// An operand of the same form as another one. The register of an index or a base that is left out is 0.
 fn read_as(form: &Operand, text: &str) -> Result<Operand, Fault> {
     match form {
-        Operand::Number(_) => Ok(Operand::Number(listed(text)?)),
+        Operand::Number(_) => Ok(Operand::Number(listing_number(text)?)),
         Operand::Target(_) => {
             let distance = text.strip_prefix('*').ok_or(Fault::Malformed)?;
-            Ok(Operand::Target(listed(distance)?))
+            Ok(Operand::Target(listing_number(distance)?))
         }
         Operand::Indexed(..) => match parts(text)? {
             (d, None) => Ok(Operand::Indexed(d, 0, 0)),
@@ -101,11 +101,11 @@ fn read_as(form: &Operand, text: &str) -> Result<Operand, Fault> {
                 let (x, b) = pair(inner)?;
                 Ok(Operand::Indexed(d, x, b))
             }
-            (d, Some(x)) => Ok(Operand::Indexed(d, listed(x)?, 0)),
+            (d, Some(x)) => Ok(Operand::Indexed(d, listing_number(x)?, 0)),
         },
         Operand::Based(..) => match parts(text)? {
             (d, None) => Ok(Operand::Based(d, 0)),
-            (d, Some(b)) => Ok(Operand::Based(d, listed(b)?)),
+            (d, Some(b)) => Ok(Operand::Based(d, listing_number(b)?)),
         },
         Operand::Counted(..) => {
             let (d, inner) = parts(text)?;
