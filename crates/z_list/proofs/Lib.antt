@@ -1,0 +1,4 @@
+-- Immediates, texts that grow by lines, and the bytes of instructions.
+pub mod Distances
+pub mod Growing
+pub mod Codes
