@@ -1,9 +1,9 @@
 -- What an image holds, as plain data.
-use Rattle.std.specs.Prelude.{ℕ, Bool, List, map, refl}
+use Rattle.std.specs.Prelude.{ℕ, Bool, List, Option, map, refl}
 use Rattle.std.specs.FinSet.{FinSet}
 use Rattle.std.specs.FinSet as set
 use Rattle.std.specs.Ordering.{nat_cmp}
-use Rattle.std.specs.Coded.{Coded, code_by, coded×, coded_ℕ, coded_bool, coded_list}
+use Rattle.std.specs.Coded.{Coded, code_by, coded×, coded_ℕ, coded_bool, coded_list, coded_option}
 use Rattle.z_regs.specs.Cpu.{Cpu, cpu_of}
 use Rattle.z_regs.specs.declared.image.CpuImage.{CpuImage}
 use Rattle.z_regs.specs.declared.image.RunState.{RunState}
@@ -37,16 +37,18 @@ content storage guard starts cpus shows schedule scheduled = record {
 
 abbrev cpu_code : Coded Cpu
 cpu_code =
-    code_by (List ℕ × (List ℕ × (ℕ × (ℕ × (ℕ × RunState)))))
-    (coded× (coded_list coded_ℕ) (coded× (coded_list coded_ℕ) (coded× coded_ℕ (coded× coded_ℕ (coded× coded_ℕ state.the_row.coded)))))
-    (λ c. (c.general, (c.access, (c.address, (c.condition, (c.mask, c.state))))))
+    code_by (List ℕ × (List ℕ × (ℕ × (ℕ × (ℕ × (RunState × Option ℕ))))))
+    (coded× (coded_list coded_ℕ) (coded× (coded_list coded_ℕ) (coded× coded_ℕ (coded× coded_ℕ (coded× coded_ℕ
+    (coded× state.the_row.coded (coded_option coded_ℕ)))))))
+    (λ c. (c.general, (c.access, (c.address, (c.condition, (c.mask, (c.state, c.prefix)))))))
     (λ p. record {
       general = p.0;
       access = p.1.0;
       address = p.1.1.0;
       condition = p.1.1.1.0;
       mask = p.1.1.1.1.0;
-      state = p.1.1.1.1.1;
+      state = p.1.1.1.1.1.0;
+      prefix = p.1.1.1.1.1.1;
     })
     (λ _. refl)
 

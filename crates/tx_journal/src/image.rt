@@ -153,7 +153,10 @@ fn is_same_cpu(one: &CpuImage, other: &CpuImage) -> bool
     if one.mask != other.mask {
         return false;
     }
-    one.state == other.state
+    if one.state != other.state {
+        return false;
+    }
+    one.prefix == other.prefix
 }
 
 /// Whether there are the same CPUs, in the same order.
