@@ -1,4 +1,4 @@
--- How far immediates go.
+-- How far immediates and displacements go.
 use Rattle.std.proofs.Common.{◌≡◌, ℕ, ◌<◌, ◌≤◌, Bool, true, false, arith, lit≤}
 use Rattle.std.specs.Prelude.{ℤ, pos, negsuc}
 use Rattle.std.proofs.lemmas.Bool.{lt-ltb, ltb-true}
@@ -50,3 +50,54 @@ immediate_is_close i =
     let e = entry_at i.op.number in
     wider (limits_of e).imm i.imm (immediates_are_close e.format e.signed e.masked e.single)
     (numbers_of (limits_of e) i (instr_fits i)).imm_in
+
+displacements_are_close : (f : Format) (s m o : Bool) → AreClose (limits_in f s m o).d
+displacements_are_close RR s m o = close 0 1 (lit≤ tt) (lit≤ tt)
+displacements_are_close I s m o = close 0 1 (lit≤ tt) (lit≤ tt)
+displacements_are_close RX s m o = close 0 4096 (lit≤ tt) (lit≤ tt)
+displacements_are_close RRE s m o = close 0 1 (lit≤ tt) (lit≤ tt)
+displacements_are_close RRFa s m o = close 0 1 (lit≤ tt) (lit≤ tt)
+displacements_are_close RRFc s m o = close 0 1 (lit≤ tt) (lit≤ tt)
+displacements_are_close RXY s m o = close 524288 524288 (lit≤ tt) (lit≤ tt)
+displacements_are_close RI s m o = close 0 1 (lit≤ tt) (lit≤ tt)
+displacements_are_close RIL s m o = close 0 1 (lit≤ tt) (lit≤ tt)
+displacements_are_close RS s m o = close 0 4096 (lit≤ tt) (lit≤ tt)
+displacements_are_close RSY s m o = close 524288 524288 (lit≤ tt) (lit≤ tt)
+displacements_are_close SI s m o = close 0 4096 (lit≤ tt) (lit≤ tt)
+displacements_are_close SIY s m o = close 524288 524288 (lit≤ tt) (lit≤ tt)
+displacements_are_close SIL s m o = close 0 4096 (lit≤ tt) (lit≤ tt)
+displacements_are_close S s m true = close 0 1 (lit≤ tt) (lit≤ tt)
+displacements_are_close S s m false = close 0 4096 (lit≤ tt) (lit≤ tt)
+displacements_are_close SS s m o = close 0 4096 (lit≤ tt) (lit≤ tt)
+displacements_are_close RIEb s m o = close 0 1 (lit≤ tt) (lit≤ tt)
+displacements_are_close RIEc s m o = close 0 1 (lit≤ tt) (lit≤ tt)
+
+second_ones_are_close : (f : Format) (s m o : Bool) → AreClose (limits_in f s m o).d2
+second_ones_are_close RR s m o = close 0 1 (lit≤ tt) (lit≤ tt)
+second_ones_are_close I s m o = close 0 1 (lit≤ tt) (lit≤ tt)
+second_ones_are_close RX s m o = close 0 1 (lit≤ tt) (lit≤ tt)
+second_ones_are_close RRE s m o = close 0 1 (lit≤ tt) (lit≤ tt)
+second_ones_are_close RRFa s m o = close 0 1 (lit≤ tt) (lit≤ tt)
+second_ones_are_close RRFc s m o = close 0 1 (lit≤ tt) (lit≤ tt)
+second_ones_are_close RXY s m o = close 0 1 (lit≤ tt) (lit≤ tt)
+second_ones_are_close RI s m o = close 0 1 (lit≤ tt) (lit≤ tt)
+second_ones_are_close RIL s m o = close 0 1 (lit≤ tt) (lit≤ tt)
+second_ones_are_close RS s m o = close 0 1 (lit≤ tt) (lit≤ tt)
+second_ones_are_close RSY s m o = close 0 1 (lit≤ tt) (lit≤ tt)
+second_ones_are_close SI s m o = close 0 1 (lit≤ tt) (lit≤ tt)
+second_ones_are_close SIY s m o = close 0 1 (lit≤ tt) (lit≤ tt)
+second_ones_are_close SIL s m o = close 0 1 (lit≤ tt) (lit≤ tt)
+second_ones_are_close S s m o = close 0 1 (lit≤ tt) (lit≤ tt)
+second_ones_are_close SS s m o = close 0 4096 (lit≤ tt) (lit≤ tt)
+second_ones_are_close RIEb s m o = close 0 1 (lit≤ tt) (lit≤ tt)
+second_ones_are_close RIEc s m o = close 128 128 (lit≤ tt) (lit≤ tt)
+
+pub displacement_is_close : (i : Instr) → is_within (bounds 2147483648 4294967296) i.d ≡ true
+displacement_is_close i =
+    let e = entry_at i.op.number in
+    wider (limits_of e).d i.d (displacements_are_close e.format e.signed e.masked e.single) (numbers_of (limits_of e) i (instr_fits i)).d_in
+
+pub second_is_close : (i : Instr) → is_within (bounds 2147483648 4294967296) i.d2 ≡ true
+second_is_close i =
+    let e = entry_at i.op.number in
+    wider (limits_of e).d2 i.d2 (second_ones_are_close e.format e.signed e.masked e.single) (numbers_of (limits_of e) i (instr_fits i)).d2_in

@@ -2,3 +2,5 @@
 pub mod Distances
 pub mod Growing
 pub mod Codes
+pub mod Told
+pub mod Texts
