@@ -1,20 +1,22 @@
 -- What is drawn for each CPU.
 use Rattle.std.proofs.Common.{◌≡◌, ℕ, ◌+◌, ◌*◌, ◌/◌, ◌%◌, ◌^◌, suc, List, ◌++◌, ap, ap₂, sym, ◌∙◌, arith, append_assoc, codes, ◌==◌, if◌then◌else◌}
 use Rattle.tx_gen.specs.Draws.{state_after, state}
-use Rattle.tx_gen.specs.Programs.{stride, cpus, program_text, program_of, for_first, cpu_line, cpu_lines, programs, show_line, line, listing_of}
+use Rattle.tx_gen.specs.Programs.{stride, cpus, program_text, drawn_program, program_of, for_first, cpu_line, cpu_lines, programs, show_line, line, listing_of}
 
 one_on : (number cpu : ℕ) → state number (2 * cpu + 3) ≡ state_after (state number (2 * cpu + 2))
 one_on number cpu = let next : 2 * cpu + 3 ≡ suc (2 * cpu + 2) = omega arith in ap (state number) next
 
 -- two numbers are drawn for a CPU
-pub two_on : (number cpu s : ℕ) → s ≡ state number (2 * cpu + 2) → state_after (state_after s) ≡ state number (2 * (cpu + 1) + 2)
+pub two_on : (number cpu s : ℕ) → s ≡ state number (2 * cpu + 2)
+    → state_after (state_after s) ≡ state number (2 * (cpu + 1) + 2)
 two_on number cpu s is =
     let next : 2 * (cpu + 1) + 2 ≡ suc (2 * cpu + 3) = omega arith in
-    ap (λ x. state_after (state_after x)) is ∙ sym (ap state_after (one_on number cpu)) ∙ sym (ap (state number) next)
+    ap (λ x. state_after (state_after x)) is ∙ sym (ap state_after (one_on number cpu))
+    ∙ sym (ap (state number) next)
 
 -- and its program is made of them
 pub program_drawn : (number cpu s apart : ℕ) → s ≡ state number (2 * cpu + 2) → apart ≡ stride number
-    → program_text cpu (20 + state_after s / 2 ^ 33 % 81) (65536 + state_after (state_after s) / 2 ^ 33 % 4 * apart) ≡ program_of number cpu
+    → drawn_program cpu s apart ≡ program_of number cpu
 program_drawn number cpu s apart is also =
     let again = ap state_after is ∙ sym (one_on number cpu) in
     ap₂ (program_text cpu) (ap (λ x. 20 + state_after x / 2 ^ 33 % 81) is)
@@ -33,8 +35,10 @@ grown : (old a b c d : List ℕ) → (((old ++ a) ++ b) ++ c) ++ d ≡ old ++ (a
 grown old a b c d = simp append_assoc
 
 -- the whole, from its parts
-pub whole : (number count cpu apart : ℕ) (old lines all shown new : List ℕ) → count ≡ cpus number → cpu ≡ cpus number → apart ≡ stride number
-    → lines ≡ old ++ for_first count cpu_line → all ≡ lines ++ for_first cpu (program_of number) → shown ≡ all ++ show_line apart
+pub whole : (number count cpu apart : ℕ) (old lines all shown new : List ℕ) → count ≡ cpus number
+    → cpu ≡ cpus number → apart ≡ stride number
+    → lines ≡ old ++ for_first count cpu_line → all ≡ lines ++ for_first cpu (program_of number)
+    → shown ≡ all ++ show_line apart
     → new ≡ shown ++ line (codes " END") → new ≡ old ++ listing_of number
 unfolding listing_of
 whole number count cpu apart old lines all shown new counted reached also lines_are all_are shown_are new_is =
@@ -44,4 +48,5 @@ whole number count cpu apart old lines all shown new counted reached also lines_
     let last = line (codes " END") in
     let all_in = all_are ∙ ap₂ (λ (t p : List ℕ). t ++ p) (lines_are ∙ ap (λ (t : List ℕ). old ++ t) a) b in
     let shown_in = shown_are ∙ ap₂ (λ (t p : List ℕ). t ++ p) all_in c in
-    new_is ∙ ap (λ (t : List ℕ). t ++ last) shown_in ∙ grown old (cpu_lines number) (programs number) (show_line (stride number)) last
+    new_is ∙ ap (λ (t : List ℕ). t ++ last) shown_in
+    ∙ grown old (cpu_lines number) (programs number) (show_line (stride number)) last

@@ -1,7 +1,7 @@
 -- The listing of a number: some CPUs, each of which counts up one of four counters so many times in transactions.
-use Rattle.std.specs.Prelude.{ℕ, zero, suc, ◌+◌, ◌*◌, ◌%◌, ◌==◌, if◌then◌else◌, List, [], ◌++◌, codes}
+use Rattle.std.specs.Prelude.{ℕ, zero, suc, ◌+◌, ◌*◌, ◌/◌, ◌%◌, ◌^◌, ◌==◌, if◌then◌else◌, List, [], ◌++◌, codes}
 use Rattle.std.specs.Fmt.{decimal}
-use Rattle.tx_gen.specs.Draws.{draw}
+use Rattle.tx_gen.specs.Draws.{draw, state_after}
 
 -- ---- what is drawn
 
@@ -54,6 +54,12 @@ end_text cpu = line (codes " BRCTG 2,L" ++ decimal cpu) ++ line (codes " SVC 0")
 unfoldable pub program_text : ℕ → ℕ → ℕ → List ℕ
 program_text cpu rounds counter = begin_text cpu rounds ++ (count_text counter ++ end_text cpu)
 
+-- the program of a CPU for which two numbers are drawn from a state
+abbrev pub drawn_program : ℕ → ℕ → ℕ → List ℕ
+drawn_program cpu before stride =
+    let after = state_after before in
+    program_text cpu (20 + after / 2 ^ 33 % 81) (65536 + state_after after / 2 ^ 33 % 4 * stride)
+
 -- the counters are shown, from the first byte of the first to the last byte of the fourth
 abbrev pub show_line : ℕ → List ℕ
 show_line stride = line (codes " SHOW 65536," ++ decimal (3 * stride + 8))
@@ -75,4 +81,5 @@ abbrev pub programs : ℕ → List ℕ
 programs number = for_first (cpus number) (program_of number)
 
 unfoldable pub listing_of : ℕ → List ℕ
-listing_of number = cpu_lines number ++ (programs number ++ (show_line (stride number) ++ line (codes " END")))
+listing_of number = cpu_lines number ++ (programs
+    number ++ (show_line (stride number) ++ line (codes " END")))

@@ -1,7 +1,9 @@
 //! The listing of a number.
-ghost use Rattle.std.specs.Prelude.{◌≡◌, ◌++◌, ◌+◌, ◌*◌, ◌/◌, ◌%◌, ◌^◌, ◌<◌, ◌≤◌, [], ◌∷◌, ◌==◌, if◌then◌else◌, IfOk, OnOk, string_bytes};
+ghost use Rattle.std.specs.Prelude.{◌≡◌, ◌++◌, ◌%◌, ◌≤◌, [], ◌∷◌, ◌==◌, if◌then◌else◌};
+ghost use Rattle.std.specs.Prelude.{IfOk, OnOk, string_bytes};
 ghost use Rattle.tx_gen.specs.Draws.{state_after};
-ghost use Rattle.tx_gen.specs.Programs.{counter_at, cpu_line, show_line, begin_text, count_text, end_text, program_text, for_first, listing_of};
+ghost use Rattle.tx_gen.specs.Programs.{counter_at, cpu_line, begin_text, count_text, end_text, program_text};
+ghost use Rattle.tx_gen.specs.Programs.{drawn_program, show_line, for_first, listing_of};
 
 use crate::draws::Draws;
 use std::alloc::{AllocError, Global};
@@ -69,7 +71,8 @@ fn add_end(text: &mut String, cpu: u64) -> Result<(), AllocError>
 /// Adds the program of a CPU.
 #[tactic(auto, unfolding(crate::specs::Programs::program_text))]
 fn add_program(text: &mut String, cpu: u64, rounds: u64, counter: u64) -> Result<(), AllocError>
-    ensures { OnOk result (string_bytes text.new ≡ string_bytes text.old ++ program_text cpu rounds counter) }
+    ensures { OnOk result (string_bytes text.new
+        ≡ string_bytes text.old ++ program_text cpu rounds counter) }
 {
     add_begin(text, cpu, rounds)?;
     add_count(text, counter)?;
@@ -84,7 +87,8 @@ fn add_drawn_program(
     draws: &mut Draws,
 ) -> Result<(), AllocError>
     requires { stride ≤ 256 }
-    ensures program { let before = draws.old.state in let after = state_after before in OnOk result (string_bytes text.new ≡ string_bytes text.old ++ program_text cpu (20 + after / 2 ^ 33 % 81) (65536 + state_after after / 2 ^ 33 % 4 * stride)) }
+    ensures program { OnOk result (string_bytes text.new
+        ≡ string_bytes text.old ++ drawn_program cpu draws.old.state stride) }
     ensures state { draws.new.state ≡ state_after (state_after draws.old.state) }
 {
     let rounds = 20 + draws.draw() % 81;
@@ -119,8 +123,9 @@ fn add_listing(text: &mut String, number: u64) -> Result<(), AllocError>
 
 /// The listing of a number. `NoMemory` comes for want of memory.
 ///
-/// Two to eight CPUs count, each of them 20 to 100 times, in constrained transactions. Which of four counters a CPU counts up, and
-/// how far these are apart, 8 or 256 bytes, is drawn from the number too. All counters are shown.
+/// Two to eight CPUs count, each of them 20 to 100 times, in constrained transactions. Which of four counters
+/// a CPU counts up, and how far these are apart, 8 or 256 bytes, is drawn from the number too. All counters
+/// are shown.
 pub fn generate(alloc: Global, number: u64) -> Result<Vec<u8>, NoMemory>
     ensures { IfOk result (λ text. text.items ≡ listing_of number) }
 {
@@ -131,7 +136,8 @@ pub fn generate(alloc: Global, number: u64) -> Result<Vec<u8>, NoMemory>
 
 /// The addresses of the four counters in the listing of a number, doublewords from 65,536 on.
 pub fn counters(number: u64) -> [u64; 4]
-    ensures { result ≡ counter_at number 0 ∷ counter_at number 1 ∷ counter_at number 2 ∷ counter_at number 3 ∷ [] }
+    ensures { result ≡ counter_at number 0 ∷ counter_at number 1
+        ∷ counter_at number 2 ∷ counter_at number 3 ∷ [] }
 {
     let mut draws = Draws { state: number };
     let _cpus = draws.draw();

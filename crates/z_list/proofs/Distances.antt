@@ -41,9 +41,12 @@ immediates_are_close SS s m o = close 0 256 (lit≤ tt) (lit≤ tt)
 immediates_are_close RIEb s m o = close 32768 32768 (lit≤ tt) (lit≤ tt)
 immediates_are_close RIEc s m o = close 32768 32768 (lit≤ tt) (lit≤ tt)
 
-wider : (r : Bounds) (z : ℤ) → AreClose r → is_within r z ≡ true → is_within (bounds 2147483648 4294967296) z ≡ true
-wider r (pos n) c h = let inside : n < r.above = ltb-true n r.above h in lt-ltb n 4294967296 (omega (arith, c.above))
-wider r (negsuc n) c h = let inside : n < r.below = ltb-true n r.below h in lt-ltb n 2147483648 (omega (arith, c.below))
+wider : (r : Bounds) (z : ℤ) → AreClose r → is_within r z ≡ true
+    → is_within (bounds 2147483648 4294967296) z ≡ true
+wider r (pos n) c h = let inside : n < r.above =
+    ltb-true n r.above h in lt-ltb n 4294967296 (omega (arith, c.above))
+wider r (negsuc n) c h = let inside : n < r.below =
+    ltb-true n r.below h in lt-ltb n 2147483648 (omega (arith, c.below))
 
 pub immediate_is_close : (i : Instr) → is_within (bounds 2147483648 4294967296) i.imm ≡ true
 immediate_is_close i =
@@ -95,9 +98,11 @@ second_ones_are_close RIEc s m o = close 128 128 (lit≤ tt) (lit≤ tt)
 pub displacement_is_close : (i : Instr) → is_within (bounds 2147483648 4294967296) i.d ≡ true
 displacement_is_close i =
     let e = entry_at i.op.number in
-    wider (limits_of e).d i.d (displacements_are_close e.format e.signed e.masked e.single) (numbers_of (limits_of e) i (instr_fits i)).d_in
+    wider (limits_of e).d i.d (displacements_are_close e.format e.signed e.masked e.single)
+    (numbers_of (limits_of e) i (instr_fits i)).d_in
 
 pub second_is_close : (i : Instr) → is_within (bounds 2147483648 4294967296) i.d2 ≡ true
 second_is_close i =
     let e = entry_at i.op.number in
-    wider (limits_of e).d2 i.d2 (second_ones_are_close e.format e.signed e.masked e.single) (numbers_of (limits_of e) i (instr_fits i)).d2_in
+    wider (limits_of e).d2 i.d2 (second_ones_are_close e.format e.signed e.masked e.single)
+    (numbers_of (limits_of e) i (instr_fits i)).d2_in

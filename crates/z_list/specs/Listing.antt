@@ -20,17 +20,20 @@ code_field code = encode_lower code ++ replicate (12 - 2 * length code) 32
 -- the address in eight digits, the bytes, the mnemonic and the operands
 abbrev pub line_text : ℕ → List ℕ → Instr → List ℕ
 line_text start code i =
-    encode_lower (to_be_bytes w32 start) ++ (codes " " ++ (code_field code ++ (codes " " ++ (instruction_text i ++ codes "\n"))))
+    encode_lower (to_be_bytes w32 start)
+    ++ (codes " " ++ (code_field code ++ (codes " " ++ (instruction_text i ++ codes "\n"))))
 
 -- there is one instruction for each of these addresses, as which the bytes there read
 abbrev pub AreReadings : List ℕ → List ℕ → List Instr → Type 0
 AreReadings storage [] [] = Unit {0}
-AreReadings storage (start ∷ starts) (i ∷ program) = Reads (code_at storage start) i × AreReadings storage starts program
+AreReadings storage (start ∷ starts) (i ∷ program) =
+    Reads (code_at storage start) i × AreReadings storage starts program
 AreReadings storage _ _ = ⊥
 
 -- the lines of instructions at addresses
 abbrev pub lines_text : List ℕ → List ℕ → List Instr → List ℕ
-lines_text storage (start ∷ starts) (i ∷ program) = line_text start (code_at storage start) i ++ lines_text storage starts program
+lines_text storage (start ∷ starts) (i ∷ program) =
+    line_text start (code_at storage start) i ++ lines_text storage starts program
 lines_text storage _ _ = []
 
 -- the text is the lines of the instructions that stand at these addresses of storage

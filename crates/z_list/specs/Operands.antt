@@ -58,10 +58,12 @@ second_based f = Based f.d2 f.b2
 -- by the format, and by whether the immediate is the distance of a target, a mask stands in place of a register, and the
 -- last register or the only address is left out
 abbrev pub operands_in : Format → Bool → Bool → Bool → Fields → List Operand
-operands_in format.RR relative masked single f = cond single (number f.r1 ∷ []) (first masked f ∷ number f.r2 ∷ [])
+operands_in format.RR relative masked single f =
+    cond single (number f.r1 ∷ []) (first masked f ∷ number f.r2 ∷ [])
 operands_in format.I relative masked single f = Number f.imm ∷ []
 operands_in format.RX relative masked single f = first masked f ∷ indexed f ∷ []
-operands_in format.RRE relative masked single f = cond single (number f.r1 ∷ []) (number f.r1 ∷ number f.r2 ∷ [])
+operands_in format.RRE relative masked single f =
+    cond single (number f.r1 ∷ []) (number f.r1 ∷ number f.r2 ∷ [])
 operands_in format.RRFa relative masked single f = number f.r1 ∷ number f.r2 ∷ number f.r3 ∷ []
 operands_in format.RRFc relative masked single f = number f.r1 ∷ number f.r2 ∷ number f.mask ∷ []
 operands_in format.RXY relative masked single f = number f.r1 ∷ indexed f ∷ []

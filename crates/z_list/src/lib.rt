@@ -1,5 +1,5 @@
-//! The disassembler: the instructions of an image as lines of text, each with its address, its bytes, its mnemonic and its
-//! operands.
+//! The disassembler: the instructions of an image as lines of text, each with its address, its bytes, its
+//! mnemonic and its operands.
 #![tactic(auto)]
 
 mod laws;
@@ -7,9 +7,7 @@ mod lines;
 mod parts;
 mod spelling;
 
-pub use laws::{
-    an_image_has_one_listing, operands_tell_instructions, texts_tell_instructions,
-};
+pub use laws::{an_image_has_one_listing, operands_tell_instructions, texts_tell_instructions};
 pub use lines::listing;
 pub use parts::{Operand, OperandList, operands};
 pub use spelling::instruction_text;

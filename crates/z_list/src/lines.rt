@@ -105,11 +105,12 @@ fn add_lines(text: &mut Vec<u8>, storage: &[u8], starts: &[u32]) -> Result<(), A
     Ok(())
 }
 
-/// The listing of an image: a line for each assembled instruction, in rising order of their addresses. `NoMemory` comes for want
-/// of memory.
+/// The listing of an image: a line for each assembled instruction, in rising order of their addresses.
+/// `NoMemory` comes for want of memory.
 ///
-/// A line has the address in 8 hexadecimal digits, the bytes in hexadecimal, filled with blanks to 12 places, the mnemonic and the
-/// operands, with a blank between them and a line feed at the end. Room for the longest lines is reserved first.
+/// A line has the address in 8 hexadecimal digits, the bytes in hexadecimal, filled with blanks to 12 places,
+/// the mnemonic and the operands, with a blank between them and a line feed at the end. Room for the longest
+/// lines is reserved first.
 pub fn listing(alloc: Global, image: &Image) -> Result<Vec<u8>, NoMemory>
     ensures { IfOk result (λ text. IsListing image.now text.items) }
 {

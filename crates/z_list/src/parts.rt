@@ -20,7 +20,8 @@ pub enum Operand {
     Indexed(i32, u8, u8),
     /// Storage at a displacement with a base: the displacement and the register.
     Based(i32, u8),
-    /// So many bytes of storage at a displacement with a base: the displacement, the number of bytes and the register.
+    /// So many bytes of storage at a displacement with a base: the displacement, the number of bytes and the
+    /// register.
     Counted(i32, u16, u8),
 }
 
@@ -136,8 +137,8 @@ fn counted(i: &Instr) -> Operand
 
 /// The operands of an instruction, at most four.
 ///
-/// Addresses are given in full, with a register number 0 where they have no index or no base. What the format has no place
-/// for is no operand, and a target is given by its distance in bytes.
+/// Addresses are given in full, with a register number 0 where they have no index or no base. What the format
+/// has no place for is no operand, and a target is given by its distance in bytes.
 pub fn operands(instr: &Instr) -> OperandList
     ensures { take result.count result.places ≡ operands_of instr.now }
 {

@@ -1,7 +1,8 @@
 //! The texts of operands and of instructions.
 ghost use Rattle.std.specs.Prelude.{◌≡◌, ◌++◌, IfOk, OnOk};
 ghost use Rattle.std.specs.Fmt.{decimal, signed_decimal};
-ghost use Rattle.z_list.specs.Operands.{target_text, pair_text, based_text, operand_text, further_text, field_text, instruction_text};
+ghost use Rattle.z_list.specs.Operands.{target_text, pair_text, based_text, operand_text, further_text};
+ghost use Rattle.z_list.specs.Operands.{field_text, instruction_text};
 
 use crate::parts::{Operand, operands};
 use std::alloc::{AllocError, Global};
@@ -99,8 +100,8 @@ pub(crate) fn add_instruction(text: &mut Vec<u8>, instr: &Instr) -> Result<(), A
     add_field(text, operands(instr).as_slice())
 }
 
-/// The mnemonic and the operands of an instruction as the listing has them, without its address and its bytes. `NoMemory`
-/// comes for want of memory.
+/// The mnemonic and the operands of an instruction as the listing has them, without its address and its
+/// bytes. `NoMemory` comes for want of memory.
 pub fn instruction_text(alloc: Global, instr: &Instr) -> Result<Vec<u8>, NoMemory>
     ensures { IfOk result (λ text. text.items ≡ instruction_text instr.now) }
 {

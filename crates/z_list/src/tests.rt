@@ -105,8 +105,10 @@ fn lines_of_a_program(rt: HostRuntime) -> Result<(), Fail> {
             add_parts(&mut text, *start, code, &instr)?;
         }
     }
-    let wanted =
-        b"00004000 a7190005     LGHI 1,5\n00004004 a7290007     LGHI 2,7\n00004008 b9080012     AGR 1,2\n0000400c 0a00         SVC 0\n";
+    let wanted = b"00004000 a7190005     LGHI 1,5\n\
+        00004004 a7290007     LGHI 2,7\n\
+        00004008 b9080012     AGR 1,2\n\
+        0000400c 0a00         SVC 0\n";
     assert_eq!(rt; text.as_slice(), wanted.as_slice());
     Ok(())
 }

@@ -11,5 +11,6 @@ returns c =
     on_ok_weaker c.add_parts.result (λ grown. record {
       instr = instr;
       reads = subst (λ (code : List ℕ). Reads code instr) there c.instruction_of-instr.ensures;
-      text_is = grown ∙ ap (λ (code : List ℕ). c.args.text.now.items ++ line_text c.args.start code instr) there;
+      text_is = grown ∙ ap (λ (code : List ℕ). c.args.text.now.items ++ line_text c.args.start code instr)
+          there;
     }) c.add_parts.ensures

@@ -12,4 +12,5 @@ loop-start-preserved c =
     let old = c.try_reserve.new.self.items in
     let new = c.add_line.new.text.items in
     subst (λ (l : List ℕ). AddsLines storage l old new) (sym (take_more starts k 0 c.loop-start-test.true))
-    (one_more storage (take k starts) (get_or starts k 0) old c.loop-start.text.items new c.loop-start.invariant c.in_ok-add_line.ensures)
+    (one_more storage (take k starts) (get_or starts k 0) old c.loop-start.text.items new
+    c.loop-start.invariant c.in_ok-add_line.ensures)

@@ -7,12 +7,14 @@ use Rattle.z_list.proofs.lines.code_at.Goals as goal
 pub slice_bounds-result-end : goal.slice_bounds-result-end
 slice_bounds-result-end c =
     let storage = c.args.storage.now in
-    let whole : c.args.start + c.from-length.result ≤ length storage = omega (arith, code_is_whole storage c.args.start c.requires) in
+    let whole : c.args.start + c.from-length.result ≤ length storage =
+    omega (arith, code_is_whole storage c.args.start c.requires) in
     search rules
 
 pub returns-clause-value : goal.returns-clause-value
 returns-clause-value c =
-    ap (λ (n : ℕ). take n (drop c.args.start c.args.storage.now)) (omega (arith, c.length_of.ensures, c.from-length.ensures))
+    ap (λ (n : ℕ). take n (drop c.args.start c.args.storage.now))
+    (omega (arith, c.length_of.ensures, c.from-length.ensures))
 
 pub returns-clause-readable : goal.returns-clause-readable
 returns-clause-readable c =
