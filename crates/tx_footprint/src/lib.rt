@@ -2,6 +2,9 @@
 //! that it stored, within their limits. The fetch and store footprints are those of the
 //! transactional-execution facility (z/Architecture Principles of Operation, SA22-7832); the limits are
 //! this project's.
+//!
+//! All ranges are by absolute addresses: a caller whose CPU has a prefix hands over the absolute ranges of
+//! its operands, so lines and blocks are those of storage itself.
 #![tactic(auto)]
 
 mod footprint;

@@ -1,7 +1,8 @@
 //! Operations that fetch one item of storage and store nothing.
 ghost use Rattle.std.specs.Prelude.{◌≡◌, length};
 ghost use Rattle.z_regs.specs.Cpu.{cpu_of};
-ghost use Rattle.z_effect.specs.declared.kind.Storage.TheVariants.{Compute, Compare, CompareImmediate, TestUnderMask, InsertByte, LoadSelected};
+ghost use Rattle.z_effect.specs.declared.kind.Storage.TheVariants.{Compute, Compare, CompareImmediate};
+ghost use Rattle.z_effect.specs.declared.kind.Storage.TheVariants.{TestUnderMask, InsertByte, LoadSelected};
 ghost use Rattle.z_effect.specs.After.{AreInside};
 ghost use Rattle.z_storage.specs.Performs.{ranges, Performs};
 
@@ -27,8 +28,10 @@ pub fn compute<V: Bytes>(
     view: &V,
 ) -> Result<(), Exception>
     requires size { length (V.bytes view.now) ≡ 1048576 }
-    requires inside { AreInside (ranges (Compute operation w part) instr.now (cpu_of image.old)) (V.bytes view.now) }
-    ensures { Performs (Compute operation w part) n instr.now (cpu_of image.old) (cpu_of image.new) (V.bytes view.now) (V.bytes view.now) result }
+    requires inside { AreInside (ranges (Compute operation w part) instr.now (cpu_of image.old))
+        (V.bytes view.now) }
+    ensures { Performs (Compute operation w part) n instr.now (cpu_of image.old) (cpu_of image.new)
+        (V.bytes view.now) (V.bytes view.now) result }
 {
     let first = operand(image, w, instr.r1);
     let second = fetch_piece(view, first_address(instr, &image.general), w, part);
@@ -48,8 +51,10 @@ pub fn compare_register<V: Bytes>(
     view: &V,
 ) -> Result<(), Exception>
     requires size { length (V.bytes view.now) ≡ 1048576 }
-    requires inside { AreInside (ranges (Compare order w part) instr.now (cpu_of image.old)) (V.bytes view.now) }
-    ensures { Performs (Compare order w part) n instr.now (cpu_of image.old) (cpu_of image.new) (V.bytes view.now) (V.bytes view.now) result }
+    requires inside { AreInside (ranges (Compare order w part) instr.now (cpu_of image.old))
+        (V.bytes view.now) }
+    ensures { Performs (Compare order w part) n instr.now (cpu_of image.old) (cpu_of image.new)
+        (V.bytes view.now) (V.bytes view.now) result }
 {
     let second = fetch_piece(view, first_address(instr, &image.general), w, part);
     image.condition = compare(order, w, operand(image, w, instr.r1), second);
@@ -69,8 +74,10 @@ pub fn compare_immediate<V: Bytes>(
     view: &V,
 ) -> Result<(), Exception>
     requires size { length (V.bytes view.now) ≡ 1048576 }
-    requires inside { AreInside (ranges (CompareImmediate order w part) instr.now (cpu_of image.old)) (V.bytes view.now) }
-    ensures { Performs (CompareImmediate order w part) n instr.now (cpu_of image.old) (cpu_of image.new) (V.bytes view.now) (V.bytes view.now) result }
+    requires inside { AreInside (ranges (CompareImmediate order w part) instr.now (cpu_of image.old))
+        (V.bytes view.now) }
+    ensures { Performs (CompareImmediate order w part) n instr.now (cpu_of image.old) (cpu_of image.new)
+        (V.bytes view.now) (V.bytes view.now) result }
 {
     let first = fetch_piece(view, first_address(instr, &image.general), w, part);
     image.condition = compare(order, w, first, immediate(w, instr.imm));
@@ -88,7 +95,8 @@ pub fn test_byte<V: Bytes>(
 ) -> Result<(), Exception>
     requires size { length (V.bytes view.now) ≡ 1048576 }
     requires inside { AreInside (ranges TestUnderMask instr.now (cpu_of image.old)) (V.bytes view.now) }
-    ensures { Performs TestUnderMask n instr.now (cpu_of image.old) (cpu_of image.new) (V.bytes view.now) (V.bytes view.now) result }
+    ensures { Performs TestUnderMask n instr.now (cpu_of image.old) (cpu_of image.new) (V.bytes view.now)
+        (V.bytes view.now) result }
 {
     let byte = fetch_byte(view, first_address(instr, &image.general));
     image.condition = test_under_mask(byte, immediate_byte(instr));
@@ -106,7 +114,8 @@ pub fn insert_byte<V: Bytes>(
 ) -> Result<(), Exception>
     requires size { length (V.bytes view.now) ≡ 1048576 }
     requires inside { AreInside (ranges InsertByte instr.now (cpu_of image.old)) (V.bytes view.now) }
-    ensures { Performs InsertByte n instr.now (cpu_of image.old) (cpu_of image.new) (V.bytes view.now) (V.bytes view.now) result }
+    ensures { Performs InsertByte n instr.now (cpu_of image.old) (cpu_of image.new) (V.bytes view.now)
+        (V.bytes view.now) result }
 {
     let byte = fetch_byte(view, first_address(instr, &image.general));
     let old = register(image, instr.r1);
@@ -130,7 +139,8 @@ pub fn load_selected<V: Bytes>(
 ) -> Result<(), Exception>
     requires size { length (V.bytes view.now) ≡ 1048576 }
     requires inside { AreInside (ranges LoadSelected instr.now (cpu_of image.old)) (V.bytes view.now) }
-    ensures { Performs LoadSelected n instr.now (cpu_of image.old) (cpu_of image.new) (V.bytes view.now) (V.bytes view.now) result }
+    ensures { Performs LoadSelected n instr.now (cpu_of image.old) (cpu_of image.new) (V.bytes view.now)
+        (V.bytes view.now) result }
 {
     if !is_selected(instr.mask, image.condition) {
         advance(image, n);

@@ -60,7 +60,9 @@ fn load_registers<V: Bytes>(
     requires first_in { first < 16 }
     requires few { count < 17 }
     requires inside { address + count * bytes_of (item_of w) ≤ length (V.bytes view.now) }
-    ensures { cpu_of image.new ≡ with_items count w first (range_at (V.bytes view.now) address (count * bytes_of (item_of w))) (cpu_of image.old) }
+    ensures { cpu_of image.new ≡
+        with_items count w first (range_at (V.bytes view.now) address (count * bytes_of (item_of w)))
+        (cpu_of image.old) }
 {
     for k in 0..count {
         let value = fetch_item(view, place(address, w, k), w);
@@ -79,7 +81,8 @@ pub fn load_many<V: Bytes>(
 ) -> Result<(), Exception>
     requires size { length (V.bytes view.now) ≡ 1048576 }
     requires inside { AreInside (ranges (LoadMany w) instr.now (cpu_of image.old)) (V.bytes view.now) }
-    ensures { Performs (LoadMany w) n instr.now (cpu_of image.old) (cpu_of image.new) (V.bytes view.now) (V.bytes view.now) result }
+    ensures { Performs (LoadMany w) n instr.now (cpu_of image.old) (cpu_of image.new) (V.bytes view.now)
+        (V.bytes view.now) result }
 {
     let address = first_address(instr, &image.general);
     load_registers(w, instr.r1, registers_named(instr), image, address, view);
@@ -98,7 +101,8 @@ pub fn store_many<V: Bytes>(
 ) -> Result<(), Exception>
     requires size { length (V.bytes view.old) ≡ 1048576 }
     requires inside { AreInside (ranges (StoreMany w) instr.now (cpu_of image.old)) (V.bytes view.old) }
-    ensures { Performs (StoreMany w) n instr.now (cpu_of image.old) (cpu_of image.new) (V.bytes view.old) (V.bytes view.new) result }
+    ensures { Performs (StoreMany w) n instr.now (cpu_of image.old) (cpu_of image.new) (V.bytes view.old)
+        (V.bytes view.new) result }
 {
     let address = first_address(instr, &image.general);
     store_registers(w, instr.r1, registers_named(instr), image, address, view);

@@ -1,4 +1,4 @@
-// Expected values are those that QEMU and Hercules answer, but where a line says otherwise.
+//! Expected values are those that QEMU and Hercules answer, but where a line says otherwise.
 
 ghost use Rattle.std.specs.Prelude.{◌≡◌, ◌<◌, ◌≤◌, ◌+◌, ℕ, List, length, true};
 ghost use Rattle.z_regs.specs.Cpu.{cpu_of};
@@ -23,7 +23,8 @@ const END: u64 = 0xF_F000;
 
 /// Whether the operands lie in storage, which has 1,048,576 bytes, because both addresses are low.
 fn is_low(instr: &Instr, image: &CpuImage) -> bool
-    ensures { result ≡ true → (s : List ℕ) → length s ≡ 1048576 → AreInside (ranges_of instr.now (cpu_of image.now)) s }
+    ensures { result ≡ true → (s : List ℕ) → length s ≡ 1048576 →
+        AreInside (ranges_of instr.now (cpu_of image.now)) s }
 {
     operands_are_small();
     first_address(instr, &image.general) < END && second_address(instr, &image.general) < END
@@ -121,8 +122,8 @@ fn word(storage: &Storage) -> u32
     ])
 }
 
-/// What an instruction leaves in register 1, its condition code, the code of the exception and the word in storage, which
-/// held `number`.
+/// What an instruction leaves in register 1, its condition code, the code of the exception and the word in
+/// storage, which held `number`.
 fn result(
     alloc: Global,
     name: &[u8],

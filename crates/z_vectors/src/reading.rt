@@ -25,7 +25,8 @@ fn spelt_otherwise(alloc: Global, instr: &Instr, code: &Code) -> Result<String, 
     Ok(format!(in alloc; "encoded as {}", hex::encode(alloc, bytes)?)?)
 }
 
-/// What differs between the reading of bytes and a line of the listing in any spelling; nothing where all is the same.
+/// What differs between the reading of bytes and a line of the listing in any spelling; nothing where all is
+/// the same.
 pub fn line_difference(alloc: Global, line: &str, bytes: &str) -> Result<String, Fault> {
     let code = Code::read(alloc, bytes)?;
     let Some(instr) = code.instr() else {
@@ -37,7 +38,8 @@ pub fn line_difference(alloc: Global, line: &str, bytes: &str) -> Result<String,
     spelt_otherwise(alloc, &instr, &code)
 }
 
-/// What differs between the reading of bytes and a line as the listing is printed, `-` for none; nothing where all is the same.
+/// What differs between the reading of bytes and a line as the listing is printed, `-` for none; nothing
+/// where all is the same.
 pub fn bytes_difference(alloc: Global, bytes: &str, line: &str) -> Result<String, Fault> {
     let code = Code::read(alloc, bytes)?;
     let Some(instr) = code.instr() else {

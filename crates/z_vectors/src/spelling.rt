@@ -1,7 +1,7 @@
 //! Lines of the listing as people write them.
 
 use crate::fault::Fault;
-use crate::numbers::listed;
+use crate::numbers::listing_number;
 use std::alloc::Global;
 use z_instr::instr::Instr;
 use z_instr::lookup::row;
@@ -75,16 +75,16 @@ fn parts(text: &str) -> Result<(i64, Option<&str>), Fault> {
     match text.split_once('(') {
         Some((displacement, inner)) => {
             let inner = inner.strip_suffix(')').ok_or(Fault::Malformed)?;
-            Ok((listed(displacement)?, Some(inner)))
+            Ok((listing_number(displacement)?, Some(inner)))
         }
-        None => Ok((listed(text)?, None)),
+        None => Ok((listing_number(text)?, None)),
     }
 }
 
 /// The two numbers in parentheses.
 fn pair(inner: &str) -> Result<(i64, i64), Fault> {
     let (first, second) = inner.split_once(',').ok_or(Fault::Malformed)?;
-    Ok((listed(first)?, listed(second)?))
+    Ok((listing_number(first)?, listing_number(second)?))
 }
 
 /// The numbers of an operand; those that its form lacks are 0.
@@ -100,10 +100,10 @@ fn numbers_of(operand: &Operand) -> [i64; 3] {
 /// The numbers of a text in the form of an operand. The register of an index or a base that is left out is 0.
 fn read_as(form: &Operand, text: &str) -> Result<[i64; 3], Fault> {
     match form {
-        Operand::Number(_) => Ok([listed(text)?, 0, 0]),
+        Operand::Number(_) => Ok([listing_number(text)?, 0, 0]),
         Operand::Target(_) => {
             let distance = text.strip_prefix('*').ok_or(Fault::Malformed)?;
-            Ok([listed(distance)?, 0, 0])
+            Ok([listing_number(distance)?, 0, 0])
         }
         Operand::Indexed(..) => match parts(text)? {
             (d, None) => Ok([d, 0, 0]),
@@ -111,11 +111,11 @@ fn read_as(form: &Operand, text: &str) -> Result<[i64; 3], Fault> {
                 let (x, b) = pair(inner)?;
                 Ok([d, x, b])
             }
-            (d, Some(x)) => Ok([d, listed(x)?, 0]),
+            (d, Some(x)) => Ok([d, listing_number(x)?, 0]),
         },
         Operand::Based(..) => match parts(text)? {
             (d, None) => Ok([d, 0, 0]),
-            (d, Some(b)) => Ok([d, listed(b)?, 0]),
+            (d, Some(b)) => Ok([d, listing_number(b)?, 0]),
         },
         Operand::Counted(..) => {
             let (d, inner) = parts(text)?;

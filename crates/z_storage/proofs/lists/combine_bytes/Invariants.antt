@@ -8,7 +8,8 @@ abbrev pub invariant-loop-k : goal.invariant-loop-k
 invariant-loop-k g l =
     let s = g.V.Bytes.bytes l.initial.view in
     record {
-      so_far : g.V.Bytes.bytes l.view ≡ written s l.target (made l.combination s l.target l.source l.count l.k);
+      so_far : g.V.Bytes.bytes l.view ≡
+          written s l.target (made l.combination s l.target l.source l.count l.k);
       zero : l.zero ≡ list_all (λ b. nat_eq b 0) (made l.combination s l.target l.source l.count l.k);
       length : length (g.V.Bytes.bytes l.view) ≡ 1048576;
     }

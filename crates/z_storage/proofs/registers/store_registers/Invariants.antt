@@ -7,6 +7,7 @@ use Rattle.z_storage.proofs.registers.store_registers.Given as goal
 abbrev pub invariant-loop-k : goal.invariant-loop-k
 invariant-loop-k g l =
     record {
-      so_far : g.V.Bytes.bytes l.view ≡ written (g.V.Bytes.bytes l.initial.view) l.address (items l.k l.w l.first (cpu_of l.image));
+      so_far : g.V.Bytes.bytes l.view ≡ written (g.V.Bytes.bytes l.initial.view) l.address
+          (items l.k l.w l.first (cpu_of l.image));
       size : length (g.V.Bytes.bytes l.view) ≡ 1048576;
     }
