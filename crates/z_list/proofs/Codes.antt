@@ -1,20 +1,18 @@
--- The bytes of instructions in storage, and that they read as one instruction alone.
-use Rattle.std.proofs.Common.{◌≡◌, ℕ, ◌+◌, ◌<◌, ◌≤◌, zero, suc, nat_lt, Bool, true, false, cond, List, [], ◌∷◌, ◌++◌, length, get_or, take, drop, arith, sym, ap, ap₂, ◌∙◌, refl}
+-- The bytes of instructions in storage, and their lines.
+use Rattle.std.proofs.Common.{◌≡◌, ℕ, ◌+◌, ◌<◌, ◌≤◌, zero, suc, nat_lt, Bool, true, false, cond, List, [], ◌∷◌}
+use Rattle.std.proofs.Common.{length, get_or, take, drop, arith, sym, ap, ◌∙◌, refl}
 use Rattle.std.specs.Prelude.{All}
 use Rattle.std.proofs.lemmas.List.{length-take, length-drop}
-use Rattle.std.proofs.lemmas.List.Elements.{All-head, All-tail}
 use Rattle.z_instr.specs.declared.instr.Instr.{Instr}
-use Rattle.z_instr.specs.declared.instr.Fields.{Fields}
+use Rattle.z_instr.specs.Computing.{reading_of}
 use Rattle.z_instr.specs.Layout.{length_by}
-use Rattle.z_instr.specs.Reading.{Reads, AreSame}
-use Rattle.z_instr.specs.Table.{entry_at}
+use Rattle.z_instr.specs.Reading.{Reads}
 use Rattle.z_instr.proofs.Bytes.{reads_bytes}
+use Rattle.z_instr.proofs.ComputedReading.{computes}
 use Rattle.z_instr.proofs.Distinct.{opcode_gives_length}
 use Rattle.z_instr.proofs.Spelled.{reads_opcode, reads_length}
-use Rattle.z_instr.proofs.OneReading.{one_reading}
 use Rattle.tx_journal.specs.Image.{HasReading, length_at}
-use Rattle.z_list.specs.Operands.{fields_of, words_text, instruction_text}
-use Rattle.z_list.specs.Listing.{code_at, line_text, AreReadings, lines_text, IsLinesOf}
+use Rattle.z_list.specs.Listing.{code_at, line_text, line_for, line_at, HasLine}
 
 -- ---- the bytes are all there
 
@@ -53,63 +51,20 @@ code_is_whole storage start has =
     let all : length (code_at storage start) ≡ n = whole ∙ same in
     omega (arith, length-take n (drop start storage), length-drop start storage)
 
--- ---- one instruction
+-- ---- their line
 
-same_fields : (i j : Instr) → AreSame i j → fields_of i ≡ fields_of j
-same_fields i j same = λ k. record {
-  r1 = same.r1 k;
-  r2 = same.r2 k;
-  r3 = same.r3 k;
-  x = same.x k;
-  b = same.b k;
-  d = same.d k;
-  b2 = same.b2 k;
-  d2 = same.d2 k;
-  imm = same.imm k;
-  mask = same.mask k;
-}
+pub line_is : (storage code : List ℕ) (start : ℕ) (i : Instr) → code ≡ code_at storage start → Reads code i
+    → line_text start code i ≡ line_at storage start
+line_is storage code start i there reads =
+    ap (line_for start code) (sym (computes code i reads))
+    ∙ ap (λ (c : List ℕ). line_for start c (reading_of c)) there
 
-same_text : (i j : Instr) → AreSame i j → instruction_text i ≡ instruction_text j
-unfolding instruction_text
-same_text i j same = ap₂ (λ (n : ℕ) (f : Fields). words_text (entry_at n) f) same.op (same_fields i j same)
-
-one_line : (start : ℕ) (code : List ℕ) (i j : Instr) → Reads code i → Reads code j
-    → line_text start code i ≡ line_text start code j
-one_line start code i j reads also =
-    let same = same_text i j (one_reading code i j (reads_bytes code i reads) reads also) in
-    rw same refl
-
--- ---- one text
-
-same_lines : (storage starts : List ℕ) (program others : List Instr) → AreReadings storage starts program
-    → AreReadings storage starts others
-    → lines_text storage starts program ≡ lines_text storage starts others
-same_lines storage [] [] [] readings also = refl
-same_lines storage [] [] (j ∷ others) readings also = absurd also
-same_lines storage [] (i ∷ program) others readings also = absurd readings
-same_lines storage (s ∷ starts) [] others readings also = absurd readings
-same_lines storage (s ∷ starts) (i ∷ program) [] readings also = absurd also
-same_lines storage (s ∷ starts) (i ∷ program) (j ∷ others) readings also =
-    ap₂ (λ (line rest : List ℕ). line ++ rest) (one_line s (code_at storage s) i j readings.0 also.0)
-    (same_lines storage starts program others readings.1 also.1)
-
-pub one_text : (storage starts some others : List ℕ) → IsLinesOf storage starts some
-    → IsLinesOf storage starts others → some ≡ others
-one_text storage starts some others is also =
-    is.text_is ∙ same_lines storage starts is.program also.program is.readings also.readings
-    ∙ sym also.text_is
-
--- and there is one
-program_of : (storage starts : List ℕ) → All (HasReading storage) starts
-    → (program : List Instr) × AreReadings storage starts program
-program_of storage [] has = ([], tt)
-program_of storage (s ∷ starts) has =
-    let first = All-head (HasReading storage) s starts has in
-    let rest = program_of storage starts (All-tail (HasReading storage) s starts has) in
-    (first.instr ∷ rest.0, (first.reads, rest.1))
-
-pub some_text : (storage starts : List ℕ) → All (HasReading storage) starts
-    → (text : List ℕ) × IsLinesOf storage starts text
-some_text storage starts has =
-    let found = program_of storage starts has in
-    (lines_text storage starts found.0, record { program = found.0; readings = found.1; text_is = refl })
+pub lines_are : (storage starts : List ℕ) → All (HasReading storage) starts → All (HasLine storage) starts
+lines_are storage starts readings = λ k d within.
+    let has = readings k d within in
+    let start = get_or starts k d in
+    record {
+      instr = has.instr;
+      reads = has.reads;
+      line = ap (line_for start (code_at storage start)) (computes (code_at storage start) has.instr has.reads);
+    }

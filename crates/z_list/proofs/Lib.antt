@@ -1,6 +1,5 @@
--- Immediates, texts that grow by lines, and the bytes of instructions.
+-- How far fields go, the bytes of instructions and their lines, and what operands and texts tell.
 pub mod Distances
-pub mod Growing
 pub mod Codes
 pub mod Told
 pub mod Texts

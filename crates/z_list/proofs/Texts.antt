@@ -14,7 +14,7 @@ use Rattle.z_instr.specs.declared.format.Format.{Format}
 use Rattle.z_instr.specs.declared.format.Format.TheVariants.{RR, I, RX, RRE, RRFa, RRFc, RXY, RI, RIL, RS, RSY, SI, SIY, SIL, S, SS, RIEb, RIEc}
 use Rattle.z_instr.specs.Table.{Entry, entry_at}
 use Rattle.z_instr.specs.Ranges.{is_within, bounds}
-use Rattle.z_instr.specs.Reading.{modulo, AreSame}
+use Rattle.z_instr.specs.Reading.{modulo}
 use Rattle.z_instr.proofs.Distinct.{one_name}
 use Rattle.z_instr.proofs.Passing.{and_left, and_right}
 use Rattle.z_instr.proofs.TableFacts.{passes_row}
@@ -369,7 +369,7 @@ same_operands e i j is =
     (are_small e.format e.relative e.masked e.single j (small_fields j))
     (are_alike e.format e.relative e.masked e.single (fields_of i) (fields_of j)) is
 
-pub one_spelling : (i j : Instr) → instruction_text i ≡ instruction_text j → AreSame i j
+pub one_spelling : (i j : Instr) → instruction_text i ≡ instruction_text j → i ≡ j
 unfolding instruction_text
 one_spelling i j is =
     let words = split_words (entry_at i.op.number).name (entry_at j.op.number).name (operands_of i)

@@ -9,8 +9,9 @@ use Rattle.z_instr.specs.declared.format.Format.{Format}
 use Rattle.z_instr.specs.declared.format.Format.TheVariants.{RR, I, RX, RRE, RRFa, RRFc, RXY, RI, RIL, RS, RSY, SI, SIY, SIL, S, SS, RIEb, RIEc}
 use Rattle.z_instr.specs.Table.{entry_at}
 use Rattle.z_instr.specs.Ranges.{is_within, limits_in, limits_of, zero_alone, byte}
-use Rattle.z_instr.specs.Reading.{modulo, AreSame}
+use Rattle.z_instr.specs.Reading.{modulo}
 use Rattle.z_instr.proofs.Within.{Fits, instr_fits, registers_of, numbers_of}
+use Rattle.z_instr.proofs.SameInstr.{same_instr}
 use Rattle.z_instr.proofs.TableFacts.{passes_row}
 use Rattle.z_list.specs.Operands.{fields_of, operands_in, operands_by, operands_of}
 
@@ -330,7 +331,7 @@ not_both false h = refl
 not_both true h = cc
 
 -- instructions of one operation with the same operands are the same
-pub one_instruction : (i j : Instr) → i.op.number ≡ j.op.number → operands_of i ≡ operands_of j → AreSame i j
+pub one_instruction : (i j : Instr) → i.op.number ≡ j.op.number → operands_of i ≡ operands_of j → i ≡ j
 one_instruction i j op is =
     let e = entry_at i.op.number in
     let fits_j : Fits (limits_of e) j = subst (λ (n : ℕ). Fits (limits_of (entry_at n)) j) (sym op)
@@ -339,7 +340,7 @@ one_instruction i j op is =
     subst (λ (n : ℕ). operands_of i ≡ operands_by (entry_at n) (fields_of j)) (sym op) is in
     let fields = told e.format e.signed e.relative e.masked e.single i j
     (not_both _ (apart i.op.number i.op.known)) (instr_fits i) fits_j is_j in
-    record {
+    same_instr i j (record {
       op = op;
       r1 = fields.r1;
       r2 = fields.r2;
@@ -351,4 +352,4 @@ one_instruction i j op is =
       d2 = fields.d2;
       imm = fields.imm;
       mask = fields.mask;
-    }
+    })

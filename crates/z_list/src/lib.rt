@@ -7,7 +7,7 @@ mod lines;
 mod parts;
 mod spelling;
 
-pub use laws::{an_image_has_one_listing, operands_tell_instructions, texts_tell_instructions};
+pub use laws::{each_instruction_has_a_line, operands_tell_instructions, texts_tell_instructions};
 pub use lines::listing;
 pub use parts::{Operand, OperandList, operands};
 pub use spelling::instruction_text;

@@ -1,13 +1,14 @@
 //! The lines of the listing.
 ghost use Rattle.std.specs.Prelude.{◌≡◌, ◌≤◌, ◌++◌, IfOk, OnOk, All, length, slice_index};
 ghost use Rattle.std.specs.Int.{to_be_bytes};
+ghost use Rattle.std.specs.List.{flat_map};
 ghost use mir.Syntax.{w32};
 ghost use Rattle.hex.specs.Hex.{encode_lower};
 ghost use Rattle.z_instr.specs.Layout.{length_by};
 ghost use Rattle.z_instr.specs.Reading.{Reads};
 ghost use Rattle.z_instr.specs.declared.instr.Instr.{Instr};
 ghost use Rattle.tx_journal.specs.Image.{HasReading};
-ghost use Rattle.z_list.specs.Listing.{code_at, code_field, line_text, IsListing, AddsLine, AddsLines};
+ghost use Rattle.z_list.specs.Listing.{code_at, code_field, line_text, line_at, list_of};
 
 use crate::spelling::add_instruction;
 use std::alloc::{AllocError, Global};
@@ -86,7 +87,7 @@ pub(crate) fn add_parts(
 /// Adds the line of the instruction at an address.
 fn add_line(text: &mut Vec<u8>, storage: &[u8], start: u32) -> Result<(), AllocError>
     requires { HasReading storage.now start }
-    ensures { OnOk result (AddsLine storage.now start text.old.items text.new.items) }
+    ensures { OnOk result (text.new.items ≡ text.old.items ++ line_at storage.now start) }
 {
     let code = code_at(storage, start as usize);
     let instr = instruction_of(code);
@@ -96,7 +97,7 @@ fn add_line(text: &mut Vec<u8>, storage: &[u8], start: u32) -> Result<(), AllocE
 /// Adds the lines of the instructions at addresses.
 fn add_lines(text: &mut Vec<u8>, storage: &[u8], starts: &[u32]) -> Result<(), AllocError>
     requires { All (HasReading storage.now) starts.now }
-    ensures { OnOk result (AddsLines storage.now starts.now text.old.items text.new.items) }
+    ensures { OnOk result (text.new.items ≡ text.old.items ++ flat_map (line_at storage.now) starts.now) }
 {
     text.try_reserve(starts.len().saturating_mul(LINE_ROOM))?;
     for start in starts {
@@ -112,7 +113,7 @@ fn add_lines(text: &mut Vec<u8>, storage: &[u8], starts: &[u32]) -> Result<(), A
 /// the mnemonic and the operands, with a blank between them and a line feed at the end. Room for the longest
 /// lines is reserved first.
 pub fn listing(alloc: Global, image: &Image) -> Result<Vec<u8>, NoMemory>
-    ensures { IfOk result (λ text. IsListing image.now text.items) }
+    ensures { IfOk result (λ text. text.items ≡ list_of image.now) }
 {
     let mut text = Vec::new(alloc);
     let _cpus = image.cpu_count();
