@@ -13,7 +13,6 @@ mod compare;
 mod fault;
 mod judge;
 mod numbers;
-mod operand;
 mod piece;
 mod reading;
 mod report;
