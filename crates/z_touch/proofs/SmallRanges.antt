@@ -190,3 +190,8 @@ inside_with p s small =
       λ h. below_end s.first s.length some (sym pages ∙ h),
       λ h. pages ∙ from_end s.first s.length some h,
     )
+
+pub inside_ends : (prefix : Option ℕ) (s : Span) → IsSmall s → is_inside (accessible_pages prefix) s ≡ true →
+    s.first + s.length ≤ 1048576
+inside_ends None s small h = ((inside_without s small).0 h).1
+inside_ends (Some p) s small h = (inside_with p s small).0 h
