@@ -15,7 +15,7 @@ mod waiting;
 pub use bytes::Bytes;
 pub use guard::{Guard, PAGES};
 pub use image::{CpuImage, RunState};
-pub use prefix::{AREA_SIZE, STORAGE_SIZE, absolute};
+pub use prefix::{AREA_SIZE, STORAGE_SIZE, absolute, place_of};
 pub use psw::{load_psw, psw_of};
 pub use ranges::{Range, Touches};
 pub use real::RealView;
