@@ -9,9 +9,6 @@ ghost use Rattle.tx_footprint.specs.Places.{lies_in, marked_or_touched};
 use bit_set::BitSet;
 use z_regs::{Range, Touches};
 
-/// The bytes of storage.
-pub const STORAGE_SIZE: u64 = 1_048_576;
-
 /// The bytes of a line.
 pub const LINE_SIZE: u64 = 256;
 

@@ -2,9 +2,9 @@
 ghost use Rattle.std.specs.Prelude.{◌+◌, ◌≤◌, All};
 ghost use Rattle.tx_footprint.specs.Places.{IsInStorage};
 
-use crate::{Footprint, Overflow, STORAGE_SIZE};
+use crate::{Footprint, Overflow};
 use std::test::Fail;
-use z_regs::{Range, Touches};
+use z_regs::{Range, STORAGE_SIZE, Touches};
 
 /// One range of a doubleword.
 fn doubleword(first: u64, store: bool) -> Touches
