@@ -1,5 +1,6 @@
 -- Copies of lines.
-use Rattle.std.specs.Prelude.{◌≡◌, ℕ, ◌<◌, ◌≤◌, ◌==◌, if◌then◌else◌, List, [], length, Option, None, is_some, IfSome, slice_get}
+use Rattle.std.specs.Prelude.{◌≡◌, ℕ, ◌<◌, ◌≤◌, ◌==◌, if◌then◌else◌, List, [], length, Option, None, is_some}
+use Rattle.std.specs.Prelude.{IfSome, slice_get}
 use Rattle.std.specs.List.{slice_index_or}
 use Rattle.std.specs.Option.{option_and_then, option_map}
 use Rattle.bit_set.specs.Counts.{count_below}
@@ -31,7 +32,8 @@ pub record IsSound (copies : Copies) : Type 0 where
   pub in_storage : (line : ℕ) → LINES ≤ line → copies line ≡ None
   pub sized : (line : ℕ) → IfSome (copies line) (λ copy. length copy ≡ LINE_SIZE)
 
--- copies as data: the lines that have one, and for each of them in order the copy; what follows is of no account
+-- copies as data: the lines that have one, and for each of them in order the copy; what follows is of no
+-- account
 pub record Kept : Type 0 where
   pub lines : List ℕ
   pub copies : List (List ℕ)

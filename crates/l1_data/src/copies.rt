@@ -1,5 +1,6 @@
 //! The copies that one CPU has.
-ghost use Rattle.std.specs.Prelude.{◌≡◌, ℕ, ◌<◌, ◌≤◌, IsSome, IsNone, None, Some, IfOk, is_some, length, true, slice_set};
+ghost use Rattle.std.specs.Prelude.{◌≡◌, ℕ, ◌<◌, ◌≤◌, IsSome, IsNone, None, Some, IfOk, is_some, length};
+ghost use Rattle.std.specs.Prelude.{true, slice_set};
 ghost use Rattle.std.specs.Option.{option_map};
 ghost use Rattle.slot_index.specs.Slots.{slot_in, is_key};
 ghost use Rattle.l1_data.specs.Copies.{copies_of, no_copies, with_copy, copy_count, byte_in, IsSound};
@@ -114,7 +115,9 @@ impl L1 {
     pub fn put(&mut self, line: u32, at: u32, byte: u8)
         requires there { IsSome (copies_of self.old line) }
         requires within { at < LINE_SIZE }
-        ensures { copies_of self.new ≡ with_copy (copies_of self.old) line (option_map (λ copy. slice_set copy at byte) (copies_of self.old line)) }
+        ensures { copies_of self.new
+            ≡ with_copy (copies_of self.old) line
+            (option_map (λ copy. slice_set copy at byte) (copies_of self.old line)) }
     {
         let slot = slot_of(&self.index, line);
         self.copies[slot][at as usize] = byte;

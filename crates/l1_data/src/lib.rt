@@ -1,5 +1,5 @@
-//! Copies of lines of storage, as a cache close to one CPU keeps them. Contracts see a finite map from line numbers to lists
-//! of 256 bytes.
+//! Copies of lines of storage, as a cache close to one CPU keeps them. Contracts see a finite map from line
+//! numbers to lists of 256 bytes.
 #![tactic(auto)]
 
 mod copies;

@@ -1,5 +1,6 @@
 -- Keys in slots, which are numbered from 0.
-use Rattle.std.specs.Prelude.{◌≡◌, ℕ, ◌-◌, ◌<◌, ◌≤◌, ◌^◌, Bool, ◌==◌, if◌then◌else◌, List, length, Option, Some, None, is_some}
+use Rattle.std.specs.Prelude.{◌≡◌, ℕ, ◌-◌, ◌<◌, ◌≤◌, ◌^◌, Bool, ◌==◌, if◌then◌else◌, List, length, Option}
+use Rattle.std.specs.Prelude.{Some, None, is_some}
 use Rattle.std.specs.List.{slice_index_or, position}
 use Rattle.std.specs.Option.{option_and_then}
 
@@ -19,7 +20,8 @@ is_key keys key = is_some (slot_in keys key)
 -- the slots after the key of one slot went away: the key of the last slot has that slot now
 abbrev pub slot_without : List ℕ → ℕ → ℕ → Option ℕ
 slot_without keys gone key =
-    option_and_then (λ slot. if slot == gone then None else Some (if slot == length keys - 1 then gone else slot)) (slot_in keys key)
+    option_and_then (λ slot. if slot == gone then None else Some
+    (if slot == length keys - 1 then gone else slot)) (slot_in keys key)
 
 -- the table tells the slot of each key in the list; what it says of others is of no account
 pub record IsIndexed (slots keys : List ℕ) (most capacity : ℕ) : Type 0 where

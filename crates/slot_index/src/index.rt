@@ -1,5 +1,6 @@
 //! An index of keys in slots.
-ghost use Rattle.std.specs.Prelude.{◌≡◌, ℕ, ◌+◌, ◌<◌, ◌≤◌, ◌^◌, List, [], ◌∷◌, ◌++◌, length, slice_index, Some, None, IfOk, IfSome};
+ghost use Rattle.std.specs.Prelude.{◌≡◌, ℕ, ◌+◌, ◌<◌, ◌≤◌, ◌^◌, List, [], ◌∷◌, ◌++◌, length, slice_index};
+ghost use Rattle.std.specs.Prelude.{Some, None, IfOk, IfSome};
 ghost use Rattle.std.specs.List.{swap_remove};
 ghost use Rattle.bit_set.specs.Counts.{count_below};
 ghost use Rattle.slot_index.specs.Slots.{slot_in, slot_without, is_key};
@@ -7,8 +8,8 @@ ghost use Rattle.slot_index.specs.Slots.{slot_in, slot_without, is_key};
 use std::alloc::{AllocError, Global};
 use std::marker::Model;
 
-/// Keys that have slots. Every key is below a limit and has one slot; the slots in use are those below the number
-/// of keys.
+/// Keys that have slots. Every key is below a limit and has one slot; the slots in use are those below the
+/// number of keys.
 #[derive(Drop)]
 pub struct SlotIndex {
     slots: Vec<u16>,

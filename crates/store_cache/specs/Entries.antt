@@ -1,5 +1,6 @@
 -- A store cache as data: an entry for each stored block, with a mark for each byte and each doubleword.
-use Rattle.std.specs.Prelude.{◌≡◌, ℕ, ◌+◌, ◌*◌, ◌/◌, ◌%◌, ◌<◌, ◌≤◌, Bool, true, false, if◌then◌else◌, List, length, Option, Some, None, slice_index}
+use Rattle.std.specs.Prelude.{◌≡◌, ℕ, ◌+◌, ◌*◌, ◌/◌, ◌%◌, ◌≤◌, Bool, false, if◌then◌else◌, List}
+use Rattle.std.specs.Prelude.{length, Some, None, slice_index}
 use Rattle.std.specs.List.{slice_index_or}
 use Rattle.std.specs.Option.{option_and_then}
 use Rattle.slot_index.specs.Slots.{Slots, slot_in, is_key}
@@ -7,8 +8,8 @@ use Rattle.store_cache.specs.declared.cache.TheConstants.{BLOCKS, BLOCK_SIZE, DO
 use Rattle.store_cache.specs.Overlay.{Overlay, has_block}
 use Rattle.store_cache.specs.Stores.{Stores}
 
--- the blocks in the order of their entries, and for each entry in turn its bytes and the values that NTSTG gave its doublewords; what
--- has no mark is of no account
+-- the blocks in the order of their entries, and for each entry in turn its bytes and the values that NTSTG
+-- gave its doublewords; what has no mark is of no account
 pub record Entries : Type 0 where
   pub blocks : List ℕ
   pub bytes : List ℕ
@@ -20,7 +21,8 @@ pub record Entries : Type 0 where
 unfoldable pub items_of : ℕ → List ℕ → List ℕ → List Bool → Overlay
 items_of size blocks items marks place =
     option_and_then
-    (λ slot. let cell = slot * size + place % size in if slice_index_or marks cell false then Some (slice_index items cell) else None)
+    (λ slot. let cell = slot * size + place % size in if slice_index_or marks cell false then Some
+    (slice_index items cell) else None)
     (slot_in blocks (place / size))
 
 unfoldable pub stores_of : Entries → Stores
@@ -31,7 +33,8 @@ stores_of entries =
     }
 
 -- room for all entries, no mark behind those in use, and a stored byte in each of these
-pub record IsKept (index : Slots) (bytes : List ℕ) (marks : List Bool) (values : List ℕ) (value_marks : List Bool) : Type 0 where
+pub record IsKept (index : Slots) (bytes : List ℕ) (marks : List Bool) (values : List ℕ)
+    (value_marks : List Bool) : Type 0 where
   pub limit : index.limit ≡ BLOCKS
   pub most : index.most ≡ MOST_BLOCKS
   pub byte_room : length bytes ≡ MOST_BLOCKS * BLOCK_SIZE
@@ -39,5 +42,7 @@ pub record IsKept (index : Slots) (bytes : List ℕ) (marks : List Bool) (values
   pub value_room : length values ≡ MOST_BLOCKS * DOUBLEWORDS
   pub value_mark_room : length value_marks ≡ MOST_BLOCKS * DOUBLEWORDS
   pub unmarked : (cell : ℕ) → length index.keys * BLOCK_SIZE ≤ cell → slice_index_or marks cell false ≡ false
-  pub no_value : (cell : ℕ) → length index.keys * DOUBLEWORDS ≤ cell → slice_index_or value_marks cell false ≡ false
-  pub stored : (block : ℕ) → has_block (items_of BLOCK_SIZE index.keys bytes marks) block ≡ is_key index.keys block
+  pub no_value : (cell : ℕ) → length index.keys * DOUBLEWORDS ≤ cell
+      → slice_index_or value_marks cell false ≡ false
+  pub stored : (block : ℕ) → has_block (items_of BLOCK_SIZE index.keys bytes marks) block ≡ is_key index.keys
+      block

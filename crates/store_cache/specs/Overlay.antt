@@ -1,5 +1,7 @@
 -- Stores that lie over storage: for each address the last byte stored there, if any.
-use Rattle.std.specs.Prelude.{◌≡◌, ℕ, ◌+◌, ◌-◌, ◌*◌, Bool, ◌&&◌, ◌==◌, nat_lt, nat_le, if◌then◌else◌, List, [], length, map, fold, Option, None, Some, is_some, unwrap_or, slice_index, slice_set, slice_get}
+use Rattle.std.specs.Prelude.{ℕ, ◌+◌, ◌-◌, ◌*◌, Bool, ◌&&◌, ◌==◌, nat_lt, nat_le, if◌then◌else◌, List}
+use Rattle.std.specs.Prelude.{length, map, fold, Option, None, Some, is_some, unwrap_or, slice_index}
+use Rattle.std.specs.Prelude.{slice_set, slice_get}
 use Rattle.std.specs.List.{range_with_len}
 use Rattle.bit_set.specs.Counts.{count_below}
 use Rattle.store_cache.specs.declared.cache.TheConstants.{BLOCKS, BLOCK_SIZE}
@@ -18,7 +20,8 @@ with_one overlay at number place = if place == at then Some number else overlay 
 -- bytes are stored from an address on
 unfoldable pub with_bytes : Overlay → ℕ → List ℕ → Overlay
 with_bytes overlay first bytes address =
-    if nat_le first address && nat_lt address (first + length bytes) then slice_get bytes (address - first) else overlay address
+    if nat_le first address && nat_lt address (first + length bytes) then slice_get bytes (address - first)
+    else overlay address
 
 -- a byte as it is seen through an overlay: the last one stored there, else that of the base
 abbrev pub byte_through : Overlay → List ℕ → ℕ → ℕ
@@ -45,7 +48,8 @@ stored_in base stores = fold (λ bytes store. slice_set bytes store.address stor
 
 -- whether a byte of a block was stored
 unfoldable pub has_block : Overlay → ℕ → Bool
-has_block overlay block = nat_lt 0 (count_below BLOCK_SIZE (λ at. is_some (overlay (block * BLOCK_SIZE + at))))
+has_block overlay block = nat_lt 0 (count_below BLOCK_SIZE
+    (λ at. is_some (overlay (block * BLOCK_SIZE + at))))
 
 -- how many blocks have a stored byte
 abbrev pub block_count : Overlay → ℕ

@@ -1,13 +1,15 @@
--- What the contracts of a store cache speak of: the stores of an attempt, and what lasts of them where the attempt ends in an abort.
-use Rattle.std.specs.Prelude.{◌≡◌, ◌≢◌, ℕ, ◌+◌, ◌/◌, ◌%◌, ◌<◌, ◌≤◌, Bool, ◌||◌, nat_lt, Option, None, slice_get, List}
+-- What the contracts of a store cache speak of: the stores of an attempt, and what lasts of them where the
+-- attempt ends in an abort.
+use Rattle.std.specs.Prelude.{◌≡◌, ℕ, ◌/◌, ◌%◌, ◌≤◌, Bool, ◌||◌, nat_lt, None}
+use Rattle.std.specs.Prelude.{slice_get}
 use Rattle.std.specs.Option.{option_and_then}
 use Rattle.byteorder.specs.Endian.{big_bytes}
 use Rattle.z_regs.specs.declared.prefix.TheConstants.{STORAGE_SIZE}
-use Rattle.store_cache.specs.declared.cache.TheConstants.{BLOCK_SIZE, MOST_BLOCKS}
+use Rattle.store_cache.specs.declared.cache.TheConstants.{MOST_BLOCKS}
 use Rattle.store_cache.specs.Overlay.{Overlay, nothing, with_one, with_bytes, has_block, block_count}
 
--- the last byte stored at each address, by whatever instruction, and the last value that NTSTG gave each doubleword, by the
--- doubleword's number, which is its address divided by 8
+-- the last byte stored at each address, by whatever instruction, and the last value that NTSTG gave each
+-- doubleword, by the doubleword's number, which is its address divided by 8
 pub record Stores : Type 0 where
   pub overlay : Overlay
   pub lasting : Overlay
@@ -17,7 +19,11 @@ no_stores = record { overlay = nothing; lasting = nothing }
 
 -- a byte is stored
 abbrev pub with_store : Stores → ℕ → ℕ → Stores
-with_store stores address byte = record { overlay = with_one stores.overlay address byte; lasting = stores.lasting }
+with_store stores address byte = record {
+  overlay = with_one stores.overlay address byte;
+  lasting =
+      stores.lasting;
+}
 
 -- NTSTG stores a doubleword
 abbrev pub with_ntstg : Stores → ℕ → ℕ → Stores
@@ -29,7 +35,8 @@ with_ntstg stores address value =
 
 -- the bytes that last where the attempt ends in an abort: those of each doubleword's last value
 unfoldable pub lasting_bytes : Overlay → Overlay
-lasting_bytes lasting address = option_and_then (λ value. slice_get (big_bytes 8 value) (address % 8)) (lasting (address / 8))
+lasting_bytes lasting address = option_and_then (λ value. slice_get (big_bytes 8 value) (address % 8))
+    (lasting (address / 8))
 
 -- whether a byte of a block may be stored
 abbrev pub has_room : Overlay → ℕ → Bool

@@ -1,9 +1,11 @@
 //! The store cache.
-ghost use Rattle.std.specs.Prelude.{◌≡◌, ℕ, ◌+◌, ◌*◌, ◌/◌, ◌%◌, ◌<◌, ◌≤◌, true, is_some, Some, IfOk, length, false, if◌then◌else◌, ◌++◌, ◌∷◌, []};
+ghost use Rattle.std.specs.Prelude.{◌≡◌, ℕ, ◌+◌, ◌*◌, ◌/◌, ◌%◌, ◌<◌, ◌≤◌, true, is_some, Some, IfOk, length};
+ghost use Rattle.std.specs.Prelude.{false, if◌then◌else◌, ◌++◌, ◌∷◌, []};
 ghost use Rattle.bit_set.specs.Counts.{count_below};
 ghost use Rattle.slot_index.specs.Slots.{slot_in, is_key};
 ghost use Rattle.store_cache.specs.Overlay.{with_one, bytes_through, has_block, block_count};
-ghost use Rattle.store_cache.specs.Stores.{no_stores, with_store, with_ntstg, lasting_bytes, has_room, IsSound};
+ghost use Rattle.store_cache.specs.Stores.{no_stores, with_store, with_ntstg, lasting_bytes, has_room};
+ghost use Rattle.store_cache.specs.Stores.{IsSound};
 ghost use Rattle.store_cache.specs.Entries.{stores_of};
 
 use crate::laying::{lay_bytes, lay_values, unmark};
@@ -36,7 +38,8 @@ impl From<AllocError> for NoMemory {
     }
 }
 
-/// The stores of an attempt into at most `MOST_BLOCKS` blocks. Blocks are numbered as in storage, their address divided by 128.
+/// The stores of an attempt into at most `MOST_BLOCKS` blocks. Blocks are numbered as in storage, their
+/// address divided by 128.
 #[derive(Drop)]
 pub struct StoreCache {
     index: SlotIndex,
@@ -51,7 +54,13 @@ impl Model for StoreCache {
 
     ghost Value = { Entries };
 
-    ghost view = { λ s. record { blocks = s.index.keys; bytes = s.bytes.items; marks = s.marks; values = s.values.items; value_marks = s.value_marks } };
+    ghost view = { λ s. record {
+      blocks = s.index.keys;
+      bytes = s.bytes.items;
+      marks = s.marks;
+      values = s.values.items;
+      value_marks = s.value_marks;
+    } };
 
     ghost invariant = { λ s. IsKept s.index s.bytes.items s.marks s.values.items s.value_marks };
 }
@@ -83,7 +92,8 @@ impl StoreCache {
         self.index.count() as u32
     }
 
-    /// Whether a byte of the block may be stored: the block is stored already, or fewer than `MOST_BLOCKS` are.
+    /// Whether a byte of the block may be stored: the block is stored already, or fewer than `MOST_BLOCKS`
+    /// are.
     pub fn has_room(&self, block: u32) -> bool
         ensures { result ≡ has_room (stores_of self.now).overlay block }
     {
@@ -116,7 +126,8 @@ impl StoreCache {
         self.marks.insert(cell);
     }
 
-    /// Stores a doubleword as NONTRANSACTIONAL STORE does. The address must be that of a doubleword, whose block has room.
+    /// Stores a doubleword as NONTRANSACTIONAL STORE does. The address must be that of a doubleword, whose
+    /// block has room.
     pub fn ntstg(&mut self, address: u64, value: u64)
         requires within { address < STORAGE_SIZE }
         requires boundary { address % 8 ≡ 0 }
@@ -141,10 +152,12 @@ impl StoreCache {
         self.empty();
     }
 
-    /// Lays the last value of each doubleword that NONTRANSACTIONAL STORE stored over storage, and forgets all stores.
+    /// Lays the last value of each doubleword that NONTRANSACTIONAL STORE stored over storage, and forgets
+    /// all stores.
     pub fn abort<V: Bytes>(&mut self, into: &mut V)
         requires { length (V.bytes into.old) ≡ STORAGE_SIZE }
-        ensures bytes { V.bytes into.new ≡ bytes_through (lasting_bytes (stores_of self.old).lasting) (V.bytes into.old) }
+        ensures bytes { V.bytes into.new
+            ≡ bytes_through (lasting_bytes (stores_of self.old).lasting) (V.bytes into.old) }
         ensures empty { stores_of self.new ≡ no_stores }
     {
         lay_values(&self.index, &self.values, &self.value_marks, into);
@@ -165,7 +178,10 @@ impl StoreCache {
     /// Keeps a value as the last one of a doubleword whose block is stored.
     fn keep(&mut self, doubleword: usize, value: u64)
         requires { has_block (stores_of self.old).overlay (doubleword / DOUBLEWORDS) ≡ true }
-        ensures { stores_of self.new ≡ record (stores_of self.old) { lasting = with_one (stores_of self.old).lasting doubleword value } }
+        ensures { stores_of self.new
+            ≡ record (stores_of self.old) {
+              lasting = with_one (stores_of self.old).lasting doubleword value;
+            } }
     {
         let slot = self.index.slot_of(doubleword / DOUBLEWORDS).unwrap();
         let cell = slot * DOUBLEWORDS + doubleword % DOUBLEWORDS;
@@ -187,10 +203,12 @@ impl StoreCache {
 /// The entry of a block, a new one where it has none.
 fn slot_for(index: &mut SlotIndex, block: usize) -> usize
     requires block { block < index.old.limit }
-    requires room { is_key index.old.keys block ≡ false → count_below index.old.limit (is_key index.old.keys) < index.old.most }
+    requires room { is_key index.old.keys block ≡ false
+        → count_below index.old.limit (is_key index.old.keys) < index.old.most }
     ensures slot { slot_in index.new.keys block ≡ Some result }
     ensures within { result < index.old.most }
-    ensures index { index.new ≡ (if is_key index.old.keys block then index.old else record index.old { keys = index.old.keys ++ block ∷ [] }) }
+    ensures index { index.new ≡ (if is_key index.old.keys block then index.old
+        else record index.old { keys = index.old.keys ++ block ∷ [] }) }
 {
     if let Some(slot) = index.slot_of(block) {
         return slot;

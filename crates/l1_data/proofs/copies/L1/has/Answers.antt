@@ -5,6 +5,9 @@ use Rattle.l1_data.proofs.copies.L1.has.Goals as goal
 
 pub returns : goal.returns
 returns c =
-    let now : copies_of c.args.self.now ≡ copy_at c.self.inside.index.keys c.self.inside.copies.items = copies_of-kept c.args.self.now c.self.inside.index.keys c.self.inside.copies.items c.self.view_is in
+    let now : copies_of c.args.self.now ≡ copy_at c.self.inside.index.keys
+    c.self.inside.copies.items = copies_of-kept c.args.self.now c.self.inside.index.keys
+    c.self.inside.copies.items c.self.view_is in
     c.is_some.ensures ∙ ap is_some c.slot_of.ensures.value
-    ∙ sym (ap (λ (copies : Copies). is_some (copies c.args.line)) now ∙ is_some-copy_at c.self.inside.index.keys c.self.inside.copies.items c.args.line)
+    ∙ sym (ap (λ (copies : Copies). is_some (copies c.args.line)) now
+    ∙ is_some-copy_at c.self.inside.index.keys c.self.inside.copies.items c.args.line)

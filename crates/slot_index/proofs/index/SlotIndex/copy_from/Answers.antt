@@ -7,7 +7,8 @@ pub add-requires-clause-absent : goal.add-requires-clause-absent
 add-requires-clause-absent c =
     let keys = c.args.other.now.keys in
     let slot = c.loop-slot.slot in
-    let told : slot_in keys (get_or keys slot 0) ≡ Some slot = ap (slot_in keys) (sym c.key_at.ensures.value) ∙ c.key_at.ensures.slot in
+    let told : slot_in keys (get_or keys slot 0) ≡ Some slot = ap (slot_in keys) (sym c.key_at.ensures.value)
+    ∙ c.key_at.ensures.slot in
     ap (λ (v : Slots). slot_in v.keys c.key_at.result) c.loop-slot.invariant
     ∙ ap (slot_in (take slot keys)) c.key_at.ensures.value
     ∙ slot_in-take keys slot (omega arith) told
