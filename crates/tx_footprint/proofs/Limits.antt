@@ -16,7 +16,7 @@ use Rattle.tx_footprint.specs.declared.footprint.TheConstants.{MOST_LINES, MOST_
 use Rattle.tx_footprint.specs.declared.places.Kind.{Kind}
 use Rattle.tx_footprint.specs.declared.places.Kind.TheVariants.{Line, FetchedLine, StoredLine, StoredBlock}
 use Rattle.tx_footprint.specs.declared.places.TheConstants.{LINE_SIZE, BLOCKS}
-use Rattle.tx_footprint.specs.Places.{has_place, fetches, stores, stores_block, touched_by, marked_or_touched}
+use Rattle.tx_footprint.specs.Places.{has_place, fetches, stores, touched_by, marked_or_touched}
 use Rattle.tx_footprint.specs.Touched.{Sets, untouched, touching, line_count, block_count, fit_of}
 use Rattle.tx_footprint.specs.Touched.{Touched, sets_of, IsKept}
 use Rattle.tx_footprint.proofs.Spans.{cases}

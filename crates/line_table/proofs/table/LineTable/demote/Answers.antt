@@ -1,4 +1,4 @@
-use Rattle.std.proofs.Common.{◌≡◌, ◌<◌, ◌*◌, ◌+◌, Bool, List, true, false, length, get_or, set, vec_len, ap}
+use Rattle.std.proofs.Common.{◌≡◌, ◌<◌, ◌*◌, ◌+◌, Bool, List, true, false, length, set, vec_len, ap}
 use Rattle.std.proofs.Common.{sym, ◌∙◌, arith}
 use Rattle.line_table.specs.declared.table.TheConstants.{LINES}
 use Rattle.line_table.specs.Holders.{Holders, Holdings, holding, mode_in}

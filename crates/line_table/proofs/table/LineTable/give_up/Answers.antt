@@ -1,4 +1,4 @@
-use Rattle.std.proofs.Common.{◌≡◌, ◌<◌, ◌*◌, ◌+◌, ◌-◌, Bool, List, true, false, None, length, get_or, set}
+use Rattle.std.proofs.Common.{◌≡◌, ◌<◌, ◌*◌, ◌+◌, ◌-◌, Bool, List, false, None, length, set}
 use Rattle.std.proofs.Common.{vec_len, ap, sym, ◌∙◌, arith}
 use Rattle.line_table.specs.declared.table.TheConstants.{LINES}
 use Rattle.line_table.specs.Holders.{Holders, Holdings, holding, mode_in}

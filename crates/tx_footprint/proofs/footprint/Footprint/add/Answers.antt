@@ -1,5 +1,5 @@
-use Rattle.std.proofs.Common.{◌≡◌, ◌+◌, arith}
-use Rattle.tx_footprint.specs.Touched.{Sets, touching, line_count, block_count, sets_of}
+use Rattle.std.proofs.Common.{arith}
+use Rattle.tx_footprint.specs.Touched.{Sets, touching, sets_of}
 use Rattle.tx_footprint.proofs.Limits.{lines_after, blocks_after, fits_from, added_kept}
 use Rattle.tx_footprint.proofs.footprint.Footprint.add.Goals as goal
 

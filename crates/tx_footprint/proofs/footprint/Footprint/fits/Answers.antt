@@ -1,11 +1,11 @@
-use Rattle.std.proofs.Common.{◌≡◌, ◌+◌, Ok, Err, refl, ap, sym, ◌∙◌, arith}
+use Rattle.std.proofs.Common.{◌≡◌, Ok, Err, refl, sym, arith}
 use Rattle.bit_set.proofs.Counts.{count_at_most}
 use Rattle.line_table.specs.declared.table.TheConstants.{LINES}
 use Rattle.tx_footprint.specs.declared.footprint.Overflow.TheVariants.{Fetch, Store}
 use Rattle.tx_footprint.specs.declared.places.TheConstants.{BLOCKS}
 use Rattle.tx_footprint.specs.declared.places.Kind.TheVariants.{Line, StoredBlock}
 use Rattle.tx_footprint.specs.Places.{marked_or_touched}
-use Rattle.tx_footprint.specs.Touched.{Sets, Touched, touching, line_count, block_count, sets_of}
+use Rattle.tx_footprint.specs.Touched.{Sets, touching, sets_of}
 use Rattle.tx_footprint.proofs.Limits.{lines_after, blocks_after, too_many_lines, too_many_blocks, all_fit}
 use Rattle.tx_footprint.proofs.footprint.Footprint.fits.Goals as goal
 
