@@ -1,5 +1,6 @@
 //! Operations that fetch one item of storage and store nothing.
 ghost use Rattle.std.specs.Prelude.{◌≡◌, length};
+ghost use Rattle.z_regs.specs.Prefix.{storage_size};
 ghost use Rattle.z_regs.specs.Cpu.{cpu_of};
 ghost use Rattle.z_effect.specs.declared.kind.Storage.TheVariants.{Compute, Compare, CompareImmediate};
 ghost use Rattle.z_effect.specs.declared.kind.Storage.TheVariants.{TestUnderMask, InsertByte, LoadSelected};
@@ -27,7 +28,7 @@ pub fn compute<V: Bytes>(
     image: &mut CpuImage,
     view: &V,
 ) -> Result<(), Exception>
-    requires size { length (V.bytes view.now) ≡ 1048576 }
+    requires size { length (V.bytes view.now) ≡ storage_size }
     requires inside { AreInside (ranges (Compute operation w part) instr.now (cpu_of image.old))
         (V.bytes view.now) }
     ensures { Performs (Compute operation w part) n instr.now (cpu_of image.old) (cpu_of image.new)
@@ -50,7 +51,7 @@ pub fn compare_register<V: Bytes>(
     image: &mut CpuImage,
     view: &V,
 ) -> Result<(), Exception>
-    requires size { length (V.bytes view.now) ≡ 1048576 }
+    requires size { length (V.bytes view.now) ≡ storage_size }
     requires inside { AreInside (ranges (Compare order w part) instr.now (cpu_of image.old))
         (V.bytes view.now) }
     ensures { Performs (Compare order w part) n instr.now (cpu_of image.old) (cpu_of image.new)
@@ -73,7 +74,7 @@ pub fn compare_immediate<V: Bytes>(
     image: &mut CpuImage,
     view: &V,
 ) -> Result<(), Exception>
-    requires size { length (V.bytes view.now) ≡ 1048576 }
+    requires size { length (V.bytes view.now) ≡ storage_size }
     requires inside { AreInside (ranges (CompareImmediate order w part) instr.now (cpu_of image.old))
         (V.bytes view.now) }
     ensures { Performs (CompareImmediate order w part) n instr.now (cpu_of image.old) (cpu_of image.new)
@@ -93,7 +94,7 @@ pub fn test_byte<V: Bytes>(
     image: &mut CpuImage,
     view: &V,
 ) -> Result<(), Exception>
-    requires size { length (V.bytes view.now) ≡ 1048576 }
+    requires size { length (V.bytes view.now) ≡ storage_size }
     requires inside { AreInside (ranges TestUnderMask instr.now (cpu_of image.old)) (V.bytes view.now) }
     ensures { Performs TestUnderMask n instr.now (cpu_of image.old) (cpu_of image.new) (V.bytes view.now)
         (V.bytes view.now) result }
@@ -112,7 +113,7 @@ pub fn insert_byte<V: Bytes>(
     image: &mut CpuImage,
     view: &V,
 ) -> Result<(), Exception>
-    requires size { length (V.bytes view.now) ≡ 1048576 }
+    requires size { length (V.bytes view.now) ≡ storage_size }
     requires inside { AreInside (ranges InsertByte instr.now (cpu_of image.old)) (V.bytes view.now) }
     ensures { Performs InsertByte n instr.now (cpu_of image.old) (cpu_of image.new) (V.bytes view.now)
         (V.bytes view.now) result }
@@ -137,7 +138,7 @@ pub fn load_selected<V: Bytes>(
     image: &mut CpuImage,
     view: &V,
 ) -> Result<(), Exception>
-    requires size { length (V.bytes view.now) ≡ 1048576 }
+    requires size { length (V.bytes view.now) ≡ storage_size }
     requires inside { AreInside (ranges LoadSelected instr.now (cpu_of image.old)) (V.bytes view.now) }
     ensures { Performs LoadSelected n instr.now (cpu_of image.old) (cpu_of image.new) (V.bytes view.now)
         (V.bytes view.now) result }

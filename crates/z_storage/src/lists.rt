@@ -1,6 +1,7 @@
 //! Operations on the bytes of two operands in storage, which may overlap in any way (Principles of Operation,
 //! "Move", "And", "Compare Logical": operands are processed a byte at a time, from the left).
 ghost use Rattle.std.specs.Prelude.{◌≡◌, ◌<◌, ◌≤◌, ◌+◌, ℕ, List, true, length, nat_eq};
+ghost use Rattle.z_regs.specs.Prefix.{storage_size};
 ghost use Rattle.std.specs.List.{list_all};
 ghost use Rattle.z_instr.specs.Operands.{length_of};
 ghost use Rattle.z_instr.specs.Ranges.{is_within, bounds};
@@ -46,9 +47,9 @@ fn combine_bytes<V: Bytes>(
     source: u64,
     count: u64,
 ) -> bool
-    requires size { length (V.bytes view.old) ≡ 1048576 }
-    requires target_in { target + count ≤ 1048576 }
-    requires source_in { source + count ≤ 1048576 }
+    requires size { length (V.bytes view.old) ≡ storage_size }
+    requires target_in { target + count ≤ storage_size }
+    requires source_in { source + count ≤ storage_size }
     ensures stored { V.bytes view.new ≡
         written (V.bytes view.old) target (results count combination (lead count target source)
         (range_at (V.bytes view.old) target count) (range_at (V.bytes view.old) source count)) }
@@ -66,9 +67,9 @@ fn combine_bytes<V: Bytes>(
 
 /// Compares `count` bytes from the left: 0 equal, 1 where the first list is low, 2 where it is high.
 fn order_in<V: Bytes>(view: &V, first: u64, second: u64, count: u64) -> u8
-    requires size { length (V.bytes view.now) ≡ 1048576 }
-    requires first_in { first + count ≤ 1048576 }
-    requires second_in { second + count ≤ 1048576 }
+    requires size { length (V.bytes view.now) ≡ storage_size }
+    requires first_in { first + count ≤ storage_size }
+    requires second_in { second + count ≤ storage_size }
     ensures order { result ≡ order_of_bytes (range_at (V.bytes view.now) first count)
         (range_at (V.bytes view.now) second count) }
     ensures code { result < 4 }
@@ -105,7 +106,7 @@ pub fn byte_by_byte<V: Bytes>(
     image: &mut CpuImage,
     view: &mut V,
 ) -> Result<(), Exception>
-    requires size { length (V.bytes view.old) ≡ 1048576 }
+    requires size { length (V.bytes view.old) ≡ storage_size }
     requires code { is_within (bounds 0 256) instr.now.imm ≡ true }
     requires inside { AreInside (ranges (ByteByByte combination) instr.now (cpu_of image.old))
         (V.bytes view.old) }
@@ -130,7 +131,7 @@ pub fn compare_bytes<V: Bytes>(
     image: &mut CpuImage,
     view: &V,
 ) -> Result<(), Exception>
-    requires size { length (V.bytes view.now) ≡ 1048576 }
+    requires size { length (V.bytes view.now) ≡ storage_size }
     requires code { is_within (bounds 0 256) instr.now.imm ≡ true }
     requires inside { AreInside (ranges CompareBytes instr.now (cpu_of image.old)) (V.bytes view.now) }
     ensures { Performs CompareBytes n instr.now (cpu_of image.old) (cpu_of image.new) (V.bytes view.now)

@@ -1,5 +1,6 @@
 //! One instruction.
 ghost use Rattle.std.specs.Prelude.{◌≡◌, ℕ, length, slice_index, true};
+ghost use Rattle.z_regs.specs.Prefix.{storage_size};
 ghost use Rattle.z_instr.specs.Facts.{has_two_lists};
 ghost use Rattle.z_instr.specs.Ranges.{is_within, bounds};
 ghost use Rattle.z_regs.specs.Cpu.{cpu_of};
@@ -34,7 +35,7 @@ fn run<V: Bytes>(
     image: &mut CpuImage,
     view: &mut V,
 ) -> Result<(), Exception>
-    requires size { length (V.bytes view.old) ≡ 1048576 }
+    requires size { length (V.bytes view.old) ≡ storage_size }
     requires lists { has_two_lists (storage_operands kind) ≡ true → is_within (bounds 0 256) instr.now.imm ≡
         true }
     requires inside { AreInside (ranges kind instr.now (cpu_of image.old)) (V.bytes view.old) }
@@ -78,13 +79,13 @@ fn run<V: Bytes>(
 /// result overflows and the leftmost bit of the program mask is one.
 pub fn execute<V: Bytes>(instr: &Instr, image: &mut CpuImage, view: &mut V) -> Result<(), Exception>
     requires mine { is_storage (kind_at instr.now.op.number) ≡ true }
-    requires size { length (V.bytes view.old) ≡ 1048576 }
+    requires size { length (V.bytes view.old) ≡ storage_size }
     requires inside { AreInside (ranges_of instr.now (cpu_of image.old)) (V.bytes view.old) }
     ensures does { (depth : ℕ) → Executes depth instr.now (cpu_of image.old) (cpu_of image.new)
         (V.bytes view.old) (V.bytes view.new) result }
     ensures beside { (k : ℕ) → IsBeside k (ranges_of instr.now (cpu_of image.old)) →
         slice_index (V.bytes view.new) k ≡ slice_index (V.bytes view.old) k }
-    ensures size { length (V.bytes view.new) ≡ 1048576 }
+    ensures size { length (V.bytes view.new) ≡ storage_size }
 {
     let n = length_in(line(instr.op).format);
     match kind_of(instr.op) {

@@ -1,5 +1,6 @@
 //! Operations that store one item of storage.
 ghost use Rattle.std.specs.Prelude.{◌≡◌, length};
+ghost use Rattle.z_regs.specs.Prefix.{storage_size};
 ghost use Rattle.z_regs.specs.Cpu.{cpu_of};
 ghost use Rattle.z_effect.specs.declared.kind.Storage.TheVariants.{Store, StoreImmediate, ByteLogic};
 ghost use Rattle.z_effect.specs.declared.kind.Storage.TheVariants.{AddImmediate, CompareAndSwap, LoadAnd};
@@ -28,7 +29,7 @@ pub fn store_register<V: Bytes>(
     image: &mut CpuImage,
     view: &mut V,
 ) -> Result<(), Exception>
-    requires size { length (V.bytes view.old) ≡ 1048576 }
+    requires size { length (V.bytes view.old) ≡ storage_size }
     requires inside { AreInside (ranges (Store size) instr.now (cpu_of image.old)) (V.bytes view.old) }
     ensures { Performs (Store size) n instr.now (cpu_of image.old) (cpu_of image.new) (V.bytes view.old)
         (V.bytes view.new) result }
@@ -48,7 +49,7 @@ pub fn store_immediate<V: Bytes>(
     image: &mut CpuImage,
     view: &mut V,
 ) -> Result<(), Exception>
-    requires size { length (V.bytes view.old) ≡ 1048576 }
+    requires size { length (V.bytes view.old) ≡ storage_size }
     requires inside { AreInside (ranges (StoreImmediate size) instr.now (cpu_of image.old))
         (V.bytes view.old) }
     ensures { Performs (StoreImmediate size) n instr.now (cpu_of image.old) (cpu_of image.new)
@@ -69,7 +70,7 @@ pub fn byte_logic<V: Bytes>(
     image: &mut CpuImage,
     view: &mut V,
 ) -> Result<(), Exception>
-    requires size { length (V.bytes view.old) ≡ 1048576 }
+    requires size { length (V.bytes view.old) ≡ storage_size }
     requires inside { AreInside (ranges (ByteLogic kind) instr.now (cpu_of image.old)) (V.bytes view.old) }
     ensures { Performs (ByteLogic kind) n instr.now (cpu_of image.old) (cpu_of image.new) (V.bytes view.old)
         (V.bytes view.new) result }
@@ -92,7 +93,7 @@ pub fn add_immediate<V: Bytes>(
     image: &mut CpuImage,
     view: &mut V,
 ) -> Result<(), Exception>
-    requires size { length (V.bytes view.old) ≡ 1048576 }
+    requires size { length (V.bytes view.old) ≡ storage_size }
     requires inside { AreInside (ranges (AddImmediate w) instr.now (cpu_of image.old)) (V.bytes view.old) }
     ensures { Performs (AddImmediate w) n instr.now (cpu_of image.old) (cpu_of image.new) (V.bytes view.old)
         (V.bytes view.new) result }
@@ -112,7 +113,7 @@ pub fn compare_and_swap<V: Bytes>(
     image: &mut CpuImage,
     view: &mut V,
 ) -> Result<(), Exception>
-    requires size { length (V.bytes view.old) ≡ 1048576 }
+    requires size { length (V.bytes view.old) ≡ storage_size }
     requires inside { AreInside (ranges (CompareAndSwap w) instr.now (cpu_of image.old)) (V.bytes view.old) }
     ensures { Performs (CompareAndSwap w) n instr.now (cpu_of image.old) (cpu_of image.new) (V.bytes view.old)
         (V.bytes view.new) result }
@@ -142,7 +143,7 @@ pub fn load_and<V: Bytes>(
     image: &mut CpuImage,
     view: &mut V,
 ) -> Result<(), Exception>
-    requires size { length (V.bytes view.old) ≡ 1048576 }
+    requires size { length (V.bytes view.old) ≡ storage_size }
     requires inside { AreInside (ranges (LoadAnd operation w) instr.now (cpu_of image.old))
         (V.bytes view.old) }
     ensures { Performs (LoadAnd operation w) n instr.now (cpu_of image.old) (cpu_of image.new)
@@ -165,7 +166,7 @@ pub fn store_selected<V: Bytes>(
     image: &mut CpuImage,
     view: &mut V,
 ) -> Result<(), Exception>
-    requires size { length (V.bytes view.old) ≡ 1048576 }
+    requires size { length (V.bytes view.old) ≡ storage_size }
     requires inside { AreInside (ranges StoreSelected instr.now (cpu_of image.old)) (V.bytes view.old) }
     ensures { Performs StoreSelected n instr.now (cpu_of image.old) (cpu_of image.new) (V.bytes view.old)
         (V.bytes view.new) result }

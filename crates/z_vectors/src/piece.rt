@@ -6,7 +6,7 @@ use crate::numbers::hexadecimal;
 use std::alloc::Global;
 
 /// How many bytes storage has.
-pub const SIZE: u64 = 1_048_576;
+pub const SIZE: u64 = z_regs::STORAGE_SIZE;
 
 /// Bytes of storage from an address on, all inside.
 #[derive(Drop)]

@@ -1,5 +1,6 @@
 //! One instruction, from its bytes to what it leaves.
 ghost use Rattle.std.specs.Prelude.{◌≡◌, List, ℕ, length, true};
+ghost use Rattle.z_regs.specs.Prefix.{storage_size};
 ghost use Rattle.z_regs.specs.Cpu.{cpu_of};
 ghost use Rattle.z_effect.specs.Kinds.{kind_at};
 ghost use Rattle.z_effect.specs.Facts.{is_storage};
@@ -71,7 +72,7 @@ fn execute(
     mut image: CpuImage,
     view: &mut Watched,
 ) -> Result<Answer, NobodysOperation>
-    requires { (s : List ℕ) → length s ≡ 1048576 → is_storage (kind_at instr.now.op.number) ≡ true →
+    requires { (s : List ℕ) → length s ≡ storage_size → is_storage (kind_at instr.now.op.number) ≡ true →
         AreInside (ranges_of instr.now (cpu_of image)) s }
 {
     if z_general::is_mine(instr.op) {
