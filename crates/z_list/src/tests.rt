@@ -1,10 +1,16 @@
 //! Readings that an outside disassembler gave, in the listing's spelling, and the listing of a small program.
 
+ghost use Rattle.std.specs.Prelude.{◌≡◌, ℕ, IfOk, length, slice_index};
+
 use crate::lines::add_parts;
-use crate::{Operand, instruction_text, operands};
+use crate::{Operand, instruction_text, listing, operands};
+use std::alloc::Global;
 use std::test::Fail;
+use tx_journal::Image;
+use tx_ladder::Parms;
 use z_decode::{decode, length_of};
 use z_instr::instr::Instr;
+use z_regs::{CpuImage, Guard};
 
 /// The bytes of an instruction, and its mnemonic and operands.
 struct Case {
@@ -110,5 +116,41 @@ fn lines_of_a_program(rt: HostRuntime) -> Result<(), Fail> {
         00004008 b9080012     AGR 1,2\n\
         0000400c 0a00         SVC 0\n";
     assert_eq!(rt; text.as_slice(), wanted.as_slice());
+    Ok(())
+}
+
+/// So many zeros.
+fn zeros(alloc: Global, count: usize) -> Result<Vec<u8>, Fail>
+    ensures size { IfOk result (λ bytes. length bytes.items ≡ count) }
+    ensures zero { IfOk result (λ bytes. (k : ℕ) → slice_index bytes.items k ≡ 0) }
+{
+    let bytes = vec![in alloc; 0u8; count]?;
+    Ok(bytes)
+}
+
+/// An image without instructions, with one CPU.
+fn empty_image(alloc: Global) -> Result<Image, Fail> {
+    let storage = zeros(alloc, 1048576)?;
+    let cpus = Vec::from_array(alloc, [CpuImage::entering(0x4000)])?;
+    let starts = Vec::new(alloc);
+    let shows = Vec::new(alloc);
+    let schedule = Vec::new(alloc);
+    let parms = Parms::usual();
+    Ok(Image::new(
+        storage,
+        Guard::none(),
+        starts,
+        cpus,
+        shows,
+        schedule,
+        false,
+        parms,
+    ))
+}
+
+#[test]
+fn nothing_is_listed_of_no_instructions(rt: HostRuntime) -> Result<(), Fail> {
+    let text = listing(rt.alloc(), &empty_image(rt.alloc())?)?;
+    assert_eq!(rt; text.len(), 0);
     Ok(())
 }
