@@ -9,7 +9,7 @@ use Rattle.z_instr.specs.Table.{entry_at, table}
 use Rattle.z_regs.specs.declared.image.RunState.TheVariants.{Interrupted}
 use Rattle.z_regs.specs.Cpu.{Cpu, started}
 use Rattle.z_effect.specs.Kinds.{kind_named, kind_at}
-use Rattle.z_effect.specs.Registers.{register, with_general, with_condition}
+use Rattle.z_effect.specs.Registers.{with_general, with_condition}
 use Rattle.z_effect.specs.Outcome.{Outcome, Did, Overflowed, Divides, Aborts}
 use Rattle.z_effect.specs.One.{one}
 use Rattle.z_effect.specs.TransactionEffect.{transaction_effect, delay_of}
@@ -68,7 +68,7 @@ assists : done_at 0 (with_first 3) (0xB2 ∷ 0xE8 ∷ 0x10 ∷ 0x10 ∷ []) ≡ 
 unfolding reading_of row_number entry_at table kind_named kind_at transaction_effect
 assists = refl
 
--- ---- delays of PPA, by the word of register 1 and by M3
+-- ---- delays of PPA, by the word of register 1 and by the mask
 
 abbrev delay : ℕ → ℕ → Option ℕ
 delay m3 value =

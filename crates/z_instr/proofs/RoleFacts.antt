@@ -1,7 +1,7 @@
 -- Operations that the rules of transactions name are told by their opcodes.
 use Rattle.std.proofs.Common.{◌≡◌, ℕ, ◌<◌, true, false, Bool, nat_eq, refl, sym}
 use Rattle.z_instr.specs.declared.table.TheConstants.{ROWS}
-use Rattle.z_instr.specs.Table.{Entry, entry_at}
+use Rattle.z_instr.specs.Table.{entry_at}
 use Rattle.z_instr.specs.Facts.{agree}
 use Rattle.z_instr.specs.Roles.{is_named, is_end, sets_access_register}
 use Rattle.std.specs.Prelude.{codes}

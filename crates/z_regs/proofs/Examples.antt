@@ -1,7 +1,7 @@
 -- Worked values of prefixes, ranges, save masks and program status words.
-use Rattle.std.proofs.Common.{◌≡◌, ℕ, true, false, List, [], ◌∷◌, None, Some, refl}
+use Rattle.std.proofs.Common.{◌≡◌, ℕ, true, false, [], ◌∷◌, None, Some, refl}
 use Rattle.z_regs.specs.declared.ranges.Range.{Range}
-use Rattle.z_regs.specs.declared.image.RunState.TheVariants.{Running, Halted, Interrupted}
+use Rattle.z_regs.specs.declared.image.RunState.TheVariants.{Halted, Interrupted}
 use Rattle.z_regs.specs.Cpu.{Cpu, started}
 use Rattle.z_regs.specs.Prefix.{is_prefix, absolute_of, is_accessible}
 use Rattle.z_regs.specs.Pairs.{saves_pair}

@@ -1,11 +1,11 @@
 -- The exchange of two areas of storage, address by address and as a list.
-use Rattle.std.proofs.Common.{◌≡◌, ℕ, ◌+◌, ◌-◌, ◌*◌, ◌/◌, ◌%◌, ◌<◌, ◌≤◌, Bool, true, false, ◌&&◌, cond, nat_lt, nat_le, List, ◌++◌, length, take, drop, get_or, set, Option, None, Some, ◌⊎◌, inl, inr, ◌≢◌, refl, ap, sym, ◌∙◌, subst, arith, length-append, length-drop}
+use Rattle.std.proofs.Common.{◌≡◌, ℕ, ◌+◌, ◌-◌, ◌%◌, ◌<◌, ◌≤◌, true, List, ◌++◌, length, take, drop, get_or, set, Option, None, Some, ◌⊎◌, inl, inr, ◌≢◌, refl, ap, sym, ◌∙◌, arith, length-append, length-drop}
 use Rattle.std.specs.Prelude.{slice_range}
 use Rattle.std.proofs.lemmas.Bool.{cases_lt}
 use Rattle.std.proofs.lemmas.Bool.Decides.{nat_tests}
 use Rattle.std.proofs.lemmas.Grind.{get_or-set_at}
 use Rattle.std.proofs.lemmas.List.{ext_get_or, get_or-append_right, get_or_append_left, get_or-drop, get_or-take, get_or-set_other, length-set, length-take-le}
-use Rattle.z_regs.specs.Prefix.{area_size, storage_size, is_prefix, absolute_of}
+use Rattle.z_regs.specs.Prefix.{storage_size, is_prefix, absolute_of}
 use Rattle.z_regs.specs.Seen.{seen_by}
 
 -- what the test of a prefix says

@@ -1,14 +1,14 @@
 -- The bytes of a range by absolute addresses, and the pieces of storage in which they lie.
-use Rattle.std.proofs.Common.{◌≡◌, ℕ, zero, suc, ◌+◌, ◌-◌, ◌*◌, ◌/◌, ◌%◌, ◌<◌, ◌≤◌, Bool, true, false, ◌&&◌, cond, nat_lt, nat_le, List, [], ◌∷◌, ◌++◌, map, length, get_or, Option, None, Some, ◌↔◌, inl, inr, lit≤, refl, ap, sym, ◌∙◌, arith, append-nil, length-append}
+use Rattle.std.proofs.Common.{◌≡◌, ℕ, zero, suc, ◌+◌, ◌-◌, ◌*◌, ◌/◌, ◌%◌, ◌<◌, ◌≤◌, true, false, cond, nat_le, List, [], ◌∷◌, ◌++◌, map, length, Option, None, Some, ◌↔◌, inl, inr, lit≤, refl, ap, sym, ◌∙◌, arith, append-nil, length-append}
 use Rattle.std.specs.List.{range_with_len, flat_map}
 use Rattle.std.proofs.lemmas.Bool.{cases_lt}
 use Rattle.std.proofs.lemmas.Bool.Decides.{nat_tests}
 use Rattle.std.proofs.lemmas.List.{ext_get_or, map-append, map-id}
 use Rattle.std.proofs.lemmas.List.FromFn.{length-range_with_len, get_or-range_with_len, length-map-range_with_len, get_or-map-range_with_len}
 use Rattle.z_regs.specs.declared.ranges.Range.{Range}
-use Rattle.z_regs.specs.Prefix.{area_size, storage_size, is_prefix, absolute_of, is_accessible}
+use Rattle.z_regs.specs.Prefix.{area_size, is_prefix, absolute_of}
 use Rattle.z_regs.specs.Absolute.{absolute_range, absolute_ranges, addresses_of, to_edge}
-use Rattle.z_regs.proofs.Exchange.{IsArea, area, Moves, moves}
+use Rattle.z_regs.proofs.Exchange.{IsArea, area, moves}
 
 -- ---- within one area absolute addresses go on as real ones do
 

@@ -1,5 +1,5 @@
 -- The program status word of a CPU: sixteen bytes, as an interruption stores and loads them.
-use Rattle.std.specs.Prelude.{ℕ, ◌+◌, ◌*◌, ◌^◌, ◌<◌, ◌/◌, ◌%◌, Bool, List, [], ◌∷◌, drop, get_or, cond}
+use Rattle.std.specs.Prelude.{ℕ, ◌+◌, ◌*◌, ◌^◌, ◌<◌, ◌/◌, ◌%◌, Bool, List, ◌∷◌, drop, get_or, cond}
 use Rattle.std.specs.Str.{bytes_eq}
 use Rattle.byteorder.specs.Endian.{big_number, big_bytes}
 use Rattle.z_regs.specs.declared.image.RunState.{RunState}

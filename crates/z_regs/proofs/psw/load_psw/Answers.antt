@@ -1,5 +1,5 @@
 -- The CPU runs exactly where the word is its own.
-use Rattle.std.proofs.Common.{◌≡◌, ap, ◌∙◌}
+use Rattle.std.proofs.Common.{ap, ◌∙◌}
 use Rattle.std.specs.Str.{bytes_eq}
 use Rattle.z_regs.specs.Psw.{psw_of, running_where, loaded}
 use Rattle.z_regs.proofs.psw.load_psw.Goals as goal

@@ -1,5 +1,5 @@
 -- The first byte that is refused decides.
-use Rattle.std.proofs.Common.{◌≡◌, ◌+◌, ap, sym, ◌∙◌, refl}
+use Rattle.std.proofs.Common.{◌+◌, ap, sym, ◌∙◌, refl}
 use Rattle.std.specs.FinSet.{items}
 use Rattle.z_instr.specs.Access.{accessible_pages, text_pages, byte_unfetched}
 use Rattle.z_touch.proofs.Fetches.{first_refused, one_more, beyond_storage}

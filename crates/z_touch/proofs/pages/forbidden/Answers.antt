@@ -1,7 +1,5 @@
 -- The tests on all ranges, one after the other.
 use Rattle.std.proofs.Common.{sym, ◌∙◌, true, false}
-use Rattle.std.specs.FinSet.{items}
-use Rattle.z_instr.specs.Access.{accessible_pages, text_pages}
 use Rattle.z_touch.proofs.Reach.{beyond, inside}
 use Rattle.z_touch.proofs.pages.forbidden.Goals as goal
 

@@ -1,5 +1,4 @@
 -- Without a prefix a range stays as it is.
-use Rattle.std.proofs.Common.{rules, ◌≡◌}
 use Rattle.z_regs.specs.Absolute.{absolute_range}
 use Rattle.z_regs.proofs.ranges.Touches.add_absolute.Goals as goal
 

@@ -1,7 +1,6 @@
 -- One range in an area, and two across its end.
-use Rattle.std.proofs.Common.{◌≡◌, ◌++◌, ◌∷◌, [], sym, ◌∙◌, ap, arith, append_assoc}
+use Rattle.std.proofs.Common.{arith}
 use Rattle.std.proofs.lemmas.Grind.{common_steps}
-use Rattle.z_regs.specs.declared.ranges.Range.{Range}
 use Rattle.z_regs.proofs.MovedBytes.{one_area, two_areas}
 use Rattle.z_regs.proofs.ranges.Touches.add_moved.Goals as goal
 
