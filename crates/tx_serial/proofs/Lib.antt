@@ -1,1 +1,2 @@
 -- Worked values.
+mod Examples
