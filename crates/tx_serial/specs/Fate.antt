@@ -78,8 +78,8 @@ abbrev pub operands : Instr → Cpu → List Range
 operands i c = map range_of (spans i c.general c.condition)
 
 -- as a step of the run
-abbrev pub step_of : Instr → Cpu → Step
-step_of i c = record { instruction = i; at = c.address; ranges = operands i c }
+abbrev pub step_of : Instr → List Range → Cpu → Step
+step_of i ranges c = record { instruction = i; at = c.address; ranges = ranges }
 
 -- ---- the tests
 
@@ -104,7 +104,7 @@ broken_where true breach attempt i = broken (breach attempt)
     broken (Some number) = Some (Excepts (refused i TRANSACTION_CONSTRAINT))
 
 abbrev pub broken : (Attempt → Option ℕ) → Run → Instr → Option Refusal
-broken breach p i = broken_where (is_constrained p.nest) breach (with_step (attempt_of p.steps) (step_of i p.cpu)) i
+broken breach p i = broken_where (is_constrained p.nest) breach (with_step (attempt_of p.steps) (step_of i (operands i p.cpu) p.cpu)) i
 
 -- 2: constraints 1 to 3
 abbrev pub text_refusal : Run → Instr → Option Refusal

@@ -5,6 +5,7 @@ use Rattle.z_regs.specs.Cpu.{Cpu}
 use Rattle.z_regs.specs.Prefix.{storage_size, absolute_of}
 use Rattle.z_regs.specs.declared.ranges.Range.{Range}
 use Rattle.z_regs.specs.declared.waiting.Waiting.{Waiting}
+use Rattle.z_instr.specs.Operands.{from_up}
 use Rattle.store_cache.specs.Overlay.{Store}
 
 -- ---- tables
@@ -53,7 +54,7 @@ with_storage storage f = record f { storage = storage }
 
 -- so many bytes from a real address on, as a CPU with this prefix sees them
 abbrev pub bytes_seen : Option ℕ → Storage → ℕ → ℕ → List ℕ
-bytes_seen prefix storage first length = map (λ a. storage (absolute_of prefix a)) (range_with_len first length)
+bytes_seen prefix storage first length = map (λ a. storage (absolute_of prefix a)) (from_up first length)
 
 -- the bytes of operands, one operand after the other
 abbrev pub operand_bytes : Option ℕ → Storage → List Range → List ℕ

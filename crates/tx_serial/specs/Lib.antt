@@ -7,3 +7,4 @@ pub mod Ending
 pub mod Remains
 pub mod Apply
 pub mod History
+pub mod Alike

@@ -57,7 +57,7 @@ with_instruction i ranges c stores p = record {
   lasting = p.lasting ++ lasting_of i stores;
   nest = nest_after i p.cpu.general p.nest;
   touched = p.touched ++ absolute_ranges p.cpu.prefix ranges;
-  steps = p.steps ++ step_of i p.cpu ∷ [];
+  steps = p.steps ++ step_of i ranges p.cpu ∷ [];
   mark = mark_in (nest_after i p.cpu.general p.nest);
 }
 

@@ -1,0 +1,99 @@
+-- Copies of storage, the stores that made them, and what stays the same along a run.
+use Rattle.std.proofs.Common.{◌≡◌, ◌≢◌, ℕ, zero, suc, Bool, true, false, List, [], ◌∷◌, ◌++◌, Option, Some, None, refl, sym, ap, subst, ◌∙◌}
+use Rattle.std.specs.Prelude.{◌||◌, if◌then◌else◌, ◌==◌}
+use Rattle.std.proofs.lemmas.List.{append-nil}
+use Rattle.z_regs.specs.Cpu.{Cpu}
+use Rattle.z_regs.specs.declared.ranges.Range.{Range}
+use Rattle.z_instr.specs.declared.instr.Instr.{Instr}
+use Rattle.z_effect.specs.Outcome.{Outcome, Did, Divides, Aborts}
+use Rattle.z_effect.specs.Outcome as outcome
+use Rattle.z_effect.specs.After.{cpu_after}
+use Rattle.z_effect.proofs.Prefix.{keeps_prefix}
+use Rattle.store_cache.specs.Overlay.{Store}
+use Rattle.tx_serial.specs.Flat.{Storage, FlatState, at_put, laid_over, operand_bytes, operand_stores}
+use Rattle.tx_serial.specs.Attempt.{Run, Mark, Open, Committed, Overflowed, Missing, missing}
+use Rattle.tx_serial.specs.Fate.{Fate, Goes, Ends, Stops, fate}
+use Rattle.tx_serial.specs.Run.{run, more, more_of, after_fate, after_where, after, may_follow, outcome_of}
+
+-- ---- stores
+
+pub laid_twice : (xs ys : List Store) (s : Storage) → laid_over s (xs ++ ys) ≡ laid_over (laid_over s xs) ys
+unfolding laid_over
+laid_twice [] ys s = refl
+laid_twice (x ∷ xs) ys s = laid_twice xs ys (at_put s x.address x.byte)
+
+-- a byte that is the same before stores is the same after them
+pub laid_alike : (stores : List Store) (s t : Storage) (a : ℕ) → t a ≡ s a → laid_over t stores a ≡ laid_over s stores a
+unfolding laid_over
+laid_alike [] s t a e = e
+laid_alike (x ∷ rest) s t a e =
+    laid_alike rest (at_put s x.address x.byte) (at_put t x.address x.byte) a
+    (ap (λ v. if a == x.address then x.byte else v) e)
+
+-- ---- the copy
+
+abbrev HasCopy : Storage → Run → Type 0
+HasCopy base p = p.copy ≡ laid_over base p.stores
+
+-- the stores of an instruction
+abbrev new : Run → List Range → List ℕ → List Store
+new p ranges bytes = operand_stores p.cpu.prefix ranges bytes
+
+copy_after : (base : Storage) (i : Instr) (ranges : List Range) (p : Run) (o : Outcome) → HasCopy base p → HasCopy base (after i ranges p o)
+copy_after base i ranges p (Did c bytes) e = ap (λ s. laid_over s (new p ranges bytes)) e ∙ sym (laid_twice p.stores (new p ranges bytes) base)
+copy_after base i ranges p (outcome.Overflowed c bytes) e = ap (λ s. laid_over s (new p ranges bytes)) e ∙ sym (laid_twice p.stores (new p ranges bytes) base)
+copy_after base i ranges p Divides e = e
+copy_after base i ranges p (Aborts code) e = e
+
+copy_where : (base : Storage) (b : Bool) (i : Instr) (ranges : List Range) (p : Run) → HasCopy base p → HasCopy base (after_where b i ranges p)
+copy_where base true i ranges p e = copy_after base i ranges p (outcome_of i ranges p) e
+copy_where base false i ranges p e = e
+
+copy_fate : (base : Storage) (o : Fate) (p : Run) → HasCopy base p → HasCopy base (after_fate o p)
+copy_fate base (Goes i ranges) p e = copy_where base (may_follow p.nest i) i ranges p e
+copy_fate base (Ends why) p e = e
+copy_fate base (Stops x) p e = e
+
+copy_more : (base : Storage) (m : Mark) (text : List ℕ) (p : Run) → HasCopy base p → HasCopy base (more_of m text p)
+copy_more base Open text p e = copy_fate base (fate text p) p e
+copy_more base Committed text p e = e
+copy_more base Overflowed text p e = e
+copy_more base Missing text p e = e
+
+pub run_copy : (f : FlatState) (i k : ℕ) → (run f i k).copy ≡ laid_over f.storage (run f i k).stores
+unfolding run more laid_over
+run_copy f i zero = refl
+run_copy f i (suc k) = copy_more f.storage (run f i k).mark f.text (run f i k) (run_copy f i k)
+
+-- ---- the prefix
+
+abbrev HasPrefix : Option ℕ → Run → Type 0
+HasPrefix prefix p = p.cpu.prefix ≡ prefix
+
+prefix_after : (prefix : Option ℕ) (i : Instr) (ranges : List Range) (p : Run) (o : Outcome)
+    → (cpu_after p.cpu o).prefix ≡ p.cpu.prefix → HasPrefix prefix p → HasPrefix prefix (after i ranges p o)
+prefix_after prefix i ranges p (Did c bytes) keeps e = keeps ∙ e
+prefix_after prefix i ranges p (outcome.Overflowed c bytes) keeps e = keeps ∙ e
+prefix_after prefix i ranges p Divides keeps e = e
+prefix_after prefix i ranges p (Aborts code) keeps e = e
+
+prefix_where : (prefix : Option ℕ) (b : Bool) (i : Instr) (ranges : List Range) (p : Run) → HasPrefix prefix p → HasPrefix prefix (after_where b i ranges p)
+prefix_where prefix true i ranges p e =
+    prefix_after prefix i ranges p (outcome_of i ranges p) (keeps_prefix i p.cpu _ (operand_bytes p.cpu.prefix p.copy ranges)) e
+prefix_where prefix false i ranges p e = e
+
+prefix_fate : (prefix : Option ℕ) (o : Fate) (p : Run) → HasPrefix prefix p → HasPrefix prefix (after_fate o p)
+prefix_fate prefix (Goes i ranges) p e = prefix_where prefix (may_follow p.nest i) i ranges p e
+prefix_fate prefix (Ends why) p e = e
+prefix_fate prefix (Stops x) p e = e
+
+prefix_more : (prefix : Option ℕ) (m : Mark) (text : List ℕ) (p : Run) → HasPrefix prefix p → HasPrefix prefix (more_of m text p)
+prefix_more prefix Open text p e = prefix_fate prefix (fate text p) p e
+prefix_more prefix Committed text p e = e
+prefix_more prefix Overflowed text p e = e
+prefix_more prefix Missing text p e = e
+
+pub run_prefix : (f : FlatState) (i k : ℕ) → (run f i k).cpu.prefix ≡ (f.cpus i).prefix
+unfolding run more
+run_prefix f i zero = refl
+run_prefix f i (suc k) = prefix_more (f.cpus i).prefix (run f i k).mark f.text (run f i k) (run_prefix f i k)
