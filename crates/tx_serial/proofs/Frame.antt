@@ -1,9 +1,10 @@
 -- A private run depends on the bytes that it touches, and on the text pages, alone.
-use Rattle.std.proofs.Common.{◌≡◌, ◌≢◌, ℕ, zero, suc, ◌+◌, Bool, true, false, List, [], ◌∷◌, ◌++◌, Option, Some, None, refl, sym, ap, subst, ◌∙◌, arith}
-use Rattle.std.specs.Prelude.{◌||◌, ◌%◌, ◌/◌, not, cond, map, if◌then◌else◌, nat_eq, nat_lt}
+use Rattle.std.proofs.Common.{◌≡◌, ◌≢◌, ℕ, zero, suc, ◌+◌, Bool, true, false, List, [], ◌∷◌, ◌++◌, Option, Some, None, refl, sym, ap, subst, ◌∙◌, arith, length}
+use Rattle.std.specs.Prelude.{◌||◌, ◌&&◌, ◌%◌, ◌/◌, not, cond, map, if◌then◌else◌, nat_eq, nat_lt}
 use Rattle.std.specs.List.{list_any, flat_map}
 use Rattle.std.proofs.lemmas.Bool.{cases_eq, or_left, or_right, true≢false}
 use Rattle.std.proofs.lemmas.List.Folds.{list_any-append}
+use Rattle.std.proofs.lemmas.List.Concat.{flat_map-append}
 use Rattle.z_regs.specs.Cpu.{Cpu}
 use Rattle.z_regs.specs.Prefix.{absolute_of}
 use Rattle.z_regs.specs.declared.ranges.Range.{Range}
@@ -19,10 +20,12 @@ use Rattle.tx_control.specs.declared.causes.Why.{Why}
 use Rattle.tx_constraint.specs.Constraints.{Step}
 use Rattle.store_cache.specs.Overlay.{Store}
 use Rattle.tx_serial.specs.Flat.{Storage, FlatState, laid_over, bytes_seen, operand_bytes}
-use Rattle.tx_serial.specs.Attempt.{Run, Mark, Open, Committed, Overflowed, Missing, missing}
+use Rattle.tx_serial.specs.Attempt.{Run, Mark, Open, Committed, Overflowed, Missing, missing, at_rest}
 use Rattle.tx_serial.specs.Fate.{Fate, Goes, Ends, Stops, Excepts, fate, fate_after, fate_by, fetch_refusal, instruction_at, length_at, operands, step_of}
 use Rattle.tx_serial.specs.Run.{run, more, more_of, after_fate, after_where, after, may_follow, outcome_of}
-use Rattle.tx_serial.specs.Ending.{ending, ending_of, fate_cause, outcome_cause, fits}
+use Rattle.tx_control.specs.Nesting.{is_constrained}
+use Rattle.tx_control.specs.declared.causes.Why.TheVariants.{External, Program, FetchConflict, StoreConflict, FetchOverflow, StoreOverflow, Restricted, Filtered, Depth, Starved, Tabort}
+use Rattle.tx_serial.specs.Ending.{ending, ending_of, fate_cause, outcome_cause, comes_from_outside, has_operands, is_open, is_cause, fits}
 use Rattle.tx_serial.specs.Alike.{Track, track_of, addresses_in, addresses_of, touched_addresses, addresses_asked, next_addresses, AgreeAt, AgreeInText, AreAlike}
 use Rattle.tx_serial.proofs.Copies.{laid_alike, run_copy, run_prefix}
 
@@ -173,3 +176,235 @@ fate_alike_by text p c None e agree =
 pub fate_alike : (text : List ℕ) (p : Run) (c : Storage) → AgreeInText p.cpu.prefix text p.copy c
     → fate text (with_copy c p) ≡ fate text p
 fate_alike text p c agree = fate_alike_by text p c (byte_unfetched (accessible_pages p.cpu.prefix) (text_pages p.cpu.prefix text) p.cpu.address) refl agree
+
+-- ---- what a run has touched
+
+no_mark : (p : Run) → (missing p).mark ≢ Missing → ⊥
+no_mark p exists = exists refl
+
+old_step : (a : ℕ) (steps : List Step) (s : Step) → list_any (nat_eq a) (addresses_of steps) ≡ true
+    → list_any (nat_eq a) (addresses_of (steps ++ s ∷ [])) ≡ true
+old_step a steps s h =
+    subst (λ l. list_any (nat_eq a) l ≡ true) (sym (flat_map-append (λ t. addresses_in t.ranges) steps (s ∷ [])))
+    (in_first a (addresses_of steps) (addresses_of (s ∷ [])) h)
+
+new_step : (a : ℕ) (steps : List Step) (s : Step) → list_any (nat_eq a) (addresses_in s.ranges) ≡ true
+    → list_any (nat_eq a) (addresses_of (steps ++ s ∷ [])) ≡ true
+new_step a steps s h =
+    subst (λ l. list_any (nat_eq a) l ≡ true) (sym (flat_map-append (λ t. addresses_in t.ranges) steps (s ∷ [])))
+    (in_second a (addresses_of steps) (addresses_of (s ∷ [])) (in_first a (addresses_in s.ranges) [] h))
+
+-- one instruction more touches no less
+abbrev Grows : Run → Run → Type 0
+Grows p q = (a : ℕ) → list_any (nat_eq a) (touched_addresses p) ≡ true → list_any (nat_eq a) (touched_addresses q) ≡ true
+
+grows_after : (i : Instr) (ranges : List Range) (p : Run) (o : Outcome) → Grows p (after i ranges p o)
+grows_after i ranges p (Did c bytes) a h = old_step a p.steps (step_of i ranges p.cpu) h
+grows_after i ranges p (outcome.Overflowed c bytes) a h = old_step a p.steps (step_of i ranges p.cpu) h
+grows_after i ranges p Divides a h = h
+grows_after i ranges p (Aborts code) a h = h
+
+grows_where : (b : Bool) (i : Instr) (ranges : List Range) (p : Run) → Grows p (after_where b i ranges p)
+grows_where true i ranges p a h = grows_after i ranges p (outcome_of i ranges p) a h
+grows_where false i ranges p a h = h
+
+grows_fate : (o : Fate) (p : Run) → Grows p (after_fate o p)
+grows_fate (Goes i ranges) p a h = grows_where (may_follow p.nest i) i ranges p a h
+grows_fate (Ends why) p a h = h
+grows_fate (Stops x) p a h = h
+
+grows_more : (m : Mark) (text : List ℕ) (p : Run) → Grows p (more_of m text p)
+grows_more Open text p a h = grows_fate (fate text p) p a h
+grows_more Committed text p a h = h
+grows_more Overflowed text p a h = h
+grows_more Missing text p a h = h
+
+was_there : (m : Mark) (text : List ℕ) (p : Run) → (more_of m text p).mark ≢ Missing → m ≢ Missing
+was_there Open text p exists e = grind (arith, e)
+was_there Committed text p exists e = exists refl
+was_there Overflowed text p exists e = exists refl
+was_there Missing text p exists e = exists refl
+
+-- ---- one instruction more
+
+outcome_alike : (i : Instr) (ranges : List Range) (p : Run) (c : Storage)
+    → AgreeAt p.cpu.prefix (addresses_in ranges) p.copy c
+    → outcome_of i ranges (with_copy c p) ≡ outcome_of i ranges p
+outcome_alike i ranges p c agree =
+    ap (one i p.cpu (length p.nest)) (operands_alike p.cpu.prefix p.copy c ranges agree)
+
+after_alike : (i : Instr) (ranges : List Range) (p : Run) (c : Storage) (o other : Outcome)
+    → (AgreeAt p.cpu.prefix (addresses_in ranges) p.copy c → other ≡ o)
+    → AgreeAt p.cpu.prefix (touched_addresses (after i ranges p o)) p.copy c
+    → (after i ranges p o).mark ≢ Missing
+    → track_of (after i ranges (with_copy c p) other) ≡ track_of (after i ranges p o)
+after_alike i ranges p c (Did d bytes) other same agree exists =
+    ap (λ x. track_of (after i ranges (with_copy c p) x))
+    (same (λ a e. agree a (new_step a p.steps (step_of i ranges p.cpu) e)))
+after_alike i ranges p c (outcome.Overflowed d bytes) other same agree exists =
+    ap (λ x. track_of (after i ranges (with_copy c p) x))
+    (same (λ a e. agree a (new_step a p.steps (step_of i ranges p.cpu) e)))
+after_alike i ranges p c Divides other same agree exists = absurd (no_mark p exists)
+after_alike i ranges p c (Aborts code) other same agree exists = absurd (no_mark p exists)
+
+where_alike : (b : Bool) (i : Instr) (ranges : List Range) (p : Run) (c : Storage)
+    → AgreeAt p.cpu.prefix (touched_addresses (after_where b i ranges p)) p.copy c
+    → (after_where b i ranges p).mark ≢ Missing
+    → track_of (after_where b i ranges (with_copy c p)) ≡ track_of (after_where b i ranges p)
+where_alike true i ranges p c agree exists =
+    after_alike i ranges p c (outcome_of i ranges p) (outcome_of i ranges (with_copy c p))
+    (outcome_alike i ranges p c) agree exists
+where_alike false i ranges p c agree exists = absurd (no_mark p exists)
+
+after_fate_alike : (o : Fate) (p : Run) (c : Storage)
+    → AgreeAt p.cpu.prefix (touched_addresses (after_fate o p)) p.copy c
+    → (after_fate o p).mark ≢ Missing
+    → track_of (after_fate o (with_copy c p)) ≡ track_of (after_fate o p)
+after_fate_alike (Goes i ranges) p c agree exists = where_alike (may_follow p.nest i) i ranges p c agree exists
+after_fate_alike (Ends why) p c agree exists = absurd (no_mark p exists)
+after_fate_alike (Stops x) p c agree exists = absurd (no_mark p exists)
+
+more_alike : (m : Mark) (text : List ℕ) (p : Run) (c : Storage)
+    → AgreeInText p.cpu.prefix text p.copy c
+    → AgreeAt p.cpu.prefix (touched_addresses (more_of m text p)) p.copy c
+    → (more_of m text p).mark ≢ Missing
+    → track_of (more_of m text (with_copy c p)) ≡ track_of (more_of m text p)
+more_alike Open text p c in_text agree exists =
+    ap (λ o. track_of (after_fate o (with_copy c p))) (fate_alike text p c in_text)
+    ∙ after_fate_alike (fate text p) p c agree exists
+more_alike Committed text p c in_text agree exists = absurd (no_mark p exists)
+more_alike Overflowed text p c in_text agree exists = absurd (no_mark p exists)
+more_alike Missing text p c in_text agree exists = absurd (no_mark p exists)
+
+-- ---- runs
+
+-- a run of what it shows, with a copy
+abbrev run_of : Track → Storage → Run
+run_of t c = record {
+  cpu = t.cpu;
+  copy = c;
+  stores = t.stores;
+  lasting = t.lasting;
+  nest = t.nest;
+  touched = t.touched;
+  steps = t.steps;
+  mark = t.mark;
+}
+
+pub with_its_copy : (p q : Run) → track_of q ≡ track_of p → q ≡ with_copy q.copy p
+with_its_copy p q e = ap (λ t. run_of t q.copy) e
+
+-- the copies agree where the states do
+copies_alike : (f g : FlatState) (i k : ℕ) → track_of (run g i k) ≡ track_of (run f i k)
+    → (a : ℕ) → g.storage a ≡ f.storage a → (run g i k).copy a ≡ (run f i k).copy a
+copies_alike f g i k same a e =
+    ap (λ s. s a) (run_copy g i k)
+    ∙ ap (λ t. laid_over g.storage t.stores a) same
+    ∙ laid_alike (run f i k).stores f.storage g.storage a e
+    ∙ sym (ap (λ s. s a) (run_copy f i k))
+
+copies_in_text : (f g : FlatState) (i k : ℕ) → track_of (run g i k) ≡ track_of (run f i k)
+    → AgreeInText (f.cpus i).prefix f.text f.storage g.storage
+    → AgreeInText (run f i k).cpu.prefix f.text (run f i k).copy (run g i k).copy
+copies_in_text f g i k same agree =
+    subst (λ prefix. AgreeInText prefix f.text (run f i k).copy (run g i k).copy) (sym (run_prefix f i k))
+    (λ a h. copies_alike f g i k same (absolute_of (f.cpus i).prefix a) (agree a h))
+
+copies_at : (f g : FlatState) (i k : ℕ) (addresses : List ℕ) → track_of (run g i k) ≡ track_of (run f i k)
+    → AgreeAt (f.cpus i).prefix addresses f.storage g.storage
+    → AgreeAt (run f i k).cpu.prefix addresses (run f i k).copy (run g i k).copy
+copies_at f g i k addresses same agree =
+    subst (λ prefix. AgreeAt prefix addresses (run f i k).copy (run g i k).copy) (sym (run_prefix f i k))
+    (λ a h. copies_alike f g i k same (absolute_of (f.cpus i).prefix a) (agree a h))
+
+abbrev less : {i : ℕ} {xs : List ℕ} {f g : FlatState} (ys : List ℕ)
+    → ((a : ℕ) → list_any (nat_eq a) ys ≡ true → list_any (nat_eq a) xs ≡ true)
+    → AreAlike i xs f g → AreAlike i ys f g
+less ys part alike = record {
+  cpu = alike.cpu;
+  pages = alike.pages;
+  text = alike.text;
+  touched = λ a h. alike.touched a (part a h);
+}
+
+pub run_alike : (f g : FlatState) (i k : ℕ) → (run f i k).mark ≢ Missing
+    → AreAlike i (touched_addresses (run f i k)) f g → track_of (run g i k) ≡ track_of (run f i k)
+unfolding run more
+run_alike f g i zero exists alike = ap (λ c. track_of (at_rest f.storage c)) alike.cpu
+run_alike f g i (suc k) exists alike =
+    let p = run f i k in
+    let q = run g i k in
+    let same : track_of q ≡ track_of p =
+        run_alike f g i k (was_there p.mark f.text p exists)
+        (less (touched_addresses p) (grows_more p.mark f.text p) alike) in
+    ap (λ t. track_of (more_of q.mark t q)) alike.pages
+    ∙ ap (λ z. track_of (more_of z.mark f.text z)) (with_its_copy p q same)
+    ∙ more_alike p.mark f.text p q.copy (copies_in_text f g i k same alike.text)
+    (copies_at f g i k (touched_addresses (more_of p.mark f.text p)) same alike.touched) exists
+
+-- ---- endings
+
+cause_alike : (o : Fate) (p : Run) (c : Storage) → AgreeAt p.cpu.prefix (addresses_asked o) p.copy c
+    → fate_cause (with_copy c p) o ≡ fate_cause p o
+cause_alike (Goes i ranges) p c agree = ap (outcome_cause p.nest i) (outcome_alike i ranges p c agree)
+cause_alike (Ends why) p c agree = refl
+cause_alike (Stops x) p c agree = refl
+
+ending_by : (m : Mark) (text : List ℕ) (p : Run) (c : Storage)
+    → AgreeInText p.cpu.prefix text p.copy c
+    → AgreeAt p.cpu.prefix (next_addresses text p) p.copy c
+    → ending_of m text (with_copy c p) ≡ ending_of m text p
+ending_by Open text p c in_text agree =
+    ap (fate_cause (with_copy c p)) (fate_alike text p c in_text) ∙ cause_alike (fate text p) p c agree
+ending_by Committed text p c in_text agree = refl
+ending_by Overflowed text p c in_text agree = refl
+ending_by Missing text p c in_text agree = refl
+
+outside_alike : (why : Why) (text : List ℕ) (p : Run) (c : Storage)
+    → AgreeInText p.cpu.prefix text p.copy c
+    → comes_from_outside text (with_copy c p) why ≡ comes_from_outside text p why
+outside_alike External text p c in_text = refl
+outside_alike (Program e) text p c in_text = refl
+outside_alike (FetchConflict line) text p c in_text = refl
+outside_alike (StoreConflict line) text p c in_text = refl
+outside_alike FetchOverflow text p c in_text = refl
+outside_alike StoreOverflow text p c in_text = refl
+outside_alike Restricted text p c in_text = refl
+outside_alike (Filtered e) text p c in_text = refl
+outside_alike Depth text p c in_text = refl
+outside_alike Starved text p c in_text = ap (λ o. is_constrained p.nest && has_operands o) (fate_alike text p c in_text)
+outside_alike (Tabort code) text p c in_text = refl
+
+-- the endings of two runs that show the same
+pub ending_alike : (f g : FlatState) (i k : ℕ) → track_of (run g i k) ≡ track_of (run f i k)
+    → AreAlike i (next_addresses f.text (run f i k)) f g
+    → ending g.text (run g i k) ≡ ending f.text (run f i k)
+unfolding ending
+ending_alike f g i k same alike =
+    let p = run f i k in
+    let q = run g i k in
+    ap (λ t. ending_of q.mark t q) alike.pages
+    ∙ ap (λ z. ending_of z.mark f.text z) (with_its_copy p q same)
+    ∙ ending_by p.mark f.text p q.copy (copies_in_text f g i k same alike.text)
+    (copies_at f g i k (next_addresses f.text p) same alike.touched)
+
+outside_both : (f g : FlatState) (i k : ℕ) (why : Why) → track_of (run g i k) ≡ track_of (run f i k)
+    → AreAlike i (next_addresses f.text (run f i k)) f g
+    → comes_from_outside g.text (run g i k) why ≡ comes_from_outside f.text (run f i k) why
+outside_both f g i k why same alike =
+    let p = run f i k in
+    let q = run g i k in
+    ap (λ t. comes_from_outside t q why) alike.pages
+    ∙ ap (λ z. comes_from_outside f.text z why) (with_its_copy p q same)
+    ∙ outside_alike why f.text p q.copy (copies_in_text f g i k same alike.text)
+
+pub fits_alike : (f g : FlatState) (i k : ℕ) (why : Why) → track_of (run g i k) ≡ track_of (run f i k)
+    → AreAlike i (next_addresses f.text (run f i k)) f g
+    → fits g.text (run g i k) why ≡ fits f.text (run f i k) why
+unfolding fits
+fits_alike f g i k why same alike =
+    let p = run f i k in
+    let q = run g i k in
+    ap (λ e. is_cause e why || (is_open q.mark && comes_from_outside g.text q why)) (ending_alike f g i k same alike)
+    ∙ ap (λ b. is_cause (ending f.text p) why || (is_open q.mark && b)) (outside_both f g i k why same alike)
+    ∙ ap (λ t. is_cause (ending f.text p) why || (is_open t.mark && comes_from_outside f.text p why)) same
