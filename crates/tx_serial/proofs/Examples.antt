@@ -1,7 +1,7 @@
 -- Worked values of entries on small flat states: programs at 4000 in hexadecimal, in text page 4. The expected values are
 -- those of an independent model of the machine.
-use Rattle.std.proofs.Common.{◌≡◌, refl, ℕ, zero, suc, ◌+◌, ◌-◌, Bool, true, false, List, [], ◌∷◌, ◌++◌, length, get_or, Option, Some, None}
-use Rattle.std.specs.Prelude.{◌&&◌, nat_lt, nat_le, if◌then◌else◌, set, is_some, take, drop, map, slice_range}
+use Rattle.std.proofs.Common.{◌≡◌, refl, ℕ, ◌+◌, ◌-◌, Bool, true, false, List, [], ◌∷◌, ◌++◌, length, get_or, Option, Some, None}
+use Rattle.std.specs.Prelude.{◌&&◌, nat_lt, nat_le, if◌then◌else◌, is_some, take, drop, map, slice_range}
 use Rattle.std.specs.List.{range_with_len}
 use Rattle.bit_set.specs.Counts.{count_below}
 use Rattle.z_arith.specs.Sum.{add_of}
@@ -22,7 +22,6 @@ use Rattle.z_effect.specs.BranchEffect.{branch_effect}
 use Rattle.z_effect.specs.StorageEffect.{storage_effect}
 use Rattle.z_effect.specs.TransactionEffect.{transaction_effect}
 use Rattle.tx_control.specs.declared.exceptions.Exception.{Exception}
-use Rattle.tx_control.specs.declared.causes.Why.{Why}
 use Rattle.tx_control.specs.declared.causes.Why.TheVariants.{External, Program, FetchConflict, StoreConflict, Restricted, Filtered, Starved, Tabort}
 use Rattle.tx_constraint.specs.Octowords.{with_octowords}
 use Rattle.tx_constraint.specs.Constraints.{text_breach, operand_breach}

@@ -1,11 +1,10 @@
 -- A private run depends on the bytes that it touches, and on the text pages, alone.
-use Rattle.std.proofs.Common.{◌≡◌, ◌≢◌, ℕ, zero, suc, ◌+◌, Bool, true, false, List, [], ◌∷◌, ◌++◌, Option, Some, None, refl, sym, ap, subst, ◌∙◌, arith, length}
-use Rattle.std.specs.Prelude.{◌||◌, ◌&&◌, ◌%◌, ◌/◌, not, cond, map, if◌then◌else◌, nat_eq, nat_lt}
-use Rattle.std.specs.List.{list_any, flat_map}
-use Rattle.std.proofs.lemmas.Bool.{cases_eq, or_left, or_right, true≢false}
+use Rattle.std.proofs.Common.{◌≡◌, ◌≢◌, ℕ, zero, suc, Bool, true, false, List, [], ◌∷◌, ◌++◌, Option, Some, None, refl, sym, ap, subst, ◌∙◌, arith, length}
+use Rattle.std.specs.Prelude.{◌||◌, ◌&&◌, ◌%◌, not, map, if◌then◌else◌, nat_eq, nat_lt}
+use Rattle.std.specs.List.{list_any}
+use Rattle.std.proofs.lemmas.Bool.{or_left, or_right}
 use Rattle.std.proofs.lemmas.List.Folds.{list_any-append}
 use Rattle.std.proofs.lemmas.List.Concat.{flat_map-append}
-use Rattle.z_regs.specs.Cpu.{Cpu}
 use Rattle.z_regs.specs.Prefix.{absolute_of}
 use Rattle.z_regs.specs.declared.ranges.Range.{Range}
 use Rattle.z_instr.specs.declared.instr.Instr.{Instr}
@@ -18,10 +17,9 @@ use Rattle.z_effect.specs.Outcome as outcome
 use Rattle.z_effect.specs.One.{one}
 use Rattle.tx_control.specs.declared.causes.Why.{Why}
 use Rattle.tx_constraint.specs.Constraints.{Step}
-use Rattle.store_cache.specs.Overlay.{Store}
 use Rattle.tx_serial.specs.Flat.{Storage, FlatState, laid_over, bytes_seen, operand_bytes}
 use Rattle.tx_serial.specs.Attempt.{Run, Mark, Open, Committed, Overflowed, Missing, missing, at_rest}
-use Rattle.tx_serial.specs.Fate.{Fate, Goes, Ends, Stops, Excepts, fate, fate_after, fate_by, fetch_refusal, instruction_at, length_at, operands, step_of}
+use Rattle.tx_serial.specs.Fate.{Fate, Goes, Ends, Stops, Excepts, fate, fate_after, fate_by, instruction_at, length_at, step_of}
 use Rattle.tx_serial.specs.Run.{run, more, more_of, after_fate, after_where, after, may_follow, outcome_of}
 use Rattle.tx_control.specs.Nesting.{is_constrained}
 use Rattle.tx_control.specs.declared.causes.Why.TheVariants.{External, Program, FetchConflict, StoreConflict, FetchOverflow, StoreOverflow, Restricted, Filtered, Depth, Starved, Tabort}
@@ -38,10 +36,10 @@ with_copy c p = record p { copy = c }
 here : (a : ℕ) → nat_eq a a ≡ true
 here a = grind (arith)
 
-in_first : (a : ℕ) (xs ys : List ℕ) → list_any (nat_eq a) xs ≡ true → list_any (nat_eq a) (xs ++ ys) ≡ true
+pub in_first : (a : ℕ) (xs ys : List ℕ) → list_any (nat_eq a) xs ≡ true → list_any (nat_eq a) (xs ++ ys) ≡ true
 in_first a xs ys h = list_any-append (nat_eq a) xs ys ∙ or_left (list_any (nat_eq a) xs) (list_any (nat_eq a) ys) h
 
-in_second : (a : ℕ) (xs ys : List ℕ) → list_any (nat_eq a) ys ≡ true → list_any (nat_eq a) (xs ++ ys) ≡ true
+pub in_second : (a : ℕ) (xs ys : List ℕ) → list_any (nat_eq a) ys ≡ true → list_any (nat_eq a) (xs ++ ys) ≡ true
 in_second a xs ys h = list_any-append (nat_eq a) xs ys ∙ or_right (list_any (nat_eq a) xs) (list_any (nat_eq a) ys) h
 
 -- the bytes at a list of addresses
@@ -317,7 +315,7 @@ copies_at f g i k addresses same agree =
     subst (λ prefix. AgreeAt prefix addresses (run f i k).copy (run g i k).copy) (sym (run_prefix f i k))
     (λ a h. copies_alike f g i k same (absolute_of (f.cpus i).prefix a) (agree a h))
 
-abbrev less : {i : ℕ} {xs : List ℕ} {f g : FlatState} (ys : List ℕ)
+abbrev pub less : {i : ℕ} {xs : List ℕ} {f g : FlatState} (ys : List ℕ)
     → ((a : ℕ) → list_any (nat_eq a) ys ≡ true → list_any (nat_eq a) xs ≡ true)
     → AreAlike i xs f g → AreAlike i ys f g
 less ys part alike = record {
@@ -335,8 +333,8 @@ run_alike f g i (suc k) exists alike =
     let p = run f i k in
     let q = run g i k in
     let same : track_of q ≡ track_of p =
-        run_alike f g i k (was_there p.mark f.text p exists)
-        (less (touched_addresses p) (grows_more p.mark f.text p) alike) in
+    run_alike f g i k (was_there p.mark f.text p exists)
+    (less (touched_addresses p) (grows_more p.mark f.text p) alike) in
     ap (λ t. track_of (more_of q.mark t q)) alike.pages
     ∙ ap (λ z. track_of (more_of z.mark f.text z)) (with_its_copy p q same)
     ∙ more_alike p.mark f.text p q.copy (copies_in_text f g i k same alike.text)

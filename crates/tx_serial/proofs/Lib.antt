@@ -1,4 +1,6 @@
--- Worked values, copies and stores, and runs on states that agree.
+-- Worked values, copies and stores, runs on states that agree, what entries change, and causes.
 mod Examples
 pub mod Copies
 pub mod Frame
+pub mod Entries
+pub mod SameCauses

@@ -8,3 +8,4 @@ pub mod Remains
 pub mod Apply
 pub mod History
 pub mod Alike
+pub mod Changes

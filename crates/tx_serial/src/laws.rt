@@ -1,8 +1,65 @@
-//! Laws of histories, each the contract of a function that does nothing.
+//! Laws of private runs and of histories. Each law is the contract of a function that does nothing.
+ghost use Rattle.std.specs.Prelude.{◌≡◌, ◌≢◌, ◌↔◌, ℕ, Bool, true, List, ◌++◌, Option, Some, None};
+ghost use Rattle.std.specs.List.{list_any};
+ghost use Rattle.tx_control.specs.declared.causes.Why.{Why};
+ghost use Rattle.tx_journal.specs.declared.entries.Entry.{Entry};
+ghost use Rattle.tx_serial.specs.Alike.{track_of, touched_addresses, next_addresses, AreAlike};
+ghost use Rattle.tx_serial.specs.Apply.{apply};
+ghost use Rattle.tx_serial.specs.Attempt.{Missing};
+ghost use Rattle.tx_serial.specs.Changes.{cpu_of_entry, ChangesOnly, ChangeAlike};
+ghost use Rattle.tx_serial.specs.Ending.{ending, fits, is_same_cause};
+ghost use Rattle.tx_serial.specs.Flat.{FlatState, laid_over};
+ghost use Rattle.tx_serial.specs.History.{replay_from};
+ghost use Rattle.tx_serial.specs.Remains.{remains};
+ghost use Rattle.tx_serial.specs.Run.{run};
+ghost use Rattle.store_cache.specs.Overlay.{Store};
 
-ghost use Rattle.std.specs.Prelude.{◌≡◌, ℕ};
+/// A private run depends on the bytes that it touches alone. Take two flat states that agree on these bytes, on that
+/// CPU, on the text pages and on the bytes there. Where there is a run on the one, the run on the other shows the same in
+/// all but its copy of storage. Where the states also agree on the bytes of the next instruction's operands, the attempt
+/// ends alike in both, by itself and by any cause. What remains of it changes both states alike.
+pub fn a_run_depends_on_what_it_touches()
+    ensures run { (f g : FlatState) (i k : ℕ) → (run f i k).mark ≢ Missing
+        → AreAlike i (touched_addresses (run f i k)) f g
+        → track_of (run g i k) ≡ track_of (run f i k) }
+    ensures ending { (f g : FlatState) (i k : ℕ) → (run f i k).mark ≢ Missing
+        → AreAlike i (touched_addresses (run f i k) ++ next_addresses f.text (run f i k)) f g
+        → ending g.text (run g i k) ≡ ending f.text (run f i k) }
+    ensures causes { (f g : FlatState) (i k : ℕ) (why : Why) → (run f i k).mark ≢ Missing
+        → AreAlike i (touched_addresses (run f i k) ++ next_addresses f.text (run f i k)) f g
+        → fits g.text (run g i k) why ≡ fits f.text (run f i k) why }
+    ensures remains { (f g : FlatState) (i k : ℕ) (why : Why) → (run f i k).mark ≢ Missing
+        → AreAlike i (touched_addresses (run f i k)) f g
+        → ChangeAlike i f g (remains f i (run f i k) why) (remains g i (run g i k) why) }
+{}
 
-/// An entry that fits has one result.
-pub fn an_entry_has_one_result()
-    ensures { (a : ℕ) → a ≡ a }
+/// The copy of a run is storage with the stores of the run laid over it in order, and the stores of NTSTG are among
+/// these.
+pub fn a_copy_is_made_by_stores()
+    ensures copy { (f : FlatState) (i k : ℕ) → (run f i k).copy ≡ laid_over f.storage (run f i k).stores }
+    ensures lasting { (f : FlatState) (i k : ℕ) (test : Store → Bool)
+        → list_any test (run f i k).lasting ≡ true → list_any test (run f i k).stores ≡ true }
+{}
+
+/// No instruction of a run changes the prefix of its CPU.
+pub fn a_run_keeps_the_prefix()
+    ensures { (f : FlatState) (i k : ℕ) → (run f i k).cpu.prefix ≡ (f.cpus i).prefix }
+{}
+
+/// An entry changes its own CPU alone, and no list of text pages.
+pub fn an_entry_changes_its_cpu_alone()
+    ensures { (f after : FlatState) (e : Entry) → apply f e ≡ Some after → ChangesOnly (cpu_of_entry e) f after }
+{}
+
+/// Entries that are applied in two parts leave what all of them together do; and behind an entry that does not fit, no
+/// other fits.
+pub fn histories_go_on()
+    ensures parts { (first rest : List Entry) (state : Option FlatState)
+        → replay_from (first ++ rest) state ≡ replay_from rest (replay_from first state) }
+    ensures none { (rest : List Entry) → replay_from rest None ≡ None }
+{}
+
+/// Causes are told apart exactly.
+pub fn causes_are_told_apart()
+    ensures { (a b : Why) → (is_same_cause a b ≡ true) ↔ (a ≡ b) }
 {}

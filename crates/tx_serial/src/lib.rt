@@ -1,6 +1,5 @@
-//! The serial history on flat storage: what one CPU does alone, what an attempt leaves, and which histories are legal.
+//! The serial history on flat storage: what one CPU does alone from its outermost begin on, how such an attempt ends and
+//! what it leaves, and which histories are legal. The definitions are in `specs/`; the code has their laws.
 #![tactic(auto)]
 
-mod laws;
-
-pub use laws::an_entry_has_one_result;
+pub mod laws;
