@@ -1,5 +1,6 @@
 -- Copies of storage, the stores that made them, and what stays the same along a run.
-use Rattle.std.proofs.Common.{◌≡◌, ℕ, zero, suc, Bool, true, false, List, [], ◌∷◌, ◌++◌, Option, refl, sym, ap, ◌∙◌}
+use Rattle.std.proofs.Common.{◌≡◌, ℕ, zero, suc, Bool, true, false, List, [], ◌∷◌, ◌++◌, Option, refl, sym}
+use Rattle.std.proofs.Common.{ap, ◌∙◌}
 use Rattle.std.specs.Prelude.{◌||◌, if◌then◌else◌, ◌==◌}
 use Rattle.std.specs.List.{list_any}
 use Rattle.std.proofs.lemmas.Bool.{or_left, or_right, true≢false}
@@ -15,7 +16,8 @@ use Rattle.store_cache.specs.Overlay.{Store}
 use Rattle.tx_serial.specs.Flat.{Storage, FlatState, at_put, laid_over, operand_bytes, operand_stores}
 use Rattle.tx_serial.specs.Attempt.{Run, Mark, Open, Committed, Overflowed, Missing}
 use Rattle.tx_serial.specs.Fate.{Fate, Goes, Ends, Stops, fate}
-use Rattle.tx_serial.specs.Run.{run, more, more_of, after_fate, after_where, after, may_follow, outcome_of, lasting_of, stores_lastingly}
+use Rattle.tx_serial.specs.Run.{run, more, more_of, after_fate, after_where, after, may_follow, outcome_of}
+use Rattle.tx_serial.specs.Run.{lasting_of, stores_lastingly}
 
 -- ---- stores
 
@@ -25,7 +27,8 @@ laid_twice [] ys s = refl
 laid_twice (x ∷ xs) ys s = laid_twice xs ys (at_put s x.address x.byte)
 
 -- a byte that is the same before stores is the same after them
-pub laid_alike : (stores : List Store) (s t : Storage) (a : ℕ) → t a ≡ s a → laid_over t stores a ≡ laid_over s stores a
+pub laid_alike : (stores : List Store) (s t : Storage) (a : ℕ) → t a ≡ s a → laid_over t stores a
+    ≡ laid_over s stores a
 unfolding laid_over
 laid_alike [] s t a e = e
 laid_alike (x ∷ rest) s t a e =
@@ -41,13 +44,17 @@ HasCopy base p = p.copy ≡ laid_over base p.stores
 abbrev new : Run → List Range → List ℕ → List Store
 new p ranges bytes = operand_stores p.cpu.prefix ranges bytes
 
-copy_after : (base : Storage) (i : Instr) (ranges : List Range) (p : Run) (o : Outcome) → HasCopy base p → HasCopy base (after i ranges p o)
-copy_after base i ranges p (Did c bytes) e = ap (λ s. laid_over s (new p ranges bytes)) e ∙ sym (laid_twice p.stores (new p ranges bytes) base)
-copy_after base i ranges p (outcome.Overflowed c bytes) e = ap (λ s. laid_over s (new p ranges bytes)) e ∙ sym (laid_twice p.stores (new p ranges bytes) base)
+copy_after : (base : Storage) (i : Instr) (ranges : List Range) (p : Run) (o : Outcome) → HasCopy base p
+    → HasCopy base (after i ranges p o)
+copy_after base i ranges p (Did c bytes) e = ap (λ s. laid_over s (new p ranges bytes)) e
+    ∙ sym (laid_twice p.stores (new p ranges bytes) base)
+copy_after base i ranges p (outcome.Overflowed c bytes) e = ap (λ s. laid_over s (new p ranges bytes)) e
+    ∙ sym (laid_twice p.stores (new p ranges bytes) base)
 copy_after base i ranges p Divides e = e
 copy_after base i ranges p (Aborts code) e = e
 
-copy_where : (base : Storage) (b : Bool) (i : Instr) (ranges : List Range) (p : Run) → HasCopy base p → HasCopy base (after_where b i ranges p)
+copy_where : (base : Storage) (b : Bool) (i : Instr) (ranges : List Range) (p : Run) → HasCopy base p
+    → HasCopy base (after_where b i ranges p)
 copy_where base true i ranges p e = copy_after base i ranges p (outcome_of i ranges p) e
 copy_where base false i ranges p e = e
 
@@ -56,7 +63,8 @@ copy_fate base (Goes i ranges) p e = copy_where base (may_follow p.nest i) i ran
 copy_fate base (Ends why) p e = e
 copy_fate base (Stops x) p e = e
 
-copy_more : (base : Storage) (m : Mark) (text : List ℕ) (p : Run) → HasCopy base p → HasCopy base (more_of m text p)
+copy_more : (base : Storage) (m : Mark) (text : List ℕ) (p : Run) → HasCopy base p
+    → HasCopy base (more_of m text p)
 copy_more base Open text p e = copy_fate base (fate text p) p e
 copy_more base Committed text p e = e
 copy_more base Overflowed text p e = e
@@ -79,17 +87,21 @@ prefix_after prefix i ranges p (outcome.Overflowed c bytes) keeps e = keeps ∙ 
 prefix_after prefix i ranges p Divides keeps e = e
 prefix_after prefix i ranges p (Aborts code) keeps e = e
 
-prefix_where : (prefix : Option ℕ) (b : Bool) (i : Instr) (ranges : List Range) (p : Run) → HasPrefix prefix p → HasPrefix prefix (after_where b i ranges p)
+prefix_where : (prefix : Option ℕ) (b : Bool) (i : Instr) (ranges : List Range) (p : Run)
+    → HasPrefix prefix p → HasPrefix prefix (after_where b i ranges p)
 prefix_where prefix true i ranges p e =
-    prefix_after prefix i ranges p (outcome_of i ranges p) (keeps_prefix i p.cpu _ (operand_bytes p.cpu.prefix p.copy ranges)) e
+    prefix_after prefix i ranges p (outcome_of i ranges p) (keeps_prefix i p.cpu _ (operand_bytes
+    p.cpu.prefix p.copy ranges)) e
 prefix_where prefix false i ranges p e = e
 
-prefix_fate : (prefix : Option ℕ) (o : Fate) (p : Run) → HasPrefix prefix p → HasPrefix prefix (after_fate o p)
+prefix_fate : (prefix : Option ℕ) (o : Fate) (p : Run) → HasPrefix prefix p
+    → HasPrefix prefix (after_fate o p)
 prefix_fate prefix (Goes i ranges) p e = prefix_where prefix (may_follow p.nest i) i ranges p e
 prefix_fate prefix (Ends why) p e = e
 prefix_fate prefix (Stops x) p e = e
 
-prefix_more : (prefix : Option ℕ) (m : Mark) (text : List ℕ) (p : Run) → HasPrefix prefix p → HasPrefix prefix (more_of m text p)
+prefix_more : (prefix : Option ℕ) (m : Mark) (text : List ℕ) (p : Run) → HasPrefix prefix p
+    → HasPrefix prefix (more_of m text p)
 prefix_more prefix Open text p e = prefix_fate prefix (fate text p) p e
 prefix_more prefix Committed text p e = e
 prefix_more prefix Overflowed text p e = e
@@ -112,7 +124,8 @@ more_of_both : (test : Store → Bool) (some all new_some new_all : List Store)
     → list_any test (some ++ new_some) ≡ true → list_any test (all ++ new_all) ≡ true
 more_of_both test some all new_some new_all old new h =
     list_any-append test all new_all
-    ∙ either (list_any test some) (list_any test new_some) (sym (list_any-append test some new_some) ∙ h) old new
+    ∙ either (list_any test some) (list_any test new_some) (sym (list_any-append test some new_some)
+    ∙ h) old new
   where
     either : (a b : Bool) → (a || b) ≡ true → (a ≡ true → list_any test all ≡ true)
         → (b ≡ true → list_any test new_all ≡ true) → (list_any test all || list_any test new_all) ≡ true
@@ -124,7 +137,8 @@ among_itself : (test : Store → Bool) (b : Bool) (stores : List Store)
 among_itself test true stores h = h
 among_itself test false stores h = absurd (true≢false (sym h))
 
-lasting_after : (test : Store → Bool) (i : Instr) (ranges : List Range) (p : Run) (o : Outcome) → AreAmong test p → AreAmong test (after i ranges p o)
+lasting_after : (test : Store → Bool) (i : Instr) (ranges : List Range) (p : Run) (o : Outcome)
+    → AreAmong test p → AreAmong test (after i ranges p o)
 lasting_after test i ranges p (Did c bytes) old =
     more_of_both test p.lasting p.stores (lasting_of i (new p ranges bytes)) (new p ranges bytes) old
     (among_itself test (stores_lastingly (entry_at i.op.number)) (new p ranges bytes))
@@ -134,7 +148,8 @@ lasting_after test i ranges p (outcome.Overflowed c bytes) old =
 lasting_after test i ranges p Divides old = old
 lasting_after test i ranges p (Aborts code) old = old
 
-lasting_where : (test : Store → Bool) (b : Bool) (i : Instr) (ranges : List Range) (p : Run) → AreAmong test p → AreAmong test (after_where b i ranges p)
+lasting_where : (test : Store → Bool) (b : Bool) (i : Instr) (ranges : List Range) (p : Run)
+    → AreAmong test p → AreAmong test (after_where b i ranges p)
 lasting_where test true i ranges p old = lasting_after test i ranges p (outcome_of i ranges p) old
 lasting_where test false i ranges p old = old
 
@@ -143,7 +158,8 @@ lasting_fate test (Goes i ranges) p old = lasting_where test (may_follow p.nest 
 lasting_fate test (Ends why) p old = old
 lasting_fate test (Stops x) p old = old
 
-lasting_more : (test : Store → Bool) (m : Mark) (text : List ℕ) (p : Run) → AreAmong test p → AreAmong test (more_of m text p)
+lasting_more : (test : Store → Bool) (m : Mark) (text : List ℕ) (p : Run) → AreAmong test p
+    → AreAmong test (more_of m text p)
 lasting_more test Open text p old = lasting_fate test (fate text p) p old
 lasting_more test Committed text p old = old
 lasting_more test Overflowed text p old = old

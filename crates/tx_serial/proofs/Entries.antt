@@ -1,5 +1,6 @@
 -- What an entry changes, what remains of attempts that are alike, and histories in two parts.
-use Rattle.std.proofs.Common.{◌≡◌, ◌≢◌, ℕ, Bool, true, false, List, [], ◌∷◌, ◌++◌, Option, Some, None, refl, sym, ap, subst, ◌∙◌, arith}
+use Rattle.std.proofs.Common.{◌≡◌, ◌≢◌, ℕ, Bool, true, false, List, [], ◌∷◌, ◌++◌, Option, Some, None, refl}
+use Rattle.std.proofs.Common.{sym, ap, subst, ◌∙◌, arith}
 use Rattle.std.specs.Prelude.{◌==◌, if◌then◌else◌, ◌&&◌, not, nat_lt}
 use Rattle.z_regs.specs.declared.ranges.Range.{Range}
 use Rattle.z_regs.specs.declared.waiting.Waiting.{Waiting}
@@ -18,7 +19,8 @@ use Rattle.tx_serial.specs.Fate.{Fate, Goes, Ends, Stops, fate}
 use Rattle.tx_serial.specs.Run.{run, outcome_of}
 use Rattle.tx_serial.specs.Ending.{fits}
 use Rattle.tx_serial.specs.Remains.{remains, cpu_after_abort, pending_after, waiting_after, block_after}
-use Rattle.tx_serial.specs.Apply.{apply, only_where, may_act, with_outcome, after_step, after_commit, after_block, after_interruption}
+use Rattle.tx_serial.specs.Apply.{apply, only_where, may_act, with_outcome, after_step, after_commit}
+use Rattle.tx_serial.specs.Apply.{after_block, after_interruption}
 use Rattle.tx_serial.specs.History.{on_some, replay_from}
 use Rattle.tx_serial.specs.Alike.{track_of}
 use Rattle.tx_serial.specs.Changes.{cpu_of_entry, ChangesOnly, ChangeAlike}
@@ -115,7 +117,8 @@ only_block f i (Some b) = record {
   waiting = λ j n. refl;
 }
 
-only_interruption : (f : FlatState) (i : ℕ) (o : Option Pending) (w : Option Waiting) → Only i f (after_interruption f i o w)
+only_interruption : (f : FlatState) (i : ℕ) (o : Option Pending) (w : Option Waiting)
+    → Only i f (after_interruption f i o w)
 only_interruption f i (Some b) w = tt
 only_interruption f i None None = tt
 only_interruption f i None (Some w) = record {
@@ -130,11 +133,13 @@ unfolding apply
 only_entry f (Step i) = only_if i f (may_act f i) _ (only_step f i (fate f.text (run f i 0)))
 only_entry f (Commit i n) = only_if i f (may_act f i) _ (only_commit f i (run f i n) (run f i n).mark)
 only_entry f (Abort i n why) =
-    only_if i f (may_act f i && (nat_lt 0 n && fits f.text (run f i n) why)) _ (only_remains f i (run f i n) why)
+    only_if i f (may_act f i && (nat_lt 0 n && fits f.text (run f i n) why)) _ (only_remains f i (run f i
+    n) why)
 only_entry f (Tdb i) = only_block f i (f.pending i)
 only_entry f (Interrupt i) = only_interruption f i (f.pending i) (f.waiting i)
 
-pub entry_changes : (f after : FlatState) (e : Entry) → apply f e ≡ Some after → ChangesOnly (cpu_of_entry e) f after
+pub entry_changes : (f after : FlatState) (e : Entry) → apply f e ≡ Some after
+    → ChangesOnly (cpu_of_entry e) f after
 entry_changes f after e h = subst (Only (cpu_of_entry e) f) h (only_entry f e)
 
 -- ---- what remains
@@ -167,7 +172,8 @@ remains_alike f g i k why cpu same =
 
 -- ---- histories
 
-pub replay_twice : (xs ys : List Entry) (o : Option FlatState) → replay_from (xs ++ ys) o ≡ replay_from ys (replay_from xs o)
+pub replay_twice : (xs ys : List Entry) (o : Option FlatState) → replay_from (xs ++ ys) o
+    ≡ replay_from ys (replay_from xs o)
 unfolding replay_from
 replay_twice [] ys o = refl
 replay_twice (x ∷ xs) ys o = replay_twice xs ys (on_some (λ f. apply f x) o)

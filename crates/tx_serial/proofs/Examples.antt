@@ -1,7 +1,8 @@
--- Worked values of entries on small flat states: programs at 4000 in hexadecimal, in text page 4. The expected values are
--- those of an independent model of the machine.
-use Rattle.std.proofs.Common.{◌≡◌, refl, ℕ, ◌+◌, ◌-◌, Bool, true, false, List, [], ◌∷◌, ◌++◌, length, get_or, Option, Some, None}
-use Rattle.std.specs.Prelude.{◌&&◌, nat_lt, nat_le, if◌then◌else◌, is_some, take, drop, map, slice_range}
+-- Worked values of entries on small flat states: programs at 4000 in hexadecimal, in text page 4. The
+-- expected values are those of an independent model of the machine.
+use Rattle.std.proofs.Common.{◌≡◌, refl, ℕ, zero, suc, ◌+◌, ◌-◌, Bool, true, false, List, [], ◌∷◌, ◌++◌}
+use Rattle.std.proofs.Common.{length, get_or, Option, Some, None}
+use Rattle.std.specs.Prelude.{◌&&◌, nat_lt, nat_le, if◌then◌else◌, set, is_some, take, drop, map, slice_range}
 use Rattle.std.specs.List.{range_with_len}
 use Rattle.bit_set.specs.Counts.{count_below}
 use Rattle.z_arith.specs.Sum.{add_of}
@@ -22,7 +23,10 @@ use Rattle.z_effect.specs.BranchEffect.{branch_effect}
 use Rattle.z_effect.specs.StorageEffect.{storage_effect}
 use Rattle.z_effect.specs.TransactionEffect.{transaction_effect}
 use Rattle.tx_control.specs.declared.exceptions.Exception.{Exception}
-use Rattle.tx_control.specs.declared.causes.Why.TheVariants.{External, Program, FetchConflict, StoreConflict, Restricted, Filtered, Starved, Tabort}
+use Rattle.tx_control.specs.declared.causes.Why.{Why}
+use Rattle.tx_control.specs.declared.causes.Why.TheVariants.{External, Program, FetchConflict}
+use Rattle.tx_control.specs.declared.causes.Why.TheVariants.{StoreConflict, Restricted, Filtered, Starved}
+use Rattle.tx_control.specs.declared.causes.Why.TheVariants.{Tabort}
 use Rattle.tx_constraint.specs.Octowords.{with_octowords}
 use Rattle.tx_constraint.specs.Constraints.{text_breach, operand_breach}
 use Rattle.tx_footprint.specs.Places.{has_place}
@@ -30,7 +34,8 @@ use Rattle.tx_abort.specs.Block.{block, fields, register_fields}
 use Rattle.tx_abort.specs.Registers.{restored}
 use Rattle.tx_journal.specs.declared.entries.Entry.{Entry}
 use Rattle.tx_journal.specs.declared.entries.Entry.TheVariants.{Step, Commit, Abort, Tdb, Interrupt}
-use Rattle.tx_serial.specs.Flat.{Storage, FlatState, Pending, laid_over, with_pending, with_storage, with_waiting}
+use Rattle.tx_serial.specs.Flat.{Storage, FlatState, Pending, laid_over, with_pending, with_storage}
+use Rattle.tx_serial.specs.Flat.{with_waiting}
 use Rattle.tx_serial.specs.Fate.{fate, cause_in}
 use Rattle.tx_serial.specs.Run.{run, more}
 use Rattle.tx_serial.specs.Ending.{ending, fits}
@@ -107,10 +112,11 @@ load =
     0xA7 ∷ 0x19 ∷ 0x00 ∷ 0x05 ∷ []
 
 one_step : cpu_seen 2 (after (on plain load) (Step 0 ∷ [])) ≡ (0 ∷ 5 ∷ [], 0x4004, 0, Running)
-unfolding apply replay_from run more fate cause_in ending fits remains laid_over reading_of row_number entry_at table
-    accessible_pages text_pages unfetched spans_in unspecified_in inaccessible_in kind_at kind_named combined general_effect
-    branch_effect storage_effect transaction_effect absolute_range has_place count_below text_breach operand_breach
-    with_octowords add_of divide_word_of block fields register_fields restored psw_of with_fields loaded
+unfolding apply replay_from run more fate cause_in ending fits remains laid_over reading_of row_number
+    entry_at table accessible_pages text_pages unfetched spans_in unspecified_in inaccessible_in kind_at
+    kind_named combined general_effect branch_effect storage_effect transaction_effect absolute_range
+    has_place count_below text_breach operand_breach with_octowords add_of divide_word_of block fields
+    register_fields restored psw_of with_fields loaded
 one_step = refl
 
 -- SVC 0
@@ -119,10 +125,11 @@ service =
     0x0A ∷ 0x00 ∷ []
 
 halting : cpu_seen 0 (after (on plain service) (Step 0 ∷ [])) ≡ ([], 0x4002, 0, Halted)
-unfolding apply replay_from run more fate cause_in ending fits remains laid_over reading_of row_number entry_at table
-    accessible_pages text_pages unfetched spans_in unspecified_in inaccessible_in kind_at kind_named combined general_effect
-    branch_effect storage_effect transaction_effect absolute_range has_place count_below text_breach operand_breach
-    with_octowords add_of divide_word_of block fields register_fields restored psw_of with_fields loaded
+unfolding apply replay_from run more fate cause_in ending fits remains laid_over reading_of row_number
+    entry_at table accessible_pages text_pages unfetched spans_in unspecified_in inaccessible_in kind_at
+    kind_named combined general_effect branch_effect storage_effect transaction_effect absolute_range
+    has_place count_below text_breach operand_breach with_octowords add_of divide_word_of block fields
+    register_fields restored psw_of with_fields loaded
 halting = refl
 
 -- LG 1,0: no storage there
@@ -131,10 +138,11 @@ far_load =
     0xE3 ∷ 0x10 ∷ 0x00 ∷ 0x00 ∷ 0x00 ∷ 0x04 ∷ []
 
 addressing_exception : cpu_seen 0 (after (on plain far_load) (Step 0 ∷ [])) ≡ ([], 0x4006, 0, Interrupted 5)
-unfolding apply replay_from run more fate cause_in ending fits remains laid_over reading_of row_number entry_at table
-    accessible_pages text_pages unfetched spans_in unspecified_in inaccessible_in kind_at kind_named combined general_effect
-    branch_effect storage_effect transaction_effect absolute_range has_place count_below text_breach operand_breach
-    with_octowords add_of divide_word_of block fields register_fields restored psw_of with_fields loaded
+unfolding apply replay_from run more fate cause_in ending fits remains laid_over reading_of row_number
+    entry_at table accessible_pages text_pages unfetched spans_in unspecified_in inaccessible_in kind_at
+    kind_named combined general_effect branch_effect storage_effect transaction_effect absolute_range
+    has_place count_below text_breach operand_breach with_octowords add_of divide_word_of block fields
+    register_fields restored psw_of with_fields loaded
 addressing_exception = refl
 
 -- ST 1,0(2), where register 2 has 4100: a text page
@@ -142,11 +150,13 @@ abbrev text_store : List ℕ
 text_store =
     0x50 ∷ 0x10 ∷ 0x20 ∷ 0x00 ∷ []
 
-protection_exception : cpu_seen 0 (after (on (with_registers (0 ∷ 0 ∷ 0x4100 ∷ []) plain) text_store) (Step 0 ∷ [])) ≡ ([], 0x4004, 0, Interrupted 4)
-unfolding apply replay_from run more fate cause_in ending fits remains laid_over reading_of row_number entry_at table
-    accessible_pages text_pages unfetched spans_in unspecified_in inaccessible_in kind_at kind_named combined general_effect
-    branch_effect storage_effect transaction_effect absolute_range has_place count_below text_breach operand_breach
-    with_octowords add_of divide_word_of block fields register_fields restored psw_of with_fields loaded
+protection_exception : cpu_seen 0 (after (on (with_registers (0 ∷ 0 ∷ 0x4100
+    ∷ []) plain) text_store) (Step 0 ∷ [])) ≡ ([], 0x4004, 0, Interrupted 4)
+unfolding apply replay_from run more fate cause_in ending fits remains laid_over reading_of row_number
+    entry_at table accessible_pages text_pages unfetched spans_in unspecified_in inaccessible_in kind_at
+    kind_named combined general_effect branch_effect storage_effect transaction_effect absolute_range
+    has_place count_below text_breach operand_breach with_octowords add_of divide_word_of block fields
+    register_fields restored psw_of with_fields loaded
 protection_exception = refl
 
 -- DR 2,4, where register 4 is 0
@@ -155,40 +165,46 @@ dividing =
     0x1D ∷ 0x24 ∷ []
 
 divide_exception : cpu_seen 0 (after (on plain dividing) (Step 0 ∷ [])) ≡ ([], 0x4002, 0, Interrupted 9)
-unfolding apply replay_from run more fate cause_in ending fits remains laid_over reading_of row_number entry_at table
-    accessible_pages text_pages unfetched spans_in unspecified_in inaccessible_in kind_at kind_named combined general_effect
-    branch_effect storage_effect transaction_effect absolute_range has_place count_below text_breach operand_breach
-    with_octowords add_of divide_word_of block fields register_fields restored psw_of with_fields loaded
+unfolding apply replay_from run more fate cause_in ending fits remains laid_over reading_of row_number
+    entry_at table accessible_pages text_pages unfetched spans_in unspecified_in inaccessible_in kind_at
+    kind_named combined general_effect branch_effect storage_effect transaction_effect absolute_range
+    has_place count_below text_breach operand_breach with_octowords add_of divide_word_of block fields
+    register_fields restored psw_of with_fields loaded
 divide_exception = refl
 
 -- zeros read as no instruction
 no_instruction : cpu_seen 0 (after (on plain []) (Step 0 ∷ [])) ≡ ([], 0x4002, 0, Interrupted 1)
-unfolding apply replay_from run more fate cause_in ending fits remains laid_over reading_of row_number entry_at table
-    accessible_pages text_pages unfetched spans_in unspecified_in inaccessible_in kind_at kind_named combined general_effect
-    branch_effect storage_effect transaction_effect absolute_range has_place count_below text_breach operand_breach
-    with_octowords add_of divide_word_of block fields register_fields restored psw_of with_fields loaded
+unfolding apply replay_from run more fate cause_in ending fits remains laid_over reading_of row_number
+    entry_at table accessible_pages text_pages unfetched spans_in unspecified_in inaccessible_in kind_at
+    kind_named combined general_effect branch_effect storage_effect transaction_effect absolute_range
+    has_place count_below text_breach operand_breach with_octowords add_of divide_word_of block fields
+    register_fields restored psw_of with_fields loaded
 no_instruction = refl
 
 odd_address : cpu_seen 0 (after (on (started 0x4001) load) (Step 0 ∷ [])) ≡ ([], 0x4001, 0, Interrupted 6)
-unfolding apply replay_from run more fate cause_in ending fits remains laid_over reading_of row_number entry_at table
-    accessible_pages text_pages unfetched spans_in unspecified_in inaccessible_in kind_at kind_named combined general_effect
-    branch_effect storage_effect transaction_effect absolute_range has_place count_below text_breach operand_breach
-    with_octowords add_of divide_word_of block fields register_fields restored psw_of with_fields loaded
+unfolding apply replay_from run more fate cause_in ending fits remains laid_over reading_of row_number
+    entry_at table accessible_pages text_pages unfetched spans_in unspecified_in inaccessible_in kind_at
+    kind_named combined general_effect branch_effect storage_effect transaction_effect absolute_range
+    has_place count_below text_breach operand_breach with_octowords add_of divide_word_of block fields
+    register_fields restored psw_of with_fields loaded
 odd_address = refl
 
 outside_text : cpu_seen 0 (after (on (started 0x5000) load) (Step 0 ∷ [])) ≡ ([], 0x5000, 0, Interrupted 4)
-unfolding apply replay_from run more fate cause_in ending fits remains laid_over reading_of row_number entry_at table
-    accessible_pages text_pages unfetched spans_in unspecified_in inaccessible_in kind_at kind_named combined general_effect
-    branch_effect storage_effect transaction_effect absolute_range has_place count_below text_breach operand_breach
-    with_octowords add_of divide_word_of block fields register_fields restored psw_of with_fields loaded
+unfolding apply replay_from run more fate cause_in ending fits remains laid_over reading_of row_number
+    entry_at table accessible_pages text_pages unfetched spans_in unspecified_in inaccessible_in kind_at
+    kind_named combined general_effect branch_effect storage_effect transaction_effect absolute_range
+    has_place count_below text_breach operand_breach with_octowords add_of divide_word_of block fields
+    register_fields restored psw_of with_fields loaded
 outside_text = refl
 
 -- the second half of the instruction is outside text
-into_the_next_page : cpu_seen 0 (after (with_storage (placed 0x4ffe load (λ a. 0)) (on (started 0x4ffe) [])) (Step 0 ∷ [])) ≡ ([], 0x4ffe, 0, Interrupted 4)
-unfolding apply replay_from run more fate cause_in ending fits remains laid_over reading_of row_number entry_at table
-    accessible_pages text_pages unfetched spans_in unspecified_in inaccessible_in kind_at kind_named combined general_effect
-    branch_effect storage_effect transaction_effect absolute_range has_place count_below text_breach operand_breach
-    with_octowords add_of divide_word_of block fields register_fields restored psw_of with_fields loaded
+into_the_next_page : cpu_seen 0 (after (with_storage (placed 0x4ffe load (λ a. 0)) (on (started 0x4ffe)
+    [])) (Step 0 ∷ [])) ≡ ([], 0x4ffe, 0, Interrupted 4)
+unfolding apply replay_from run more fate cause_in ending fits remains laid_over reading_of row_number
+    entry_at table accessible_pages text_pages unfetched spans_in unspecified_in inaccessible_in kind_at
+    kind_named combined general_effect branch_effect storage_effect transaction_effect absolute_range
+    has_place count_below text_breach operand_breach with_octowords add_of divide_word_of block fields
+    register_fields restored psw_of with_fields loaded
 into_the_next_page = refl
 
 -- TEND
@@ -197,10 +213,11 @@ lone_end =
     0xB2 ∷ 0xF8 ∷ 0x00 ∷ 0x00 ∷ []
 
 end_outside : cpu_seen 0 (after (on plain lone_end) (Step 0 ∷ [])) ≡ ([], 0x4004, 2, Running)
-unfolding apply replay_from run more fate cause_in ending fits remains laid_over reading_of row_number entry_at table
-    accessible_pages text_pages unfetched spans_in unspecified_in inaccessible_in kind_at kind_named combined general_effect
-    branch_effect storage_effect transaction_effect absolute_range has_place count_below text_breach operand_breach
-    with_octowords add_of divide_word_of block fields register_fields restored psw_of with_fields loaded
+unfolding apply replay_from run more fate cause_in ending fits remains laid_over reading_of row_number
+    entry_at table accessible_pages text_pages unfetched spans_in unspecified_in inaccessible_in kind_at
+    kind_named combined general_effect branch_effect storage_effect transaction_effect absolute_range
+    has_place count_below text_breach operand_breach with_octowords add_of divide_word_of block fields
+    register_fields restored psw_of with_fields loaded
 end_outside = refl
 
 -- TABORT 257
@@ -209,10 +226,11 @@ lone_abort =
     0xB2 ∷ 0xFC ∷ 0x01 ∷ 0x01 ∷ []
 
 abort_outside : cpu_seen 0 (after (on plain lone_abort) (Step 0 ∷ [])) ≡ ([], 0x4004, 0, Interrupted 0x13)
-unfolding apply replay_from run more fate cause_in ending fits remains laid_over reading_of row_number entry_at table
-    accessible_pages text_pages unfetched spans_in unspecified_in inaccessible_in kind_at kind_named combined general_effect
-    branch_effect storage_effect transaction_effect absolute_range has_place count_below text_breach operand_breach
-    with_octowords add_of divide_word_of block fields register_fields restored psw_of with_fields loaded
+unfolding apply replay_from run more fate cause_in ending fits remains laid_over reading_of row_number
+    entry_at table accessible_pages text_pages unfetched spans_in unspecified_in inaccessible_in kind_at
+    kind_named combined general_effect branch_effect storage_effect transaction_effect absolute_range
+    has_place count_below text_breach operand_breach with_octowords add_of divide_word_of block fields
+    register_fields restored psw_of with_fields loaded
 abort_outside = refl
 
 -- ---- a transaction that commits
@@ -231,15 +249,17 @@ stored = after (on plain storing) (Step 0 ∷ Commit 0 3 ∷ Step 0 ∷ [])
 
 commit_of_three : both (cpu_seen 4 stored) (bytes_at 0x9000 8 stored)
     ≡ both (0 ∷ 0 ∷ 0 ∷ 2 ∷ [], 0x4016, 0, Halted) (0 ∷ 0 ∷ 0 ∷ 0 ∷ 0 ∷ 0 ∷ 0 ∷ 2 ∷ [])
-unfolding apply replay_from run more fate cause_in ending fits remains laid_over reading_of row_number entry_at table
-    accessible_pages text_pages unfetched spans_in unspecified_in inaccessible_in kind_at kind_named combined general_effect
-    branch_effect storage_effect transaction_effect absolute_range has_place count_below text_breach operand_breach
-    with_octowords add_of divide_word_of block fields register_fields restored psw_of with_fields loaded
+unfolding apply replay_from run more fate cause_in ending fits remains laid_over reading_of row_number
+    entry_at table accessible_pages text_pages unfetched spans_in unspecified_in inaccessible_in kind_at
+    kind_named combined general_effect branch_effect storage_effect transaction_effect absolute_range
+    has_place count_below text_breach operand_breach with_octowords add_of divide_word_of block fields
+    register_fields restored psw_of with_fields loaded
 commit_of_three = refl
 
 -- ---- an abort by TABORT
 
--- LGHI 1,1; LGHI 2,2; LGFI 5,X'9000'; TBEGIN 0(5),X'8000'; JNZ OUT; LGHI 1,11; LGHI 2,12; TABORT 257; OUT SVC 0
+-- LGHI 1,1; LGHI 2,2; LGFI 5,X'9000'; TBEGIN 0(5),X'8000'; JNZ OUT; LGHI 1,11; LGHI 2,12; TABORT 257; OUT
+-- SVC 0
 abbrev aborting : List ℕ
 aborting =
     0xA7 ∷ 0x19 ∷ 0x00 ∷ 0x01 ∷
@@ -260,20 +280,25 @@ aborted = after (on plain aborting) (three_steps ++ Abort 0 4 (Tabort 257) ∷ [
 
 -- the mask saves registers 0 and 1 alone
 registers_after_tabort : cpu_seen 3 aborted ≡ (0 ∷ 1 ∷ 12 ∷ [], 0x4014, 3, Running)
-unfolding apply replay_from run more fate cause_in ending fits remains laid_over reading_of row_number entry_at table
-    accessible_pages text_pages unfetched spans_in unspecified_in inaccessible_in kind_at kind_named combined general_effect
-    branch_effect storage_effect transaction_effect absolute_range has_place count_below text_breach operand_breach
-    with_octowords add_of divide_word_of block fields register_fields restored psw_of with_fields loaded
+unfolding apply replay_from run more fate cause_in ending fits remains laid_over reading_of row_number
+    entry_at table accessible_pages text_pages unfetched spans_in unspecified_in inaccessible_in kind_at
+    kind_named combined general_effect branch_effect storage_effect transaction_effect absolute_range
+    has_place count_below text_breach operand_breach with_octowords add_of divide_word_of block fields
+    register_fields restored psw_of with_fields loaded
 registers_after_tabort = refl
 
 -- from its beginning on, and registers 0 to 2 as they were at the abort
 block_after_tabort : both (pending_at 0 40 aborted) (pending_at 128 24 aborted)
-    ≡ both (0x9000 ∷ 0x01 ∷ 0x00 ∷ 0x00 ∷ 0x00 ∷ 0x00 ∷ 0x00 ∷ 0x00 ∷ 0x01 ∷ 0x00 ∷ 0x00 ∷ 0x00 ∷ 0x00 ∷ 0x00 ∷ 0x00 ∷ 0x01 ∷ 0x01 ∷ 0x00 ∷ 0x00 ∷ 0x00 ∷ 0x00 ∷ 0x00 ∷ 0x00 ∷ 0x00 ∷ 0x00 ∷ 0x00 ∷ 0x00 ∷ 0x00 ∷ 0x00 ∷ 0x00 ∷ 0x00 ∷ 0x40 ∷ 0x20 ∷ 0x00 ∷ 0x00 ∷ 0x00 ∷ 0x00 ∷ 0x00 ∷ 0x00 ∷ 0x00 ∷ 0x00 ∷ [])
-    (0x9000 ∷ 0x00 ∷ 0x00 ∷ 0x00 ∷ 0x00 ∷ 0x00 ∷ 0x00 ∷ 0x00 ∷ 0x00 ∷ 0x00 ∷ 0x00 ∷ 0x00 ∷ 0x00 ∷ 0x00 ∷ 0x00 ∷ 0x00 ∷ 0x0B ∷ 0x00 ∷ 0x00 ∷ 0x00 ∷ 0x00 ∷ 0x00 ∷ 0x00 ∷ 0x00 ∷ 0x0C ∷ [])
-unfolding apply replay_from run more fate cause_in ending fits remains laid_over reading_of row_number entry_at table
-    accessible_pages text_pages unfetched spans_in unspecified_in inaccessible_in kind_at kind_named combined general_effect
-    branch_effect storage_effect transaction_effect absolute_range has_place count_below text_breach operand_breach
-    with_octowords add_of divide_word_of block fields register_fields restored psw_of with_fields loaded
+    ≡ both (0x9000 ∷ 0x01 ∷ 0x00 ∷ 0x00 ∷ 0x00 ∷ 0x00 ∷ 0x00 ∷ 0x00 ∷ 0x01 ∷ 0x00 ∷ 0x00 ∷ 0x00 ∷ 0x00
+    ∷ 0x00 ∷ 0x00 ∷ 0x01 ∷ 0x01 ∷ 0x00 ∷ 0x00 ∷ 0x00 ∷ 0x00 ∷ 0x00 ∷ 0x00 ∷ 0x00 ∷ 0x00 ∷ 0x00 ∷ 0x00
+    ∷ 0x00 ∷ 0x00 ∷ 0x00 ∷ 0x00 ∷ 0x40 ∷ 0x20 ∷ 0x00 ∷ 0x00 ∷ 0x00 ∷ 0x00 ∷ 0x00 ∷ 0x00 ∷ 0x00 ∷ 0x00 ∷ [])
+    (0x9000 ∷ 0x00 ∷ 0x00 ∷ 0x00 ∷ 0x00 ∷ 0x00 ∷ 0x00 ∷ 0x00 ∷ 0x00 ∷ 0x00 ∷ 0x00 ∷ 0x00 ∷ 0x00 ∷ 0x00
+    ∷ 0x00 ∷ 0x00 ∷ 0x0B ∷ 0x00 ∷ 0x00 ∷ 0x00 ∷ 0x00 ∷ 0x00 ∷ 0x00 ∷ 0x00 ∷ 0x0C ∷ [])
+unfolding apply replay_from run more fate cause_in ending fits remains laid_over reading_of row_number
+    entry_at table accessible_pages text_pages unfetched spans_in unspecified_in inaccessible_in kind_at
+    kind_named combined general_effect branch_effect storage_effect transaction_effect absolute_range
+    has_place count_below text_breach operand_breach with_octowords add_of divide_word_of block fields
+    register_fields restored psw_of with_fields loaded
 block_after_tabort = refl
 
 abbrev told : Option FlatState
@@ -281,11 +306,14 @@ told = after (on plain aborting) (three_steps ++ Abort 0 4 (Tabort 257) ∷ Tdb 
 
 block_is_stored : both (cpu_seen 3 told) (both (pending_at 0 40 told) (bytes_at 0x9000 32 told))
     ≡ both (0 ∷ 1 ∷ 12 ∷ [], 0x4026, 3, Halted) (both []
-    (0x01 ∷ 0x00 ∷ 0x00 ∷ 0x00 ∷ 0x00 ∷ 0x00 ∷ 0x00 ∷ 0x01 ∷ 0x00 ∷ 0x00 ∷ 0x00 ∷ 0x00 ∷ 0x00 ∷ 0x00 ∷ 0x01 ∷ 0x01 ∷ 0x00 ∷ 0x00 ∷ 0x00 ∷ 0x00 ∷ 0x00 ∷ 0x00 ∷ 0x00 ∷ 0x00 ∷ 0x00 ∷ 0x00 ∷ 0x00 ∷ 0x00 ∷ 0x00 ∷ 0x00 ∷ 0x40 ∷ 0x20 ∷ []))
-unfolding apply replay_from run more fate cause_in ending fits remains laid_over reading_of row_number entry_at table
-    accessible_pages text_pages unfetched spans_in unspecified_in inaccessible_in kind_at kind_named combined general_effect
-    branch_effect storage_effect transaction_effect absolute_range has_place count_below text_breach operand_breach
-    with_octowords add_of divide_word_of block fields register_fields restored psw_of with_fields loaded
+    (0x01 ∷ 0x00 ∷ 0x00 ∷ 0x00 ∷ 0x00 ∷ 0x00 ∷ 0x00 ∷ 0x01 ∷ 0x00 ∷ 0x00 ∷ 0x00 ∷ 0x00 ∷ 0x00 ∷ 0x00
+    ∷ 0x01 ∷ 0x01 ∷ 0x00 ∷ 0x00 ∷ 0x00 ∷ 0x00 ∷ 0x00 ∷ 0x00 ∷ 0x00 ∷ 0x00 ∷ 0x00 ∷ 0x00 ∷ 0x00 ∷ 0x00
+    ∷ 0x00 ∷ 0x00 ∷ 0x40 ∷ 0x20 ∷ []))
+unfolding apply replay_from run more fate cause_in ending fits remains laid_over reading_of row_number
+    entry_at table accessible_pages text_pages unfetched spans_in unspecified_in inaccessible_in kind_at
+    kind_named combined general_effect branch_effect storage_effect transaction_effect absolute_range
+    has_place count_below text_breach operand_breach with_octowords add_of divide_word_of block fields
+    register_fields restored psw_of with_fields loaded
 block_is_stored = refl
 
 -- ---- exceptions in a transaction: TABORT 255, by the filtering control
@@ -322,10 +350,11 @@ filtered = after (on plain filtering) (three_steps ++ Abort 0 4 (Filtered (excep
 filtered_exception : both (cpu_seen 3 filtered) (both (pending_at 8 8 filtered) (pending_at 37 3 filtered))
     ≡ both (0 ∷ 1 ∷ 12 ∷ [], 0x4014, 3, Running)
     (both (0x9000 ∷ 0 ∷ 0 ∷ 0 ∷ 0 ∷ 0 ∷ 0 ∷ 0 ∷ 12 ∷ []) (0x9000 ∷ 4 ∷ 0 ∷ 6 ∷ []))
-unfolding apply replay_from run more fate cause_in ending fits remains laid_over reading_of row_number entry_at table
-    accessible_pages text_pages unfetched spans_in unspecified_in inaccessible_in kind_at kind_named combined general_effect
-    branch_effect storage_effect transaction_effect absolute_range has_place count_below text_breach operand_breach
-    with_octowords add_of divide_word_of block fields register_fields restored psw_of with_fields loaded
+unfolding apply replay_from run more fate cause_in ending fits remains laid_over reading_of row_number
+    entry_at table accessible_pages text_pages unfetched spans_in unspecified_in inaccessible_in kind_at
+    kind_named combined general_effect branch_effect storage_effect transaction_effect absolute_range
+    has_place count_below text_breach operand_breach with_octowords add_of divide_word_of block fields
+    register_fields restored psw_of with_fields loaded
 filtered_exception = refl
 
 abbrev unfiltered : Option FlatState
@@ -334,10 +363,11 @@ unfiltered = after (on plain unfiltering) (three_steps ++ Abort 0 4 (Program (ex
 unfiltered_exception : both (cpu_seen 3 unfiltered) (both (pending_at 8 8 unfiltered) (waits unfiltered))
     ≡ both (0 ∷ 1 ∷ 12 ∷ [], 0x4014, 3, Interrupted 0x206)
     (both (0x9000 ∷ 0 ∷ 0 ∷ 0 ∷ 0 ∷ 0 ∷ 0 ∷ 0 ∷ 4 ∷ []) false)
-unfolding apply replay_from run more fate cause_in ending fits remains laid_over reading_of row_number entry_at table
-    accessible_pages text_pages unfetched spans_in unspecified_in inaccessible_in kind_at kind_named combined general_effect
-    branch_effect storage_effect transaction_effect absolute_range has_place count_below text_breach operand_breach
-    with_octowords add_of divide_word_of block fields register_fields restored psw_of with_fields loaded
+unfolding apply replay_from run more fate cause_in ending fits remains laid_over reading_of row_number
+    entry_at table accessible_pages text_pages unfetched spans_in unspecified_in inaccessible_in kind_at
+    kind_named combined general_effect branch_effect storage_effect transaction_effect absolute_range
+    has_place count_below text_breach operand_breach with_octowords add_of divide_word_of block fields
+    register_fields restored psw_of with_fields loaded
 unfiltered_exception = refl
 
 -- TBEGIN 0,X'0001'; AGR 1,2: a fixed-point overflow, filtered
@@ -351,10 +381,11 @@ full = record (with_registers (0 ∷ 0x7fffffffffffffff ∷ 1 ∷ []) plain) { m
 
 overflow_has_completed : cpu_seen 3 (after (on full overflowing) (Abort 0 2 (Filtered (exception 8 4)) ∷ []))
     ≡ (0 ∷ 0x8000000000000000 ∷ 1 ∷ [], 0x4006, 3, Running)
-unfolding apply replay_from run more fate cause_in ending fits remains laid_over reading_of row_number entry_at table
-    accessible_pages text_pages unfetched spans_in unspecified_in inaccessible_in kind_at kind_named combined general_effect
-    branch_effect storage_effect transaction_effect absolute_range has_place count_below text_breach operand_breach
-    with_octowords add_of divide_word_of block fields register_fields restored psw_of with_fields loaded
+unfolding apply replay_from run more fate cause_in ending fits remains laid_over reading_of row_number
+    entry_at table accessible_pages text_pages unfetched spans_in unspecified_in inaccessible_in kind_at
+    kind_named combined general_effect branch_effect storage_effect transaction_effect absolute_range
+    has_place count_below text_breach operand_breach with_octowords add_of divide_word_of block fields
+    register_fields restored psw_of with_fields loaded
 overflow_has_completed = refl
 
 -- TBEGIN 0,0; SVC 0
@@ -363,11 +394,13 @@ serving =
     0xE5 ∷ 0x60 ∷ 0x00 ∷ 0x00 ∷ 0x00 ∷ 0x00 ∷
     0x0A ∷ 0x00 ∷ []
 
-restricted_instruction : cpu_seen 0 (after (on plain serving) (Abort 0 1 Restricted ∷ [])) ≡ ([], 0x4006, 3, Running)
-unfolding apply replay_from run more fate cause_in ending fits remains laid_over reading_of row_number entry_at table
-    accessible_pages text_pages unfetched spans_in unspecified_in inaccessible_in kind_at kind_named combined general_effect
-    branch_effect storage_effect transaction_effect absolute_range has_place count_below text_breach operand_breach
-    with_octowords add_of divide_word_of block fields register_fields restored psw_of with_fields loaded
+restricted_instruction : cpu_seen 0 (after (on plain serving) (Abort 0 1 Restricted ∷ []))
+    ≡ ([], 0x4006, 3, Running)
+unfolding apply replay_from run more fate cause_in ending fits remains laid_over reading_of row_number
+    entry_at table accessible_pages text_pages unfetched spans_in unspecified_in inaccessible_in kind_at
+    kind_named combined general_effect branch_effect storage_effect transaction_effect absolute_range
+    has_place count_below text_breach operand_breach with_octowords add_of divide_word_of block fields
+    register_fields restored psw_of with_fields loaded
 restricted_instruction = refl
 
 -- ---- NTSTG at an abort
@@ -390,10 +423,11 @@ lasted = after (on three_and_four lasting) (Abort 0 4 (Tabort 256) ∷ [])
 
 its_last_value_stays : both (cpu_seen 3 lasted) (bytes_at 0x9000 8 lasted)
     ≡ both (0 ∷ 3 ∷ 4 ∷ [], 0x4006, 2, Running) (0 ∷ 0 ∷ 0 ∷ 0 ∷ 0 ∷ 0 ∷ 0 ∷ 3 ∷ [])
-unfolding apply replay_from run more fate cause_in ending fits remains laid_over reading_of row_number entry_at table
-    accessible_pages text_pages unfetched spans_in unspecified_in inaccessible_in kind_at kind_named combined general_effect
-    branch_effect storage_effect transaction_effect absolute_range has_place count_below text_breach operand_breach
-    with_octowords add_of divide_word_of block fields register_fields restored psw_of with_fields loaded
+unfolding apply replay_from run more fate cause_in ending fits remains laid_over reading_of row_number
+    entry_at table accessible_pages text_pages unfetched spans_in unspecified_in inaccessible_in kind_at
+    kind_named combined general_effect branch_effect storage_effect transaction_effect absolute_range
+    has_place count_below text_breach operand_breach with_octowords add_of divide_word_of block fields
+    register_fields restored psw_of with_fields loaded
 its_last_value_stays = refl
 
 -- ---- a constrained transaction that breaks a constraint
@@ -406,10 +440,11 @@ own_page =
 
 breach : cpu_seen 0 (after (on plain own_page) (Abort 0 1 (Program (exception 0x18 6)) ∷ []))
     ≡ ([], 0x4000, 3, Interrupted 0x218)
-unfolding apply replay_from run more fate cause_in ending fits remains laid_over reading_of row_number entry_at table
-    accessible_pages text_pages unfetched spans_in unspecified_in inaccessible_in kind_at kind_named combined general_effect
-    branch_effect storage_effect transaction_effect absolute_range has_place count_below text_breach operand_breach
-    with_octowords add_of divide_word_of block fields register_fields restored psw_of with_fields loaded
+unfolding apply replay_from run more fate cause_in ending fits remains laid_over reading_of row_number
+    entry_at table accessible_pages text_pages unfetched spans_in unspecified_in inaccessible_in kind_at
+    kind_named combined general_effect branch_effect storage_effect transaction_effect absolute_range
+    has_place count_below text_breach operand_breach with_octowords add_of divide_word_of block fields
+    register_fields restored psw_of with_fields loaded
 breach = refl
 
 -- ---- a CPU with the prefix A000
@@ -419,7 +454,8 @@ prefixed = record plain { prefix = Some 0xa000 }
 
 -- the new program status word, for the address 5000
 abbrev with_new_psw : FlatState → FlatState
-with_new_psw f = with_storage (placed 0xa1d0 (0 ∷ 0 ∷ 0 ∷ 1 ∷ 0x80 ∷ 0 ∷ 0 ∷ 0 ∷ 0 ∷ 0 ∷ 0 ∷ 0 ∷ 0 ∷ 0 ∷ 0x50 ∷ 0 ∷ []) f.storage) f
+with_new_psw f = with_storage (placed 0xa1d0 (0 ∷ 0 ∷ 0 ∷ 1 ∷ 0x80 ∷ 0 ∷ 0 ∷ 0 ∷ 0 ∷ 0 ∷ 0 ∷ 0 ∷ 0 ∷ 0
+    ∷ 0x50 ∷ 0 ∷ []) f.storage) f
 
 -- STG 1,X'1FFC': its bytes lie apart
 abbrev spanning : List ℕ
@@ -431,36 +467,45 @@ apart = after (on (with_registers (0 ∷ 0x0102030405060708 ∷ []) prefixed) sp
 
 bytes_apart : both (bytes_at 0xbffc 5 apart) (bytes_at 0x2000 5 apart)
     ≡ both (1 ∷ 2 ∷ 3 ∷ 4 ∷ 0 ∷ []) (5 ∷ 6 ∷ 7 ∷ 8 ∷ 0 ∷ [])
-unfolding apply replay_from run more fate cause_in ending fits remains laid_over reading_of row_number entry_at table
-    accessible_pages text_pages unfetched spans_in unspecified_in inaccessible_in kind_at kind_named combined general_effect
-    branch_effect storage_effect transaction_effect absolute_range has_place count_below text_breach operand_breach
-    with_octowords add_of divide_word_of block fields register_fields restored psw_of with_fields loaded
+unfolding apply replay_from run more fate cause_in ending fits remains laid_over reading_of row_number
+    entry_at table accessible_pages text_pages unfetched spans_in unspecified_in inaccessible_in kind_at
+    kind_named combined general_effect branch_effect storage_effect transaction_effect absolute_range
+    has_place count_below text_breach operand_breach with_octowords add_of divide_word_of block fields
+    register_fields restored psw_of with_fields loaded
 bytes_apart = refl
 
 abbrev taken : Option FlatState
 taken = after (with_new_psw (on prefixed dividing)) (Step 0 ∷ Interrupt 0 ∷ [])
 
-interruption_is_taken : both (both (cpu_seen 0 taken) (waits taken)) (both (bytes_at 0xa08c 4 taken) (bytes_at 0xa150 16 taken))
+interruption_is_taken : both (both (cpu_seen 0 taken) (waits taken)) (both (bytes_at 0xa08c 4 taken)
+    (bytes_at 0xa150 16 taken))
     ≡ both (both ([], 0x5000, 0, Running) false) (both (0 ∷ 2 ∷ 0 ∷ 9 ∷ [])
-    (0x00 ∷ 0x00 ∷ 0x00 ∷ 0x01 ∷ 0x80 ∷ 0x00 ∷ 0x00 ∷ 0x00 ∷ 0x00 ∷ 0x00 ∷ 0x00 ∷ 0x00 ∷ 0x00 ∷ 0x00 ∷ 0x40 ∷ 0x02 ∷ []))
-unfolding apply replay_from run more fate cause_in ending fits remains laid_over reading_of row_number entry_at table
-    accessible_pages text_pages unfetched spans_in unspecified_in inaccessible_in kind_at kind_named combined general_effect
-    branch_effect storage_effect transaction_effect absolute_range has_place count_below text_breach operand_breach
-    with_octowords add_of divide_word_of block fields register_fields restored psw_of with_fields loaded
+    (0x00 ∷ 0x00 ∷ 0x00 ∷ 0x01 ∷ 0x80 ∷ 0x00 ∷ 0x00 ∷ 0x00 ∷ 0x00 ∷ 0x00 ∷ 0x00 ∷ 0x00 ∷ 0x00 ∷ 0x00
+    ∷ 0x40 ∷ 0x02 ∷ []))
+unfolding apply replay_from run more fate cause_in ending fits remains laid_over reading_of row_number
+    entry_at table accessible_pages text_pages unfetched spans_in unspecified_in inaccessible_in kind_at
+    kind_named combined general_effect branch_effect storage_effect transaction_effect absolute_range
+    has_place count_below text_breach operand_breach with_octowords add_of divide_word_of block fields
+    register_fields restored psw_of with_fields loaded
 interruption_is_taken = refl
 
 abbrev taken_after_abort : Option FlatState
-taken_after_abort = after (with_new_psw (on prefixed own_page)) (Abort 0 1 (Program (exception 0x18 6)) ∷ Interrupt 0 ∷ [])
+taken_after_abort = after (with_new_psw (on prefixed own_page)) (Abort 0 1 (Program (exception 0x18 6))
+    ∷ Interrupt 0 ∷ [])
 
 interruption_after_an_abort : both (both (cpu_seen 0 taken_after_abort) (bytes_at 0xa08c 4 taken_after_abort))
     (both (bytes_at 0xa150 16 taken_after_abort) (bytes_at 0xb800 40 taken_after_abort))
     ≡ both (both ([], 0x5000, 0, Running) (0x00 ∷ 0x06 ∷ 0x02 ∷ 0x18 ∷ []))
-    (both (0x00 ∷ 0x00 ∷ 0x30 ∷ 0x01 ∷ 0x80 ∷ 0x00 ∷ 0x00 ∷ 0x00 ∷ 0x00 ∷ 0x00 ∷ 0x00 ∷ 0x00 ∷ 0x00 ∷ 0x00 ∷ 0x40 ∷ 0x00 ∷ [])
-    (0x01 ∷ 0x40 ∷ 0x00 ∷ 0x00 ∷ 0x00 ∷ 0x00 ∷ 0x00 ∷ 0x01 ∷ 0x00 ∷ 0x00 ∷ 0x00 ∷ 0x00 ∷ 0x00 ∷ 0x00 ∷ 0x00 ∷ 0x04 ∷ 0x00 ∷ 0x00 ∷ 0x00 ∷ 0x00 ∷ 0x00 ∷ 0x00 ∷ 0x00 ∷ 0x00 ∷ 0x00 ∷ 0x00 ∷ 0x00 ∷ 0x00 ∷ 0x00 ∷ 0x00 ∷ 0x40 ∷ 0x06 ∷ 0x00 ∷ 0x00 ∷ 0x00 ∷ 0x00 ∷ 0x00 ∷ 0x06 ∷ 0x00 ∷ 0x18 ∷ []))
-unfolding apply replay_from run more fate cause_in ending fits remains laid_over reading_of row_number entry_at table
-    accessible_pages text_pages unfetched spans_in unspecified_in inaccessible_in kind_at kind_named combined general_effect
-    branch_effect storage_effect transaction_effect absolute_range has_place count_below text_breach operand_breach
-    with_octowords add_of divide_word_of block fields register_fields restored psw_of with_fields loaded
+    (both (0x00 ∷ 0x00 ∷ 0x30 ∷ 0x01 ∷ 0x80 ∷ 0x00 ∷ 0x00 ∷ 0x00 ∷ 0x00 ∷ 0x00 ∷ 0x00 ∷ 0x00 ∷ 0x00
+    ∷ 0x00 ∷ 0x40 ∷ 0x00 ∷ [])
+    (0x01 ∷ 0x40 ∷ 0x00 ∷ 0x00 ∷ 0x00 ∷ 0x00 ∷ 0x00 ∷ 0x01 ∷ 0x00 ∷ 0x00 ∷ 0x00 ∷ 0x00 ∷ 0x00 ∷ 0x00
+    ∷ 0x00 ∷ 0x04 ∷ 0x00 ∷ 0x00 ∷ 0x00 ∷ 0x00 ∷ 0x00 ∷ 0x00 ∷ 0x00 ∷ 0x00 ∷ 0x00 ∷ 0x00 ∷ 0x00 ∷ 0x00
+    ∷ 0x00 ∷ 0x00 ∷ 0x40 ∷ 0x06 ∷ 0x00 ∷ 0x00 ∷ 0x00 ∷ 0x00 ∷ 0x00 ∷ 0x06 ∷ 0x00 ∷ 0x18 ∷ []))
+unfolding apply replay_from run more fate cause_in ending fits remains laid_over reading_of row_number
+    entry_at table accessible_pages text_pages unfetched spans_in unspecified_in inaccessible_in kind_at
+    kind_named combined general_effect branch_effect storage_effect transaction_effect absolute_range
+    has_place count_below text_breach operand_breach with_octowords add_of divide_word_of block fields
+    register_fields restored psw_of with_fields loaded
 interruption_after_an_abort = refl
 
 -- ---- entries that do not fit
@@ -470,195 +515,222 @@ stepped rest = Step 0 ∷ rest
 
 -- a begin that goes is no step
 begin_as_a_step : fitting (on plain storing) (stepped (Step 0 ∷ [])) ≡ false
-unfolding apply replay_from run more fate cause_in ending fits remains laid_over reading_of row_number entry_at table
-    accessible_pages text_pages unfetched spans_in unspecified_in inaccessible_in kind_at kind_named combined general_effect
-    branch_effect storage_effect transaction_effect absolute_range has_place count_below text_breach operand_breach
-    with_octowords add_of divide_word_of block fields register_fields restored psw_of with_fields loaded
+unfolding apply replay_from run more fate cause_in ending fits remains laid_over reading_of row_number
+    entry_at table accessible_pages text_pages unfetched spans_in unspecified_in inaccessible_in kind_at
+    kind_named combined general_effect branch_effect storage_effect transaction_effect absolute_range
+    has_place count_below text_breach operand_breach with_octowords add_of divide_word_of block fields
+    register_fields restored psw_of with_fields loaded
 begin_as_a_step = refl
 
 -- not yet committed
 too_early : fitting (on plain storing) (stepped (Commit 0 2 ∷ [])) ≡ false
-unfolding apply replay_from run more fate cause_in ending fits remains laid_over reading_of row_number entry_at table
-    accessible_pages text_pages unfetched spans_in unspecified_in inaccessible_in kind_at kind_named combined general_effect
-    branch_effect storage_effect transaction_effect absolute_range has_place count_below text_breach operand_breach
-    with_octowords add_of divide_word_of block fields register_fields restored psw_of with_fields loaded
+unfolding apply replay_from run more fate cause_in ending fits remains laid_over reading_of row_number
+    entry_at table accessible_pages text_pages unfetched spans_in unspecified_in inaccessible_in kind_at
+    kind_named combined general_effect branch_effect storage_effect transaction_effect absolute_range
+    has_place count_below text_breach operand_breach with_octowords add_of divide_word_of block fields
+    register_fields restored psw_of with_fields loaded
 too_early = refl
 
 -- an instruction too many
 too_late : fitting (on plain storing) (stepped (Commit 0 4 ∷ [])) ≡ false
-unfolding apply replay_from run more fate cause_in ending fits remains laid_over reading_of row_number entry_at table
-    accessible_pages text_pages unfetched spans_in unspecified_in inaccessible_in kind_at kind_named combined general_effect
-    branch_effect storage_effect transaction_effect absolute_range has_place count_below text_breach operand_breach
-    with_octowords add_of divide_word_of block fields register_fields restored psw_of with_fields loaded
+unfolding apply replay_from run more fate cause_in ending fits remains laid_over reading_of row_number
+    entry_at table accessible_pages text_pages unfetched spans_in unspecified_in inaccessible_in kind_at
+    kind_named combined general_effect branch_effect storage_effect transaction_effect absolute_range
+    has_place count_below text_breach operand_breach with_octowords add_of divide_word_of block fields
+    register_fields restored psw_of with_fields loaded
 too_late = refl
 
 -- the first is no begin
 no_begin : fitting (on plain storing) (Commit 0 1 ∷ []) ≡ false
-unfolding apply replay_from run more fate cause_in ending fits remains laid_over reading_of row_number entry_at table
-    accessible_pages text_pages unfetched spans_in unspecified_in inaccessible_in kind_at kind_named combined general_effect
-    branch_effect storage_effect transaction_effect absolute_range has_place count_below text_breach operand_breach
-    with_octowords add_of divide_word_of block fields register_fields restored psw_of with_fields loaded
+unfolding apply replay_from run more fate cause_in ending fits remains laid_over reading_of row_number
+    entry_at table accessible_pages text_pages unfetched spans_in unspecified_in inaccessible_in kind_at
+    kind_named combined general_effect branch_effect storage_effect transaction_effect absolute_range
+    has_place count_below text_breach operand_breach with_octowords add_of divide_word_of block fields
+    register_fields restored psw_of with_fields loaded
 no_begin = refl
 
 -- no such CPU
 no_cpu_there : fitting (on plain storing) (Step 1 ∷ []) ≡ false
-unfolding apply replay_from run more fate cause_in ending fits remains laid_over reading_of row_number entry_at table
-    accessible_pages text_pages unfetched spans_in unspecified_in inaccessible_in kind_at kind_named combined general_effect
-    branch_effect storage_effect transaction_effect absolute_range has_place count_below text_breach operand_breach
-    with_octowords add_of divide_word_of block fields register_fields restored psw_of with_fields loaded
+unfolding apply replay_from run more fate cause_in ending fits remains laid_over reading_of row_number
+    entry_at table accessible_pages text_pages unfetched spans_in unspecified_in inaccessible_in kind_at
+    kind_named combined general_effect branch_effect storage_effect transaction_effect absolute_range
+    has_place count_below text_breach operand_breach with_octowords add_of divide_word_of block fields
+    register_fields restored psw_of with_fields loaded
 no_cpu_there = refl
 
 -- no block
 no_block : fitting (on plain storing) (Tdb 0 ∷ []) ≡ false
-unfolding apply replay_from run more fate cause_in ending fits remains laid_over reading_of row_number entry_at table
-    accessible_pages text_pages unfetched spans_in unspecified_in inaccessible_in kind_at kind_named combined general_effect
-    branch_effect storage_effect transaction_effect absolute_range has_place count_below text_breach operand_breach
-    with_octowords add_of divide_word_of block fields register_fields restored psw_of with_fields loaded
+unfolding apply replay_from run more fate cause_in ending fits remains laid_over reading_of row_number
+    entry_at table accessible_pages text_pages unfetched spans_in unspecified_in inaccessible_in kind_at
+    kind_named combined general_effect branch_effect storage_effect transaction_effect absolute_range
+    has_place count_below text_breach operand_breach with_octowords add_of divide_word_of block fields
+    register_fields restored psw_of with_fields loaded
 no_block = refl
 
 -- no interruption
 no_interruption : fitting (on plain storing) (Interrupt 0 ∷ []) ≡ false
-unfolding apply replay_from run more fate cause_in ending fits remains laid_over reading_of row_number entry_at table
-    accessible_pages text_pages unfetched spans_in unspecified_in inaccessible_in kind_at kind_named combined general_effect
-    branch_effect storage_effect transaction_effect absolute_range has_place count_below text_breach operand_breach
-    with_octowords add_of divide_word_of block fields register_fields restored psw_of with_fields loaded
+unfolding apply replay_from run more fate cause_in ending fits remains laid_over reading_of row_number
+    entry_at table accessible_pages text_pages unfetched spans_in unspecified_in inaccessible_in kind_at
+    kind_named combined general_effect branch_effect storage_effect transaction_effect absolute_range
+    has_place count_below text_breach operand_breach with_octowords add_of divide_word_of block fields
+    register_fields restored psw_of with_fields loaded
 no_interruption = refl
 
 -- no attempt
 no_attempt : fitting (on plain storing) (stepped (Abort 0 0 External ∷ [])) ≡ false
-unfolding apply replay_from run more fate cause_in ending fits remains laid_over reading_of row_number entry_at table
-    accessible_pages text_pages unfetched spans_in unspecified_in inaccessible_in kind_at kind_named combined general_effect
-    branch_effect storage_effect transaction_effect absolute_range has_place count_below text_breach operand_breach
-    with_octowords add_of divide_word_of block fields register_fields restored psw_of with_fields loaded
+unfolding apply replay_from run more fate cause_in ending fits remains laid_over reading_of row_number
+    entry_at table accessible_pages text_pages unfetched spans_in unspecified_in inaccessible_in kind_at
+    kind_named combined general_effect branch_effect storage_effect transaction_effect absolute_range
+    has_place count_below text_breach operand_breach with_octowords add_of divide_word_of block fields
+    register_fields restored psw_of with_fields loaded
 no_attempt = refl
 
 -- it is committed
 after_the_commit : fitting (on plain storing) (stepped (Abort 0 3 External ∷ [])) ≡ false
-unfolding apply replay_from run more fate cause_in ending fits remains laid_over reading_of row_number entry_at table
-    accessible_pages text_pages unfetched spans_in unspecified_in inaccessible_in kind_at kind_named combined general_effect
-    branch_effect storage_effect transaction_effect absolute_range has_place count_below text_breach operand_breach
-    with_octowords add_of divide_word_of block fields register_fields restored psw_of with_fields loaded
+unfolding apply replay_from run more fate cause_in ending fits remains laid_over reading_of row_number
+    entry_at table accessible_pages text_pages unfetched spans_in unspecified_in inaccessible_in kind_at
+    kind_named combined general_effect branch_effect storage_effect transaction_effect absolute_range
+    has_place count_below text_breach operand_breach with_octowords add_of divide_word_of block fields
+    register_fields restored psw_of with_fields loaded
 after_the_commit = refl
 
 -- the line is stored
 fetch_of_a_stored_line : fitting (on plain storing) (stepped (Abort 0 2 (FetchConflict 0x90) ∷ [])) ≡ false
-unfolding apply replay_from run more fate cause_in ending fits remains laid_over reading_of row_number entry_at table
-    accessible_pages text_pages unfetched spans_in unspecified_in inaccessible_in kind_at kind_named combined general_effect
-    branch_effect storage_effect transaction_effect absolute_range has_place count_below text_breach operand_breach
-    with_octowords add_of divide_word_of block fields register_fields restored psw_of with_fields loaded
+unfolding apply replay_from run more fate cause_in ending fits remains laid_over reading_of row_number
+    entry_at table accessible_pages text_pages unfetched spans_in unspecified_in inaccessible_in kind_at
+    kind_named combined general_effect branch_effect storage_effect transaction_effect absolute_range
+    has_place count_below text_breach operand_breach with_octowords add_of divide_word_of block fields
+    register_fields restored psw_of with_fields loaded
 fetch_of_a_stored_line = refl
 
 -- the line is not touched
 untouched_line : fitting (on plain storing) (stepped (Abort 0 2 (StoreConflict 0x91) ∷ [])) ≡ false
-unfolding apply replay_from run more fate cause_in ending fits remains laid_over reading_of row_number entry_at table
-    accessible_pages text_pages unfetched spans_in unspecified_in inaccessible_in kind_at kind_named combined general_effect
-    branch_effect storage_effect transaction_effect absolute_range has_place count_below text_breach operand_breach
-    with_octowords add_of divide_word_of block fields register_fields restored psw_of with_fields loaded
+unfolding apply replay_from run more fate cause_in ending fits remains laid_over reading_of row_number
+    entry_at table accessible_pages text_pages unfetched spans_in unspecified_in inaccessible_in kind_at
+    kind_named combined general_effect branch_effect storage_effect transaction_effect absolute_range
+    has_place count_below text_breach operand_breach with_octowords add_of divide_word_of block fields
+    register_fields restored psw_of with_fields loaded
 untouched_line = refl
 
 -- not yet stored
 not_yet_stored : fitting (on plain storing) (stepped (Abort 0 1 (StoreConflict 0x90) ∷ [])) ≡ false
-unfolding apply replay_from run more fate cause_in ending fits remains laid_over reading_of row_number entry_at table
-    accessible_pages text_pages unfetched spans_in unspecified_in inaccessible_in kind_at kind_named combined general_effect
-    branch_effect storage_effect transaction_effect absolute_range has_place count_below text_breach operand_breach
-    with_octowords add_of divide_word_of block fields register_fields restored psw_of with_fields loaded
+unfolding apply replay_from run more fate cause_in ending fits remains laid_over reading_of row_number
+    entry_at table accessible_pages text_pages unfetched spans_in unspecified_in inaccessible_in kind_at
+    kind_named combined general_effect branch_effect storage_effect transaction_effect absolute_range
+    has_place count_below text_breach operand_breach with_octowords add_of divide_word_of block fields
+    register_fields restored psw_of with_fields loaded
 not_yet_stored = refl
 
 -- not constrained
 starved_unconstrained : fitting (on plain storing) (stepped (Abort 0 1 Starved ∷ [])) ≡ false
-unfolding apply replay_from run more fate cause_in ending fits remains laid_over reading_of row_number entry_at table
-    accessible_pages text_pages unfetched spans_in unspecified_in inaccessible_in kind_at kind_named combined general_effect
-    branch_effect storage_effect transaction_effect absolute_range has_place count_below text_breach operand_breach
-    with_octowords add_of divide_word_of block fields register_fields restored psw_of with_fields loaded
+unfolding apply replay_from run more fate cause_in ending fits remains laid_over reading_of row_number
+    entry_at table accessible_pages text_pages unfetched spans_in unspecified_in inaccessible_in kind_at
+    kind_named combined general_effect branch_effect storage_effect transaction_effect absolute_range
+    has_place count_below text_breach operand_breach with_octowords add_of divide_word_of block fields
+    register_fields restored psw_of with_fields loaded
 starved_unconstrained = refl
 
 -- the next instruction goes
 not_refused : fitting (on plain storing) (stepped (Abort 0 1 Restricted ∷ [])) ≡ false
-unfolding apply replay_from run more fate cause_in ending fits remains laid_over reading_of row_number entry_at table
-    accessible_pages text_pages unfetched spans_in unspecified_in inaccessible_in kind_at kind_named combined general_effect
-    branch_effect storage_effect transaction_effect absolute_range has_place count_below text_breach operand_breach
-    with_octowords add_of divide_word_of block fields register_fields restored psw_of with_fields loaded
+unfolding apply replay_from run more fate cause_in ending fits remains laid_over reading_of row_number
+    entry_at table accessible_pages text_pages unfetched spans_in unspecified_in inaccessible_in kind_at
+    kind_named combined general_effect branch_effect storage_effect transaction_effect absolute_range
+    has_place count_below text_breach operand_breach with_octowords add_of divide_word_of block fields
+    register_fields restored psw_of with_fields loaded
 not_refused = refl
 
 -- another cause
 other_cause : fitting (on plain serving) (Abort 0 1 (Tabort 257) ∷ []) ≡ false
-unfolding apply replay_from run more fate cause_in ending fits remains laid_over reading_of row_number entry_at table
-    accessible_pages text_pages unfetched spans_in unspecified_in inaccessible_in kind_at kind_named combined general_effect
-    branch_effect storage_effect transaction_effect absolute_range has_place count_below text_breach operand_breach
-    with_octowords add_of divide_word_of block fields register_fields restored psw_of with_fields loaded
+unfolding apply replay_from run more fate cause_in ending fits remains laid_over reading_of row_number
+    entry_at table accessible_pages text_pages unfetched spans_in unspecified_in inaccessible_in kind_at
+    kind_named combined general_effect branch_effect storage_effect transaction_effect absolute_range
+    has_place count_below text_breach operand_breach with_octowords add_of divide_word_of block fields
+    register_fields restored psw_of with_fields loaded
 other_cause = refl
 
 -- a count one too low
 count_too_low : fitting (on three_and_four lasting) (Abort 0 3 (Tabort 256) ∷ []) ≡ false
-unfolding apply replay_from run more fate cause_in ending fits remains laid_over reading_of row_number entry_at table
-    accessible_pages text_pages unfetched spans_in unspecified_in inaccessible_in kind_at kind_named combined general_effect
-    branch_effect storage_effect transaction_effect absolute_range has_place count_below text_breach operand_breach
-    with_octowords add_of divide_word_of block fields register_fields restored psw_of with_fields loaded
+unfolding apply replay_from run more fate cause_in ending fits remains laid_over reading_of row_number
+    entry_at table accessible_pages text_pages unfetched spans_in unspecified_in inaccessible_in kind_at
+    kind_named combined general_effect branch_effect storage_effect transaction_effect absolute_range
+    has_place count_below text_breach operand_breach with_octowords add_of divide_word_of block fields
+    register_fields restored psw_of with_fields loaded
 count_too_low = refl
 
 -- it has ended by its overflow
 overflow_from_outside : fitting (on full overflowing) (Abort 0 2 External ∷ []) ≡ false
-unfolding apply replay_from run more fate cause_in ending fits remains laid_over reading_of row_number entry_at table
-    accessible_pages text_pages unfetched spans_in unspecified_in inaccessible_in kind_at kind_named combined general_effect
-    branch_effect storage_effect transaction_effect absolute_range has_place count_below text_breach operand_breach
-    with_octowords add_of divide_word_of block fields register_fields restored psw_of with_fields loaded
+unfolding apply replay_from run more fate cause_in ending fits remains laid_over reading_of row_number
+    entry_at table accessible_pages text_pages unfetched spans_in unspecified_in inaccessible_in kind_at
+    kind_named combined general_effect branch_effect storage_effect transaction_effect absolute_range
+    has_place count_below text_breach operand_breach with_octowords add_of divide_word_of block fields
+    register_fields restored psw_of with_fields loaded
 overflow_from_outside = refl
 
 -- the instruction counts
 overflow_not_counted : fitting (on full overflowing) (Abort 0 1 (Filtered (exception 8 4)) ∷ []) ≡ false
-unfolding apply replay_from run more fate cause_in ending fits remains laid_over reading_of row_number entry_at table
-    accessible_pages text_pages unfetched spans_in unspecified_in inaccessible_in kind_at kind_named combined general_effect
-    branch_effect storage_effect transaction_effect absolute_range has_place count_below text_breach operand_breach
-    with_octowords add_of divide_word_of block fields register_fields restored psw_of with_fields loaded
+unfolding apply replay_from run more fate cause_in ending fits remains laid_over reading_of row_number
+    entry_at table accessible_pages text_pages unfetched spans_in unspecified_in inaccessible_in kind_at
+    kind_named combined general_effect branch_effect storage_effect transaction_effect absolute_range
+    has_place count_below text_breach operand_breach with_octowords add_of divide_word_of block fields
+    register_fields restored psw_of with_fields loaded
 overflow_not_counted = refl
 
 -- it is filtered
-filtered_as_program : fitting (on plain filtering) (three_steps ++ Abort 0 4 (Program (exception 6 4)) ∷ []) ≡ false
-unfolding apply replay_from run more fate cause_in ending fits remains laid_over reading_of row_number entry_at table
-    accessible_pages text_pages unfetched spans_in unspecified_in inaccessible_in kind_at kind_named combined general_effect
-    branch_effect storage_effect transaction_effect absolute_range has_place count_below text_breach operand_breach
-    with_octowords add_of divide_word_of block fields register_fields restored psw_of with_fields loaded
+filtered_as_program : fitting (on plain filtering) (three_steps ++ Abort 0 4 (Program (exception 6 4))
+    ∷ []) ≡ false
+unfolding apply replay_from run more fate cause_in ending fits remains laid_over reading_of row_number
+    entry_at table accessible_pages text_pages unfetched spans_in unspecified_in inaccessible_in kind_at
+    kind_named combined general_effect branch_effect storage_effect transaction_effect absolute_range
+    has_place count_below text_breach operand_breach with_octowords add_of divide_word_of block fields
+    register_fields restored psw_of with_fields loaded
 filtered_as_program = refl
 
 -- a block is pending
-step_while_pending : fitting (on plain filtering) (three_steps ++ Abort 0 4 (Filtered (exception 6 4)) ∷ Step 0 ∷ []) ≡ false
-unfolding apply replay_from run more fate cause_in ending fits remains laid_over reading_of row_number entry_at table
-    accessible_pages text_pages unfetched spans_in unspecified_in inaccessible_in kind_at kind_named combined general_effect
-    branch_effect storage_effect transaction_effect absolute_range has_place count_below text_breach operand_breach
-    with_octowords add_of divide_word_of block fields register_fields restored psw_of with_fields loaded
+step_while_pending : fitting (on plain filtering) (three_steps ++ Abort 0 4 (Filtered (exception 6 4))
+    ∷ Step 0 ∷ []) ≡ false
+unfolding apply replay_from run more fate cause_in ending fits remains laid_over reading_of row_number
+    entry_at table accessible_pages text_pages unfetched spans_in unspecified_in inaccessible_in kind_at
+    kind_named combined general_effect branch_effect storage_effect transaction_effect absolute_range
+    has_place count_below text_breach operand_breach with_octowords add_of divide_word_of block fields
+    register_fields restored psw_of with_fields loaded
 step_while_pending = refl
 
 -- it is interrupted
 step_while_interrupted : fitting (with_new_psw (on prefixed dividing)) (Step 0 ∷ Step 0 ∷ []) ≡ false
-unfolding apply replay_from run more fate cause_in ending fits remains laid_over reading_of row_number entry_at table
-    accessible_pages text_pages unfetched spans_in unspecified_in inaccessible_in kind_at kind_named combined general_effect
-    branch_effect storage_effect transaction_effect absolute_range has_place count_below text_breach operand_breach
-    with_octowords add_of divide_word_of block fields register_fields restored psw_of with_fields loaded
+unfolding apply replay_from run more fate cause_in ending fits remains laid_over reading_of row_number
+    entry_at table accessible_pages text_pages unfetched spans_in unspecified_in inaccessible_in kind_at
+    kind_named combined general_effect branch_effect storage_effect transaction_effect absolute_range
+    has_place count_below text_breach operand_breach with_octowords add_of divide_word_of block fields
+    register_fields restored psw_of with_fields loaded
 step_while_interrupted = refl
 
 -- a block is pending
 interruption_while_pending : fitting (with_pending 0 (Some record { address = 0x9000; bytes = [] })
-    (with_waiting 0 (Some record { length = 2; block = None }) (on prefixed dividing))) (Interrupt 0 ∷ []) ≡ false
-unfolding apply replay_from run more fate cause_in ending fits remains laid_over reading_of row_number entry_at table
-    accessible_pages text_pages unfetched spans_in unspecified_in inaccessible_in kind_at kind_named combined general_effect
-    branch_effect storage_effect transaction_effect absolute_range has_place count_below text_breach operand_breach
-    with_octowords add_of divide_word_of block fields register_fields restored psw_of with_fields loaded
+    (with_waiting 0 (Some record { length = 2; block = None }) (on prefixed dividing))) (Interrupt 0
+    ∷ []) ≡ false
+unfolding apply replay_from run more fate cause_in ending fits remains laid_over reading_of row_number
+    entry_at table accessible_pages text_pages unfetched spans_in unspecified_in inaccessible_in kind_at
+    kind_named combined general_effect branch_effect storage_effect transaction_effect absolute_range
+    has_place count_below text_breach operand_breach with_octowords add_of divide_word_of block fields
+    register_fields restored psw_of with_fields loaded
 interruption_while_pending = refl
 
 -- ---- entries from outside that fit
 
 external_at_any_time : fitting (on plain storing) (stepped (Abort 0 1 External ∷ [])) ≡ true
-unfolding apply replay_from run more fate cause_in ending fits remains laid_over reading_of row_number entry_at table
-    accessible_pages text_pages unfetched spans_in unspecified_in inaccessible_in kind_at kind_named combined general_effect
-    branch_effect storage_effect transaction_effect absolute_range has_place count_below text_breach operand_breach
-    with_octowords add_of divide_word_of block fields register_fields restored psw_of with_fields loaded
+unfolding apply replay_from run more fate cause_in ending fits remains laid_over reading_of row_number
+    entry_at table accessible_pages text_pages unfetched spans_in unspecified_in inaccessible_in kind_at
+    kind_named combined general_effect branch_effect storage_effect transaction_effect absolute_range
+    has_place count_below text_breach operand_breach with_octowords add_of divide_word_of block fields
+    register_fields restored psw_of with_fields loaded
 external_at_any_time = refl
 
 store_conflict : fitting (on plain storing) (stepped (Abort 0 2 (StoreConflict 0x90) ∷ [])) ≡ true
-unfolding apply replay_from run more fate cause_in ending fits remains laid_over reading_of row_number entry_at table
-    accessible_pages text_pages unfetched spans_in unspecified_in inaccessible_in kind_at kind_named combined general_effect
-    branch_effect storage_effect transaction_effect absolute_range has_place count_below text_breach operand_breach
-    with_octowords add_of divide_word_of block fields register_fields restored psw_of with_fields loaded
+unfolding apply replay_from run more fate cause_in ending fits remains laid_over reading_of row_number
+    entry_at table accessible_pages text_pages unfetched spans_in unspecified_in inaccessible_in kind_at
+    kind_named combined general_effect branch_effect storage_effect transaction_effect absolute_range
+    has_place count_below text_breach operand_breach with_octowords add_of divide_word_of block fields
+    register_fields restored psw_of with_fields loaded
 store_conflict = refl
 
 -- TBEGINC 0,X'FF00'; LG 1,X'9000'; TEND
@@ -669,23 +741,26 @@ fetching =
     0xB2 ∷ 0xF8 ∷ 0x00 ∷ 0x00 ∷ []
 
 fetch_conflict : fitting (on plain fetching) (Abort 0 2 (FetchConflict 0x90) ∷ []) ≡ true
-unfolding apply replay_from run more fate cause_in ending fits remains laid_over reading_of row_number entry_at table
-    accessible_pages text_pages unfetched spans_in unspecified_in inaccessible_in kind_at kind_named combined general_effect
-    branch_effect storage_effect transaction_effect absolute_range has_place count_below text_breach operand_breach
-    with_octowords add_of divide_word_of block fields register_fields restored psw_of with_fields loaded
+unfolding apply replay_from run more fate cause_in ending fits remains laid_over reading_of row_number
+    entry_at table accessible_pages text_pages unfetched spans_in unspecified_in inaccessible_in kind_at
+    kind_named combined general_effect branch_effect storage_effect transaction_effect absolute_range
+    has_place count_below text_breach operand_breach with_octowords add_of divide_word_of block fields
+    register_fields restored psw_of with_fields loaded
 fetch_conflict = refl
 
 starved : fitting (on plain fetching) (Abort 0 1 Starved ∷ []) ≡ true
-unfolding apply replay_from run more fate cause_in ending fits remains laid_over reading_of row_number entry_at table
-    accessible_pages text_pages unfetched spans_in unspecified_in inaccessible_in kind_at kind_named combined general_effect
-    branch_effect storage_effect transaction_effect absolute_range has_place count_below text_breach operand_breach
-    with_octowords add_of divide_word_of block fields register_fields restored psw_of with_fields loaded
+unfolding apply replay_from run more fate cause_in ending fits remains laid_over reading_of row_number
+    entry_at table accessible_pages text_pages unfetched spans_in unspecified_in inaccessible_in kind_at
+    kind_named combined general_effect branch_effect storage_effect transaction_effect absolute_range
+    has_place count_below text_breach operand_breach with_octowords add_of divide_word_of block fields
+    register_fields restored psw_of with_fields loaded
 starved = refl
 
 -- TEND asks for no line
 starved_without_operands : fitting (on plain fetching) (Abort 0 2 Starved ∷ []) ≡ false
-unfolding apply replay_from run more fate cause_in ending fits remains laid_over reading_of row_number entry_at table
-    accessible_pages text_pages unfetched spans_in unspecified_in inaccessible_in kind_at kind_named combined general_effect
-    branch_effect storage_effect transaction_effect absolute_range has_place count_below text_breach operand_breach
-    with_octowords add_of divide_word_of block fields register_fields restored psw_of with_fields loaded
+unfolding apply replay_from run more fate cause_in ending fits remains laid_over reading_of row_number
+    entry_at table accessible_pages text_pages unfetched spans_in unspecified_in inaccessible_in kind_at
+    kind_named combined general_effect branch_effect storage_effect transaction_effect absolute_range
+    has_place count_below text_breach operand_breach with_octowords add_of divide_word_of block fields
+    register_fields restored psw_of with_fields loaded
 starved_without_operands = refl

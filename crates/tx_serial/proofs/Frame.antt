@@ -1,5 +1,6 @@
 -- A private run depends on the bytes that it touches, and on the text pages, alone.
-use Rattle.std.proofs.Common.{◌≡◌, ◌≢◌, ℕ, zero, suc, Bool, true, false, List, [], ◌∷◌, ◌++◌, Option, Some, None, refl, sym, ap, subst, ◌∙◌, arith, length}
+use Rattle.std.proofs.Common.{◌≡◌, ◌≢◌, ℕ, zero, suc, Bool, true, false, List, [], ◌∷◌, ◌++◌, Option, Some}
+use Rattle.std.proofs.Common.{None, refl, sym, ap, subst, ◌∙◌, arith, length}
 use Rattle.std.specs.Prelude.{◌||◌, ◌&&◌, ◌%◌, not, map, if◌then◌else◌, nat_eq, nat_lt}
 use Rattle.std.specs.List.{list_any}
 use Rattle.std.proofs.lemmas.Bool.{or_left, or_right}
@@ -19,12 +20,17 @@ use Rattle.tx_control.specs.declared.causes.Why.{Why}
 use Rattle.tx_constraint.specs.Constraints.{Step}
 use Rattle.tx_serial.specs.Flat.{Storage, FlatState, laid_over, bytes_seen, operand_bytes}
 use Rattle.tx_serial.specs.Attempt.{Run, Mark, Open, Committed, Overflowed, Missing, missing, at_rest}
-use Rattle.tx_serial.specs.Fate.{Fate, Goes, Ends, Stops, Excepts, fate, fate_after, fate_by, instruction_at, length_at, step_of}
+use Rattle.tx_serial.specs.Fate.{Fate, Goes, Ends, Stops, Excepts, fate, fate_after, fate_by}
+use Rattle.tx_serial.specs.Fate.{instruction_at, length_at, step_of}
 use Rattle.tx_serial.specs.Run.{run, more, more_of, after_fate, after_where, after, may_follow, outcome_of}
 use Rattle.tx_control.specs.Nesting.{is_constrained}
-use Rattle.tx_control.specs.declared.causes.Why.TheVariants.{External, Program, FetchConflict, StoreConflict, FetchOverflow, StoreOverflow, Restricted, Filtered, Depth, Starved, Tabort}
-use Rattle.tx_serial.specs.Ending.{ending, ending_of, fate_cause, outcome_cause, comes_from_outside, has_operands, is_open, is_cause, fits}
-use Rattle.tx_serial.specs.Alike.{Track, track_of, addresses_in, addresses_of, touched_addresses, addresses_asked, next_addresses, AgreeAt, AgreeInText, AreAlike}
+use Rattle.tx_control.specs.declared.causes.Why.TheVariants.{External, Program, FetchConflict}
+use Rattle.tx_control.specs.declared.causes.Why.TheVariants.{StoreConflict, FetchOverflow, StoreOverflow}
+use Rattle.tx_control.specs.declared.causes.Why.TheVariants.{Restricted, Filtered, Depth, Starved, Tabort}
+use Rattle.tx_serial.specs.Ending.{ending, ending_of, fate_cause, outcome_cause, comes_from_outside}
+use Rattle.tx_serial.specs.Ending.{has_operands, is_open, is_cause, fits}
+use Rattle.tx_serial.specs.Alike.{Track, track_of, addresses_in, addresses_of, touched_addresses}
+use Rattle.tx_serial.specs.Alike.{addresses_asked, next_addresses, AgreeAt, AgreeInText, AreAlike}
 use Rattle.tx_serial.proofs.Copies.{laid_alike, run_copy, run_prefix}
 
 -- ---- bytes
@@ -36,27 +42,34 @@ with_copy c p = record p { copy = c }
 here : (a : ℕ) → nat_eq a a ≡ true
 here a = grind (arith)
 
-pub in_first : (a : ℕ) (xs ys : List ℕ) → list_any (nat_eq a) xs ≡ true → list_any (nat_eq a) (xs ++ ys) ≡ true
-in_first a xs ys h = list_any-append (nat_eq a) xs ys ∙ or_left (list_any (nat_eq a) xs) (list_any (nat_eq a) ys) h
+pub in_first : (a : ℕ) (xs ys : List ℕ) → list_any (nat_eq a) xs ≡ true → list_any (nat_eq a) (xs ++ ys)
+    ≡ true
+in_first a xs ys h = list_any-append (nat_eq a) xs ys
+    ∙ or_left (list_any (nat_eq a) xs) (list_any (nat_eq a) ys) h
 
-pub in_second : (a : ℕ) (xs ys : List ℕ) → list_any (nat_eq a) ys ≡ true → list_any (nat_eq a) (xs ++ ys) ≡ true
-in_second a xs ys h = list_any-append (nat_eq a) xs ys ∙ or_right (list_any (nat_eq a) xs) (list_any (nat_eq a) ys) h
+pub in_second : (a : ℕ) (xs ys : List ℕ) → list_any (nat_eq a) ys ≡ true → list_any (nat_eq a) (xs ++ ys)
+    ≡ true
+in_second a xs ys h = list_any-append (nat_eq a) xs ys
+    ∙ or_right (list_any (nat_eq a) xs) (list_any (nat_eq a) ys) h
 
 -- the bytes at a list of addresses
 seen_alike : (prefix : Option ℕ) (s t : Storage) (xs : List ℕ) → AgreeAt prefix xs s t
     → map (λ a. t (absolute_of prefix a)) xs ≡ map (λ a. s (absolute_of prefix a)) xs
 seen_alike prefix s t [] h = refl
 seen_alike prefix s t (x ∷ xs) h =
-    ap (λ b. b ∷ map (λ a. t (absolute_of prefix a)) xs) (h x (or_left (nat_eq x x) (list_any (nat_eq x) xs) (here x)))
+    ap (λ b. b ∷ map (λ a. t (absolute_of prefix a)) xs) (h x (or_left (nat_eq x x) (list_any (nat_eq x)
+    xs) (here x)))
     ∙ ap (λ bs. s (absolute_of prefix x) ∷ bs)
     (seen_alike prefix s t xs (λ a e. h a (or_right (nat_eq a x) (list_any (nat_eq a) xs) e)))
 
-operands_alike : (prefix : Option ℕ) (s t : Storage) (ranges : List Range) → AgreeAt prefix (addresses_in ranges) s t
+operands_alike : (prefix : Option ℕ) (s t : Storage) (ranges : List Range)
+    → AgreeAt prefix (addresses_in ranges) s t
     → operand_bytes prefix t ranges ≡ operand_bytes prefix s ranges
 operands_alike prefix s t [] h = refl
 operands_alike prefix s t (r ∷ rs) h =
     ap (λ bs. bs ++ operand_bytes prefix t rs)
-    (seen_alike prefix s t (from_up r.first r.length) (λ a e. h a (in_first a (from_up r.first r.length) (addresses_in rs) e)))
+    (seen_alike prefix s t (from_up r.first r.length) (λ a e. h a (in_first a (from_up r.first r.length)
+    (addresses_in rs) e)))
     ∙ ap (λ bs. bytes_seen prefix s r.first r.length ++ bs)
     (operands_alike prefix s t rs (λ a e. h a (in_second a (from_up r.first r.length) (addresses_in rs) e)))
 
@@ -72,8 +85,10 @@ in_text accessible text a h =
     by true false h = grind (arith, h)
     by false false h = grind (arith, h)
 
-some_in_text : (accessible text : List ℕ) (y x : ℕ) (o : Option ℕ) (b : Bool) (rest : List (Option ℕ)) (others : Bool)
-    → byte_unfetched accessible text y ≡ o → nat_eq x y ≡ b → first_some (o ∷ rest) ≡ None → (b || others) ≡ true
+some_in_text : (accessible text : List ℕ) (y x : ℕ) (o : Option ℕ) (b : Bool) (rest : List (Option ℕ))
+    (others : Bool)
+    → byte_unfetched accessible text y ≡ o → nat_eq x y ≡ b → first_some (o ∷ rest) ≡ None
+    → (b || others) ≡ true
     → (first_some rest ≡ None → others ≡ true → lies_in text x ≡ true)
     → lies_in text x ≡ true
 some_in_text accessible text y x (Some code) b rest others q w h e more = grind (arith, h)
@@ -123,7 +138,8 @@ blocked accessible text a byte code e =
 -- ---- the fate
 
 refused_alike : (text : List ℕ) (p : Run) (c : Storage) (b : Bool) (wrong code : ℕ) (i j : Option Instr)
-    → fate_by text (with_copy c p) (where_wrong b wrong (Some code)) i ≡ fate_by text p (where_wrong b wrong (Some code)) j
+    → fate_by text (with_copy c p) (where_wrong b wrong (Some code)) i
+    ≡ fate_by text p (where_wrong b wrong (Some code)) j
 refused_alike text p c true wrong code i j = refl
 refused_alike text p c false wrong code i j = refl
 
@@ -131,7 +147,8 @@ refused_alike text p c false wrong code i j = refl
 abbrev unreadable_fate : Run → ℕ → Fate
 unreadable_fate p n = fate_after p.nest (Excepts record { code = operation; fetch = false; length = n })
 
-read_alike : (text : List ℕ) (p : Run) (c : Storage) (i : Option Instr) → length_at (with_copy c p) ≡ length_at p
+read_alike : (text : List ℕ) (p : Run) (c : Storage) (i : Option Instr) → length_at (with_copy c p)
+    ≡ length_at p
     → fate_by text (with_copy c p) None i ≡ fate_by text p None i
 read_alike text p c None e = ap (λ n. unreadable_fate p n) e
 read_alike text p c (Some i) e = refl
@@ -146,7 +163,8 @@ fetched_alike text p c n (Some code) h e agree = refl
 fetched_alike text p c n None h e agree =
     ap (λ bs. fate_by text (with_copy c p) None (reading_of bs))
     (seen_alike p.cpu.prefix p.copy c (from_up p.cpu.address n)
-    (λ x m. agree x (fetched_text (accessible_pages p.cpu.prefix) (text_pages p.cpu.prefix text) p.cpu.address n h x m)))
+    (λ x m. agree x (fetched_text (accessible_pages p.cpu.prefix) (text_pages p.cpu.prefix text)
+    p.cpu.address n h x m)))
     ∙ read_alike text p c (reading_of (bytes_seen p.cpu.prefix p.copy p.cpu.address n)) e
 
 fate_alike_by : (text : List ℕ) (p : Run) (c : Storage) (o : Option ℕ)
@@ -160,20 +178,24 @@ fate_alike_by text p c (Some code) e agree =
     let a = p.cpu.address in
     ap (λ u. fate_by text (with_copy c p) u (instruction_at (with_copy c p)))
     (blocked accessible pages a (c (absolute_of p.cpu.prefix a)) code e)
-    ∙ refused_alike text p c (nat_eq (a % 2) 1) specification code (instruction_at (with_copy c p)) (instruction_at p)
+    ∙ refused_alike text p c (nat_eq (a % 2) 1) specification code (instruction_at (with_copy c p))
+    (instruction_at p)
     ∙ sym (ap (λ u. fate_by text p u (instruction_at p))
     (blocked accessible pages a (p.copy (absolute_of p.cpu.prefix a)) code e))
 fate_alike_by text p c None e agree =
     let accessible = accessible_pages p.cpu.prefix in
     let pages = text_pages p.cpu.prefix text in
     let a = p.cpu.address in
-    let same : length_at (with_copy c p) ≡ length_at p = ap length_by (agree a (in_text accessible pages a e)) in
-    ap (λ n. fate_by text (with_copy c p) (unfetched accessible pages a n) (reading_of (bytes_seen p.cpu.prefix c a n))) same
+    let same : length_at (with_copy c p) ≡ length_at p = ap length_by (agree a (in_text accessible pages a
+    e)) in
+    ap (λ n. fate_by text (with_copy c p) (unfetched accessible pages a n) (reading_of (bytes_seen
+    p.cpu.prefix c a n))) same
     ∙ fetched_alike text p c (length_at p) (unfetched accessible pages a (length_at p)) refl same agree
 
 pub fate_alike : (text : List ℕ) (p : Run) (c : Storage) → AgreeInText p.cpu.prefix text p.copy c
     → fate text (with_copy c p) ≡ fate text p
-fate_alike text p c agree = fate_alike_by text p c (byte_unfetched (accessible_pages p.cpu.prefix) (text_pages p.cpu.prefix text) p.cpu.address) refl agree
+fate_alike text p c agree = fate_alike_by text p c (byte_unfetched (accessible_pages p.cpu.prefix)
+    (text_pages p.cpu.prefix text) p.cpu.address) refl agree
 
 -- ---- what a run has touched
 
@@ -183,18 +205,21 @@ no_mark p exists = exists refl
 old_step : (a : ℕ) (steps : List Step) (s : Step) → list_any (nat_eq a) (addresses_of steps) ≡ true
     → list_any (nat_eq a) (addresses_of (steps ++ s ∷ [])) ≡ true
 old_step a steps s h =
-    subst (λ l. list_any (nat_eq a) l ≡ true) (sym (flat_map-append (λ t. addresses_in t.ranges) steps (s ∷ [])))
+    subst (λ l. list_any (nat_eq a) l ≡ true) (sym (flat_map-append (λ t. addresses_in t.ranges) steps (s
+    ∷ [])))
     (in_first a (addresses_of steps) (addresses_of (s ∷ [])) h)
 
 new_step : (a : ℕ) (steps : List Step) (s : Step) → list_any (nat_eq a) (addresses_in s.ranges) ≡ true
     → list_any (nat_eq a) (addresses_of (steps ++ s ∷ [])) ≡ true
 new_step a steps s h =
-    subst (λ l. list_any (nat_eq a) l ≡ true) (sym (flat_map-append (λ t. addresses_in t.ranges) steps (s ∷ [])))
+    subst (λ l. list_any (nat_eq a) l ≡ true) (sym (flat_map-append (λ t. addresses_in t.ranges) steps (s
+    ∷ [])))
     (in_second a (addresses_of steps) (addresses_of (s ∷ [])) (in_first a (addresses_in s.ranges) [] h))
 
 -- one instruction more touches no less
 abbrev Grows : Run → Run → Type 0
-Grows p q = (a : ℕ) → list_any (nat_eq a) (touched_addresses p) ≡ true → list_any (nat_eq a) (touched_addresses q) ≡ true
+Grows p q = (a : ℕ) → list_any (nat_eq a) (touched_addresses p) ≡ true
+    → list_any (nat_eq a) (touched_addresses q) ≡ true
 
 grows_after : (i : Instr) (ranges : List Range) (p : Run) (o : Outcome) → Grows p (after i ranges p o)
 grows_after i ranges p (Did c bytes) a h = old_step a p.steps (step_of i ranges p.cpu) h
@@ -258,7 +283,8 @@ after_fate_alike : (o : Fate) (p : Run) (c : Storage)
     → AgreeAt p.cpu.prefix (touched_addresses (after_fate o p)) p.copy c
     → (after_fate o p).mark ≢ Missing
     → track_of (after_fate o (with_copy c p)) ≡ track_of (after_fate o p)
-after_fate_alike (Goes i ranges) p c agree exists = where_alike (may_follow p.nest i) i ranges p c agree exists
+after_fate_alike (Goes i ranges) p c agree exists = where_alike (may_follow p.nest i) i ranges p c agree
+    exists
 after_fate_alike (Ends why) p c agree exists = absurd (no_mark p exists)
 after_fate_alike (Stops x) p c agree exists = absurd (no_mark p exists)
 
@@ -370,7 +396,8 @@ outside_alike StoreOverflow text p c in_text = refl
 outside_alike Restricted text p c in_text = refl
 outside_alike (Filtered e) text p c in_text = refl
 outside_alike Depth text p c in_text = refl
-outside_alike Starved text p c in_text = ap (λ o. is_constrained p.nest && has_operands o) (fate_alike text p c in_text)
+outside_alike Starved text p c in_text = ap (λ o. is_constrained p.nest && has_operands o) (fate_alike text
+    p c in_text)
 outside_alike (Tabort code) text p c in_text = refl
 
 -- the endings of two runs that show the same
@@ -403,6 +430,7 @@ unfolding fits
 fits_alike f g i k why same alike =
     let p = run f i k in
     let q = run g i k in
-    ap (λ e. is_cause e why || (is_open q.mark && comes_from_outside g.text q why)) (ending_alike f g i k same alike)
+    ap (λ e. is_cause e why || (is_open q.mark && comes_from_outside g.text q why)) (ending_alike f g i k
+    same alike)
     ∙ ap (λ b. is_cause (ending f.text p) why || (is_open q.mark && b)) (outside_both f g i k why same alike)
     ∙ ap (λ t. is_cause (ending f.text p) why || (is_open t.mark && comes_from_outside f.text p why)) same

@@ -5,7 +5,9 @@ use Rattle.std.proofs.lemmas.Bool.{true≢false, and_from}
 use Rattle.z_instr.specs.Facts.{agree}
 use Rattle.tx_control.specs.declared.exceptions.Exception.{Exception}
 use Rattle.tx_control.specs.declared.causes.Why.{Why}
-use Rattle.tx_control.specs.declared.causes.Why.TheVariants.{External, Program, FetchConflict, StoreConflict, FetchOverflow, StoreOverflow, Restricted, Filtered, Depth, Starved, Tabort}
+use Rattle.tx_control.specs.declared.causes.Why.TheVariants.{External, Program, FetchConflict}
+use Rattle.tx_control.specs.declared.causes.Why.TheVariants.{StoreConflict, FetchOverflow, StoreOverflow}
+use Rattle.tx_control.specs.declared.causes.Why.TheVariants.{Restricted, Filtered, Depth, Starved, Tabort}
 use Rattle.tx_serial.specs.Ending.{is_same_exception, is_same_cause}
 
 both_hold : (a b : Bool) → (a && b) ≡ true → (a ≡ true) × (b ≡ true)
@@ -39,7 +41,8 @@ same_exception d e h =
 one_exception : (e : Exception) → is_same_exception e e ≡ true
 one_exception e =
     and_from (nat_eq e.code e.code) (agree e.fetch e.fetch && nat_eq e.length e.length) (one_number e.code)
-    (and_from (agree e.fetch e.fetch) (nat_eq e.length e.length) (agrees_itself e.fetch) (one_number e.length))
+    (and_from (agree e.fetch e.fetch) (nat_eq e.length e.length) (agrees_itself e.fetch) (one_number
+    e.length))
 
 pub same_cause : (a b : Why) → is_same_cause a b ≡ true → a ≡ b
 same_cause External External h = refl

@@ -1,4 +1,5 @@
--- Runs of one CPU on two flat states: what they show, and where the states have to agree for them to be the same.
+-- Runs of one CPU on two flat states: what they show, and where the states have to agree for them to be the
+-- same.
 use Rattle.std.specs.Prelude.{◌≡◌, ℕ, nat_eq, true, List, [], Option}
 use Rattle.std.specs.List.{list_any, flat_map}
 use Rattle.z_regs.specs.Cpu.{Cpu}

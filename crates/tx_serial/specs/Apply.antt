@@ -1,5 +1,6 @@
 -- What an entry of the history makes of a flat state, where it fits.
-use Rattle.std.specs.Prelude.{ℕ, ◌/◌, ◌%◌, Bool, true, false, ◌&&◌, not, nat_lt, is_none, List, [], ◌∷◌, Option, Some, None}
+use Rattle.std.specs.Prelude.{ℕ, ◌/◌, ◌%◌, Bool, true, false, ◌&&◌, not, nat_lt, is_none, List, [], ◌∷◌}
+use Rattle.std.specs.Prelude.{Option, Some, None}
 use Rattle.z_regs.specs.Cpu.{Cpu}
 use Rattle.z_regs.specs.Psw.{psw_of, loaded}
 use Rattle.z_regs.specs.declared.image.RunState.{RunState}
@@ -15,7 +16,8 @@ use Rattle.z_effect.specs.Outcome as outcome
 use Rattle.z_effect.specs.Interrupted.{interrupted_by, cpu_outside}
 use Rattle.tx_journal.specs.declared.entries.Entry.{Entry}
 use Rattle.tx_journal.specs.declared.entries.Entry.TheVariants.{Step, Commit, Abort, Tdb, Interrupt}
-use Rattle.tx_serial.specs.Flat.{FlatState, Storage, Pending, with_cpu, with_pending, with_waiting, with_storage, bytes_seen, operand_stores, laid_over, with_bytes_at}
+use Rattle.tx_serial.specs.Flat.{FlatState, Storage, Pending, with_cpu, with_pending, with_waiting}
+use Rattle.tx_serial.specs.Flat.{with_storage, bytes_seen, operand_stores, laid_over, with_bytes_at}
 use Rattle.tx_serial.specs.Attempt.{Run, Mark, Open, Committed, Overflowed, Missing}
 use Rattle.tx_serial.specs.Fate.{Fate, Goes, Ends, Stops, fate}
 use Rattle.tx_serial.specs.Run.{run, outcome_of}
@@ -49,7 +51,8 @@ with_operands i ranges bytes f =
 abbrev pub with_outcome : FlatState → ℕ → Instr → List Range → Outcome → FlatState
 with_outcome f i instr ranges (Did c bytes) = with_cpu i c (with_operands i ranges bytes f)
 with_outcome f i instr ranges (outcome.Overflowed c bytes) =
-    with_interrupted i (cpu_outside (length_of instr) (f.cpus i) (outcome.Overflowed c bytes)) (length_of instr)
+    with_interrupted i (cpu_outside (length_of instr) (f.cpus i) (outcome.Overflowed c bytes)) (length_of
+    instr)
     (with_operands i ranges bytes f)
 with_outcome f i instr ranges Divides =
     with_interrupted i (cpu_outside (length_of instr) (f.cpus i) Divides) (length_of instr) f
@@ -109,7 +112,8 @@ with_block prefix (Some bytes) storage = with_bytes_at prefix interruption_block
 abbrev pub with_stored_interruption : Cpu → Waiting → Storage → Storage
 with_stored_interruption c w storage =
     with_block c.prefix w.block
-    (with_bytes_at c.prefix old_psw (psw_of c) (with_bytes_at c.prefix identification (identified c w) storage))
+    (with_bytes_at c.prefix old_psw (psw_of c) (with_bytes_at c.prefix identification (identified c w)
+    storage))
 
 abbrev pub with_new_psw : Cpu → Storage → Cpu
 with_new_psw c storage = loaded (bytes_seen c.prefix storage new_psw 16) c
@@ -128,6 +132,7 @@ unfoldable pub apply : FlatState → Entry → Option FlatState
 apply f (Step i) = only_where (may_act f i) (after_step f i (fate f.text (run f i 0)))
 apply f (Commit i n) = only_where (may_act f i) (after_commit f i (run f i n) (run f i n).mark)
 apply f (Abort i n why) =
-    only_where (may_act f i && (nat_lt 0 n && fits f.text (run f i n) why)) (Some (remains f i (run f i n) why))
+    only_where (may_act f i && (nat_lt 0 n && fits f.text (run f i n) why)) (Some (remains f i (run f i n)
+    why))
 apply f (Tdb i) = after_block f i (f.pending i)
 apply f (Interrupt i) = after_interruption f i (f.pending i) (f.waiting i)

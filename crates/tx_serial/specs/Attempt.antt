@@ -9,17 +9,18 @@ use Rattle.tx_footprint.specs.Touched.{Sets, untouched, touching}
 use Rattle.store_cache.specs.Overlay.{Store}
 use Rattle.tx_serial.specs.Flat.{Storage}
 
--- the transaction is open, it is committed, its last instruction ended in a fixed-point overflow exception, or there
--- is no run of so many instructions
+-- the transaction is open, it is committed, its last instruction ended in a fixed-point overflow exception,
+-- or there is no run of so many instructions
 pub data Mark : Type 0 where
   Open : Mark
   Committed : Mark
   Overflowed : Mark
   Missing : Mark
 
--- The CPU as it is now; its own copy of storage; the stores that made it, in order, and those of NTSTG among them; the open
--- begins, oldest first; the operands of all instructions by absolute addresses, in order; the instructions, the begin
--- first, each with its address and its operands by real addresses; and the mark.
+-- The CPU as it is now; its own copy of storage; the stores that made it, in order, and those of NTSTG
+-- among them; the open begins, oldest first; the operands of all instructions by absolute addresses, in
+-- order; the instructions, the begin first, each with its address and its operands by real addresses; and
+-- the mark.
 pub record Run : Type 0 where
   pub cpu : Cpu
   pub copy : Storage

@@ -1,5 +1,6 @@
 -- How an attempt ends that does not commit.
-use Rattle.std.specs.Prelude.{ℕ, Bool, true, false, ◌&&◌, ◌||◌, not, nat_eq, List, [], ◌∷◌, Option, Some, None}
+use Rattle.std.specs.Prelude.{ℕ, Bool, true, false, ◌&&◌, ◌||◌, not, nat_eq, List, [], ◌∷◌, Option, Some}
+use Rattle.std.specs.Prelude.{None}
 use Rattle.z_instr.specs.declared.instr.Instr.{Instr}
 use Rattle.z_instr.specs.Facts.{agree}
 use Rattle.z_effect.specs.One.{length_of}
@@ -11,7 +12,9 @@ use Rattle.tx_control.specs.declared.begins.Begin.{Begin}
 use Rattle.tx_control.specs.declared.codes.TheConstants.{FIXED_POINT_OVERFLOW, FIXED_POINT_DIVIDE}
 use Rattle.tx_control.specs.declared.exceptions.Exception.{Exception}
 use Rattle.tx_control.specs.declared.causes.Why.{Why}
-use Rattle.tx_control.specs.declared.causes.Why.TheVariants.{External, Program, FetchConflict, StoreConflict, FetchOverflow, StoreOverflow, Restricted, Filtered, Depth, Starved, Tabort}
+use Rattle.tx_control.specs.declared.causes.Why.TheVariants.{External, Program, FetchConflict}
+use Rattle.tx_control.specs.declared.causes.Why.TheVariants.{StoreConflict, FetchOverflow, StoreOverflow}
+use Rattle.tx_control.specs.declared.causes.Why.TheVariants.{Restricted, Filtered, Depth, Starved, Tabort}
 use Rattle.tx_constraint.specs.Constraints.{Step}
 use Rattle.tx_serial.specs.Attempt.{Run, Mark, Open, Committed, Overflowed, Missing, footprint, last_step}
 use Rattle.tx_serial.specs.Fate.{Fate, Goes, Ends, Stops, fate, cause_in}
@@ -61,8 +64,8 @@ has_operands (Goes i (r ∷ rs)) = true
 has_operands (Ends why) = false
 has_operands (Stops e) = false
 
--- an interruption at any time; a conflict on a line that the run has touched, a fetch conflict only where it is not
--- stored; and for a constrained transaction too many rejected requests for lines
+-- an interruption at any time; a conflict on a line that the run has touched, a fetch conflict only where
+-- it is not stored; and for a constrained transaction too many rejected requests for lines
 abbrev pub comes_from_outside : List ℕ → Run → Why → Bool
 comes_from_outside text p External = true
 comes_from_outside text p (StoreConflict line) = (footprint p).stored line

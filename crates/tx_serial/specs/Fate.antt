@@ -1,5 +1,6 @@
 -- Whether the next instruction of a run goes, by tests in a fixed order: the first that fails decides.
-use Rattle.std.specs.Prelude.{ℕ, Bool, true, false, ◌&&◌, ◌||◌, not, nat_le, if◌then◌else◌, length, List, [], ◌∷◌, map, Option, Some, None, Result, Ok, Err}
+use Rattle.std.specs.Prelude.{ℕ, Bool, true, false, ◌&&◌, ◌||◌, not, nat_le, if◌then◌else◌, length, List}
+use Rattle.std.specs.Prelude.{[], ◌∷◌, map, Option, Some, None, Result, Ok, Err}
 use Rattle.z_regs.specs.Cpu.{Cpu}
 use Rattle.z_regs.specs.Prefix.{absolute_of}
 use Rattle.z_regs.specs.Absolute.{absolute_ranges}
@@ -18,7 +19,8 @@ use Rattle.tx_control.specs.declared.begins.Begin.{Begin}
 use Rattle.tx_control.specs.declared.codes.TheConstants.{TRANSACTION_CONSTRAINT}
 use Rattle.tx_control.specs.declared.exceptions.Exception.{Exception}
 use Rattle.tx_control.specs.declared.causes.Why.{Why}
-use Rattle.tx_control.specs.declared.causes.Why.TheVariants.{Program, Filtered, Restricted, Depth, FetchOverflow, StoreOverflow}
+use Rattle.tx_control.specs.declared.causes.Why.TheVariants.{Program, Filtered, Restricted, Depth}
+use Rattle.tx_control.specs.declared.causes.Why.TheVariants.{FetchOverflow, StoreOverflow}
 use Rattle.tx_constraint.specs.Constraints.{Step, Attempt, with_step, text_breach, operand_breach}
 use Rattle.tx_footprint.specs.Touched.{Sets, touching, fit_of}
 use Rattle.tx_footprint.specs.declared.footprint.Overflow.{Overflow}
@@ -26,8 +28,8 @@ use Rattle.tx_footprint.specs.declared.footprint.Overflow.TheVariants.{Fetch, St
 use Rattle.tx_serial.specs.Flat.{bytes_seen}
 use Rattle.tx_serial.specs.Attempt.{Run, footprint, attempt_of}
 
--- the instruction goes, with its operands by real addresses; it ends the transaction; or it stops the program, outside
--- transactions
+-- the instruction goes, with its operands by real addresses; it ends the transaction; or it stops the
+-- program, outside transactions
 pub data Fate : Type 0 where
   Goes : Instr → List Range → Fate
   Ends : Why → Fate
@@ -83,8 +85,8 @@ step_of i ranges c = record { instruction = i; at = c.address; ranges = ranges }
 
 -- ---- the tests
 
--- 1: the fetch. An odd address, and then for each byte from the first storage that is not accessible, and storage
--- outside text pages
+-- 1: the fetch. An odd address, and then for each byte from the first storage that is not accessible, and
+-- storage outside text pages
 abbrev pub fetch_refusal : List ℕ → Run → Option ℕ
 fetch_refusal text p =
     let prefix = p.cpu.prefix in
@@ -104,7 +106,8 @@ broken_where true breach attempt i = broken (breach attempt)
     broken (Some number) = Some (Excepts (refused i TRANSACTION_CONSTRAINT))
 
 abbrev pub broken : (Attempt → Option ℕ) → Run → Instr → Option Refusal
-broken breach p i = broken_where (is_constrained p.nest) breach (with_step (attempt_of p.steps) (step_of i (operands i p.cpu) p.cpu)) i
+broken breach p i = broken_where (is_constrained p.nest) breach (with_step (attempt_of p.steps) (step_of i
+    (operands i p.cpu) p.cpu)) i
 
 -- 2: constraints 1 to 3
 abbrev pub text_refusal : Run → Instr → Option Refusal
@@ -131,7 +134,8 @@ depth_refusal p i = aborts_where (begins (entry_at i.op.number) && nat_le 16 (le
 abbrev pub operand_refusal : List ℕ → Run → Instr → Option Refusal
 operand_refusal text p i =
     let c = p.cpu in
-    excepted i (inaccessible i c.general c.condition (length p.nest) (accessible_pages c.prefix) (text_pages c.prefix text))
+    excepted i (inaccessible i c.general c.condition (length p.nest) (accessible_pages c.prefix)
+    (text_pages c.prefix text))
 
 -- 7: constraints 4 to 7
 abbrev pub place_refusal : Run → Instr → Option Refusal

@@ -16,7 +16,8 @@ at_put table place value other = if other == place then value else table other
 
 -- ---- the state
 
--- the byte at each absolute address. Addresses behind the end of storage have one too, which no instruction reaches.
+-- the byte at each absolute address. Addresses behind the end of storage have one too, which no instruction
+-- reaches.
 abbrev pub Storage : Type 0
 Storage = ℕ → ℕ
 

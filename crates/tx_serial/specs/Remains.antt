@@ -16,8 +16,8 @@ use Rattle.tx_serial.specs.Attempt.{Run, Mark, Open, Committed, Overflowed, Miss
 
 -- ---- the diagnostic block
 
--- the address of the instruction that is told of: the next one, which has not completed, or the last one where it ended in
--- an overflow
+-- the address of the instruction that is told of: the next one, which has not completed, or the last one
+-- where it ended in an overflow
 abbrev pub address_in : Mark → Option Step → ℕ → ℕ
 address_in Overflowed (Some s) next = s.at
 address_in Overflowed None next = next
@@ -57,7 +57,8 @@ interrupted_after _ c = c
 -- where the program goes on: behind TBEGIN, or at TBEGINC again
 abbrev pub resumed_at : Bool → List Step → ℕ
 resumed_at constrained [] = 0
-resumed_at constrained (begin ∷ steps) = if constrained then begin.at else begin.at + length_of begin.instruction
+resumed_at constrained (begin ∷ steps) = if constrained then begin.at else begin.at + length_of
+    begin.instruction
 
 -- the pairs that the outermost begin saves have their old values again
 abbrev pub cpu_after_abort : Cpu → Run → Why → Cpu

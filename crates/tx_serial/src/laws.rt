@@ -14,10 +14,11 @@ ghost use Rattle.tx_serial.specs.Remains.{remains};
 ghost use Rattle.tx_serial.specs.Run.{run};
 ghost use Rattle.store_cache.specs.Overlay.{Store};
 
-/// A private run depends on the bytes that it touches alone. Take two flat states that agree on these bytes, on that
-/// CPU, on the text pages and on the bytes there. Where there is a run on the one, the run on the other shows the same in
-/// all but its copy of storage. Where the states also agree on the bytes of the next instruction's operands, the attempt
-/// ends alike in both, by itself and by any cause. What remains of it changes both states alike.
+/// A private run depends on the bytes that it touches alone. Take two flat states that agree on these
+/// bytes, on that CPU, on the text pages and on the bytes there. Where there is a run on the one, the run
+/// on the other shows the same in all but its copy of storage. Where the states also agree on the bytes of
+/// the next instruction's operands, the attempt ends alike in both, by itself and by any cause. What
+/// remains of it changes both states alike.
 pub fn a_run_depends_on_what_it_touches()
     ensures run { (f g : FlatState) (i k : ℕ) → (run f i k).mark ≢ Missing
         → AreAlike i (touched_addresses (run f i k)) f g
@@ -33,8 +34,8 @@ pub fn a_run_depends_on_what_it_touches()
         → ChangeAlike i f g (remains f i (run f i k) why) (remains g i (run g i k) why) }
 {}
 
-/// The copy of a run is storage with the stores of the run laid over it in order, and the stores of NTSTG are among
-/// these.
+/// The copy of a run is storage with the stores of the run laid over it in order, and the stores of NTSTG
+/// are among these.
 pub fn a_copy_is_made_by_stores()
     ensures copy { (f : FlatState) (i k : ℕ) → (run f i k).copy ≡ laid_over f.storage (run f i k).stores }
     ensures lasting { (f : FlatState) (i k : ℕ) (test : Store → Bool)
@@ -51,8 +52,8 @@ pub fn an_entry_changes_its_cpu_alone()
     ensures { (f after : FlatState) (e : Entry) → apply f e ≡ Some after → ChangesOnly (cpu_of_entry e) f after }
 {}
 
-/// Entries that are applied in two parts leave what all of them together do; and behind an entry that does not fit, no
-/// other fits.
+/// Entries that are applied in two parts leave what all of them together do; and behind an entry that does
+/// not fit, no other fits.
 pub fn histories_go_on()
     ensures parts { (first rest : List Entry) (state : Option FlatState)
         → replay_from (first ++ rest) state ≡ replay_from rest (replay_from first state) }
