@@ -1,8 +1,8 @@
 -- Worked values of entries on small flat states: programs at 4000 in hexadecimal, in text page 4. The
 -- expected values are those of an independent model of the machine.
-use Rattle.std.proofs.Common.{◌≡◌, refl, ℕ, zero, suc, ◌+◌, ◌-◌, Bool, true, false, List, [], ◌∷◌, ◌++◌}
+use Rattle.std.proofs.Common.{◌≡◌, refl, ℕ, ◌+◌, ◌-◌, Bool, true, false, List, [], ◌∷◌, ◌++◌}
 use Rattle.std.proofs.Common.{length, get_or, Option, Some, None}
-use Rattle.std.specs.Prelude.{◌&&◌, nat_lt, nat_le, if◌then◌else◌, set, is_some, take, drop, map, slice_range}
+use Rattle.std.specs.Prelude.{◌&&◌, nat_lt, nat_le, if◌then◌else◌, is_some, take, drop, map, slice_range}
 use Rattle.std.specs.List.{range_with_len}
 use Rattle.bit_set.specs.Counts.{count_below}
 use Rattle.z_arith.specs.Sum.{add_of}
@@ -23,7 +23,6 @@ use Rattle.z_effect.specs.BranchEffect.{branch_effect}
 use Rattle.z_effect.specs.StorageEffect.{storage_effect}
 use Rattle.z_effect.specs.TransactionEffect.{transaction_effect}
 use Rattle.tx_control.specs.declared.exceptions.Exception.{Exception}
-use Rattle.tx_control.specs.declared.causes.Why.{Why}
 use Rattle.tx_control.specs.declared.causes.Why.TheVariants.{External, Program, FetchConflict}
 use Rattle.tx_control.specs.declared.causes.Why.TheVariants.{StoreConflict, Restricted, Filtered, Starved}
 use Rattle.tx_control.specs.declared.causes.Why.TheVariants.{Tabort}

@@ -4,3 +4,4 @@ pub mod Copies
 pub mod Frame
 pub mod Entries
 pub mod SameCauses
+pub mod Listed

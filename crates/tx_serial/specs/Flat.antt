@@ -21,9 +21,12 @@ at_put table place value other = if other == place then value else table other
 abbrev pub Storage : Type 0
 Storage = ℕ → ℕ
 
--- the bytes of storage in order
-unfoldable pub bytes_of : Storage → List ℕ
-bytes_of storage = map storage (range_with_len 0 storage_size)
+-- the bytes at all addresses below n, in order, and those of storage
+unfoldable pub bytes_below : ℕ → Storage → List ℕ
+bytes_below n storage = map storage (range_with_len 0 n)
+
+abbrev pub bytes_of : Storage → List ℕ
+bytes_of storage = bytes_below storage_size storage
 
 -- a diagnostic block that is still to be stored: its real address, and its 256 bytes
 pub record Pending : Type 0 where

@@ -1,5 +1,5 @@
 //! Laws of private runs and of histories. Each law is the contract of a function that does nothing.
-ghost use Rattle.std.specs.Prelude.{◌≡◌, ◌≢◌, ◌↔◌, ℕ, Bool, true, List, ◌++◌, Option, Some, None};
+ghost use Rattle.std.specs.Prelude.{◌≡◌, ◌≢◌, ◌↔◌, ℕ, Bool, true, List, ◌++◌, Option, Some, None, map};
 ghost use Rattle.std.specs.List.{list_any};
 ghost use Rattle.tx_control.specs.declared.causes.Why.{Why};
 ghost use Rattle.tx_journal.specs.declared.entries.Entry.{Entry};
@@ -8,11 +8,16 @@ ghost use Rattle.tx_serial.specs.Apply.{apply};
 ghost use Rattle.tx_serial.specs.Attempt.{Missing};
 ghost use Rattle.tx_serial.specs.Changes.{cpu_of_entry, ChangesOnly, ChangeAlike};
 ghost use Rattle.tx_serial.specs.Ending.{ending, fits, is_same_cause};
-ghost use Rattle.tx_serial.specs.Flat.{FlatState, laid_over};
+ghost use Rattle.tx_serial.specs.Flat.{FlatState, Storage, bytes_of, laid_over, operand_bytes, operand_stores};
 ghost use Rattle.tx_serial.specs.History.{replay_from};
 ghost use Rattle.tx_serial.specs.Remains.{remains};
 ghost use Rattle.tx_serial.specs.Run.{run};
 ghost use Rattle.store_cache.specs.Overlay.{Store};
+ghost use Rattle.z_effect.specs.After.{AreInside, touched, with_stored};
+ghost use Rattle.z_regs.specs.Prefix.{is_prefix};
+ghost use Rattle.z_regs.specs.Seen.{seen_by};
+ghost use Rattle.z_regs.specs.declared.ranges.Range.{Range};
+ghost use Rattle.z_touch.specs.Refusals.{span_of};
 
 /// A private run depends on the bytes that it touches alone. Take two flat states that agree on these
 /// bytes, on that CPU, on the text pages and on the bytes there. Where there is a run on the one, the run
@@ -40,6 +45,19 @@ pub fn a_copy_is_made_by_stores()
     ensures copy { (f : FlatState) (i k : ℕ) → (run f i k).copy ≡ laid_over f.storage (run f i k).stores }
     ensures lasting { (f : FlatState) (i k : ℕ) (test : Store → Bool)
         → list_any test (run f i k).lasting ≡ true → list_any test (run f i k).stores ≡ true }
+{}
+
+/// The bytes of operands are those of the list of storage that the CPU sees by its real addresses, as the instructions
+/// have it; and what is stored there is seen there.
+pub fn operands_are_seen()
+    ensures bytes { (prefix : Option ℕ) (storage : Storage) (ranges : List Range) → is_prefix prefix ≡ true
+        → AreInside (map span_of ranges) (seen_by prefix (bytes_of storage))
+        → operand_bytes prefix storage ranges
+        ≡ touched (map span_of ranges) (seen_by prefix (bytes_of storage)) }
+    ensures stores { (prefix : Option ℕ) (storage : Storage) (ranges : List Range) (bytes : List ℕ) → is_prefix prefix ≡ true
+        → AreInside (map span_of ranges) (seen_by prefix (bytes_of storage))
+        → seen_by prefix (bytes_of (laid_over storage (operand_stores prefix ranges bytes)))
+        ≡ with_stored (map span_of ranges) bytes (seen_by prefix (bytes_of storage)) }
 {}
 
 /// No instruction of a run changes the prefix of its CPU.
