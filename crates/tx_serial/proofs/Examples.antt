@@ -763,3 +763,32 @@ unfolding apply replay_from run more fate cause_in ending fits remains laid_over
     has_place count_below text_breach operand_breach with_octowords add_of divide_word_of block fields
     register_fields restored psw_of with_fields loaded
 starved_without_operands = refl
+
+-- ---- one transaction inside another
+
+-- TBEGIN 0,X'FF00'; TBEGIN 0,0; ETND 3; TEND; TEND
+abbrev nested : List ℕ
+nested =
+    0xE5 ∷ 0x60 ∷ 0x00 ∷ 0x00 ∷ 0xFF ∷ 0x00 ∷
+    0xE5 ∷ 0x60 ∷ 0x00 ∷ 0x00 ∷ 0x00 ∷ 0x00 ∷
+    0xB2 ∷ 0xEC ∷ 0x00 ∷ 0x30 ∷
+    0xB2 ∷ 0xF8 ∷ 0x00 ∷ 0x00 ∷
+    0xB2 ∷ 0xF8 ∷ 0x00 ∷ 0x00 ∷ []
+
+depth_of_two : cpu_seen 4 (after (on plain nested) (Commit 0 5 ∷ []))
+    ≡ (0 ∷ 0 ∷ 0 ∷ 2 ∷ [], 0x4018, 0, Running)
+unfolding apply replay_from run more fate cause_in ending fits remains laid_over reading_of row_number
+    entry_at table accessible_pages text_pages unfetched spans_in unspecified_in inaccessible_in kind_at
+    kind_named combined general_effect branch_effect storage_effect transaction_effect absolute_range
+    has_place count_below text_breach operand_breach with_octowords add_of divide_word_of block fields
+    register_fields restored psw_of with_fields loaded
+depth_of_two = refl
+
+-- the inner end does not commit
+inner_end : fitting (on plain nested) (Commit 0 4 ∷ []) ≡ false
+unfolding apply replay_from run more fate cause_in ending fits remains laid_over reading_of row_number
+    entry_at table accessible_pages text_pages unfetched spans_in unspecified_in inaccessible_in kind_at
+    kind_named combined general_effect branch_effect storage_effect transaction_effect absolute_range
+    has_place count_below text_breach operand_breach with_octowords add_of divide_word_of block fields
+    register_fields restored psw_of with_fields loaded
+inner_end = refl

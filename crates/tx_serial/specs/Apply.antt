@@ -51,8 +51,9 @@ with_operands i ranges bytes f =
 abbrev pub with_outcome : FlatState → ℕ → Instr → List Range → Outcome → FlatState
 with_outcome f i instr ranges (Did c bytes) = with_cpu i c (with_operands i ranges bytes f)
 with_outcome f i instr ranges (outcome.Overflowed c bytes) =
-    with_interrupted i (cpu_outside (length_of instr) (f.cpus i) (outcome.Overflowed c bytes)) (length_of
-    instr)
+    with_interrupted i
+    (cpu_outside (length_of instr) (f.cpus i) (outcome.Overflowed c bytes))
+    (length_of instr)
     (with_operands i ranges bytes f)
 with_outcome f i instr ranges Divides =
     with_interrupted i (cpu_outside (length_of instr) (f.cpus i) Divides) (length_of instr) f
@@ -112,8 +113,8 @@ with_block prefix (Some bytes) storage = with_bytes_at prefix interruption_block
 abbrev pub with_stored_interruption : Cpu → Waiting → Storage → Storage
 with_stored_interruption c w storage =
     with_block c.prefix w.block
-    (with_bytes_at c.prefix old_psw (psw_of c) (with_bytes_at c.prefix identification (identified c w)
-    storage))
+    (with_bytes_at c.prefix old_psw (psw_of c)
+    (with_bytes_at c.prefix identification (identified c w) storage))
 
 abbrev pub with_new_psw : Cpu → Storage → Cpu
 with_new_psw c storage = loaded (bytes_seen c.prefix storage new_psw 16) c
@@ -132,7 +133,7 @@ unfoldable pub apply : FlatState → Entry → Option FlatState
 apply f (Step i) = only_where (may_act f i) (after_step f i (fate f.text (run f i 0)))
 apply f (Commit i n) = only_where (may_act f i) (after_commit f i (run f i n) (run f i n).mark)
 apply f (Abort i n why) =
-    only_where (may_act f i && (nat_lt 0 n && fits f.text (run f i n) why)) (Some (remains f i (run f i n)
-    why))
+    only_where (may_act f i && (nat_lt 0 n && fits f.text (run f i n) why))
+    (Some (remains f i (run f i n) why))
 apply f (Tdb i) = after_block f i (f.pending i)
 apply f (Interrupt i) = after_interruption f i (f.pending i) (f.waiting i)

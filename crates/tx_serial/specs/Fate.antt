@@ -40,7 +40,7 @@ pub data Fate : Type 0 where
 -- a program exception, or a cause of its own by which a transaction aborts
 pub data Refusal : Type 0 where
   Excepts : Exception → Refusal
-  Aborts : Why → Refusal
+  Because : Why → Refusal
 
 -- a transaction aborts by an exception as one that is filtered, or as one that interrupts the program
 unfoldable pub cause_in : List Begin → Exception → Why
@@ -50,7 +50,7 @@ cause_in nest e = if filters (effective_pifc nest) (class e.code e.fetch) then F
 abbrev pub fate_after : List Begin → Refusal → Fate
 fate_after [] (Excepts e) = Stops e
 fate_after (outermost ∷ inner) (Excepts e) = Ends (cause_in (outermost ∷ inner) e)
-fate_after nest (Aborts why) = Ends why
+fate_after nest (Because why) = Ends why
 
 -- an exception of the instruction by its code, where there is one
 abbrev pub excepted : Instr → Option ℕ → Option Refusal
@@ -58,7 +58,7 @@ excepted i None = None
 excepted i (Some code) = Some (Excepts (refused i code))
 
 abbrev pub aborts_where : Bool → Why → Option Refusal
-aborts_where true why = Some (Aborts why)
+aborts_where true why = Some (Because why)
 aborts_where false why = None
 
 -- the first that a list of tests has found
@@ -106,8 +106,9 @@ broken_where true breach attempt i = broken (breach attempt)
     broken (Some number) = Some (Excepts (refused i TRANSACTION_CONSTRAINT))
 
 abbrev pub broken : (Attempt → Option ℕ) → Run → Instr → Option Refusal
-broken breach p i = broken_where (is_constrained p.nest) breach (with_step (attempt_of p.steps) (step_of i
-    (operands i p.cpu) p.cpu)) i
+broken breach p i =
+    let step = step_of i (operands i p.cpu) p.cpu in
+    broken_where (is_constrained p.nest) breach (with_step (attempt_of p.steps) step) i
 
 -- 2: constraints 1 to 3
 abbrev pub text_refusal : Run → Instr → Option Refusal
@@ -144,8 +145,8 @@ place_refusal p i = broken operand_breach p i
 -- 8: more lines, or more stored blocks, than a transaction may touch
 abbrev pub overflow_of : Result (Unit {0}) Overflow → Option Refusal
 overflow_of (Ok u) = None
-overflow_of (Err Fetch) = Some (Aborts FetchOverflow)
-overflow_of (Err Store) = Some (Aborts StoreOverflow)
+overflow_of (Err Fetch) = Some (Because FetchOverflow)
+overflow_of (Err Store) = Some (Because StoreOverflow)
 
 abbrev pub overflow_in : List Begin → Sets → Option Refusal
 overflow_in [] sets = None

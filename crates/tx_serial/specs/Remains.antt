@@ -57,8 +57,8 @@ interrupted_after _ c = c
 -- where the program goes on: behind TBEGIN, or at TBEGINC again
 abbrev pub resumed_at : Bool → List Step → ℕ
 resumed_at constrained [] = 0
-resumed_at constrained (begin ∷ steps) = if constrained then begin.at else begin.at + length_of
-    begin.instruction
+resumed_at constrained (begin ∷ steps) =
+    if constrained then begin.at else begin.at + length_of begin.instruction
 
 -- the pairs that the outermost begin saves have their old values again
 abbrev pub cpu_after_abort : Cpu → Run → Why → Cpu
