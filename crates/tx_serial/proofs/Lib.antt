@@ -5,3 +5,4 @@ pub mod Frame
 pub mod Entries
 pub mod SameCauses
 pub mod Listed
+pub mod Passing

@@ -1,5 +1,5 @@
 -- Whether the next instruction of a run goes, by tests in a fixed order: the first that fails decides.
-use Rattle.std.specs.Prelude.{ℕ, Bool, true, false, ◌&&◌, ◌||◌, not, nat_le, if◌then◌else◌, length, List}
+use Rattle.std.specs.Prelude.{◌≡◌, ℕ, Bool, true, false, ◌&&◌, ◌||◌, not, nat_le, if◌then◌else◌, length, List}
 use Rattle.std.specs.Prelude.{[], ◌∷◌, map, Option, Some, None, Result, Ok, Err}
 use Rattle.z_regs.specs.Cpu.{Cpu}
 use Rattle.z_regs.specs.Prefix.{absolute_of}
@@ -182,3 +182,10 @@ fate_by text p None (Some i) = fate_by_tests p i (first_refusal (tests text p i)
 -- of the next instruction of a run, by the text pages of storage
 unfoldable pub fate : List ℕ → Run → Fate
 fate text p = fate_by text p (fetch_refusal text p) (instruction_at p)
+
+-- an instruction that no test refuses
+pub record Passes (text : List ℕ) (p : Run) (i : Instr) (ranges : List Range) : Type 0 where
+  pub fetched : fetch_refusal text p ≡ None
+  pub reads : instruction_at p ≡ Some i
+  pub passed : first_refusal (tests text p i) ≡ None
+  pub touches : ranges ≡ operands i p.cpu

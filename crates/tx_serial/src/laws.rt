@@ -5,7 +5,9 @@ ghost use Rattle.tx_control.specs.declared.causes.Why.{Why};
 ghost use Rattle.tx_journal.specs.declared.entries.Entry.{Entry};
 ghost use Rattle.tx_serial.specs.Alike.{track_of, touched_addresses, next_addresses, AreAlike};
 ghost use Rattle.tx_serial.specs.Apply.{apply};
-ghost use Rattle.tx_serial.specs.Attempt.{Missing};
+ghost use Rattle.tx_serial.specs.Attempt.{Run, Missing};
+ghost use Rattle.tx_serial.specs.Fate.{Goes, Passes, fate};
+ghost use Rattle.z_instr.specs.declared.instr.Instr.{Instr};
 ghost use Rattle.tx_serial.specs.Changes.{cpu_of_entry, ChangesOnly, ChangeAlike};
 ghost use Rattle.tx_serial.specs.Ending.{ending, fits, is_same_cause};
 ghost use Rattle.tx_serial.specs.Flat.{FlatState, Storage, bytes_of, laid_over, operand_bytes, operand_stores};
@@ -18,6 +20,13 @@ ghost use Rattle.z_regs.specs.Prefix.{is_prefix};
 ghost use Rattle.z_regs.specs.Seen.{seen_by};
 ghost use Rattle.z_regs.specs.declared.ranges.Range.{Range};
 ghost use Rattle.z_touch.specs.Refusals.{span_of};
+
+/// The next instruction of a run goes, with its operands, exactly where its bytes can be fetched and read as it, and no
+/// other test refuses it.
+pub fn an_instruction_goes_where_no_test_refuses_it()
+    ensures { (text : List ℕ) (p : Run) (i : Instr) (ranges : List Range)
+        → (fate text p ≡ Goes i ranges) ↔ Passes text p i ranges }
+{}
 
 /// A private run depends on the bytes that it touches alone. Take two flat states that agree on these
 /// bytes, on that CPU, on the text pages and on the bytes there. Where there is a run on the one, the run

@@ -1,0 +1,73 @@
+-- An instruction goes exactly where no test refuses it.
+use Rattle.std.proofs.Common.{◌≡◌, ℕ, Bool, true, false, List, [], ◌∷◌, Option, Some, None, refl, sym, ap, subst, ◌∙◌}
+use Rattle.std.proofs.lemmas.Bool.{true≢false}
+use Rattle.z_regs.specs.declared.ranges.Range.{Range}
+use Rattle.z_instr.specs.declared.instr.Instr.{Instr}
+use Rattle.tx_control.specs.declared.begins.Begin.{Begin}
+use Rattle.tx_serial.specs.Attempt.{Run}
+use Rattle.tx_serial.specs.Fate.{Fate, Goes, Ends, Stops, Refusal, Excepts, Because, fate, fate_by, fate_by_tests, fate_after}
+use Rattle.z_touch.specs.Refusals.{at_fetch}
+use Rattle.tx_serial.specs.Fate.{unreadable, fetch_refusal, instruction_at, first_refusal, tests, operands, Passes}
+
+goes : Fate → Bool
+goes (Goes i ranges) = true
+goes (Ends why) = false
+goes (Stops e) = false
+
+instruction_in : Instr → Fate → Instr
+instruction_in d (Goes i ranges) = i
+instruction_in d (Ends why) = d
+instruction_in d (Stops e) = d
+
+ranges_in : Fate → List Range
+ranges_in (Goes i ranges) = ranges
+ranges_in (Ends why) = []
+ranges_in (Stops e) = []
+
+stays : (nest : List Begin) (refusal : Refusal) → goes (fate_after nest refusal) ≡ false
+unfolding goes
+stays [] (Excepts e) = refl
+stays (b ∷ bs) (Excepts e) = refl
+stays [] (Because why) = refl
+stays (b ∷ bs) (Because why) = refl
+
+no_fate : {A : Type 0} (nest : List Begin) (refusal : Refusal) (i : Instr) (ranges : List Range)
+    → fate_after nest refusal ≡ Goes i ranges → A
+unfolding goes
+no_fate nest refusal i ranges h = absurd (true≢false (sym (ap goes h) ∙ stays nest refusal))
+
+by_tests : (text : List ℕ) (p : Run) (i : Instr) (ranges : List Range) (j : Instr) (o : Option Refusal)
+    → first_refusal (tests text p j) ≡ o → fetch_refusal text p ≡ None → instruction_at p ≡ Some j
+    → fate_by_tests p j o ≡ Goes i ranges → Passes text p i ranges
+unfolding instruction_in ranges_in
+by_tests text p i ranges j None t f r h =
+    let same : j ≡ i = ap (instruction_in j) h in
+    record {
+      fetched = f;
+      reads = r ∙ ap (λ k. Some k) same;
+      passed = subst (λ k. first_refusal (tests text p k) ≡ None) same t;
+      touches = sym (ap ranges_in h) ∙ ap (λ k. operands k p.cpu) same;
+    }
+by_tests text p i ranges j (Some refusal) t f r h = no_fate p.nest refusal i ranges h
+
+by_reading : (text : List ℕ) (p : Run) (i : Instr) (ranges : List Range) (u : Option ℕ) (o : Option Instr)
+    → fetch_refusal text p ≡ u → instruction_at p ≡ o
+    → fate_by text p u o ≡ Goes i ranges → Passes text p i ranges
+by_reading text p i ranges (Some code) o f r h = no_fate p.nest (Excepts (at_fetch code)) i ranges h
+by_reading text p i ranges None None f r h = no_fate p.nest (Excepts (unreadable p)) i ranges h
+by_reading text p i ranges None (Some j) f r h =
+    by_tests text p i ranges j (first_refusal (tests text p j)) refl f r h
+
+pub passes : (text : List ℕ) (p : Run) (i : Instr) (ranges : List Range)
+    → fate text p ≡ Goes i ranges → Passes text p i ranges
+unfolding fate
+passes text p i ranges h = by_reading text p i ranges (fetch_refusal text p) (instruction_at p) refl refl h
+
+pub goes_where_passes : (text : List ℕ) (p : Run) (i : Instr) (ranges : List Range)
+    → Passes text p i ranges → fate text p ≡ Goes i ranges
+unfolding fate
+goes_where_passes text p i ranges h =
+    ap (λ u. fate_by text p u (instruction_at p)) h.fetched
+    ∙ ap (fate_by text p None) h.reads
+    ∙ ap (fate_by_tests p i) h.passed
+    ∙ sym (ap (Goes i) h.touches)
