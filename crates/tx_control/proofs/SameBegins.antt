@@ -8,7 +8,11 @@ use Rattle.tx_control.specs.declared.begins.Begin.{Begin}
 
 abbrev pub are_equal : Begin → Begin → Bool
 are_equal x y =
-    (x.mask == y.mask) && (beq x.a y.a && (beq x.f y.f && ((x.pifc == y.pifc) && (option_eq (λ (a b : ℕ). a == b) x.block y.block && beq x.constrained y.constrained))))
+    (x.mask == y.mask)
+    && (beq x.a y.a
+    && (beq x.f y.f
+    && ((x.pifc == y.pifc)
+    && (option_eq (λ (a b : ℕ). a == b) x.block y.block && beq x.constrained y.constrained))))
 
 blocks_Decide : (x y : Option ℕ) → Decides (option_eq (λ (a b : ℕ). a == b) x y) (x ≡ y)
 blocks_Decide None None = (λ _. refl, λ _. refl)
@@ -19,7 +23,9 @@ blocks_Decide (Some x) (Some y) = Decides-like _ (ap Some) (λ e. cc) (unsigned_
 -- the fields are the same, one by one
 abbrev SameFields : Begin → Begin → Type 0
 SameFields x y =
-    (x.mask ≡ y.mask) × ((x.a ≡ y.a) × ((x.f ≡ y.f) × ((x.pifc ≡ y.pifc) × ((x.block ≡ y.block) × (x.constrained ≡ y.constrained)))))
+    (x.mask ≡ y.mask)
+    × ((x.a ≡ y.a)
+    × ((x.f ≡ y.f) × ((x.pifc ≡ y.pifc) × ((x.block ≡ y.block) × (x.constrained ≡ y.constrained)))))
 
 fields_Decide : (x y : Begin) → Decides (are_equal x y) (SameFields x y)
 fields_Decide x y =

@@ -3,8 +3,8 @@ use Rattle.std.specs.Prelude.{ℕ, ◌/◌, ◌%◌, ◌^◌, Bool, ◌&&◌, no
 use Rattle.tx_control.specs.Halfword.{bit_of}
 use Rattle.tx_control.specs.declared.begins.Begin.{Begin}
 
--- the mask is bits 0 to 7; bit 12 is A, bit_of 13 is F, and bits 14 and 15 are the filtering control; in a constrained begin F and
--- that control are zero
+-- bits 0 to 7 are the mask, bit 12 is A, bit 13 is F, and bits 14 and 15 are the filtering control; in a
+-- constrained begin F and that control are zero
 abbrev pub asked_by : ℕ → Option ℕ → Bool → Begin
 asked_by i2 block constrained = record {
   mask = i2 / 2 ^ 8;

@@ -10,8 +10,8 @@ pub record Kind : Type 0 where
 abbrev pub kind : ℕ → ℕ → ℕ → Kind
 kind code class at_fetch = record { code = code; class = class; class_at_fetch = at_fetch }
 
--- operation, protection, addressing, specification, fixed-point overflow, fixed-point divide, special operation,
--- transaction constraint
+-- operation, protection, addressing, specification, fixed-point overflow, fixed-point divide, special
+-- operation, transaction constraint
 abbrev pub kinds : List Kind
 kinds =
     kind 0x0001 1 1 ∷ kind 0x0004 2 1 ∷ kind 0x0005 2 1 ∷ kind 0x0006 2 1
@@ -20,7 +20,8 @@ kinds =
 -- the class by the list; a code that no exception has counts as class 1, which is never filtered
 abbrev pub class_in : List Kind → ℕ → Bool → ℕ
 class_in [] code fetch = 1
-class_in (k ∷ ks) code fetch = cond (nat_eq code k.code) (cond fetch k.class_at_fetch k.class) (class_in ks code fetch)
+class_in (k ∷ ks) code fetch =
+    cond (nat_eq code k.code) (cond fetch k.class_at_fetch k.class) (class_in ks code fetch)
 
 abbrev pub class : ℕ → Bool → ℕ
 class code fetch = class_in kinds code fetch

@@ -19,4 +19,5 @@ pub record Keeps (begins : List Begin) (controls : List Controls) (depth : ℕ) 
   pub fits : depth ≤ 16
   pub begins_room : length begins ≡ 16
   pub controls_room : length controls ≡ 16
-  pub kept : (level : ℕ) → level < depth → get_or controls level unlimited ≡ in_force (take (level + 1) begins)
+  pub kept : (level : ℕ) → level < depth
+      → get_or controls level unlimited ≡ in_force (take (level + 1) begins)

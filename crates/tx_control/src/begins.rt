@@ -32,9 +32,9 @@ impl Begin {
 
     /// What a begin with this I field, this block and this kind asks for.
     ///
-    /// Bits 0 to 7 of the field are the mask, bit 12 is the control of access registers, bit 13 that of floating
-    /// point, and bits 14 and 15 are the filtering control. A constrained begin has the last two zero, whatever
-    /// those bits are.
+    /// Bits 0 to 7 of the field are the mask, bit 12 is the control of access registers, bit 13 that of
+    /// floating point, and bits 14 and 15 are the filtering control. A constrained begin has the last two
+    /// zero, whatever those bits are.
     pub fn of(i2: u16, block: Option<u64>, constrained: bool) -> Begin
         ensures { result ≡ asked_by i2 block constrained }
     {

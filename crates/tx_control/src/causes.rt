@@ -2,9 +2,14 @@
 ghost use Rattle.std.specs.Prelude.{◌≡◌};
 
 use crate::Exception;
+use crate::abort_codes::{
+    EXTERNAL_INTERRUPTION, FETCH_CONFLICT, FETCH_OVERFLOW, FILTERED_EXCEPTION, NESTING_DEPTH,
+    PROGRAM_INTERRUPTION, RESTRICTED_INSTRUCTION, STARVED, STORE_CONFLICT, STORE_OVERFLOW,
+};
 
-/// The cause of an abort. A line is named by its number, its first address divided by 256.
-#[derive(Clone, Copy)]
+/// The cause of an abort. A line is named by its number, its first address divided by 256. `==` says whether
+/// two causes are the same.
+#[derive(Clone, Copy, PartialEq, Eq)]
 pub enum Why {
     /// An external interruption.
     External,
@@ -33,21 +38,22 @@ pub enum Why {
 impl Why {
     ghost use Rattle.tx_control.specs.Causes.{code_number};
 
-    /// The abort code of the cause: 2 to 13 and 255 for what the machine finds, and for TABORT the code that it gives.
+    /// The abort code of the cause: one of `abort_codes` for what the machine finds, and for TABORT the code
+    /// that it gives.
     pub fn code(self) -> u64
         ensures { result ≡ code_number self }
     {
         match self {
-            Why::External => 2,
-            Why::Program(_) => 4,
-            Why::FetchOverflow => 7,
-            Why::StoreOverflow => 8,
-            Why::FetchConflict(_) => 9,
-            Why::StoreConflict(_) => 10,
-            Why::Restricted => 11,
-            Why::Filtered(_) => 12,
-            Why::Depth => 13,
-            Why::Starved => 255,
+            Why::External => EXTERNAL_INTERRUPTION,
+            Why::Program(_) => PROGRAM_INTERRUPTION,
+            Why::FetchOverflow => FETCH_OVERFLOW,
+            Why::StoreOverflow => STORE_OVERFLOW,
+            Why::FetchConflict(_) => FETCH_CONFLICT,
+            Why::StoreConflict(_) => STORE_CONFLICT,
+            Why::Restricted => RESTRICTED_INSTRUCTION,
+            Why::Filtered(_) => FILTERED_EXCEPTION,
+            Why::Depth => NESTING_DEPTH,
+            Why::Starved => STARVED,
             Why::Tabort(code) => code,
         }
     }

@@ -20,8 +20,8 @@ pub struct Exception {
 
 /// The class of an exception in a transaction, 1 to 3. Class 1 is never filtered.
 ///
-/// Protection, addressing and specification are in class 1 at the fetch of an instruction, and else in class 2.
-/// A code that no exception has counts as class 1.
+/// Protection, addressing and specification are in class 1 at the fetch of an instruction, and else in
+/// class 2. A code that no exception has counts as class 1.
 pub fn class_of(e: Exception) -> u8
     ensures { result ≡ class e.code e.fetch }
 {
@@ -33,8 +33,8 @@ pub fn class_of(e: Exception) -> u8
     }
 }
 
-/// Whether exceptions of a class are filtered under a program-interruption-filtering control: 1 filters class 3, 2 filters
-/// classes 2 and 3, and no other value filters anything.
+/// Whether exceptions of a class are filtered under a program-interruption-filtering control: 1 filters
+/// class 3, 2 filters classes 2 and 3, and no other value filters anything.
 pub fn is_filtered(class: u8, pifc: u8) -> bool
     ensures { result ≡ filters pifc class }
 {

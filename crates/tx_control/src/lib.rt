@@ -1,6 +1,7 @@
 //! Program exceptions and their classes, why a transaction aborts, and the nest of open transactions.
 #![tactic(auto)]
 
+pub mod abort_codes;
 mod begins;
 mod causes;
 pub mod codes;

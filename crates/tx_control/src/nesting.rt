@@ -17,8 +17,8 @@ struct Controls {
 
 /// The open begins, oldest first; at most sixteen. Contracts see their list.
 ///
-/// For each level the controls that were in force there are kept, so that leaving a level brings those of the one
-/// outside it back.
+/// For each level the controls that were in force there are kept, so that leaving a level brings those of the
+/// one outside it back.
 #[derive(Drop)]
 pub struct Nest {
     begins: [Begin; MOST_LEVELS],
@@ -67,7 +67,8 @@ impl Controls {
 
 impl Nest {
     ghost use Rattle.tx_control.specs.Kept.{in_force};
-    ghost use Rattle.tx_control.specs.Nesting.{effective_a, effective_f, effective_pifc, outermost_mask, outermost_block, is_constrained};
+    ghost use Rattle.tx_control.specs.Nesting.{effective_a, effective_f, effective_pifc, outermost_mask};
+    ghost use Rattle.tx_control.specs.Nesting.{outermost_block, is_constrained};
 
     /// No begin is open.
     pub fn none() -> Nest
@@ -138,7 +139,8 @@ impl Nest {
         self.in_force().a
     }
 
-    /// Whether floating-point operations are allowed: all open begins allow it. Outside transactions they are.
+    /// Whether floating-point operations are allowed: all open begins allow it. Outside transactions they
+    /// are.
     pub fn effective_f(&self) -> bool
         ensures { result ≡ effective_f self.now }
     {

@@ -1,5 +1,6 @@
 -- Numbers in decimal: what the library's parser says of them, and texts that begin with one.
-use Rattle.std.proofs.Common.{◌≡◌, ◌≢◌, ℕ, ◌<◌, ◌^◌, suc, Bool, true, not, List, [], ◌∷◌, ◌++◌, Ok, Err, arith, sym, ◌∙◌, refl, subst}
+use Rattle.std.proofs.Common.{◌≡◌, ◌≢◌, ℕ, ◌<◌, ◌^◌, suc, Bool, true, not, List, [], ◌∷◌, ◌++◌, Ok, Err}
+use Rattle.std.proofs.Common.{arith, sym, ◌∙◌, refl, subst}
 use Rattle.std.specs.Fmt.{decimal}
 use Rattle.std.specs.Str.{IsUtf8, bytes_eq}
 use Rattle.std.proofs.lemmas.Slice.Eq.{bytes_eq-Decides}
@@ -16,11 +17,15 @@ own = numerals_by_value _ tells_digits
 pub decimal_is_text : (text : List ℕ) (n : ℕ) → n < 2 ^ 64 → text ≡ decimal n → IsUtf8 text
 decimal_is_text text n small is = subst IsUtf8 (sym is) (IsUtf8-from_ascii _ (IsAscii-decimal n small))
 
-pub decimal_is_parsed : {E : Type 0} (text : List ℕ) (n : ℕ) (e : E) → n < 2 ^ 64 → text ≡ decimal n → ParsesUnsigned 64 10 text (Err e) → ⊥
-decimal_is_parsed text n e small is parsed = let ok = parse-decimal 64 n text (Err e) small small is parsed in cc
+pub decimal_is_parsed : {E : Type 0} (text : List ℕ) (n : ℕ) (e : E) → n < 2 ^ 64 → text ≡ decimal n
+    → ParsesUnsigned 64 10 text (Err e) → ⊥
+decimal_is_parsed text n e small is parsed = let ok = parse-decimal 64 n text (Err e) small small is parsed in
+    cc
 
-pub decimal_is_value : (text : List ℕ) (m n : ℕ) → n < 2 ^ 64 → text ≡ decimal n → ParsesUnsigned {E = ℕ} 64 10 text (Ok m) → m ≡ n
-decimal_is_value text m n small is parsed = let ok = parse-decimal {E = ℕ} 64 n text (Ok m) small small is parsed in cc
+pub decimal_is_value : (text : List ℕ) (m n : ℕ) → n < 2 ^ 64 → text ≡ decimal n
+    → ParsesUnsigned {E = ℕ} 64 10 text (Ok m) → m ≡ n
+decimal_is_value text m n small is parsed = let ok =
+    parse-decimal {E = ℕ} 64 n text (Ok m) small small is parsed in cc
 
 -- ---- texts up to a blank
 
@@ -36,7 +41,8 @@ pub record SameCut (xs xs' ys ys' : List ℕ) : Type 0 where
   pub behind : ys ≡ ys'
 
 -- where a byte first stands, there is one front and one rest
-pub same_cut : (c : ℕ) (xs xs' ys ys' : List ℕ) → Lacks c xs → Lacks c xs' → xs ++ c ∷ ys ≡ xs' ++ c ∷ ys' → SameCut xs xs' ys ys'
+pub same_cut : (c : ℕ) (xs xs' ys ys' : List ℕ) → Lacks c xs → Lacks c xs' → xs ++ c ∷ ys ≡ xs' ++ c ∷ ys'
+    → SameCut xs xs' ys ys'
 same_cut c [] [] ys ys' lacks lacks' is = record { front = refl; behind = cc }
 same_cut c [] (x ∷ xs') ys ys' lacks lacks' is = let e : x ≡ c = cc in absurd (lacks' 0 (omega arith) e)
 same_cut c (x ∷ xs) [] ys ys' lacks lacks' is = let e : x ≡ c = cc in absurd (lacks 0 (omega arith) e)
@@ -58,18 +64,24 @@ above_digits n small = lacks_other 88 n small (λ within. omega (arith, within))
 pub no_number_before : (text : List ℕ) (n : ℕ) (rest : List ℕ) → Lacks 32 text → text ≢ number_before n rest
 no_number_before text n rest lacks is = lacks_not_there 32 (decimal n) rest (subst (Lacks 32) is lacks)
 
-pub first_is_number : (text digits rest : List ℕ) (n : ℕ) (behind : List ℕ) → n < 2 ^ 64 → Lacks 32 digits → text ≡ digits ++ 32 ∷ rest
+pub first_is_number : (text digits rest : List ℕ) (n : ℕ) (behind : List ℕ) → n < 2 ^ 64 → Lacks 32 digits
+    → text ≡ digits ++ 32 ∷ rest
     → text ≡ number_before n behind → digits ≡ decimal n
-first_is_number text digits rest n behind small lacks is begins = (same_cut 32 digits (decimal n) rest behind lacks (lacks_number 32 n small (omega arith)) (sym is ∙ begins)).front
+first_is_number text digits rest n behind small lacks is begins =
+    (same_cut 32 digits (decimal n) rest behind lacks (lacks_number 32 n small (omega arith)) (sym is
+    ∙ begins)).front
 
 -- a text begins with one number at most
 pub record SameStart (m n : ℕ) (xs ys : List ℕ) : Type 0 where
   pub number : m ≡ n
   pub rest : xs ≡ ys
 
-pub same_start : (text : List ℕ) (m n : ℕ) (xs ys : List ℕ) → m < 2 ^ 64 → n < 2 ^ 64 → text ≡ number_before m xs → text ≡ number_before n ys → SameStart m n xs ys
+pub same_start : (text : List ℕ) (m n : ℕ) (xs ys : List ℕ) → m < 2 ^ 64 → n < 2 ^ 64
+    → text ≡ number_before m xs → text ≡ number_before n ys → SameStart m n xs ys
 same_start text m n xs ys m_in n_in is also =
-    let cut = same_cut 32 (decimal m) (decimal n) xs ys (lacks_number 32 m m_in (omega arith)) (lacks_number 32 n n_in (omega arith)) (sym is ∙ also) in
+    let cut =
+    same_cut 32 (decimal m) (decimal n) xs ys (lacks_number 32 m m_in (omega arith))
+    (lacks_number 32 n n_in (omega arith)) (sym is ∙ also) in
     record { number = decimal_injective m n m_in n_in cut.front; rest = cut.behind }
 
 -- equal texts are not found to differ

@@ -1,4 +1,4 @@
--- Numbers, hexadecimal, and lines.
+-- Numbers, hexadecimal, lines, images, and worked values of images.
 pub mod Decimals
 pub mod Hexadecimal
 pub mod Readings
@@ -6,3 +6,4 @@ pub mod OneLine
 pub mod ToldEntries
 pub mod Pictures
 pub mod OneSchedule
+pub mod Examples

@@ -1,5 +1,6 @@
 -- Sets of pages, CPUs and images that are found to be the same.
-use Rattle.std.proofs.Common.{◌≡◌, ℕ, ◌<◌, ◌≤◌, suc, List, [], ◌∷◌, length, get_or, map, Bool, true, false, arith, sym, ap, ◌∙◌, refl, IsTrue, ◌↔◌, ◌&&◌, ◌==◌}
+use Rattle.std.proofs.Common.{◌≡◌, ℕ, ◌<◌, ◌≤◌, suc, List, [], ◌∷◌, length, get_or, map, Bool, true, false}
+use Rattle.std.proofs.Common.{arith, sym, ap, ◌∙◌, refl, IsTrue, ◌↔◌, ◌&&◌, ◌==◌}
 use Rattle.std.proofs.Math.Bool.{beq}
 use Rattle.std.specs.Bool.{Decides}
 use Rattle.std.proofs.lemmas.Bool.Decides.{Decides-eqb}
@@ -24,9 +25,11 @@ pub record AgreeUpTo (some others : FinSet nat_cmp) (page : ℕ) : Type 0 where
 
 -- the first so many CPUs are the same
 abbrev pub AreAlike : List CpuImage → List CpuImage → ℕ → Type 0
-AreAlike some others n = (k : ℕ) (d : CpuImage) → k < n → cpu_of (get_or some k d) ≡ cpu_of (get_or others k d)
+AreAlike some others n = (k : ℕ) (d : CpuImage) → k < n
+    → cpu_of (get_or some k d) ≡ cpu_of (get_or others k d)
 
-pub same_cpus : (some others : List CpuImage) → length some ≡ length others → AreAlike some others (length some) → map cpu_of some ≡ map cpu_of others
+pub same_cpus : (some others : List CpuImage) → length some ≡ length others
+    → AreAlike some others (length some) → map cpu_of some ≡ map cpu_of others
 same_cpus [] [] lengths alike = refl
 same_cpus [] (y ∷ ys) lengths alike = absurd (omega arith)
 same_cpus (x ∷ xs) [] lengths alike = absurd (omega arith)
@@ -35,33 +38,46 @@ same_cpus (x ∷ xs) (y ∷ ys) lengths alike =
     let tail = same_cpus xs ys (omega arith) (λ k d within. alike (suc k) d (omega arith)) in
     λ i. head i ∷ tail i
 
-pub agreeing : (some others : FinSet nat_cmp) (page : ℕ) → AgreeUpTo some others page → 256 ≤ page → some ≡ others
+pub agreeing : (some others : FinSet nat_cmp) (page : ℕ) → AgreeUpTo some others page → 256 ≤ page
+    → some ≡ others
 agreeing some others page agree all = same_set nat_cmp_total nat_cmp-IsAntisymmetric some others (λ q. ⊎_elim
     (λ below. agree.same q (omega arith)) (λ past. agree.past (omega arith) q past) (cases_lt q 256))
 
-pub alike_at : (some others : List CpuImage) (k : ℕ) (d e : CpuImage) → k < length some → k < length others → map cpu_of some ≡ map cpu_of others
+pub alike_at : (some others : List CpuImage) (k : ℕ) (d e : CpuImage) → k < length some → k < length others
+    → map cpu_of some ≡ map cpu_of others
     → cpu_of (get_or some k d) ≡ cpu_of (get_or others k e)
 alike_at some others k d e within also is =
-    sym (get_or-map cpu_of some k d (cpu_of d) within) ∙ ap (λ (l : List Cpu). get_or l k (cpu_of d)) is ∙ get_or-map cpu_of others k e (cpu_of d) also
+    sym (get_or-map cpu_of some k d (cpu_of d) within) ∙ ap (λ (l : List Cpu). get_or l k (cpu_of d)) is
+    ∙ get_or-map cpu_of others k e (cpu_of d) also
 
 -- images are the same where their parts are
-pub same_content : (v w : Content) → v.storage ≡ w.storage → v.guard ≡ w.guard → v.starts ≡ w.starts → v.cpus ≡ w.cpus → v.shows ≡ w.shows → v.schedule ≡ w.schedule
-    → v.scheduled ≡ w.scheduled → v ≡ w
-same_content v w storage guard starts cpus shows schedule scheduled = λ i. record {
-  storage = storage i;
-  guard = guard i;
-  starts = starts i;
-  cpus = cpus i;
-  shows = shows i;
-  schedule = schedule i;
-  scheduled = scheduled i;
+pub record SameParts (v w : Content) : Type 0 where
+  pub storage : v.storage ≡ w.storage
+  pub guard : v.guard ≡ w.guard
+  pub starts : v.starts ≡ w.starts
+  pub cpus : v.cpus ≡ w.cpus
+  pub shows : v.shows ≡ w.shows
+  pub schedule : v.schedule ≡ w.schedule
+  pub scheduled : v.scheduled ≡ w.scheduled
+  pub parms : v.parms ≡ w.parms
+
+pub same_content : (v w : Content) → SameParts v w → v ≡ w
+same_content v w same = λ i. record {
+  storage = same.storage i;
+  guard = same.guard i;
+  starts = same.starts i;
+  cpus = same.cpus i;
+  shows = same.shows i;
+  schedule = same.schedule i;
+  scheduled = same.scheduled i;
+  parms = same.parms i;
 }
 
 -- what differs in no part but perhaps the schedule is the same where the schedules are
-pub decided : (v w : Content) (b : Bool) → v.storage ≡ w.storage → v.guard ≡ w.guard → v.starts ≡ w.starts → v.cpus ≡ w.cpus → v.shows ≡ w.shows
-    → v.scheduled ≡ w.scheduled → IsTrue b ↔ (v.schedule ≡ w.schedule) → IsTrue b ↔ (v ≡ w)
-decided v w b storage guard starts cpus shows scheduled schedule = (
-  λ h. same_content v w storage guard starts cpus shows (schedule.0 h) scheduled,
+pub decided : (v w : Content) (b : Bool) → (v.schedule ≡ w.schedule → SameParts v w)
+    → IsTrue b ↔ (v.schedule ≡ w.schedule) → IsTrue b ↔ (v ≡ w)
+decided v w b same schedule = (
+  λ h. same_content v w (same (schedule.0 h)),
   λ h. schedule.1 (ap (λ (p : Content). p.schedule) h),
 )
 
@@ -71,7 +87,8 @@ both_hold : (a b : Bool) → (a && b) ≡ true → (a ≡ true) × (b ≡ true)
 both_hold true b is = (refl, is)
 both_hold false b is = absurd (cc is)
 
-pub show_decides : (a b : Show) → Decides ((a.first == b.first) && ((a.length == b.length) && beq a.fields b.fields)) (a ≡ b)
+pub show_decides : (a b : Show)
+    → Decides ((a.first == b.first) && ((a.length == b.length) && beq a.fields b.fields)) (a ≡ b)
 show_decides a b = (
   λ h.
       let parts = both_hold (a.first == b.first) ((a.length == b.length) && beq a.fields b.fields) h in
@@ -91,4 +108,5 @@ pub event_decides : (a b : Event) → Decides (derived.ghosts.eq a b) (a ≡ b)
 event_decides (Turn m) (Turn n) = (λ h. ap Turn ((Decides-eqb m n).0 h), λ h. (Decides-eqb m n).1 (cc))
 event_decides (Turn m) (External n) = (λ h. cc, λ h. cc)
 event_decides (External m) (Turn n) = (λ h. cc, λ h. cc)
-event_decides (External m) (External n) = (λ h. ap External ((Decides-eqb m n).0 h), λ h. (Decides-eqb m n).1 (cc))
+event_decides (External m) (External n) =
+    (λ h. ap External ((Decides-eqb m n).0 h), λ h. (Decides-eqb m n).1 (cc))

@@ -1,10 +1,12 @@
 -- The lines of the history, and the parts of which each is made.
 use Rattle.std.specs.Prelude.{◌≡◌, ℕ, ◌<◌, ◌^◌, ◌*◌, ◌%◌, Bool, true, ◌||◌, nat_eq, nat_lt, List, ◌++◌, codes}
+use Rattle.std.specs.Prelude.{slice_index}
 use Rattle.std.specs.List.{flat_map}
 use Rattle.std.specs.Fmt.{decimal}
 use Rattle.std.specs.Int.{to_be_bytes}
 use Rattle.hex.specs.Hex.{encode_lower}
 use mir.Syntax.{w16, w64}
+use Rattle.tx_control.specs.declared.abort_codes.TheConstants as abort
 use Rattle.tx_control.specs.declared.causes.Why.{Why}
 use Rattle.tx_control.specs.declared.causes.Why.TheVariants.{Program, FetchConflict, StoreConflict, Filtered}
 use Rattle.tx_control.specs.Causes.{code_number}
@@ -15,7 +17,7 @@ use Rattle.tx_journal.specs.declared.lines.Detail.{Detail}
 use Rattle.tx_journal.specs.declared.lines.Detail.TheVariants.{Nothing, Exception, Line as AtLine}
 use Rattle.tx_journal.specs.declared.lines.Reason.{Reason}
 use Rattle.tx_journal.specs.declared.lines.Line.{Line}
-use Rattle.tx_journal.specs.declared.lines.Line.TheVariants.{Step, Commit, Abort, Tdb}
+use Rattle.tx_journal.specs.declared.lines.Line.TheVariants.{Step, Commit, Abort, Tdb, Interrupt}
 
 -- ---- the text of a line
 
@@ -32,8 +34,10 @@ reason_text r = decimal r.code ++ (codes " " ++ detail_text r.detail)
 abbrev pub words_text : Line → List ℕ
 words_text (Step cpu) = codes "S " ++ decimal cpu
 words_text (Commit cpu count) = codes "C " ++ (decimal cpu ++ (codes " " ++ decimal count))
-words_text (Abort cpu count reason) = codes "A " ++ (decimal cpu ++ (codes " " ++ (decimal count ++ (codes " " ++ reason_text reason))))
+words_text (Abort cpu count reason) =
+    codes "A " ++ (decimal cpu ++ (codes " " ++ (decimal count ++ (codes " " ++ reason_text reason))))
 words_text (Tdb cpu) = codes "T " ++ decimal cpu
+words_text (Interrupt cpu) = codes "I " ++ decimal cpu
 
 abbrev pub line_text : Line → List ℕ
 line_text l = words_text l ++ codes "\n"
@@ -56,6 +60,7 @@ line_of (entry.Step cpu) = Step cpu
 line_of (entry.Commit cpu count) = Commit cpu count
 line_of (entry.Abort cpu count why) = Abort cpu count (reason_of why)
 line_of (entry.Tdb cpu) = Tdb cpu
+line_of (entry.Interrupt cpu) = Interrupt cpu
 
 abbrev pub entry_text : Entry → List ℕ
 entry_text e = line_text (line_of e)
@@ -66,17 +71,21 @@ history_text history = flat_map entry_text history
 
 -- ---- which lines there are
 
--- external interruption, overflows, a restricted instruction, the nesting depth, starvation, and TABORT say no more than
--- their code; program interruption and filtered exception name the exception, and conflicts the line
+-- external interruption, overflows, a restricted instruction, the nesting depth, starvation, and TABORT say
+-- no more than their code; program interruption and filtered exception name the exception, and conflicts the
+-- line
 abbrev pub says_nothing : ℕ → Bool
 says_nothing code =
-    nat_eq code 2 || (nat_eq code 7 || (nat_eq code 8 || (nat_eq code 11 || (nat_eq code 13 || (nat_eq code 255 || nat_lt 255 code)))))
+    nat_eq code abort.EXTERNAL_INTERRUPTION
+    || (nat_eq code abort.FETCH_OVERFLOW || (nat_eq code abort.STORE_OVERFLOW
+    || (nat_eq code abort.RESTRICTED_INSTRUCTION || (nat_eq code abort.NESTING_DEPTH
+    || (nat_eq code abort.STARVED || nat_lt abort.STARVED code)))))
 
 abbrev pub says_exception : ℕ → Bool
-says_exception code = nat_eq code 4 || nat_eq code 12
+says_exception code = nat_eq code abort.PROGRAM_INTERRUPTION || nat_eq code abort.FILTERED_EXCEPTION
 
 abbrev pub says_line : ℕ → Bool
-says_line code = nat_eq code 9 || nat_eq code 10
+says_line code = nat_eq code abort.FETCH_CONFLICT || nat_eq code abort.STORE_CONFLICT
 
 -- a line of storage begins there
 pub record IsLineAddress (address : ℕ) : Type 0 where
@@ -99,6 +108,7 @@ IsLine (Step cpu) = cpu < 2 ^ 32
 IsLine (Commit cpu count) = (cpu < 2 ^ 32) × (count < 2 ^ 32)
 IsLine (Abort cpu count reason) = (cpu < 2 ^ 32) × (count < 2 ^ 32) × IsReason reason
 IsLine (Tdb cpu) = cpu < 2 ^ 32
+IsLine (Interrupt cpu) = cpu < 2 ^ 32
 
 -- ---- a line in numbers
 
@@ -107,12 +117,21 @@ detail_value Nothing = 0
 detail_value (Exception code) = code
 detail_value (AtLine address) = address
 
+abbrev pub kind_and_cpu : ℕ → ℕ → EntryText
+kind_and_cpu kind cpu = record { kind = kind; cpu = cpu; count = 0; code = 0; detail = 0 }
+
+abbrev letter : List ℕ → ℕ
+letter text = slice_index text 0
+
 -- the first letter, the CPU, the count, the code and the detail; what the line does not say is 0
 abbrev pub fields_of : Line → EntryText
-fields_of (Step cpu) = record { kind = 83; cpu = cpu; count = 0; code = 0; detail = 0 }
-fields_of (Commit cpu count) = record { kind = 67; cpu = cpu; count = count; code = 0; detail = 0 }
-fields_of (Abort cpu count reason) = record { kind = 65; cpu = cpu; count = count; code = reason.code; detail = detail_value reason.detail }
-fields_of (Tdb cpu) = record { kind = 84; cpu = cpu; count = 0; code = 0; detail = 0 }
+fields_of (Step cpu) = kind_and_cpu (letter (codes "S")) cpu
+fields_of (Commit cpu count) = record (kind_and_cpu (letter (codes "C")) cpu) { count = count }
+fields_of (Abort cpu count reason) =
+    record (kind_and_cpu (letter (codes "A")) cpu)
+    { count = count; code = reason.code; detail = detail_value reason.detail }
+fields_of (Tdb cpu) = kind_and_cpu (letter (codes "T")) cpu
+fields_of (Interrupt cpu) = kind_and_cpu (letter (codes "I")) cpu
 
 -- the text is that of a line, and these are its numbers
 pub record Spells (text : List ℕ) (t : EntryText) : Type 0 where

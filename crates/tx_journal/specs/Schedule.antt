@@ -1,5 +1,6 @@
 -- Events as lines of the listing.
-use Rattle.std.specs.Prelude.{ℕ, ◌<◌, ◌^◌, zero, suc, ◌+◌, ◌*◌, ◌/◌, List, [], ◌∷◌, ◌++◌, length, take, drop, codes}
+use Rattle.std.specs.Prelude.{ℕ, ◌<◌, ◌^◌, zero, suc, ◌+◌, ◌*◌, ◌/◌, List, [], ◌∷◌, ◌++◌, length, take, drop}
+use Rattle.std.specs.Prelude.{codes}
 use Rattle.std.specs.List.{flat_map}
 use Rattle.std.specs.Fmt.{decimal}
 use Rattle.tx_journal.specs.declared.events.Event.{Event}

@@ -4,6 +4,7 @@ ghost use Rattle.z_regs.specs.Cpu.{cpu_of};
 
 use crate::Event;
 use std::marker::Model;
+use tx_ladder::Parms;
 use z_regs::{CpuImage, Guard, PAGES};
 
 /// Bytes of storage that a report shows.
@@ -13,20 +14,25 @@ pub struct Show {
     pub first: u32,
     /// The number of bytes, at least 1.
     pub length: u32,
-    /// Whether they are shown as the fields of a transaction diagnostic block, which has 256 bytes; else as plain bytes.
+    /// Whether they are shown as the fields of a transaction diagnostic block, which has 256 bytes; else as
+    /// plain bytes.
     pub fields: bool,
 }
 
-/// What a machine starts from. Contracts see the fields as plain data: each vector as a list, the guard as the set of its pages, and
-/// the CPUs without the proofs of their ranges.
+/// What a machine starts from. Contracts see the fields as plain data: each vector as a list, the guard as
+/// the set of its pages, and the CPUs without the proofs of their ranges.
 ///
-/// An image is made by [`Image::new`], or by naming the fields; either asks for one fact, `IsImage` of what the fields hold. It has
-/// these parts:
+/// An image is made by [`Image::new`], or by naming the fields; either asks for one fact, `IsImage` of what
+/// the fields hold. It has these parts:
 ///
 /// - storage of 1,048,576 bytes, of which the first 8,192 are zero;
-/// - the addresses of instructions in rising order, each with bytes that have a reading, and exactly the pages of these bytes;
-/// - 1 to 16 CPUs that run, each with an entry address in storage, condition code and program mask 0 and zeros in its access registers;
-/// - at most 64 ranges to be shown, with at most 65,536 bytes together, each of them accessible and not empty;
+/// - the addresses of instructions in rising order, each with bytes that have a reading, and exactly the
+///   pages of these bytes;
+/// - 1 to 16 CPUs that run, each with an entry address in storage, condition code and program mask 0 and
+///   zeros in its access registers; no two with one prefix, and no prefix whose area of two pages holds a
+///   text page;
+/// - at most 64 ranges to be shown, with at most 65,536 bytes together, each of them accessible and not
+///   empty;
 /// - a schedule of at most 4,194,304 events of these CPUs.
 #[derive(Drop)]
 pub struct Image {
@@ -44,6 +50,8 @@ pub struct Image {
     pub schedule: Vec<Event>,
     /// Whether the listing gives a schedule.
     pub scheduled: bool,
+    /// The numbers of the retry ladder.
+    pub parms: Parms,
 }
 
 impl Model for Image {
@@ -55,9 +63,11 @@ impl Model for Image {
 
     ghost use Rattle.tx_journal.specs.Image.{IsImage};
 
-    ghost view = { λ i. content i.storage.items i.guard i.starts.items i.cpus.items i.shows.items i.schedule.items i.scheduled };
+    ghost view = { λ i. content i.storage.items i.guard i.starts.items i.cpus.items i.shows.items
+        i.schedule.items i.scheduled i.parms };
 
-    ghost invariant = { λ i. IsImage (content i.storage.items i.guard i.starts.items i.cpus.items i.shows.items i.schedule.items i.scheduled) };
+    ghost invariant = { λ i. IsImage (content i.storage.items i.guard i.starts.items i.cpus.items
+        i.shows.items i.schedule.items i.scheduled i.parms) };
 }
 
 impl Image {
@@ -73,9 +83,12 @@ impl Image {
         shows: Vec<Show>,
         schedule: Vec<Event>,
         scheduled: bool,
+        parms: Parms,
     ) -> Image
-        requires { IsImage (content storage.items guard starts.items cpus.items shows.items schedule.items scheduled) }
-        ensures { result ≡ content storage.items guard starts.items cpus.items shows.items schedule.items scheduled }
+        requires { IsImage (content storage.items guard starts.items cpus.items shows.items schedule.items
+            scheduled parms) }
+        ensures { result ≡ content storage.items guard starts.items cpus.items shows.items schedule.items
+            scheduled parms }
     {
         Image {
             storage,
@@ -85,6 +98,7 @@ impl Image {
             shows,
             schedule,
             scheduled,
+            parms,
         }
     }
 
@@ -101,6 +115,9 @@ impl Image {
         ensures { IsTrue result ↔ (self.now ≡ other.now) }
     {
         if self.scheduled != other.scheduled {
+            return false;
+        }
+        if self.parms != other.parms {
             return false;
         }
         if self.storage.as_slice() != other.storage.as_slice() {
@@ -153,7 +170,10 @@ fn is_same_cpu(one: &CpuImage, other: &CpuImage) -> bool
     if one.mask != other.mask {
         return false;
     }
-    one.state == other.state
+    if one.state != other.state {
+        return false;
+    }
+    one.prefix == other.prefix
 }
 
 /// Whether there are the same CPUs, in the same order.

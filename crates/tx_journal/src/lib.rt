@@ -1,5 +1,5 @@
-//! What a run is given and what it leaves: the image that a listing stands for, events, the entries of the serial
-//! history, and the texts of entries and events, both ways.
+//! What a run is given and what it leaves: the image that a listing stands for, events, the entries of the
+//! serial history, and the texts of entries and events, both ways.
 #![tactic(auto)]
 
 mod entries;

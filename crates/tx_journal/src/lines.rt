@@ -1,6 +1,6 @@
 //! The lines of the history, in their parts.
 ghost use Rattle.std.specs.Prelude.{◌≡◌};
-ghost use Rattle.tx_journal.specs.Lines.{line_of, detail_of, fields_of, detail_value};
+ghost use Rattle.tx_journal.specs.Lines.{line_of, detail_of, fields_of, kind_and_cpu, detail_value};
 
 use crate::{Entry, EntryText};
 use tx_control::Why;
@@ -36,11 +36,13 @@ pub(crate) enum Line {
     Abort(u32, u32, Reason),
     /// The CPU's diagnostic block is stored.
     Tdb(u32),
+    /// The CPU's waiting interruption is taken.
+    Interrupt(u32),
 }
 
 impl Detail {
-    /// What the text of an abort says of this cause: the code of an exception, without the bit that marks an aborted
-    /// transaction, or the first address of a line.
+    /// What the text of an abort says of this cause: the code of an exception, without the bit that marks an
+    /// aborted transaction, or the first address of a line.
     pub(crate) fn of(why: Why) -> Detail
         ensures { result ≡ detail_of why }
     {
@@ -82,6 +84,7 @@ impl Line {
                 },
             ),
             Entry::Tdb(cpu) => Line::Tdb(cpu),
+            Entry::Interrupt(cpu) => Line::Interrupt(cpu),
         }
     }
 
@@ -90,13 +93,7 @@ impl Line {
         ensures { result ≡ fields_of self }
     {
         match self {
-            Line::Step(cpu) => EntryText {
-                kind: b'S',
-                cpu,
-                count: 0,
-                code: 0,
-                detail: 0,
-            },
+            Line::Step(cpu) => fields_of_one(b'S', cpu),
             Line::Commit(cpu, count) => EntryText {
                 kind: b'C',
                 cpu,
@@ -111,13 +108,21 @@ impl Line {
                 code: reason.code,
                 detail: reason.detail.value(),
             },
-            Line::Tdb(cpu) => EntryText {
-                kind: b'T',
-                cpu,
-                count: 0,
-                code: 0,
-                detail: 0,
-            },
+            Line::Tdb(cpu) => fields_of_one(b'T', cpu),
+            Line::Interrupt(cpu) => fields_of_one(b'I', cpu),
         }
+    }
+}
+
+/// A line that says its kind and its CPU, in numbers.
+fn fields_of_one(kind: u8, cpu: u32) -> EntryText
+    ensures { result ≡ kind_and_cpu kind cpu }
+{
+    EntryText {
+        kind,
+        cpu,
+        count: 0,
+        code: 0,
+        detail: 0,
     }
 }

@@ -1,13 +1,14 @@
 //! Reading numbers that are written in the one way in which this machine writes them.
-ghost use Rattle.std.specs.Prelude.{◌≡◌, ◌≢◌, ℕ, ◌<◌, ◌≤◌, ◌^◌, ◌*◌, ◌↔◌, IsTrue, length, List, ◌∷◌, ◌++◌, IfSome, IfNone};
+ghost use Rattle.std.specs.Prelude.{◌≡◌, ◌≢◌, ℕ, ◌<◌, ◌≤◌, ◌^◌, ◌*◌, ◌↔◌, IsTrue, length, List, ◌∷◌, ◌++◌};
+ghost use Rattle.std.specs.Prelude.{IfSome, IfNone};
 ghost use Rattle.std.specs.Fmt.{decimal};
 ghost use Rattle.std.specs.Int.{to_be_bytes};
 ghost use mir.Syntax.{w16, w64};
 ghost use Rattle.hex.specs.Hex.{encode_lower};
 ghost use Rattle.tx_journal.specs.Numbers.{Lacks, number_before};
 
-/// The number that a text is in decimal, without a sign and without leading zeros; None exactly where it is no such number below
-/// 2^64.
+/// The number that a text is in decimal, without a sign and without leading zeros; None exactly where it is
+/// no such number below 2^64.
 pub fn read_number(text: &[u8]) -> Option<u64>
     ensures some { IfSome result (λ n. text.now ≡ decimal n) }
     ensures none { IfNone result ((n : ℕ) → n < 2 ^ 64 → text.now ≢ decimal n) }
@@ -49,8 +50,8 @@ fn cut(text: &[u8]) -> Option<(&[u8], &[u8])>
     Some((&text[..at], &text[at + 1..]))
 }
 
-/// The number below 2^64 that a text begins with, behind which stands a blank, and what follows the blank; None exactly where it
-/// begins with none.
+/// The number below 2^64 that a text begins with, behind which stands a blank, and what follows the blank;
+/// None exactly where it begins with none.
 pub(crate) fn first_number(text: &[u8]) -> Option<(u64, &[u8])>
     ensures some { IfSome result (λ parts. text.now ≡ number_before parts.0 parts.1.now) }
     ensures fits { IfSome result (λ parts. parts.0 < 2 ^ 64) }

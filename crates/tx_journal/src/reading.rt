@@ -7,11 +7,17 @@ ghost use Rattle.hex.specs.Hex.{encode_lower};
 ghost use Rattle.tx_journal.specs.declared.lines.Detail.{Detail};
 ghost use Rattle.tx_journal.specs.declared.lines.Reason.{Reason};
 ghost use Rattle.tx_journal.specs.declared.lines.Line.{Line};
-ghost use Rattle.tx_journal.specs.Lines.{says_nothing, says_exception, says_line, IsLineAddress, HasDetail, IsReason, IsLine, detail_text, reason_text, words_text, line_text, Spells};
+ghost use Rattle.tx_journal.specs.Lines.{says_nothing, says_exception, says_line, IsLineAddress, HasDetail};
+ghost use Rattle.tx_journal.specs.Lines.{IsReason, IsLine, detail_text, reason_text, words_text, line_text};
+ghost use Rattle.tx_journal.specs.Lines.{Spells};
 
 use crate::EntryText;
 use crate::lines::{Detail, Line, Reason};
 use crate::numbers::{first_number, first_small, read_doubleword, read_halfword, read_small};
+use tx_control::abort_codes::{
+    EXTERNAL_INTERRUPTION, FETCH_CONFLICT, FETCH_OVERFLOW, FILTERED_EXCEPTION, NESTING_DEPTH,
+    PROGRAM_INTERRUPTION, RESTRICTED_INSTRUCTION, STARVED, STORE_CONFLICT, STORE_OVERFLOW,
+};
 
 /// The bytes of storage.
 const STORAGE_SIZE: u64 = 1_048_576;
@@ -23,21 +29,29 @@ const LINE_SIZE: u64 = 256;
 fn says_nothing(code: u64) -> bool
     ensures { result ≡ says_nothing code }
 {
-    matches!(code, 2 | 7 | 8 | 11 | 13 | 255..)
+    matches!(
+        code,
+        EXTERNAL_INTERRUPTION
+            | FETCH_OVERFLOW
+            | STORE_OVERFLOW
+            | RESTRICTED_INSTRUCTION
+            | NESTING_DEPTH
+            | STARVED..
+    )
 }
 
 /// Whether aborts of this code name an exception.
 fn says_exception(code: u64) -> bool
     ensures { result ≡ says_exception code }
 {
-    matches!(code, 4 | 12)
+    matches!(code, PROGRAM_INTERRUPTION | FILTERED_EXCEPTION)
 }
 
 /// Whether aborts of this code name a line.
 fn says_line(code: u64) -> bool
     ensures { result ≡ says_line code }
 {
-    matches!(code, 9 | 10)
+    matches!(code, FETCH_CONFLICT | STORE_CONFLICT)
 }
 
 /// Whether a line of storage begins at this address.
@@ -150,6 +164,12 @@ fn read_words(text: &[u8]) -> Option<Line>
             };
             Some(Line::Tdb(cpu))
         }
+        [b'I', b' ', rest @ ..] => {
+            let Some(cpu) = read_small(rest) else {
+                return None;
+            };
+            Some(Line::Interrupt(cpu))
+        }
         _ => None,
     }
 }
@@ -165,9 +185,10 @@ fn read_line(text: &[u8]) -> Option<Line>
     read_words(words)
 }
 
-/// What the line of an entry says. The text is one line with its line feed. None exactly where it is the line of no entry: all
-/// numbers are without leading zeros and fit their fields, an abort has a code that aborts have, and its detail is the one that
-/// this code has: nothing, four hexadecimal digits in lower case, or the sixteen of a line's first address.
+/// What the line of an entry says. The text is one line with its line feed. None exactly where it is the line
+/// of no entry: all numbers are without leading zeros and fit their fields, an abort has a code that aborts
+/// have, and its detail is the one that this code has: nothing, four hexadecimal digits in lower case, or the
+/// sixteen of a line's first address.
 pub fn read_entry(text: &[u8]) -> Option<EntryText>
     ensures some { IfSome result (Spells text.now) }
     ensures none { IfNone result ((l : Line) → IsLine l → text.now ≢ line_text l) }

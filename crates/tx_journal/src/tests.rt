@@ -1,81 +1,171 @@
-ghost use Rattle.std.specs.Prelude.{◌≡◌, ℕ, IfOk, length, slice_index};
+//! Texts of entries and events both ways, and images that are compared, by values from outside.
+ghost use Rattle.std.specs.Prelude.{◌≡◌, ◌↔◌, ℕ, IfOk, IsTrue, length, slice_index};
+ghost use Rattle.z_regs.specs.Prefix.{is_prefix};
 
 use crate::{
     Entry, EntryText, Event, Image, Show, add_history, add_schedule, entry_text, read_entry,
     read_number, schedule_text,
 };
 use std::alloc::Global;
+use std::process::Abort;
 use std::test::Fail;
-use tx_control::{Exception, Why, codes};
+use tx_control::{Exception, Why};
+use tx_ladder::Parms;
 use z_regs::{CpuImage, Guard};
 
-/// An exception that a load or a store meets.
-fn exception(code: u16) -> Exception {
-    Exception {
+/// What a line with these parts says.
+fn told(kind: u8, cpu: u32, count: u32, code: u64, detail: u64) -> EntryText {
+    EntryText {
+        kind,
+        cpu,
+        count,
         code,
-        fetch: false,
-        length: 6,
+        detail,
     }
 }
 
-/// The line of an abort of CPU 0 after two instructions.
-fn abort_text(alloc: Global, why: Why) -> Result<Vec<u8>, Fail> {
-    let text = entry_text(alloc, &Entry::Abort(0, 2, why))?;
-    Ok(text)
-}
-
-#[test]
-fn lines_of_steps_and_commits(rt: HostRuntime) -> Result<(), Fail> {
-    let step = entry_text(rt.alloc(), &Entry::Step(0))?;
-    assert_eq!(rt; step.as_slice(), b"S 0\n".as_slice());
-    let commit = entry_text(rt.alloc(), &Entry::Commit(15, 1155))?;
-    assert_eq!(rt; commit.as_slice(), b"C 15 1155\n".as_slice());
-    let block = entry_text(rt.alloc(), &Entry::Tdb(10))?;
-    assert_eq!(rt; block.as_slice(), b"T 10\n".as_slice());
+/// An entry has this line, which is read as these numbers.
+fn both_ways(
+    rt: &impl Abort,
+    alloc: Global,
+    entry: Entry,
+    line: &[u8],
+    numbers: EntryText,
+) -> Result<(), Fail> {
+    let text = entry_text(alloc, &entry)?;
+    assert!(rt; text.as_slice() == line);
+    assert!(rt; read_entry(line) == Some(numbers));
     Ok(())
 }
 
 #[test]
-fn lines_of_conflicts(rt: HostRuntime) -> Result<(), Fail> {
-    let fetch = abort_text(rt.alloc(), Why::FetchConflict(0x90))?;
-    assert_eq!(rt; fetch.as_slice(), b"A 0 2 9 0000000000009000\n".as_slice());
-    let store = abort_text(rt.alloc(), Why::StoreConflict(0x91))?;
-    assert_eq!(rt; store.as_slice(), b"A 0 2 10 0000000000009100\n".as_slice());
+fn lines_of_entries(rt: HostRuntime) -> Result<(), Fail> {
+    let alloc = rt.alloc();
+    both_ways(&rt, alloc, Entry::Step(0), b"S 0\n", told(b'S', 0, 0, 0, 0))?;
+    both_ways(
+        &rt,
+        alloc,
+        Entry::Commit(15, 1155),
+        b"C 15 1155\n",
+        told(b'C', 15, 1155, 0, 0),
+    )?;
+    both_ways(
+        &rt,
+        alloc,
+        Entry::Tdb(10),
+        b"T 10\n",
+        told(b'T', 10, 0, 0, 0),
+    )?;
+    both_ways(
+        &rt,
+        alloc,
+        Entry::Interrupt(3),
+        b"I 3\n",
+        told(b'I', 3, 0, 0, 0),
+    )?;
+    Ok(())
+}
+
+/// The abort of CPU 1 after two instructions by this cause has this line, which is read as this code and
+/// detail.
+fn abort_both_ways(
+    rt: &impl Abort,
+    alloc: Global,
+    why: Why,
+    line: &[u8],
+    code: u64,
+    detail: u64,
+) -> Result<(), Fail> {
+    both_ways(
+        rt,
+        alloc,
+        Entry::Abort(1, 2, why),
+        line,
+        told(b'A', 1, 2, code, detail),
+    )
+}
+
+#[test]
+fn lines_of_aborts(rt: HostRuntime) -> Result<(), Fail> {
+    let alloc = rt.alloc();
+    let exception = Exception {
+        code: 0x0018,
+        fetch: false,
+        length: 6,
+    };
+    abort_both_ways(&rt, alloc, Why::External, b"A 1 2 2 -\n", 2, 0)?;
+    abort_both_ways(
+        &rt,
+        alloc,
+        Why::Program(exception),
+        b"A 1 2 4 0018\n",
+        4,
+        0x18,
+    )?;
+    abort_both_ways(&rt, alloc, Why::FetchOverflow, b"A 1 2 7 -\n", 7, 0)?;
+    abort_both_ways(&rt, alloc, Why::StoreOverflow, b"A 1 2 8 -\n", 8, 0)?;
+    abort_both_ways(
+        &rt,
+        alloc,
+        Why::FetchConflict(0x90),
+        b"A 1 2 9 0000000000009000\n",
+        9,
+        0x9000,
+    )?;
+    abort_both_ways(
+        &rt,
+        alloc,
+        Why::StoreConflict(0xfff),
+        b"A 1 2 10 00000000000fff00\n",
+        10,
+        0xfff00,
+    )?;
+    abort_both_ways(&rt, alloc, Why::Restricted, b"A 1 2 11 -\n", 11, 0)?;
+    abort_both_ways(
+        &rt,
+        alloc,
+        Why::Filtered(exception),
+        b"A 1 2 12 0018\n",
+        12,
+        0x18,
+    )?;
+    abort_both_ways(&rt, alloc, Why::Depth, b"A 1 2 13 -\n", 13, 0)?;
+    abort_both_ways(&rt, alloc, Why::Starved, b"A 1 2 255 -\n", 255, 0)?;
+    abort_both_ways(&rt, alloc, Why::Tabort(257), b"A 1 2 257 -\n", 257, 0)?;
     Ok(())
 }
 
 #[test]
-fn lines_of_exceptions(rt: HostRuntime) -> Result<(), Fail> {
-    let program = Why::Program(exception(codes::TRANSACTION_CONSTRAINT));
-    let text = abort_text(rt.alloc(), program)?;
-    assert_eq!(rt; text.as_slice(), b"A 0 2 4 0018\n".as_slice());
-    let filtered = Why::Filtered(exception(codes::SPECIFICATION));
-    let text = abort_text(rt.alloc(), filtered)?;
-    assert_eq!(rt; text.as_slice(), b"A 0 2 12 0006\n".as_slice());
-    Ok(())
+fn other_texts_are_not_read(rt: HostRuntime) {
+    for text in [
+        b"S 0".as_slice(),
+        b"S 00\n",
+        b"S  0\n",
+        b"S 4294967296\n",
+        b"I 0 1\n",
+        b"i 0\n",
+        b"B 0\n",
+        b"C 0\n",
+        b"A 0 2 9 -\n",
+        b"A 0 2 9 0000000000009001\n",
+        b"A 0 2 9 0000000000009080\n",
+        b"A 0 2 10 0000000000100000\n",
+        b"A 0 2 9 000000000009000\n",
+        b"A 0 2 4 001A\n",
+        b"A 0 2 4 -\n",
+    ] {
+        assert!(rt; read_entry(text).is_none());
+    }
 }
 
 #[test]
-fn lines_of_overflows(rt: HostRuntime) -> Result<(), Fail> {
-    let fetch = abort_text(rt.alloc(), Why::FetchOverflow)?;
-    assert_eq!(rt; fetch.as_slice(), b"A 0 2 7 -\n".as_slice());
-    let store = abort_text(rt.alloc(), Why::StoreOverflow)?;
-    assert_eq!(rt; store.as_slice(), b"A 0 2 8 -\n".as_slice());
-    let depth = abort_text(rt.alloc(), Why::Depth)?;
-    assert_eq!(rt; depth.as_slice(), b"A 0 2 13 -\n".as_slice());
-    Ok(())
-}
-
-#[test]
-fn lines_of_other_aborts(rt: HostRuntime) -> Result<(), Fail> {
-    let external = abort_text(rt.alloc(), Why::External)?;
-    assert_eq!(rt; external.as_slice(), b"A 0 2 2 -\n".as_slice());
-    let restricted = abort_text(rt.alloc(), Why::Restricted)?;
-    assert_eq!(rt; restricted.as_slice(), b"A 0 2 11 -\n".as_slice());
-    let starved = abort_text(rt.alloc(), Why::Starved)?;
-    assert_eq!(rt; starved.as_slice(), b"A 0 2 255 -\n".as_slice());
-    let asked = abort_text(rt.alloc(), Why::Tabort(257))?;
-    assert_eq!(rt; asked.as_slice(), b"A 0 2 257 -\n".as_slice());
+fn codes_that_no_abort_has(rt: HostRuntime) -> Result<(), Fail> {
+    for code in [0u64, 1, 3, 5, 6, 14, 254] {
+        for detail in ["-", "0018", "0000000000009000"] {
+            let text = format!(in rt.alloc(); "A 0 2 {code} {detail}\n")?;
+            assert!(rt; read_entry(text.as_str().as_bytes()).is_none());
+        }
+    }
     Ok(())
 }
 
@@ -117,39 +207,6 @@ fn a_schedule_of_seventeen(rt: HostRuntime) -> Result<(), Fail> {
 }
 
 #[test]
-fn lines_are_read(rt: HostRuntime) {
-    let abort = EntryText {
-        kind: b'A',
-        cpu: 0,
-        count: 3,
-        code: 10,
-        detail: 0x9000,
-    };
-    assert!(rt; read_entry(b"A 0 3 10 0000000000009000\n") == Some(abort));
-    let commit = EntryText {
-        kind: b'C',
-        cpu: 1,
-        count: 4,
-        code: 0,
-        detail: 0,
-    };
-    assert!(rt; read_entry(b"C 1 4\n") == Some(commit));
-}
-
-#[test]
-fn other_texts_are_not_read(rt: HostRuntime) {
-    assert!(rt; read_entry(b"S 0").is_none());
-    assert!(rt; read_entry(b"S 00\n").is_none());
-    assert!(rt; read_entry(b"S  0\n").is_none());
-    assert!(rt; read_entry(b"S 4294967296\n").is_none());
-    assert!(rt; read_entry(b"A 0 2 3 -\n").is_none());
-    assert!(rt; read_entry(b"A 0 2 9 -\n").is_none());
-    assert!(rt; read_entry(b"A 0 2 9 0000000000009001\n").is_none());
-    assert!(rt; read_entry(b"A 0 2 9 000000000009000\n").is_none());
-    assert!(rt; read_entry(b"A 0 2 4 001A\n").is_none());
-}
-
-#[test]
 fn numbers_have_one_spelling(rt: HostRuntime) {
     assert!(rt; read_number(b"18446744073709551615") == Some(u64::MAX));
     assert!(rt; read_number(b"18446744073709551616").is_none());
@@ -166,12 +223,14 @@ fn zeros(alloc: Global, count: usize) -> Result<Vec<u8>, Fail>
     Ok(bytes)
 }
 
-/// An image without instructions, with one CPU that enters at hex 4000, and one schedule or another.
-fn image(alloc: Global, scheduled: bool) -> Result<Image, Fail>
-    ensures { IfOk result (λ image. (length image.cpus ≡ 1) × (image.scheduled ≡ scheduled)) }
+/// An image without instructions, with one CPU that enters at hex 4000.
+fn image(alloc: Global, prefix: Option<u32>, parms: Parms, scheduled: bool) -> Result<Image, Fail>
+    requires { IsTrue (is_prefix prefix) }
 {
     let storage = zeros(alloc, 1048576)?;
-    let cpus = Vec::from_array(alloc, [CpuImage::entering(0x4000)])?;
+    let mut cpu = CpuImage::entering(0x4000);
+    cpu.prefix = prefix;
+    let cpus = Vec::from_array(alloc, [cpu])?;
     let first_bytes = Show {
         first: 8192,
         length: 16,
@@ -180,6 +239,8 @@ fn image(alloc: Global, scheduled: bool) -> Result<Image, Fail>
     let shows = Vec::from_array(alloc, [first_bytes])?;
     let schedule = Vec::from_array(alloc, [Event::Turn(0), Event::External(0)])?;
     let starts = Vec::new(alloc);
+    // so that the proof knows that the numbers are in their ranges
+    let _ = &parms.stop;
     Ok(Image::new(
         storage,
         Guard::none(),
@@ -188,19 +249,40 @@ fn image(alloc: Global, scheduled: bool) -> Result<Image, Fail>
         shows,
         schedule,
         scheduled,
+        parms,
     ))
 }
 
 #[test]
 fn images_are_compared(rt: HostRuntime) -> Result<(), Fail> {
-    let given = image(rt.alloc(), true)?;
-    let again = image(rt.alloc(), true)?;
-    let other = image(rt.alloc(), false)?;
+    let usual = Parms::usual();
+    let given = image(rt.alloc(), None, usual, true)?;
     assert_eq!(rt; given.cpu_count(), 1);
     assert_eq!(rt; given.storage.len(), 1048576);
-    assert!(rt; given.same(&again));
-    assert!(rt; !given.same(&other));
+    assert!(rt; given.same(&image(rt.alloc(), None, usual, true)?));
+    assert!(rt; !given.same(&image(rt.alloc(), None, usual, false)?));
+    assert!(rt; !given.same(&image(rt.alloc(), Some(0xa000), usual, true)?));
+    assert!(rt; !given.same(&image(rt.alloc(), None, Parms { stop: 1, ..usual }, true)?));
     Ok(())
+}
+
+/// `==` of entries says that they are the same.
+fn is_same_entry(one: Entry, other: Entry) -> bool
+    ensures { IsTrue result ↔ (one ≡ other) }
+{
+    one == other
+}
+
+#[test]
+fn entries_are_compared(rt: HostRuntime) {
+    assert!(rt; is_same_entry(Entry::Interrupt(1), Entry::Interrupt(1)));
+    assert!(rt; !is_same_entry(Entry::Interrupt(1), Entry::Tdb(1)));
+    assert!(rt;
+        !is_same_entry(
+            Entry::Abort(1, 2, Why::Depth),
+            Entry::Abort(1, 2, Why::Starved)
+        )
+    );
 }
 
 /// Whether values of a type may move between threads and be shared by them.
@@ -209,6 +291,8 @@ fn is_shared<T: Send + Sync>() -> bool {
 }
 
 #[test]
-fn images_are_shared_by_threads(rt: HostRuntime) {
-    assert!(rt; is_shared::<Image>());
+fn values_are_shared_by_threads(rt: HostRuntime) {
+    assert!(rt;
+        is_shared::<Image>() && is_shared::<Show>() && is_shared::<Event>() && is_shared::<Entry>()
+    );
 }

@@ -1,8 +1,10 @@
 //! The texts of entries and of events.
 ghost use Rattle.std.specs.Prelude.{◌≡◌, ◌++◌, ◌*◌, ◌+◌, ◌/◌, ◌<◌, IfOk, OnOk, length, take, drop, codes};
 ghost use Rattle.std.specs.Fmt.{decimal};
-ghost use Rattle.tx_journal.specs.Lines.{detail_text, reason_text, words_text, line_text, entry_text, history_text};
-ghost use Rattle.tx_journal.specs.Schedule.{event_text, further_text, events_text, row_text, rows_text, schedule_text};
+ghost use Rattle.tx_journal.specs.Lines.{detail_text, reason_text, words_text, line_text, entry_text};
+ghost use Rattle.tx_journal.specs.Lines.{history_text};
+ghost use Rattle.tx_journal.specs.Schedule.{event_text, further_text, events_text, row_text, rows_text};
+ghost use Rattle.tx_journal.specs.Schedule.{schedule_text};
 
 use crate::lines::{Detail, Line, Reason};
 use crate::{Entry, Event};
@@ -18,7 +20,8 @@ const ROW: usize = 16;
 /// The bytes of a full line of events whose CPUs have two digits, each behind an X.
 const ROW_ROOM: usize = 71;
 
-/// The bytes of the longest line of an abort other than by TABORT, with a CPU of two digits and a count of six.
+/// The bytes of the longest line of an abort other than by TABORT, with a CPU of two digits and a count of
+/// six.
 const ENTRY_ROOM: usize = 32;
 
 /// Adds a number in decimal.
@@ -86,6 +89,7 @@ fn add_words(text: &mut Vec<u8>, line: Line) -> Result<(), AllocError>
             add_reason(text, reason)
         }
         Line::Tdb(cpu) => add_step(text, b"T ", cpu),
+        Line::Interrupt(cpu) => add_step(text, b"I ", cpu),
     }
 }
 
@@ -163,18 +167,19 @@ fn add_rows(text: &mut Vec<u8>, events: &[Event]) -> Result<(), AllocError>
     Ok(())
 }
 
-/// Adds the lines of a history to a text, in the order of its entries. `NoMemory` comes for want of memory; what stands behind
-/// the text that was there is then unknown.
+/// Adds the lines of a history to a text, in the order of its entries. `NoMemory` comes for want of memory;
+/// what stands behind the text that was there is then unknown.
 ///
-/// The room for all lines is reserved first, so that a long history is written without an allocation for each line.
+/// The room for all lines is reserved first, so that a long history is written without an allocation for each
+/// line.
 pub fn add_history(text: &mut Vec<u8>, entries: &[Entry]) -> Result<(), NoMemory>
     ensures { OnOk result (text.new.items ≡ text.old.items ++ history_text entries.now) }
 {
     add_entries(text, entries).map_err(|_| NoMemory)
 }
 
-/// Adds events to a text as SCHED lines of the listing, sixteen events to a line. `NoMemory` comes for want of memory; what stands
-/// behind the text that was there is then unknown.
+/// Adds events to a text as SCHED lines of the listing, sixteen events to a line. `NoMemory` comes for want
+/// of memory; what stands behind the text that was there is then unknown.
 pub fn add_schedule(text: &mut Vec<u8>, events: &[Event]) -> Result<(), NoMemory>
     ensures { OnOk result (text.new.items ≡ text.old.items ++ schedule_text events.now) }
 {
@@ -192,8 +197,8 @@ pub fn entry_text(alloc: Global, entry: &Entry) -> Result<Vec<u8>, NoMemory>
     }
 }
 
-/// Events as SCHED lines of the listing, sixteen events to a line, each with its line feed; no line where there is no event.
-/// `NoMemory` comes for want of memory.
+/// Events as SCHED lines of the listing, sixteen events to a line, each with its line feed; no line where
+/// there is no event. `NoMemory` comes for want of memory.
 pub fn schedule_text(alloc: Global, events: &[Event]) -> Result<Vec<u8>, NoMemory>
     ensures { IfOk result (λ text. text.items ≡ schedule_text events.now) }
 {

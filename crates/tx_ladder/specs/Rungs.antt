@@ -1,27 +1,52 @@
 -- Where a CPU stands on the retry ladder, and what moves it.
-use Rattle.std.specs.Prelude.{ℕ, ◌+◌, ◌-◌, ◌^◌, Bool, false, ◌&&◌, ◌==◌, nat_le, if◌then◌else◌, min}
-use Rattle.tx_ladder.specs.declared.ladder.TheConstants.{REJECT_LIMIT, FIRM_REJECT_LIMIT, FIRM_FROM, STOP_AT, DELAY_BASE}
+use Rattle.std.specs.Prelude.{ℕ, ◌+◌, ◌-◌, ◌^◌, ◌≤◌, min, Bool, false, ◌&&◌, ◌==◌, nat_le, nat_lt}
+use Rattle.std.specs.Prelude.{if◌then◌else◌}
+use Rattle.tx_ladder.specs.Parameters.{Parameters, IsAllowed}
+use Rattle.tx_ladder.specs.declared.parms.TheConstants.{MOST_REJECTS}
+use Rattle.tx_ladder.specs.declared.ladder.TheConstants.{DELAY_BASE}
 use Rattle.tx_ladder.specs.declared.ladder.Next.{Next}
 use Rattle.tx_ladder.specs.declared.ladder.Next.TheVariants.{Plain, Delay, Queue}
 
--- the conflict aborts of a CPU's constrained transaction, and of its live attempt the kind, the rejects
--- that it gave and its requests that were rejected
+-- the numbers by which the CPU climbs, the conflict aborts of its constrained transaction, and of its live
+-- attempt the kind, the rejects that it gave and its requests that were rejected
 pub record Standing : Type 0 where
+  pub parms : Parameters
   pub aborts : ℕ
   pub constrained : Bool
   pub rejects_given : ℕ
   pub requests_rejected : ℕ
 
-abbrev pub fresh : Standing
-fresh = record { aborts = 0; constrained = false; rejects_given = 0; requests_rejected = 0 }
+-- the numbers are in their ranges, the conflict aborts stop where the CPU joins the queue, and the rejects
+-- given at the greatest limit of all
+pub record IsWithin (parms : Parameters) (conflicts given : ℕ) : Type 0 where
+  pub allowed : IsAllowed parms
+  pub few_conflicts : conflicts ≤ parms.stop
+  pub few_given : given ≤ MOST_REJECTS
+
+abbrev pub fresh : Parameters → Standing
+fresh parms = record {
+  parms = parms;
+  aborts = 0;
+  constrained = false;
+  rejects_given = 0;
+  requests_rejected = 0;
+}
 
 -- an attempt of this kind starts
 abbrev pub begun : Bool → Standing → Standing
 begun kind s = record s { constrained = kind; rejects_given = 0; requests_rejected = 0 }
 
+-- whether the live attempt is late: constrained, after enough conflict aborts
+abbrev pub is_late : Standing → Bool
+is_late s = s.constrained && nat_le s.parms.late s.aborts
+
 -- how many rejects the live attempt may give
 abbrev pub reject_limit : Standing → ℕ
-reject_limit s = if s.constrained && nat_le FIRM_FROM s.aborts then FIRM_REJECT_LIMIT else REJECT_LIMIT
+reject_limit s = if is_late s then s.parms.firm else s.parms.reject
+
+-- whether it may give one more
+abbrev pub may_reject : Standing → Bool
+may_reject s = nat_lt s.rejects_given (reject_limit s)
 
 -- one more reject given
 abbrev pub rejecting : Standing → Standing
@@ -31,9 +56,13 @@ rejecting s = record s { rejects_given = s.rejects_given + 1 }
 abbrev pub rejected : Standing → Standing
 rejected s = record s { requests_rejected = min (s.requests_rejected + 1) (2 ^ 32 - 1) }
 
+-- whether the live attempt is starved by the last request of it that was rejected
+abbrev pub is_starved : Standing → Bool
+is_starved s = s.constrained && s.requests_rejected == s.parms.starve
+
 -- how many turns a CPU waits after so many conflict aborts
-abbrev pub delay_after : ℕ → ℕ
-delay_after aborts = DELAY_BASE ^ aborts
+abbrev pub delay_after : Parameters → ℕ → ℕ
+delay_after parms aborts = min (DELAY_BASE ^ aborts) parms.delay
 
 -- a conflict abort counts for constrained attempts alone
 abbrev pub after_conflict : Standing → Standing
@@ -42,7 +71,9 @@ after_conflict s = record s { aborts = if s.constrained then s.aborts + 1 else s
 -- what comes after an attempt that a conflict aborted
 abbrev pub next_rung : Standing → Next
 next_rung s =
-    if s.constrained then (if s.aborts + 1 == STOP_AT then Queue else Delay (delay_after (s.aborts + 1))) else Plain
+    if s.constrained
+    then (if s.aborts + 1 == s.parms.stop then Queue else Delay (delay_after s.parms (s.aborts + 1)))
+    else Plain
 
 -- a constrained transaction has ended otherwise than by a conflict
 abbrev pub descended : Standing → Standing

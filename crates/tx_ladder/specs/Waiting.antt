@@ -1,5 +1,5 @@
 -- The stop queue: the CPUs that wait, in their order.
-use Rattle.std.specs.Prelude.{◌≡◌, ◌≢◌, ℕ, ◌≤◌, Bool, false, ◌==◌, List, length, AllPairs, count_by}
+use Rattle.std.specs.Prelude.{◌≡◌, ◌≢◌, ℕ, ◌≤◌, ◌==◌, Bool, false, List, length, AllPairs, count_by}
 use Rattle.std.specs.List.{list_any, slice_index_or}
 
 -- how many CPUs there are, and which of them wait

@@ -1,28 +1,14 @@
-ghost use Rattle.std.specs.Prelude.{◌≡◌, ◌+◌, ◌<◌, ◌≤◌, ◌↔◌, Bool, true, false, nat_lt, IsTrue};
-ghost use Rattle.tx_ladder.specs.Rungs.{Standing, fresh, begun, reject_limit, rejecting, rejected, after_conflict, next_rung, descended};
+//! The retry ladder of one CPU.
+ghost use Rattle.std.specs.Prelude.{◌≡◌, ◌+◌, ◌<◌, ◌≤◌, ◌↔◌, Bool, false, IsTrue};
+ghost use Rattle.tx_ladder.specs.Rungs.{Standing, fresh, begun, descended};
+ghost use Rattle.tx_ladder.specs.Rungs.{is_late, reject_limit, may_reject, rejecting, rejected, is_starved};
+ghost use Rattle.tx_ladder.specs.Rungs.{after_conflict, next_rung};
 
+use crate::Parms;
 use std::marker::Model;
 
-/// How many rejects an attempt may give before it has to give way to an asker. A choice of this
-/// project.
-pub const REJECT_LIMIT: u32 = 8;
-
-/// The same for a constrained attempt that has suffered `FIRM_FROM` conflict aborts. A choice of
-/// this project.
-pub const FIRM_REJECT_LIMIT: u32 = 64;
-
-/// The conflict aborts from which a constrained attempt has the higher limit. A choice of this
-/// project.
-pub const FIRM_FROM: u32 = 4;
-
-/// The rejected request at which a constrained attempt is aborted as starved. A choice of this
-/// project.
-pub const STARVING_REQUESTS: u32 = 64;
-
-/// The conflict abort at which a CPU joins the stop queue instead of waiting.
-pub const STOP_AT: u32 = 8;
-
-/// After `a` conflict aborts, below `STOP_AT`, a CPU waits for this number to the power `a` turns.
+/// After `a` conflict aborts a CPU waits for this number to the power `a` turns, or for as many as
+/// its numbers allow where that is less.
 pub const DELAY_BASE: u32 = 2;
 
 /// What comes after an attempt that was aborted by a conflict.
@@ -30,16 +16,17 @@ pub const DELAY_BASE: u32 = 2;
 pub enum Next {
     /// The attempt was not constrained: nothing.
     Plain,
-    /// The CPU waits for so many turns.
+    /// The CPU waits for so many turns, none where its numbers allow no delay.
     Delay(u32),
     /// The CPU joins the stop queue.
     Queue,
 }
 
-/// Where one CPU stands: the conflict aborts of its constrained transaction, and of its live attempt
-/// the kind, the rejects that it gave, and its requests that were rejected.
+/// Where one CPU stands: its numbers, the conflict aborts of its constrained transaction, and of its
+/// live attempt the kind, the rejects that it gave, and its requests that were rejected.
 #[derive(Drop)]
 pub struct Ladder {
+    parms: Parms,
     aborts: u32,
     constrained: bool,
     rejects_given: u32,
@@ -48,22 +35,28 @@ pub struct Ladder {
 
 impl Model for Ladder {
     ghost use Rattle.std.specs.Prelude.{◌≤◌};
-    ghost use Rattle.tx_ladder.specs.Rungs.{Standing};
-    ghost use Rattle.tx_ladder.specs.declared.ladder.TheConstants.{STOP_AT, FIRM_REJECT_LIMIT};
+    ghost use Rattle.tx_ladder.specs.Rungs.{Standing, IsWithin};
 
     ghost Value = { Standing };
 
-    ghost view = { λ l. record { aborts = l.aborts; constrained = l.constrained; rejects_given = l.rejects_given; requests_rejected = l.requests_rejected } };
+    ghost view = { λ l. record {
+      parms = l.parms;
+      aborts = l.aborts;
+      constrained = l.constrained;
+      rejects_given = l.rejects_given;
+      requests_rejected = l.requests_rejected;
+    } };
 
-    ghost invariant = { λ l. (l.aborts ≤ STOP_AT) × (l.rejects_given ≤ FIRM_REJECT_LIMIT) };
+    ghost invariant = { λ l. IsWithin l.parms l.aborts l.rejects_given };
 }
 
 impl Ladder {
     /// The ladder of a CPU that has suffered no conflict, before its first attempt.
-    pub fn new() -> Ladder
-        ensures { result ≡ fresh }
+    pub fn new(parms: Parms) -> Ladder
+        ensures { result ≡ fresh parms }
     {
         Ladder {
+            parms,
             aborts: 0,
             constrained: false,
             rejects_given: 0,
@@ -84,64 +77,85 @@ impl Ladder {
     /// The conflict aborts of this CPU since its last constrained transaction ended.
     pub fn aborts(&self) -> u32
         ensures value { result ≡ self.now.aborts }
-        ensures within { result ≤ STOP_AT }
+        ensures within { result ≤ self.now.parms.stop }
     {
         self.aborts
     }
 
-    /// Whether the live attempt may reject a request that conflicts with it, where the asker is not
-    /// the head of the stop queue.
+    /// Whether the live attempt, of which `begin` told, is constrained.
+    pub fn is_constrained(&self) -> bool
+        ensures { result ≡ self.now.constrained }
+    {
+        self.constrained
+    }
+
+    /// Whether the live attempt is late: it is constrained, and its CPU has suffered as many conflict
+    /// aborts as make an attempt late.
+    pub fn is_late(&self) -> bool
+        ensures { result ≡ is_late self.now }
+    {
+        let parms = &self.parms;
+        self.constrained && parms.late <= self.aborts
+    }
+
+    /// Whether the live attempt may reject one more request that conflicts with it, as far as this
+    /// depends on the holder alone.
     pub fn may_reject(&self) -> bool
-        ensures { IsTrue result ↔ (self.now.rejects_given < reject_limit self.now) }
+        ensures { result ≡ may_reject self.now }
     {
         self.rejects_given < self.limit()
     }
 
     /// How many rejects the live attempt may give.
     fn limit(&self) -> u32
-        ensures value { result ≡ reject_limit self.now }
+        ensures { result ≡ reject_limit self.now }
     {
-        if self.constrained && FIRM_FROM <= self.aborts {
-            FIRM_REJECT_LIMIT
+        let parms = &self.parms;
+        if self.is_late() {
+            parms.firm
         } else {
-            REJECT_LIMIT
+            parms.reject
         }
     }
 
     /// The live attempt has rejected a request.
     pub fn gave_reject(&mut self)
-        requires { self.old.rejects_given < reject_limit self.old }
+        requires { IsTrue (may_reject self.old) }
         ensures { self.new ≡ rejecting self.old }
     {
         self.rejects_given += 1;
     }
 
-    /// A request of the live attempt was rejected. Says whether the attempt is starved by that. The
-    /// count stops at the last value of its type, which no attempt reaches in practice.
+    /// A request of the live attempt was rejected. Says whether the attempt is starved by that: it is
+    /// constrained, and this was the rejected request at which its numbers abort it. The count stops
+    /// at the last value of its type, far above all of these numbers.
     pub fn was_rejected(&mut self) -> bool
         ensures counted { self.new ≡ rejected self.old }
-        ensures starved { IsTrue result ↔ (IsTrue self.old.constrained × (self.new.requests_rejected ≡ STARVING_REQUESTS)) }
+        ensures starved { result ≡ is_starved (rejected self.old) }
     {
         self.requests_rejected = self.requests_rejected.saturating_add(1);
-        self.constrained && self.requests_rejected == STARVING_REQUESTS
+        let parms = &self.parms;
+        self.constrained && self.requests_rejected == parms.starve
     }
 
     /// The live attempt was aborted by a conflict, or as starved. Says what comes next.
     pub fn conflict(&mut self) -> Next
-        requires { IsTrue self.old.constrained → self.old.aborts < STOP_AT }
+        requires { IsTrue self.old.constrained → self.old.aborts < self.old.parms.stop }
         ensures next { result ≡ next_rung self.old }
         ensures plain { (result ≡ Next.Plain) ↔ (self.old.constrained ≡ false) }
-        ensures queue { (result ≡ Next.Queue) ↔ (IsTrue self.old.constrained × (self.new.aborts ≡ STOP_AT)) }
+        ensures queue { let stop = self.old.parms.stop in
+            (result ≡ Next.Queue) ↔ (IsTrue self.old.constrained × (self.new.aborts ≡ stop)) }
         ensures raised { self.new ≡ after_conflict self.old }
     {
         if !self.constrained {
             return Next::Plain;
         }
         self.aborts += 1;
-        if self.aborts == STOP_AT {
+        let parms = &self.parms;
+        if self.aborts == parms.stop {
             return Next::Queue;
         }
-        Next::Delay(DELAY_BASE.pow(self.aborts))
+        Next::Delay(DELAY_BASE.pow(self.aborts).min(parms.delay))
     }
 
     /// The constrained transaction has committed.
@@ -156,53 +170,5 @@ impl Ladder {
         ensures { self.new ≡ descended self.old }
     {
         self.aborts = 0;
-    }
-}
-
-#[cfg(test)]
-mod tests {
-    use super::*;
-    use std::test::Fail;
-
-    #[test]
-    fn climbs_to_the_queue(rt: HostRuntime) -> Result<(), Fail> {
-        let mut ladder = Ladder::new();
-        ladder.begin(false);
-        assert_eq!(rt; ladder.conflict(), Next::Plain);
-        assert_eq!(rt; ladder.aborts(), 0);
-        ladder.begin(true);
-        for turns in [2u32, 4, 8, 16, 32, 64, 128] {
-            assert!(rt; ladder.aborts() < STOP_AT);
-            assert_eq!(rt; ladder.conflict(), Next::Delay(turns));
-        }
-        assert!(rt; ladder.aborts() < STOP_AT);
-        assert_eq!(rt; ladder.conflict(), Next::Queue);
-        ladder.commit();
-        assert_eq!(rt; ladder.aborts(), 0);
-        ladder.interrupted();
-        assert_eq!(rt; ladder.aborts(), 0);
-        Ok(())
-    }
-
-    #[test]
-    fn rejects_eight_times(rt: HostRuntime) -> Result<(), Fail> {
-        let mut ladder = Ladder::new();
-        ladder.begin(true);
-        let mut given = 0u32;
-        for _ in 0..100 {
-            if ladder.may_reject() {
-                ladder.gave_reject();
-                given = given.saturating_add(1);
-            }
-        }
-        assert_eq!(rt; given, 8);
-        let mut starved_at = 0u32;
-        for n in 1..100u32 {
-            if ladder.was_rejected() {
-                starved_at = n;
-            }
-        }
-        assert_eq!(rt; starved_at, 64);
-        Ok(())
     }
 }

@@ -6,10 +6,13 @@
 #![tactic(auto)]
 
 mod ladder;
+mod parms;
 mod queue;
+#[cfg(test)]
+mod tests;
 
-pub use ladder::{
-    DELAY_BASE, FIRM_FROM, FIRM_REJECT_LIMIT, Ladder, Next, REJECT_LIMIT, STARVING_REQUESTS,
-    STOP_AT,
+pub use ladder::{DELAY_BASE, Ladder, Next};
+pub use parms::{
+    Choice, DELAY, FIRM, LATE, MOST_ABORTS, MOST_REJECTS, Parms, REJECT, STARVE, STOP,
 };
 pub use queue::{NoMemory, StopQueue};

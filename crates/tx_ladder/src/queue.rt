@@ -1,4 +1,6 @@
-ghost use Rattle.std.specs.Prelude.{◌≡◌, ◌≢◌, ℕ, ◌<◌, ◌↔◌, [], ◌∷◌, ◌++◌, length, take, drop, false, All, AllPairs, IsNone, IfOk, slice_get};
+//! The stop queue.
+ghost use Rattle.std.specs.Prelude.{◌≡◌, ◌≢◌, ℕ, ◌<◌, ◌↔◌, [], ◌∷◌, ◌++◌, length, take, drop, false};
+ghost use Rattle.std.specs.Prelude.{All, AllPairs, IsNone, IfOk, slice_get};
 ghost use Rattle.tx_ladder.specs.Waiting.{Waiting, waits_in};
 
 use std::alloc::{AllocError, Global};
@@ -88,27 +90,5 @@ impl StopQueue {
         ensures { self.new ≡ record self.old { order = drop 1 self.old.order ++ take 1 self.old.order } }
     {
         self.order.rotate_left(1);
-    }
-}
-
-#[cfg(test)]
-mod tests {
-    use super::*;
-    use std::test::Fail;
-
-    #[test]
-    fn queues_and_turns(rt: HostRuntime) -> Result<(), Fail> {
-        let mut queue = StopQueue::open(rt.alloc(), 3).map_err(|_| "no memory")?;
-        assert_eq!(rt; queue.head(), None);
-        queue.join(2);
-        assert!(rt; !queue.has(0));
-        queue.join(0);
-        assert_eq!(rt; queue.head(), Some(2));
-        queue.to_tail();
-        assert_eq!(rt; queue.head(), Some(0));
-        queue.leave();
-        assert_eq!(rt; queue.head(), Some(2));
-        assert!(rt; queue.has(2) && !queue.has(0));
-        Ok(())
     }
 }

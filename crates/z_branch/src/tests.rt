@@ -110,6 +110,7 @@ impl Case {
             condition: self.condition % 4,
             mask: 0,
             state: RunState::Running,
+            prefix: None,
         }
     }
 }

@@ -1,3 +1,4 @@
--- A CPU as plain data, and sets of pages.
+-- A CPU as plain data, sets of pages, and real and absolute addresses.
 pub mod Cpu
 pub mod Pages
+pub mod Prefix

@@ -40,6 +40,7 @@ fn unnamed() -> CpuImage {
         condition: 0,
         mask: 0,
         state: RunState::Running,
+        prefix: None,
     }
 }
 

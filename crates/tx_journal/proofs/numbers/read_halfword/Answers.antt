@@ -7,11 +7,15 @@ use Rattle.tx_journal.proofs.numbers.read_halfword.Goals as goal
 
 pub returns-in_default-clause-none : goal.returns-in_default-clause-none
 returns-in_default-clause-none c = λ n few is.
-    let told = rw (decode_halfword c.args.text.now n is) at c.decode_to_slice.ensures.value in c.in_default.not-Ok tt told.0
+    let told = rw (decode_halfword c.args.text.now n is) at c.decode_to_slice.ensures.value in
+    c.in_default.not-Ok tt told.0
 
 pub returns-then-not-is_hexadecimal-clause-none : goal.returns-then-not-is_hexadecimal-clause-none
 returns-then-not-is_hexadecimal-clause-none c = λ n few is.
     let told = rw (decode_halfword c.args.text.now n is) at c.decode_to_slice.ensures.value in
-    let same : c.from_be_bytes-halfword.result ≡ n = c.from_be_bytes-halfword.ensures ∙ halfword_again c.decode_to_slice.new.out n few told.1 in
-    let there = c.is_hexadecimal.ensures.1 (is ∙ ap encode_lower (ap (to_be_bytes w16) (sym same) ∙ sym c.to_be_bytes.ensures)) in
+    let same : c.from_be_bytes-halfword.result ≡ n = c.from_be_bytes-halfword.ensures
+    ∙ halfword_again c.decode_to_slice.new.out n few told.1 in
+    let there =
+    c.is_hexadecimal.ensures.1 (is
+    ∙ ap encode_lower (ap (to_be_bytes w16) (sym same) ∙ sym c.to_be_bytes.ensures)) in
     search (rules, there)
