@@ -16,7 +16,8 @@ abbrev pub big_endian : Width → ℕ → List ℕ
 big_endian Two n = n / 2 ^ 8 % 256 ∷ n % 256 ∷ []
 big_endian Four n = n / 2 ^ 24 % 256 ∷ n / 2 ^ 16 % 256 ∷ n / 2 ^ 8 % 256 ∷ n % 256 ∷ []
 big_endian Eight n =
-    n / 2 ^ 56 % 256 ∷ n / 2 ^ 48 % 256 ∷ n / 2 ^ 40 % 256 ∷ n / 2 ^ 32 % 256 ∷ big_endian Four n
+    n / 2 ^ 56 % 256 ∷ n / 2 ^ 48 % 256 ∷ n / 2 ^ 40 % 256 ∷ n / 2 ^ 32 % 256 ∷ n / 2 ^ 24 % 256 ∷ n / 2 ^ 16 % 256
+    ∷ n / 2 ^ 8 % 256 ∷ n % 256 ∷ []
 
 -- how many numbers so many bytes tell apart
 abbrev pub power_of : Width → ℕ

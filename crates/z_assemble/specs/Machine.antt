@@ -10,7 +10,8 @@ use Rattle.z_text.specs.declared.token.TokenKind.{TokenKind}
 use Rattle.z_text.specs.declared.token.TokenKind.TheVariants as tokens
 use Rattle.z_instr.specs.Reading.{modulo}
 use Rattle.z_instr.specs.Table.{entry_at}
-use Rattle.z_regs.specs.Cpu.{Cpu}
+use Rattle.z_regs.specs.Cpu.{Cpu, started}
+use Rattle.z_regs.specs.Prefix.{is_prefix}
 use Rattle.tx_journal.specs.declared.events.Event.{Event}
 use Rattle.tx_journal.specs.declared.image.Show.{Show}
 use Rattle.tx_ladder.specs.Parameters.{Parameters}
@@ -31,7 +32,7 @@ use Rattle.z_assemble.specs.declared.parameter.Parameter.{Parameter}
 use Rattle.z_assemble.specs.declared.parameter.Parameter.TheVariants.{Reject, Firm, Late, Starve, Stop, Delay}
 
 -- what the lines so far have made of the machine: storage, the CPUs and how many of them have their entries, what is shown, the
--- schedule and whether there is one, the numbers of the retry ladder, and the prefixes
+-- schedule and whether there is one, and the numbers of the retry ladder
 pub record Machine : Type 0 where
   pub storage : List ℕ
   pub cpus : List Cpu
@@ -40,7 +41,6 @@ pub record Machine : Type 0 where
   pub schedule : List Event
   pub scheduled : Bool
   pub parms : Parameters
-  pub prefixes : List (Option ℕ)
 
 -- the list with one element changed
 abbrev pub change_at : {X : Type 0} → ℕ → (X → X) → List X → List X
@@ -148,17 +148,20 @@ parameter_line p os m =
 -- ---- prefixes
 
 -- a multiple of 8,192 from 8,192 to 1,040,384
-abbrev pub is_prefix : ℤ → Bool
-is_prefix (pos n) = nat_le 8192 n && (nat_le n 1040384 && (n % 8192 == 0))
-is_prefix (negsuc n) = false
+abbrev pub is_area : ℤ → Bool
+is_area (pos n) = is_prefix (Some n)
+is_area (negsuc n) = false
 
 abbrev pub is_same_prefix : ℕ → Option ℕ → Bool
 is_same_prefix n None = false
 is_same_prefix n (Some p) = p == n
 
+abbrev pub has_prefix : ℕ → Cpu → Bool
+has_prefix n c = is_same_prefix n c.prefix
+
 -- the CPU has no prefix yet, and no CPU has this one
-abbrev pub is_free : ℕ → ℕ → List (Option ℕ) → Bool
-is_free cpu n prefixes = is_none (get_or prefixes cpu (Some 0)) && not (list_any (is_same_prefix n) prefixes)
+abbrev pub is_free : ℕ → ℕ → List Cpu → Bool
+is_free cpu n cpus = is_none (get_or cpus cpu (started 0)).prefix && not (list_any (has_prefix n) cpus)
 
 -- the line places an instruction with a byte in the area of two pages from an address on
 abbrev pub places_in : ℕ → ℕ → Operation → Bool
@@ -168,18 +171,19 @@ places_in area here _ = false
 abbrev pub task_places_in : ℕ → Task → Bool
 task_places_in area t = places_in area t.here t.operation
 
-abbrev pub is_prefix_for : List Task → List (Option ℕ) → ℤ × ℤ → Bool
-is_prefix_for tasks prefixes x =
-    is_below (length prefixes) x.0 && (is_prefix x.1 && (is_free (to_nat x.0) (to_nat x.1) prefixes && not (list_any (task_places_in (to_nat x.1)) tasks)))
+abbrev pub is_prefix_for : List Task → List Cpu → ℤ × ℤ → Bool
+is_prefix_for tasks cpus x =
+    is_below (length cpus) x.0
+    && (is_area x.1 && (is_free (to_nat x.0) (to_nat x.1) cpus && not (list_any (task_places_in (to_nat x.1)) tasks)))
 
-abbrev pub prefixed : ℕ → Option ℕ → Option ℕ
-prefixed n old = Some n
+abbrev pub with_prefix : ℕ → Cpu → Cpu
+with_prefix n c = record c { prefix = Some n }
 
 unfoldable pub prefix_line : List Task → List Operand → Machine → Result Machine Kind
 prefix_line tasks os m =
     two_in os >>= λ x.
-    if is_prefix_for tasks m.prefixes x
-    then Ok (record m { prefixes = change_at (to_nat x.0) (prefixed (to_nat x.1)) m.prefixes })
+    if is_prefix_for tasks m.cpus x
+    then Ok (record m { cpus = change_at (to_nat x.0) (with_prefix (to_nat x.1)) m.cpus })
     else Err OutOfRange
 
 -- ---- the schedule, and instructions

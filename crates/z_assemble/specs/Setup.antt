@@ -17,7 +17,6 @@ machine_of s = record {
   schedule = s.schedule.items;
   scheduled = s.scheduled;
   parms = s.parms;
-  prefixes = s.prefixes.items;
 }
 
 abbrev pub known_of : Labels → List Work → Known

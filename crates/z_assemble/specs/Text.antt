@@ -16,10 +16,13 @@ pieces_by stop (b ∷ bs) = if b == stop then (b ∷ []) ∷ pieces_by stop bs e
 abbrev pub is_before : ℕ → ℕ → Bool
 is_before stop b = not (b == stop)
 
+-- a piece has the byte that ends it, where there is one
+abbrev pub size_with_end : ℕ → ℕ → ℕ
+size_with_end count all = if nat_lt count all then count + 1 else count
+
 -- how many bytes the first piece has
 abbrev pub first_size : ℕ → List ℕ → ℕ
-first_size stop text =
-    if nat_lt (prefix_len (is_before stop) text) (length text) then prefix_len (is_before stop) text + 1 else prefix_len (is_before stop) text
+first_size stop text = size_with_end (prefix_len (is_before stop) text) (length text)
 
 abbrev pub ends_with : ℕ → List ℕ → Bool
 ends_with b text = nat_lt 0 (length text) && (slice_index text (length text - 1) == b)

@@ -46,7 +46,6 @@ ready_for storage cpus = record {
   schedule = [];
   scheduled = false;
   parms = usual;
-  prefixes = replicate cpus None;
 }
 
 abbrev pub ready : Plan → Machine
@@ -88,6 +87,7 @@ image_of begins m =
       shows = m.shows;
       schedule = m.schedule;
       scheduled = m.scheduled;
+      parms = m.parms;
     }
 
 -- ---- one reading after the other

@@ -1,5 +1,5 @@
 //! The first reading of the lines: labels, the location, and what is placed.
-ghost use Rattle.std.specs.Prelude.{◌≡◌, ℕ, ◌≤◌, ◌<◌, ◌+◌, ◌^◌, length, drop, pos, negsuc, IfSome, OnOk, IsTrue, All, false, ◌≤ℤ◌};
+ghost use Rattle.std.specs.Prelude.{◌≡◌, ℕ, ◌≤◌, ◌<◌, ◌+◌, ◌^◌, length, drop, pos, negsuc, IfSome, Ok, IsTrue, All, false, ◌≤ℤ◌};
 ghost use Rattle.std.specs.List.{prefix_len};
 ghost use Rattle.z_instr.specs.declared.table.TheConstants.{ROWS};
 ghost use Rattle.z_text.specs.Labels.{value_in};
@@ -128,7 +128,7 @@ fn is_defined(label: &[u8], labels: &Labels) -> bool
 fn define(labels: &mut Labels, label: &[u8], value: i128) -> Result<(), LineFault>
     requires fresh { is_defined label.now (value_in labels.old) ≡ false }
     requires value { IsTrue (is_doubleword value) }
-    ensures { OnOk result (value_in labels.new ≡ table_with label.now value (value_in labels.old)) }
+    ensures { Gives result (Ok (table_with label.now value (value_in labels.old))) (value_in labels.new) }
 {
     match label {
         [] => Ok(()),
@@ -142,7 +142,7 @@ fn define(labels: &mut Labels, label: &[u8], value: i128) -> Result<(), LineFaul
 /// Gives the label, where there is one, the location as its value.
 fn define_here(draft: &mut Draft, label: &[u8]) -> Result<(), LineFault>
     requires fresh { is_defined label.now (value_in draft.old.labels) ≡ false }
-    ensures { OnOk result (plan_of draft.new ≡ labelled label.now (pos draft.old.here) (plan_of draft.old)) }
+    ensures { Gives result (Ok (labelled label.now (pos draft.old.here) (plan_of draft.old))) (plan_of draft.new) }
 {
     define(&mut draft.labels, label, draft.here as i128)
 }
@@ -275,7 +275,7 @@ fn leave<'a>(
     operation: Operation,
 ) -> Result<(), LineFault>
     requires { IsPlaced draft.old.here operation }
-    ensures { OnOk result (plan_of draft.new ≡ tasked number draft.old.here line.now operation (plan_of draft.old)) }
+    ensures { Gives result (Ok (tasked number draft.old.here line.now operation (plan_of draft.old))) (plan_of draft.new) }
 {
     let here = draft.here;
     draft.works.push(Work {

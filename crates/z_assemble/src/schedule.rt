@@ -1,5 +1,5 @@
 //! The events that SCHED gives.
-ghost use Rattle.std.specs.Prelude.{◌≡◌, ◌≤◌, ◌<◌, ◌+◌, ◌++◌, ◌∷◌, [], length, replicate, map, IfOk, IfSome, OnOk, All};
+ghost use Rattle.std.specs.Prelude.{◌≡◌, ◌≤◌, ◌<◌, ◌+◌, ◌++◌, ◌∷◌, [], length, replicate, map, IfOk, IfSome, Ok};
 ghost use Rattle.std.specs.List.{prefix_len};
 ghost use Rattle.tx_journal.specs.Image.{cpu_of_event};
 ghost use Rattle.z_assemble.specs.Schedule.{make_run, turns_in, run_of, event_of, is_before_star, with_run, with_item, with_items, scheduled};
@@ -78,9 +78,9 @@ fn event_of(external: bool, cpu: u32) -> Event
 }
 
 fn push_many(events: &mut Vec<Event>, count: u64, event: Event) -> Result<(), LineFault>
-    ensures { OnOk result (events.new.items ≡ events.old.items ++ replicate count event) }
+    ensures { Gives result (Ok (events.old.items ++ replicate count event)) events.new.items }
 {
-    for _ in 0..count {
+    for _turn in 0..count {
         events.push(event)?;
     }
     Ok(())

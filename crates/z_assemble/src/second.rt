@@ -3,10 +3,11 @@ ghost use Rattle.std.specs.Prelude.{◌≡◌, ℕ, IfOk, Ok, OnOk, ◌≤◌, �
 ghost use Rattle.std.specs.List.{list_any};
 ghost use Rattle.z_instr.specs.Reading.{modulo};
 ghost use Rattle.z_regs.specs.Cpu.{cpu_of};
+ghost use Rattle.z_regs.specs.Prefix.{is_prefix};
 ghost use Rattle.z_text.specs.Labels.{value_in};
 ghost use Rattle.z_text.specs.Tokens.{AreTokensIn, LiesIn};
 ghost use Rattle.z_assemble.specs.Listing.{task_of, operands_in, operation_in, is_below, is_doubleword, field_behind};
-ghost use Rattle.z_assemble.specs.Machine.{change_at, with_address, with_general, entry_line, is_register_value, register_line, size_of_show, is_accessible, has_room_for, shown, show_line, block_line, is_comma, parameter_in, parameter_line, named_parameter, is_prefix, is_same_prefix, is_free, places_in, task_places_in, is_prefix_for, prefixed, prefix_line, schedule_line, code_line, tokens_in, end_of, directive_line, read_again, task_gives};
+ghost use Rattle.z_assemble.specs.Machine.{change_at, with_address, with_general, entry_line, is_register_value, register_line, size_of_show, is_accessible, has_room_for, shown, show_line, block_line, is_comma, parameter_in, parameter_line, named_parameter, is_area, is_same_prefix, has_prefix, is_free, places_in, task_places_in, is_prefix_for, with_prefix, prefix_line, schedule_line, code_line, tokens_in, end_of, directive_line, read_again, task_gives};
 ghost use Rattle.z_assemble.specs.Setup.{machine_of, known_of};
 ghost use Rattle.z_assemble.specs.Sizes.{IsPlaced};
 ghost use Rattle.z_assemble.specs.Steps.{Gives, Answers};
@@ -217,8 +218,8 @@ fn choose(
 
 // ---- prefixes
 
-fn is_prefix(value: i128) -> bool
-    ensures { result ≡ is_prefix value }
+fn is_area(value: i128) -> bool
+    ensures { result ≡ is_area value }
 {
     8192 <= value && value <= 1_040_384 && value as u32 % 8192 == 0
 }
@@ -232,17 +233,32 @@ fn is_same_prefix(prefix: u32, other: Option<u32>) -> bool
     }
 }
 
-fn is_given(prefix: u32, prefixes: &[Option<u32>]) -> bool
-    ensures { result ≡ list_any (is_same_prefix prefix) prefixes.now }
+fn is_given(prefix: u32, cpus: &[CpuImage]) -> bool
+    ensures { result ≡ list_any (has_prefix prefix) (map cpu_of cpus.now) }
 {
-    prefixes.iter().any(|other| is_same_prefix(prefix, *other))
+    for cpu in cpus {
+        if is_same_prefix(prefix, cpu.prefix) {
+            return true;
+        }
+    }
+    false
 }
 
-fn is_free(cpu: usize, prefix: u32, prefixes: &[Option<u32>]) -> bool
-    requires { cpu < length prefixes.now }
-    ensures { result ≡ is_free cpu prefix prefixes.now }
+fn is_free(cpu: usize, prefix: u32, cpus: &[CpuImage]) -> bool
+    requires { cpu < length cpus.now }
+    ensures { result ≡ is_free cpu prefix (map cpu_of cpus.now) }
 {
-    prefixes[cpu].is_none() && !is_given(prefix, prefixes)
+    cpus[cpu].prefix.is_none() && !is_given(prefix, cpus)
+}
+
+fn set_prefix(cpus: &mut Vec<CpuImage>, at: usize, prefix: u32)
+    requires { IsTrue (is_prefix (Some prefix)) }
+    ensures is { map cpu_of cpus.new.items ≡ change_at at (with_prefix prefix) (map cpu_of cpus.old.items) }
+    ensures count { length cpus.new.items ≡ length cpus.old.items }
+{
+    if at < cpus.len() {
+        cpus[at].prefix = Some(prefix);
+    }
 }
 
 fn places_in(area: u32, here: usize, operation: Operation) -> bool
@@ -270,20 +286,20 @@ fn is_text_in(area: u32, works: &[Work]) -> bool
 }
 
 #[tactic(auto, unfolding(crate::specs::Machine::prefix_line))]
-fn set_prefix(setup: &mut Setup, works: &[Work], operands: &[Operand]) -> Result<(), LineFault>
+fn give_prefix(setup: &mut Setup, works: &[Work], operands: &[Operand]) -> Result<(), LineFault>
     ensures gives { Gives result (prefix_line (map task_of works.now) operands.now (machine_of setup.old)) (machine_of setup.new) }
     ensures entered { setup.new.entered ≡ setup.old.entered }
 {
     let (cpu, prefix) = two_in(operands)?;
-    if !is_below(setup.prefixes.len(), cpu) || !is_prefix(prefix) {
+    if !is_below(setup.cpus.len(), cpu) || !is_area(prefix) {
         return Err(LineFault::Failed(Kind::OutOfRange));
     }
     let cpu = cpu as usize;
     let prefix = prefix as u32;
-    if !is_free(cpu, prefix, &setup.prefixes) || is_text_in(prefix, works) {
+    if !is_free(cpu, prefix, &setup.cpus) || is_text_in(prefix, works) {
         return Err(LineFault::Failed(Kind::OutOfRange));
     }
-    setup.prefixes[cpu] = Some(prefix);
+    set_prefix(&mut setup.cpus, cpu, prefix);
     Ok(())
 }
 
@@ -341,7 +357,7 @@ fn operands_for(
     tokens: &[Token],
     first: usize,
 ) -> Result<Vec<Operand>, LineFault>
-    requires { AreTokensIn work.entry.text.now tokens.now }
+    requires { AreTokensIn work.text.now tokens.now }
     ensures { Answers (λ v. v.items) result (operands_on malformed work.entry.text.now (value_in labels.now) work.entry.here (drop first tokens.now)) }
 {
     operands_on(
@@ -375,7 +391,7 @@ fn choose_named(
     work: Work,
     tokens: &[Token],
 ) -> Result<(), LineFault>
-    requires { AreTokensIn work.entry.text.now tokens.now }
+    requires { AreTokensIn work.text.now tokens.now }
     ensures gives { Gives result (named_parameter (parameter_in work.entry.text.now (operands_in tokens.now)) (known_of labels.now works.now) (task_of work.entry) (operands_in tokens.now) (machine_of setup.old)) (machine_of setup.new) }
     ensures entered { setup.new.entered ≡ setup.old.entered }
 {
@@ -406,7 +422,7 @@ fn directive(
         Operation::Reg => fill_register(setup, operands),
         Operation::Show => show_bytes(setup, operands),
         Operation::Tdb => show_block(setup, operands),
-        Operation::Prefix => set_prefix(setup, works, operands),
+        Operation::Prefix => give_prefix(setup, works, operands),
         _ => Ok(()),
     }
 }
@@ -421,7 +437,7 @@ fn read_again(
     work: Work,
     tokens: &[Token],
 ) -> Result<(), LineFault>
-    requires tokens { AreTokensIn work.entry.text.now tokens.now }
+    requires tokens { AreTokensIn work.text.now tokens.now }
     requires entered { setup.old.entered < 2 ^ 64 - 1 }
     ensures gives { Gives result (read_again work.entry.operation (known_of labels.now works.now) (task_of work.entry) tokens.now (machine_of setup.old)) (machine_of setup.new) }
     ensures entered { setup.new.entered ≤ setup.old.entered + 1 }

@@ -22,9 +22,6 @@ pub struct Setup {
     pub scheduled: bool,
     /// The numbers of the retry ladder.
     pub parms: Parms,
-    /// The prefixes of the CPUs.
-    pub prefixes: Vec<Option<u32>>,
     ghost bytes: { length storage.items ≡ 1048576 },
     ghost few: { length cpus.items ≤ 16 },
-    ghost same: { length prefixes.items ≡ length cpus.items },
 }

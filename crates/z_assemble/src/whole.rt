@@ -1,5 +1,5 @@
 //! Both readings of all lines, and the image.
-ghost use Rattle.std.specs.Prelude.{◌≡◌, ◌-◌, ◌≤◌, ◌<◌, ◌^◌, ◌+◌, ◌/◌, length, List, IfOk, map, replicate, IfErr, drop, false, ℕ, None, All};
+ghost use Rattle.std.specs.Prelude.{◌≡◌, ◌-◌, ◌≤◌, ◌<◌, ◌^◌, ◌+◌, ◌/◌, length, List, IfOk, map, replicate, IfErr, drop, false, ℕ, All};
 ghost use Rattle.std.specs.FinSet.{empty};
 ghost use Rattle.z_instr.specs.Layout.{length_by};
 ghost use Rattle.z_regs.specs.Cpu.{cpu_of, started};
@@ -155,17 +155,10 @@ fn entering(alloc: Global, count: u32) -> Result<Vec<CpuImage>, AllocError>
     ensures { IfOk result (λ v. map cpu_of v.items ≡ replicate count (started 0)) }
 {
     let mut cpus = Vec::new(alloc);
-    for _ in 0..count {
+    for _cpu in 0..count {
         cpus.push(CpuImage::entering(0))?;
     }
     Ok(cpus)
-}
-
-fn no_prefixes(alloc: Global, count: u32) -> Result<Vec<Option<u32>>, AllocError>
-    ensures { IfOk result (λ v. v.items ≡ replicate count None) }
-{
-    let none: Option<u32> = None;
-    vec![in alloc; none; count as usize]
 }
 
 // ---- the image
@@ -231,7 +224,6 @@ fn ready(alloc: Global, storage: Vec<u8>, count: u32) -> Result<Setup, AllocErro
         schedule: Vec::new(alloc),
         scheduled: false,
         parms: Parms::usual(),
-        prefixes: no_prefixes(alloc, count)?,
     })
 }
 
@@ -248,12 +240,13 @@ fn image(alloc: Global, begins: &[bool], setup: Setup) -> Result<Image, Assemble
         shows,
         schedule,
         scheduled,
+        parms,
         ..
     } = setup;
     let starts = places_of(alloc, begins)?;
     let guard = text_pages(&storage, &starts);
     Ok(Image::new(
-        storage, guard, starts, cpus, shows, schedule, scheduled,
+        storage, guard, starts, cpus, shows, schedule, scheduled, parms,
     ))
 }
 
