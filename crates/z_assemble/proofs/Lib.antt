@@ -1,6 +1,10 @@
 pub mod Numbers
 pub mod Loops
 pub mod Pieces
-pub mod Parts
+pub mod Atoms
 pub mod Bytes
-pub mod Laws
+pub mod Says
+pub mod Forms
+pub mod Lists
+pub mod Rows
+pub mod Spelled

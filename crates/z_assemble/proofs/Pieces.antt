@@ -9,11 +9,14 @@ use Rattle.z_assemble.specs.Text.{pieces_by, onto, is_before, first_size, size_w
 size_suc : (m n : ℕ) → size_with_end (1 + m) (suc n) ≡ suc (size_with_end m n)
 size_suc m n = grind (arith, nat_tests)
 
+size_zero : (n : ℕ) → size_with_end 0 (suc n) ≡ 1
+size_zero n = grind (arith, nat_tests)
+
 first_here : (stop b : ℕ) (bs : List ℕ) (m : ℕ) (t : Bool) →
     onto b (pieces_by stop bs) ≡ (b ∷ take (size_with_end m (length bs)) bs) ∷ pieces_by stop (drop (size_with_end m (length bs)) bs) →
     (if t then (b ∷ []) ∷ pieces_by stop bs else onto b (pieces_by stop bs))
     ≡ take (size_with_end (cond (not t) (1 + m) 0) (suc (length bs))) (b ∷ bs) ∷ pieces_by stop (drop (size_with_end (cond (not t) (1 + m) 0) (suc (length bs))) (b ∷ bs))
-first_here stop b bs m true r = refl
+first_here stop b bs m true r = ap (λ k. take k (b ∷ bs) ∷ pieces_by stop (drop k (b ∷ bs))) (sym (size_zero (length bs)))
 first_here stop b bs m false r =
     r ∙ ap (λ k. take k (b ∷ bs) ∷ pieces_by stop (drop k (b ∷ bs))) (sym (size_suc m (length bs)))
 

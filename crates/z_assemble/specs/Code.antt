@@ -1,11 +1,11 @@
 -- The bytes of an instruction by its plain fields, format by format.
-use Rattle.std.specs.Prelude.{ℕ, ◌+◌, ◌/◌, ◌%◌, List, [], ◌∷◌, Option, Result, Ok, Err}
+use Rattle.std.specs.Prelude.{ℕ, ◌+◌, ◌/◌, ◌%◌, List, [], ◌∷◌, Option, Some, Result, Ok, Err}
 use Rattle.z_instr.specs.declared.format.Format.{Format}
 use Rattle.z_instr.specs.declared.format.Format.TheVariants.{RR, I, RX, RRE, RRFa, RRFc, RXY, RI, RIL, RS, RSY, SI, SIY, SIL, S, SS, RIEb, RIEc}
 use Rattle.z_instr.specs.declared.instr.Fields.{Fields}
 use Rattle.z_instr.specs.Reading.{halves, modulo, short_address, long_address, halfword, word}
 use Rattle.z_instr.specs.Table.{Entry}
-use Rattle.z_assemble.specs.Operands.{instruction_in}
+use Rattle.z_assemble.specs.Operands.{instruction_in, allowed}
 use Rattle.z_assemble.specs.Chain.{◌>>=◌}
 use Rattle.z_assemble.specs.declared.fault.Kind.{Kind}
 use Rattle.z_assemble.specs.declared.operand.Operand.{Operand}
@@ -33,6 +33,9 @@ code_in RIEc o f = o / 256 ∷ halves f.r1 f.mask ∷ halfword f.imm (modulo 8 f
 -- the bytes of a row's instruction of these fields
 unfoldable pub code_of : Entry → Fields → List ℕ
 code_of e f = code_in e.format e.opcode f
+
+abbrev pub allowed_code : Entry → Fields → Result (List ℕ) Kind
+allowed_code e f = allowed e (Some f) >>= λ g. Ok (code_of e g)
 
 -- the bytes of an instruction by its operands, or what is wrong with these
 abbrev pub code_for : Entry → Option ℕ → ℕ → List Operand → Result (List ℕ) Kind

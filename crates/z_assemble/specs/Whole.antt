@@ -1,5 +1,5 @@
 -- What a text stands for, and its first fault.
-use Rattle.std.specs.Prelude.{◌≡◌, ℕ, suc, ◌+◌, ◌-◌, ◌/◌, Bool, true, false, cond, List, [], ◌∷◌, length, replicate, Option, Some, None, Result, Ok, Err, nat_lt, ◌==◌, if◌then◌else◌, ◌⊎◌, slice_index}
+use Rattle.std.specs.Prelude.{◌≡◌, ℕ, suc, ◌+◌, ◌-◌, ◌/◌, Bool, true, false, cond, List, [], ◌∷◌, ◌++◌, length, replicate, Option, Some, None, Result, Ok, Err, nat_lt, ◌==◌, if◌then◌else◌, ◌⊎◌, slice_index}
 use Rattle.std.specs.FinSet.{FinSet, empty, insert}
 use Rattle.std.specs.Ordering.{nat_cmp}
 use Rattle.z_regs.specs.Cpu.{started}
@@ -60,6 +60,9 @@ known_in p = record { labels = p.labels; tasks = p.tasks }
 unfoldable pub places_from : ℕ → List Bool → List ℕ
 places_from n [] = []
 places_from n (mark ∷ marks) = cond mark (n ∷ places_from (suc n) marks) (places_from (suc n) marks)
+
+abbrev pub with_place : Bool → ℕ → List ℕ → List ℕ
+with_place mark place places = cond mark (places ++ place ∷ []) places
 
 abbrev pub Pages : Type 0
 Pages = FinSet nat_cmp

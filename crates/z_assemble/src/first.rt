@@ -298,17 +298,28 @@ fn cpu<'a>(draft: &mut Draft<'a>, number: u32, line: &'a [u8]) -> Result<(), Lin
     leave(draft, number, line, Operation::Cpu)
 }
 
-fn is_nil(tokens: &[Token], heads: usize) -> bool
-    ensures { result ≡ is_nil (drop heads tokens.now) }
+/// The tokens without so many at the front.
+pub(crate) fn behind(tokens: &[Token], count: usize) -> &[Token]
+    ensures is { result.now ≡ drop count tokens.now }
+    ensures inside { (n : ℕ) → All (LiesIn n) tokens.now → All (LiesIn n) result.now }
 {
-    tokens.len() <= heads
+    if count <= tokens.len() {
+        return &tokens[count..];
+    }
+    &[]
+}
+
+fn is_nil(tokens: &[Token]) -> bool
+    ensures { result ≡ is_nil tokens.now }
+{
+    matches!(tokens, [])
 }
 
 #[tactic(auto, unfolding(crate::specs::Listing::end_line))]
 fn end(draft: &mut Draft, tokens: &[Token]) -> Result<(), LineFault>
     ensures { Gives result (end_line (operands_in tokens.now) (plan_of draft.old)) (plan_of draft.new) }
 {
-    if !is_nil(tokens, heads_in(tokens)) {
+    if !is_nil(behind(tokens, heads_in(tokens))) {
         return Err(LineFault::Failed(Kind::BadDirective));
     }
     draft.ended = true;

@@ -4,7 +4,7 @@ ghost use Rattle.std.specs.List.{list_any};
 ghost use Rattle.z_instr.specs.Lines.{entry_of};
 ghost use Rattle.z_instr.specs.Table.{entry_at};
 ghost use Rattle.z_instr.specs.declared.table.TheConstants.{ROWS};
-ghost use Rattle.z_assemble.specs.Code.{code_of, code_for};
+ghost use Rattle.z_assemble.specs.Code.{allowed_code, code_for};
 ghost use Rattle.z_assemble.specs.Operands.{is_plain, is_full, lacks_value, known, outer, inner, innermost, form_in, form_of, takes, has_form, register, displacement, immediate, length_code, half, jump, with_slot, fields_from, are_allowed, slots_for, fields_for, instruction_in};
 ghost use Rattle.z_assemble.specs.Operations.{size_of_row};
 ghost use Rattle.z_assemble.specs.Sizes.{IsMask};
@@ -167,6 +167,7 @@ fn takes(slot: Slot, operand: Operand) -> bool
     }
 }
 
+#[tactic(auto, using(crate::proofs::Forms::form_steps))]
 fn has_form(slots: &[Slot], operands: &[Operand]) -> bool
     ensures { result ≡ has_form slots.now operands.now }
 {
@@ -306,6 +307,7 @@ fn with_slot(here: usize, slot: Slot, operand: Operand, fields: Fields) -> Optio
     }
 }
 
+#[tactic(auto, using(crate::proofs::Forms::field_steps))]
 fn fields_from(
     here: usize,
     slots: &[Slot],
@@ -335,6 +337,17 @@ fn fields_for(mask: Option<u8>) -> Fields
     }
 }
 
+/// The bytes of an instruction of these fields, where its row allows them.
+fn encoded(op: Op, fields: Fields) -> Result<Code, Kind>
+    ensures code { IsCode result (allowed_code (entry_at op.number) fields) }
+    ensures size { IfOk result (λ code. code.length ≡ size_of_row op.number) }
+{
+    match Instr::new(op, fields) {
+        Some(instr) => Ok(encode(&instr)),
+        None => Err(Kind::OutOfRange),
+    }
+}
+
 /// The bytes of an instruction by its operands, or what is wrong with these: their form, a label, a range.
 #[tactic(auto, unfolding(crate::specs::Operands::instruction_in))]
 pub(crate) fn code_for(
@@ -360,8 +373,5 @@ pub(crate) fn code_for(
     let Some(fields) = fields_from(here, slots, operands, fields_for(mask)) else {
         return Err(Kind::OutOfRange);
     };
-    match Instr::new(op, fields) {
-        Some(instr) => Ok(encode(&instr)),
-        None => Err(Kind::OutOfRange),
-    }
+    encoded(op, fields)
 }

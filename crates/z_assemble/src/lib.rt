@@ -13,6 +13,7 @@ mod number;
 mod operand;
 mod operation;
 mod parameter;
+mod parts;
 mod place;
 mod schedule;
 mod second;
@@ -27,6 +28,7 @@ pub use fault::{AssembleFault, Kind, LineFault, ListingFault};
 pub use operand::{Atom, Operand, Piece, Slot};
 pub use operation::Operation;
 pub use parameter::Parameter;
+pub use parts::Parts;
 pub use schedule::{MOST_EVENTS, Run};
 pub use setup::Setup;
 

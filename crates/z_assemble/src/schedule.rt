@@ -80,7 +80,7 @@ fn event_of(external: bool, cpu: u32) -> Event
 fn push_many(events: &mut Vec<Event>, count: u64, event: Event) -> Result<(), LineFault>
     ensures { Gives result (Ok (events.old.items ++ replicate count event)) events.new.items }
 {
-    for _turn in 0..count {
+    for turn in 0..count {
         events.push(event)?;
     }
     Ok(())

@@ -1,5 +1,5 @@
 //! The second reading of the lines, when all labels are known.
-ghost use Rattle.std.specs.Prelude.{◌≡◌, ℕ, IfOk, Ok, OnOk, ◌≤◌, ◌<◌, ◌+◌, ◌-◌, ◌^◌, length, drop, map, pos, sum_by, IsTrue, All, Option, Some, true, false};
+ghost use Rattle.std.specs.Prelude.{◌≡◌, ℕ, IfOk, Ok, OnOk, ◌≤◌, ◌<◌, ◌+◌, ◌-◌, ◌*◌, ◌^◌, length, drop, map, pos, sum_by, IsTrue, All, Option, Some, true, false};
 ghost use Rattle.std.specs.List.{list_any};
 ghost use Rattle.z_instr.specs.Reading.{modulo};
 ghost use Rattle.z_regs.specs.Cpu.{cpu_of};
@@ -15,7 +15,7 @@ ghost use Rattle.z_assemble.specs.Values.{operands_on};
 
 use crate::draft::{SIZE, Work};
 use crate::fault::{Kind, LineFault};
-use crate::first::{field_behind, heads_in, is_doubleword, operation_in};
+use crate::first::{behind, field_behind, heads_in, is_doubleword, operation_in};
 use crate::instruction::code_for;
 use crate::operand::Operand;
 use crate::operation::{Operation, size_of_row};
@@ -38,6 +38,7 @@ fn is_below(count: usize, value: i128) -> bool
     0 <= value && value < count as i128
 }
 
+#[tactic(auto, using(crate::proofs::Lists::change_steps))]
 fn set_address(cpus: &mut Vec<CpuImage>, at: usize, address: u64)
     ensures is { map cpu_of cpus.new.items ≡ change_at at (with_address address) (map cpu_of cpus.old.items) }
     ensures count { length cpus.new.items ≡ length cpus.old.items }
@@ -47,6 +48,7 @@ fn set_address(cpus: &mut Vec<CpuImage>, at: usize, address: u64)
     }
 }
 
+#[tactic(auto, using(crate::proofs::Lists::change_steps))]
 fn set_general(cpus: &mut Vec<CpuImage>, at: usize, register: usize, value: u64)
     requires { register < 16 }
     ensures is { map cpu_of cpus.new.items ≡ change_at at (with_general register value) (map cpu_of cpus.old.items) }
@@ -111,7 +113,8 @@ fn is_accessible(first: i128, count: i128) -> bool
 
 fn count_shown(shows: &[Show]) -> u64
     requires { length shows.now ≤ 64 }
-    ensures { result ≡ sum_by size_of_show shows.now }
+    ensures sum { result ≡ sum_by size_of_show shows.now }
+    ensures few { result ≤ 64 * 4294967295 }
 {
     let mut count = 0u64;
     for show in shows {
@@ -173,16 +176,6 @@ fn is_comma(kind: TokenKind) -> bool
     matches!(kind, TokenKind::Comma)
 }
 
-fn behind(tokens: &[Token], count: usize) -> &[Token]
-    ensures is { result.now ≡ drop count tokens.now }
-    ensures inside { (n : ℕ) → All (LiesIn n) tokens.now → All (LiesIn n) result.now }
-{
-    if count <= tokens.len() {
-        return &tokens[count..];
-    }
-    &[]
-}
-
 /// The number whose name stands first, with a comma behind it.
 fn parameter_in(line: &[u8], tokens: &[Token]) -> Option<Parameter>
     requires { All (LiesIn (length line.now)) tokens.now }
@@ -233,6 +226,7 @@ fn is_same_prefix(prefix: u32, other: Option<u32>) -> bool
     }
 }
 
+#[tactic(auto, using(crate::proofs::Lists::any_steps))]
 fn is_given(prefix: u32, cpus: &[CpuImage]) -> bool
     ensures { result ≡ list_any (has_prefix prefix) (map cpu_of cpus.now) }
 {
@@ -251,6 +245,7 @@ fn is_free(cpu: usize, prefix: u32, cpus: &[CpuImage]) -> bool
     cpus[cpu].prefix.is_none() && !is_given(prefix, cpus)
 }
 
+#[tactic(auto, using(crate::proofs::Lists::change_steps))]
 fn set_prefix(cpus: &mut Vec<CpuImage>, at: usize, prefix: u32)
     requires { IsTrue (is_prefix (Some prefix)) }
     ensures is { map cpu_of cpus.new.items ≡ change_at at (with_prefix prefix) (map cpu_of cpus.old.items) }
@@ -274,6 +269,7 @@ fn places_in(area: u32, here: usize, operation: Operation) -> bool
     }
 }
 
+#[tactic(auto, using(crate::proofs::Lists::any_steps))]
 fn is_text_in(area: u32, works: &[Work]) -> bool
     ensures { result ≡ list_any (task_places_in area) (map task_of works.now) }
 {

@@ -1,9 +1,9 @@
 //! Listings with their images or first faults, by values from outside.
-use crate::{AssembleFault, MOST_BYTES, MOST_LINES, assemble};
+use crate::{AssembleFault, MOST_BYTES, MOST_LINES, Parts, SIZE, assemble};
 use std::alloc::{AllocError, Global};
 use std::fmt::Write;
 use std::test::Fail;
-use tx_journal::{Event, Image, Show};
+use tx_journal::{Event, Show};
 use z_regs::CpuImage;
 
 fn add_starts(text: &mut String, starts: &[u32]) -> Result<(), AllocError> {
@@ -13,7 +13,7 @@ fn add_starts(text: &mut String, starts: &[u32]) -> Result<(), AllocError> {
     Ok(())
 }
 
-fn add_pages(text: &mut String, image: &Image) -> Result<(), AllocError> {
+fn add_pages(text: &mut String, image: &Parts) -> Result<(), AllocError> {
     for page in 0..256 {
         if image.guard.has(page) {
             write!(text, " {page:x}")?;
@@ -63,10 +63,11 @@ fn add_events(text: &mut String, events: &[Event]) -> Result<(), AllocError> {
     Ok(())
 }
 
-fn add_bytes(text: &mut String, storage: &[u8]) -> Result<(), AllocError> {
+fn add_bytes(text: &mut String, storage: &[u8], first: usize) -> Result<(), AllocError> {
     let mut goes_on = false;
-    for (address, byte) in storage.iter().enumerate() {
+    for (place, byte) in storage.iter().enumerate() {
         if *byte != 0 {
+            let address = first.wrapping_add(place);
             if !goes_on {
                 write!(text, " {address:x}:")?;
             }
@@ -77,7 +78,7 @@ fn add_bytes(text: &mut String, storage: &[u8]) -> Result<(), AllocError> {
     Ok(())
 }
 
-fn described(alloc: Global, image: &Image) -> Result<String, AllocError> {
+fn described(alloc: Global, image: &Parts) -> Result<String, AllocError> {
     let mut text = String::from_str(alloc, "starts")?;
     add_starts(&mut text, &image.starts)?;
     text.push_str("; pages")?;
@@ -95,7 +96,10 @@ fn described(alloc: Global, image: &Image) -> Result<String, AllocError> {
     let stop = image.parms.stop;
     let delay = image.parms.delay;
     write!(text, "; parms {reject} {firm} {late} {starve} {stop} {delay}; bytes")?;
-    add_bytes(&mut text, &image.storage)?;
+    if image.storage.len() == SIZE {
+        add_bytes(&mut text, &image.storage[8192..49152], 8192)?;
+        add_bytes(&mut text, &image.storage[1_048_064..], 1_048_064)?;
+    }
     Ok(text)
 }
 

@@ -1,25 +1,25 @@
 //! Both readings of all lines, and the image.
-ghost use Rattle.std.specs.Prelude.{◌≡◌, ◌-◌, ◌≤◌, ◌<◌, ◌^◌, ◌+◌, ◌/◌, length, List, IfOk, map, replicate, IfErr, drop, false, ℕ, All};
+ghost use Rattle.std.specs.Prelude.{◌≡◌, ◌-◌, ◌≤◌, ◌<◌, ◌^◌, ◌+◌, ◌/◌, length, List, IfOk, OnOk, map, replicate, IfErr, drop, false, ℕ, All};
 ghost use Rattle.std.specs.FinSet.{empty};
 ghost use Rattle.z_instr.specs.Layout.{length_by};
 ghost use Rattle.z_regs.specs.Cpu.{cpu_of, started};
 ghost use Rattle.z_text.specs.Labels.{value_in};
 ghost use Rattle.tx_journal.specs.Content.{content};
-ghost use Rattle.tx_journal.specs.Image.{IsImage, length_at};
+ghost use Rattle.tx_journal.specs.Image.{length_at};
 ghost use Rattle.z_assemble.specs.Listing.{plan_of, task_of};
 ghost use Rattle.z_assemble.specs.Setup.{machine_of, known_of};
 ghost use Rattle.z_assemble.specs.Steps.{Passes, on_line};
 ghost use Rattle.z_assemble.specs.Text.{lines_of, copies};
-ghost use Rattle.z_assemble.specs.Whole.{first_on, first_over, second_on, second_over, blank, no_label, places_from, with_page, with_pages, pages_with, image_of, finished, after_first, over_lines, assembled, Stands, HasFault, IsOutcome, fault_at, ready_for};
+ghost use Rattle.z_assemble.specs.Whole.{first_on, first_over, second_on, second_over, blank, no_label, places_from, with_place, with_page, with_pages, pages_with, image_of, finished, after_first, over_lines, assembled, Stands, HasFault, IsOutcome, fault_at, ready_for};
 
 use crate::draft::{Draft, SIZE, Work};
 use crate::fault::{AssembleFault, Kind, LineFault, ListingFault};
 use crate::first::read_first;
 use crate::lines::{pieces_by, without_end};
+use crate::parts::Parts;
 use crate::second::read_second;
 use crate::setup::Setup;
 use std::alloc::{AllocError, Global};
-use tx_journal::Image;
 use tx_ladder::Parms;
 use z_decode::length_of;
 use z_regs::{CpuImage, Guard};
@@ -155,13 +155,23 @@ fn entering(alloc: Global, count: u32) -> Result<Vec<CpuImage>, AllocError>
     ensures { IfOk result (λ v. map cpu_of v.items ≡ replicate count (started 0)) }
 {
     let mut cpus = Vec::new(alloc);
-    for _cpu in 0..count {
+    for cpu in 0..count {
         cpus.push(CpuImage::entering(0))?;
     }
     Ok(cpus)
 }
 
 // ---- the image
+
+fn push_marked(places: &mut Vec<u32>, place: u32, mark: bool) -> Result<(), AllocError>
+    ensures is { OnOk result (places.new.items ≡ with_place mark place places.old.items) }
+    ensures inside { (n : ℕ) → place < n → All (λ p. p < n) places.old.items → OnOk result (All (λ p. p < n) places.new.items) }
+{
+    if mark {
+        places.push(place)?;
+    }
+    Ok(())
+}
 
 /// The places of the marks, in rising order.
 fn places_of(alloc: Global, marks: &[bool]) -> Result<Vec<u32>, AllocError>
@@ -171,9 +181,7 @@ fn places_of(alloc: Global, marks: &[bool]) -> Result<Vec<u32>, AllocError>
 {
     let mut places = Vec::new(alloc);
     for (place, mark) in marks.iter().enumerate() {
-        if *mark {
-            places.push(place as u32)?;
-        }
+        push_marked(&mut places, place as u32, *mark)?;
     }
     Ok(places)
 }
@@ -198,6 +206,7 @@ fn add_pages(guard: &mut Guard, storage: &[u8], start: u32)
 }
 
 /// The pages that hold bytes of instructions.
+#[tactic(auto, using(crate::proofs::Lists::page_steps))]
 fn text_pages(storage: &[u8], starts: &[u32]) -> Guard
     requires size { length storage.now ≡ 1048576 }
     requires inside { All (λ start. start < 1048576) starts.now }
@@ -229,9 +238,8 @@ fn ready(alloc: Global, storage: Vec<u8>, count: u32) -> Result<Setup, AllocErro
 
 /// The image of what both readings have made.
 #[tactic(auto, unfolding(crate::specs::Whole::image_of))]
-fn image(alloc: Global, begins: &[bool], setup: Setup) -> Result<Image, AssembleFault>
-    requires marks { length begins.now ≡ 1048576 }
-    requires image { IsImage (image_of begins.now (machine_of setup)) }
+fn image(alloc: Global, begins: &[bool], setup: Setup) -> Result<Parts, AllocError>
+    requires { length begins.now ≡ 1048576 }
     ensures { IfOk result (λ i. i ≡ image_of begins.now (machine_of setup)) }
 {
     let Setup {
@@ -245,9 +253,16 @@ fn image(alloc: Global, begins: &[bool], setup: Setup) -> Result<Image, Assemble
     } = setup;
     let starts = places_of(alloc, begins)?;
     let guard = text_pages(&storage, &starts);
-    Ok(Image::new(
-        storage, guard, starts, cpus, shows, schedule, scheduled, parms,
-    ))
+    Ok(Parts {
+        storage,
+        guard,
+        starts,
+        cpus,
+        shows,
+        schedule,
+        scheduled,
+        parms,
+    })
 }
 
 fn whole_fault(kind: Kind) -> AssembleFault
@@ -260,7 +275,7 @@ fn whole_fault(kind: Kind) -> AssembleFault
 }
 
 /// The image that lines in capitals stand for, or the first fault.
-fn over_lines(alloc: Global, lines: &[&[u8]]) -> Result<Image, AssembleFault>
+fn over_lines(alloc: Global, lines: &[&[u8]]) -> Result<Parts, AssembleFault>
     ensures { IsOutcome result (over_lines (map (λ l. l.now) lines.now)) }
 {
     if MOST_LINES < lines.len() {
@@ -281,11 +296,11 @@ fn over_lines(alloc: Global, lines: &[&[u8]]) -> Result<Image, AssembleFault>
     if cpus == 0 {
         return Err(whole_fault(Kind::NoCpu));
     }
-    image(alloc, &begins, setup)
+    Ok(image(alloc, &begins, setup)?)
 }
 
 #[tactic(auto, unfolding(crate::specs::Whole::assembled, crate::specs::Text::lines_of))]
-fn assembled(alloc: Global, text: &[u8]) -> Result<Image, AssembleFault>
+fn assembled(alloc: Global, text: &[u8]) -> Result<Parts, AssembleFault>
     ensures { IsOutcome result (assembled text.now) }
 {
     if MOST_BYTES < text.len() {
@@ -297,7 +312,7 @@ fn assembled(alloc: Global, text: &[u8]) -> Result<Image, AssembleFault>
 }
 
 /// The image that the text of a listing stands for, or the first fault of the text, in the order of the tests.
-pub fn assemble(alloc: Global, text: &[u8]) -> Result<Image, AssembleFault>
+pub fn assemble(alloc: Global, text: &[u8]) -> Result<Parts, AssembleFault>
     ensures image { IfOk result (λ image. Stands text.now image) }
     ensures fault { IfErr result (λ e. HasFault text.now e) }
 {

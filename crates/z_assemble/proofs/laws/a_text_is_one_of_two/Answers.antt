@@ -1,4 +1,4 @@
-use Rattle.z_assemble.proofs.Laws.{one_holds, both_fail, same_image, same_fault}
+use Rattle.z_assemble.proofs.Says.{one_holds, both_fail, same_image, same_fault}
 use Rattle.z_assemble.proofs.laws.a_text_is_one_of_two.Goals as goal
 
 pub returns-clause-one : goal.returns-clause-one

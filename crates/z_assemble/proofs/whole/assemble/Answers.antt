@@ -1,4 +1,4 @@
-use Rattle.z_assemble.proofs.Laws.{outcome_image, outcome_fault}
+use Rattle.z_assemble.proofs.Says.{outcome_image, outcome_fault}
 use Rattle.z_assemble.proofs.whole.assemble.Goals as goal
 
 pub returns-clause-image : goal.returns-clause-image

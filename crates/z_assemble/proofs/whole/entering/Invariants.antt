@@ -2,5 +2,5 @@ use Rattle.std.proofs.Common.{◌≡◌, map, replicate}
 use Rattle.z_regs.specs.Cpu.{cpu_of, started}
 use Rattle.z_assemble.proofs.whole.entering.Given as goal
 
-abbrev pub invariant-loop-_cpu : goal.invariant-loop-_cpu
-invariant-loop-_cpu l = map cpu_of l.cpus.items ≡ replicate l._cpu (started 0)
+abbrev pub invariant-loop-cpu : goal.invariant-loop-cpu
+invariant-loop-cpu l = map cpu_of l.cpus.items ≡ replicate l.cpu (started 0)

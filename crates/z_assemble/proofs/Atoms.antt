@@ -35,7 +35,7 @@ first_atom v [] n h e = absurd (omega arith)
 first_atom v (t ∷ ts) n h e =
     let s = some_size (expression_size (t ∷ ts)) in
     let d : n ≡ suc (atom_size (t ∷ ts) - 1) = omega arith in
-    ap (λ as. atom_at v (t ∷ ts) ∷ as) (atoms_skip v (atom_size (t ∷ ts) - 1) ts ∙ ap (λ m. atoms_from v 0 (drop m (t ∷ ts))) (sym d))
+    ap (λ atoms. atom_at v (t ∷ ts) ∷ atoms) (atoms_skip v (atom_size (t ∷ ts) - 1) ts ∙ ap (λ m. atoms_from v 0 (drop m (t ∷ ts))) (sym d))
 
 drop_twice : {X : Type 0} (n at : ℕ) (text : List X) → drop n (drop at text) ≡ drop (at + n) text
 drop_twice n at text = grind (arith, drop-drop)
@@ -49,7 +49,7 @@ atoms_pushed v ts at end old a whole h i e w =
     ∙ (ap (λ x. old ++ x ∷ atoms_from v 0 (drop end ts)) i
     ∙ (ap (λ m. old ++ atom_at v (drop at ts) ∷ atoms_from v 0 (drop m ts)) e
     ∙ (ap (λ d. old ++ atom_at v (drop at ts) ∷ atoms_from v 0 d) (sym (drop_twice (atom_size (drop at ts)) at ts))
-    ∙ (ap (λ as. old ++ as) (sym (first_atom v (drop at ts) (atom_size (drop at ts)) some refl)) ∙ w))))
+    ∙ (ap (λ atoms. old ++ atoms) (sym (first_atom v (drop at ts) (atom_size (drop at ts)) some refl)) ∙ w))))
 
 pub no_atoms : (v : Valuation) (ts : List Token) (at : ℕ) → length ts ≤ at → atoms_from v 0 (drop at ts) ≡ []
 unfolding atoms_from
@@ -146,7 +146,7 @@ value_size ts at end e =
 
 -- ---- operands
 
-operands_skip : (k : ℕ) (as : List Atom) → operands_from k as ≡ operands_from 0 (drop k as)
+operands_skip : (k : ℕ) (rest : List Atom) → operands_from k rest ≡ operands_from 0 (drop k rest)
 unfolding operands_from
 operands_skip zero rest = refl
 operands_skip (suc k) [] = refl
