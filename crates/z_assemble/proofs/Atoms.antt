@@ -9,7 +9,7 @@ use Rattle.z_text.specs.declared.labels.Labels.{Labels}
 use Rattle.z_text.specs.declared.token.Token.{Token}
 use Rattle.z_text.specs.declared.token.TokenKind.{TokenKind}
 use Rattle.z_text.specs.declared.token.TokenKind.TheVariants as tokens
-use Rattle.z_assemble.specs.Operands.{Valuation, atom_at, atom_for, atom_size, size_for, atoms_from, mark_of, operands_from, operand_here, size_here, piece_at, checked, goes_on_rightly, with_operand, size_of_piece}
+use Rattle.z_assemble.specs.Operands.{Valuation, atom_at, atom_for, atom_size, size_for, atoms_from, mark_of, operands_from, operands_of, operand_here, size_here, piece_at, checked, goes_on_rightly, with_operand, size_of_piece}
 use Rattle.z_assemble.specs.Values.{value_in_line, value_there, sum_in, value_of_term}
 use Rattle.z_assemble.specs.declared.operand.Atom.{Atom}
 use Rattle.z_assemble.specs.declared.operand.Atom.TheVariants.{Value}
@@ -195,3 +195,7 @@ pub operands_end : (s : List Atom) (front : List Operand) (whole : Option (List 
 unfolding operands_from
 operands_end [] front whole h w = ap Some (sym (append-nil front)) ∙ w
 operands_end (a ∷ rest) front whole h w = absurd (omega arith)
+
+pub no_operands : (v : Valuation) (ts : List Token) (n : ℕ) → length ts ≤ n → operands_of v (drop n ts) ≡ Some []
+unfolding operands_of operands_from
+no_operands v ts n h = ap (operands_from 0) (no_atoms v ts n h)

@@ -1,5 +1,5 @@
 -- The functions on lists and the relations on whole lines say the same.
-use Rattle.std.proofs.Common.{◌≡◌, ℕ, ◌+◌, Bool, true, false, List, [], ◌∷◌, length, Option, Some, None, Result, Ok, Err, ◌⊎◌, inl, inr, refl, sym, ap, ◌∙◌, subst, nat_lt, ◌==◌, if◌then◌else◌}
+use Rattle.std.proofs.Common.{◌≡◌, ℕ, ◌+◌, Bool, true, false, List, [], ◌∷◌, length, Option, Some, None, Result, Ok, Err, ◌⊎◌, inl, inr, refl, sym, ap, ◌∙◌, subst, nat_lt, ◌==◌, if◌then◌else◌, ◌≤◌, le-ltb}
 use Rattle.std.specs.Prelude.{IfOk, IfErr}
 use Rattle.tx_journal.specs.Content.{Content}
 use Rattle.z_assemble.specs.Listing.{Plan, Task, line_gives}
@@ -177,3 +177,14 @@ same_image text s t h g = ok_is (assembled text) s t (stands_is text s h) (stand
 
 pub same_fault : (text : List ℕ) (e f : ListingFault) → FirstFault text e → FirstFault text f → e ≡ f
 same_fault text e f h g = err_is (assembled text) e f (fault_is text e h) (fault_is text f g)
+
+-- Both readings one after the other are the whole, with each as the code has it.
+pub lines_stand : (lines : List (List ℕ)) (start p : Plan) (r m : Machine) (image : Content) → length lines ≤ 262144 → start ≡ blank → first_over 1 lines start ≡ Ok p →
+    r ≡ ready p → second_over (known_in p) p.tasks r ≡ Ok m → (p.cpus == 0) ≡ false → image ≡ image_of p.begins m → over_lines lines ≡ Ok image
+lines_stand lines start p r m image few s f e g c i =
+    ap (λ b. if b then Err (fault_at 0 TooManyLines) else first_over 1 lines blank >>= after_first) (le-ltb _ _ few)
+    ∙ (ap (λ q. first_over 1 lines q >>= after_first) (sym s)
+    ∙ (ap (λ x. x >>= after_first) f
+    ∙ (ap (λ q. second_over (known_in p) p.tasks q >>= finished p) (sym e)
+    ∙ (ap (λ x. x >>= finished p) g
+    ∙ (ap (λ b. if b then Err (fault_at 0 NoCpu) else Ok (image_of p.begins m)) c ∙ ap Ok (sym i))))))

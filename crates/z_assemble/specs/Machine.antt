@@ -17,7 +17,7 @@ use Rattle.tx_journal.specs.declared.image.Show.{Show}
 use Rattle.tx_ladder.specs.Parameters.{Parameters}
 use Rattle.tx_ladder.specs.declared.parms.TheConstants.{REJECT, FIRM, LATE, STARVE, STOP, DELAY}
 use Rattle.z_assemble.specs.Code.{code_for}
-use Rattle.z_assemble.specs.Listing.{Task, operands_in, operation_in, field_behind, is_below, is_doubleword, to_nat, first_token}
+use Rattle.z_assemble.specs.Listing.{Task, heads_in, operands_in, operation_in, field_behind, is_below, is_doubleword, to_nat, first_token}
 use Rattle.z_assemble.specs.Operations.{size_of_row}
 use Rattle.z_assemble.specs.Chain.{◌>>=◌}
 use Rattle.z_assemble.specs.Schedule.{scheduled}
@@ -216,7 +216,7 @@ operands_for malformed k t ts = operands_on malformed t.text k.labels t.here ts
 
 abbrev pub named_parameter : Option Parameter → Known → Task → List Token → Machine → Result Machine Kind
 named_parameter None k t ts m = Err BadDirective
-named_parameter (Some p) k t ts m = operands_for BadDirective k t (drop 2 ts) >>= λ os. parameter_line p os m
+named_parameter (Some p) k t ts m = operands_for BadDirective k t ts >>= λ os. parameter_line p os m
 
 abbrev pub end_of : Option Token → ℕ
 end_of None = 0
@@ -234,7 +234,7 @@ directive_line _ k os m = Ok m
 unfoldable pub read_again : Operation → Known → Task → List Token → Machine → Result Machine Kind
 read_again (operations.Instruction row mask) k t ts m = operands_for WrongOperands k t (operands_in ts) >>= λ os. code_line row mask t.here os m
 read_again operations.Sched k t ts m = schedule_line (field_behind (end_of (operation_in ts)) t.text) m
-read_again operations.Parm k t ts m = named_parameter (parameter_in t.text (operands_in ts)) k t (operands_in ts) m
+read_again operations.Parm k t ts m = named_parameter (parameter_in t.text (operands_in ts)) k t (drop (heads_in ts + 2) ts) m
 read_again op k t ts m = operands_for BadDirective k t (operands_in ts) >>= λ os. directive_line op k os m
 
 -- What the second reading of a line leaves, or the first of its tests that fails.

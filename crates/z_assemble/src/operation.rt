@@ -136,8 +136,10 @@ fn row_named(name: &[u8]) -> Option<u16>
     ensures is { result ≡ row_named name.now }
     ensures known { IfSome result (λ row. row < ROWS) }
 {
-    let op = find(name)?;
-    Some(op.number)
+    match find(name) {
+        Some(op) => Some(op.number),
+        None => None,
+    }
 }
 
 fn instruction(row: Option<u16>, mask: Option<u8>) -> Option<Operation>

@@ -6,7 +6,7 @@ ghost use Rattle.z_regs.specs.Cpu.{cpu_of};
 ghost use Rattle.z_regs.specs.Prefix.{is_prefix};
 ghost use Rattle.z_text.specs.Labels.{value_in};
 ghost use Rattle.z_text.specs.Tokens.{AreTokensIn, LiesIn};
-ghost use Rattle.z_assemble.specs.Listing.{task_of, operands_in, operation_in, is_below, is_doubleword, field_behind};
+ghost use Rattle.z_assemble.specs.Listing.{task_of, heads_in, operands_in, operation_in, is_below, is_doubleword, field_behind};
 ghost use Rattle.z_assemble.specs.Machine.{change_at, with_address, with_general, entry_line, is_register_value, register_line, size_of_show, is_accessible, has_room_for, shown, show_line, block_line, is_comma, parameter_in, parameter_line, named_parameter, is_area, is_same_prefix, has_prefix, is_free, places_in, task_places_in, is_prefix_for, with_prefix, prefix_line, schedule_line, code_line, tokens_in, end_of, directive_line, read_again, task_gives};
 ghost use Rattle.z_assemble.specs.Setup.{machine_of, known_of};
 ghost use Rattle.z_assemble.specs.Sizes.{IsPlaced};
@@ -388,7 +388,7 @@ fn choose_named(
     tokens: &[Token],
 ) -> Result<(), LineFault>
     requires { AreTokensIn work.text.now tokens.now }
-    ensures gives { Gives result (named_parameter (parameter_in work.entry.text.now (operands_in tokens.now)) (known_of labels.now works.now) (task_of work.entry) (operands_in tokens.now) (machine_of setup.old)) (machine_of setup.new) }
+    ensures gives { Gives result (named_parameter (parameter_in work.entry.text.now (operands_in tokens.now)) (known_of labels.now works.now) (task_of work.entry) (drop (heads_in tokens.now + 2) tokens.now) (machine_of setup.old)) (machine_of setup.new) }
     ensures entered { setup.new.entered ≡ setup.old.entered }
 {
     let heads = heads_in(tokens);

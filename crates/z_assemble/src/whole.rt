@@ -224,6 +224,7 @@ fn ready(alloc: Global, storage: Vec<u8>, count: u32) -> Result<Setup, AllocErro
     requires size { length storage.items ≡ 1048576 }
     requires few { count ≤ 16 }
     ensures is { IfOk result (λ s. machine_of s ≡ ready_for storage.items count) }
+    ensures entered { IfOk result (λ s. s.entered ≡ 0) }
 {
     Ok(Setup {
         storage,
