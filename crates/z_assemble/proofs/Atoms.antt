@@ -135,7 +135,7 @@ value_here text ts at end labels here d h e =
     let n : ℕ = expression_size (drop at ts) in
     let s : (n == 0) ≡ false = (size_some at n end e).0 in
     let first : atom_at v (drop at ts) ≡ Value (v (take n (get_or ts at d ∷ drop (at + 1) ts))) =
-        ap (λ r. atom_for v n r) (drop_here ts at d h) ∙ atom_value v n (get_or ts at d) (drop (at + 1) ts) s in
+    ap (λ r. atom_for v n r) (drop_here ts at d h) ∙ atom_value v n (get_or ts at d) (drop (at + 1) ts) s in
     ap Value (value_is text ts at labels here ∙ ap (λ b. if b then None else v (take n (drop at ts))) s)
     ∙ (ap (λ r. Value (v (take n r))) (drop_here ts at d h) ∙ sym first)
 

@@ -74,7 +74,6 @@ pub places_over : (marks : List Bool) (i : ℕ) (old whole : List ℕ) → lengt
 unfolding places_from
 places_over marks i old whole h w = sym (append-nil old) ∙ (ap (λ l. old ++ places_from i l) (sym (drop_all i marks h)) ∙ w)
 
-
 -- ---- pages
 
 pub pages_go : (storage starts : List ℕ) (i : ℕ) (pages : Pages) → i < length starts →

@@ -172,11 +172,11 @@ pub data FirstFault (text : List ℕ) (f : ListingFault) : Type 0 where
   too_long : nat_lt 16777216 (length text) ≡ true → IsFault 0 ListingTooLong f → FirstFault text f
   too_many : nat_lt 16777216 (length text) ≡ false → nat_lt 262144 (length (lines_of text)) ≡ true → IsFault 0 TooManyLines f → FirstFault text f
   in_first : nat_lt 16777216 (length text) ≡ false → nat_lt 262144 (length (lines_of text)) ≡ false →
-    FaultInFirst 1 (lines_of text) blank f → FirstFault text f
+      FaultInFirst 1 (lines_of text) blank f → FirstFault text f
   in_second : nat_lt 16777216 (length text) ≡ false → nat_lt 262144 (length (lines_of text)) ≡ false → (p : Plan) → First 1 (lines_of text) blank p →
-    FaultInSecond (known_in p) p.tasks (ready p) f → FirstFault text f
+      FaultInSecond (known_in p) p.tasks (ready p) f → FirstFault text f
   no_cpu : nat_lt 16777216 (length text) ≡ false → nat_lt 262144 (length (lines_of text)) ≡ false → (p : Plan) → First 1 (lines_of text) blank p →
-    (m : Machine) → Second (known_in p) p.tasks (ready p) m → (p.cpus == 0) ≡ true → IsFault 0 NoCpu f → FirstFault text f
+      (m : Machine) → Second (known_in p) p.tasks (ready p) m → (p.cpus == 0) ≡ true → IsFault 0 NoCpu f → FirstFault text f
 
 -- ---- what the code answers
 

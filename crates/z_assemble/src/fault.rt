@@ -1,7 +1,7 @@
 //! Why a text is no listing.
 ghost use Rattle.std.specs.Prelude.{◌≡◌};
 ghost use Rattle.z_assemble.specs.declared.fault.LineFault.TheVariants.{Memory, Failed};
-ghost use Rattle.z_assemble.specs.Kinds.{number_of, line_fault};
+ghost use Rattle.z_assemble.specs.Kinds.{number_of, line_fault, words_of};
 
 use std::alloc::{AllocError, AllocFailed};
 use z_text::{NoMemory, TextFault};
@@ -143,4 +143,51 @@ impl From<TextFault> for LineFault {
             TextFault::BadNumber => LineFault::Failed(Kind::BadNumber),
         }
     }
+}
+
+/// The words for the kind of a fault, by its number from 1 to 14.
+#[tactic(auto, unfolding(crate::specs::Kinds::words_of))]
+pub fn words_of(kind: u8) -> &'static str
+    ensures { result.now ≡ words_of kind }
+{
+    if kind == 1 {
+        return "listing too long";
+    }
+    if kind == 2 {
+        return "too many lines";
+    }
+    if kind == 3 {
+        return "bad token";
+    }
+    if kind == 4 {
+        return "bad number";
+    }
+    if kind == 5 {
+        return "line too long";
+    }
+    if kind == 6 {
+        return "unknown mnemonic";
+    }
+    if kind == 7 {
+        return "wrong operands";
+    }
+    if kind == 8 {
+        return "out of range";
+    }
+    if kind == 9 {
+        return "unknown label";
+    }
+    if kind == 10 {
+        return "double label";
+    }
+    if kind == 11 {
+        return "overlap";
+    }
+    if kind == 12 {
+        return "bad directive";
+    }
+    if kind == 13 {
+        return "no CPU";
+    }
+    "bad schedule"
 }

@@ -68,13 +68,7 @@ pub(crate) fn heads_in(tokens: &[Token]) -> usize
 {
     match tokens {
         [] => 0,
-        [head, ..] => {
-            if head.first == 0 {
-                2
-            } else {
-                1
-            }
-        }
+        [head, ..] => { if head.first == 0 { 2 } else { 1 } }
     }
 }
 
@@ -150,12 +144,7 @@ fn define_here(draft: &mut Draft, label: &[u8]) -> Result<(), LineFault>
 // ---- operations
 
 /// The value of the one expression of a line, by the labels so far.
-fn value_on(
-    alloc: Global,
-    draft: &Draft,
-    line: &[u8],
-    tokens: &[Token],
-) -> Result<i128, LineFault>
+fn value_on(alloc: Global, draft: &Draft, line: &[u8], tokens: &[Token]) -> Result<i128, LineFault>
     requires tokens { AreTokensIn line.now tokens.now }
     ensures { Answers (λ v. v) result (value_on line.now (operands_in tokens.now) (plan_of draft.now)) }
 {
@@ -388,5 +377,7 @@ pub(crate) fn read_first<'a>(
     if is_defined(label, &draft.labels) {
         return Err(LineFault::Failed(Kind::DoubleLabel));
     }
-    run(alloc, draft, operation, number, label, line, name.end, &tokens)
+    run(
+        alloc, draft, operation, number, label, line, name.end, &tokens,
+    )
 }

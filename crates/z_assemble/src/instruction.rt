@@ -308,12 +308,7 @@ fn with_slot(here: usize, slot: Slot, operand: Operand, fields: Fields) -> Optio
 }
 
 #[tactic(auto, using(crate::proofs::Forms::field_steps))]
-fn fields_from(
-    here: usize,
-    slots: &[Slot],
-    operands: &[Operand],
-    start: Fields,
-) -> Option<Fields>
+fn fields_from(here: usize, slots: &[Slot], operands: &[Operand], start: Fields) -> Option<Fields>
     requires here { here ≤ 1048576 }
     requires same { length slots.now ≡ length operands.now }
     ensures { result ≡ fields_from here slots.now operands.now start }

@@ -130,12 +130,7 @@ fn has_room_for(count: u32, shows: &[Show]) -> bool
 }
 
 #[tactic(auto, unfolding(crate::specs::Machine::shown))]
-fn show(
-    setup: &mut Setup,
-    first: i128,
-    count: i128,
-    fields: bool,
-) -> Result<(), LineFault>
+fn show(setup: &mut Setup, first: i128, count: i128, fields: bool) -> Result<(), LineFault>
     ensures gives { Gives result (shown first count fields (machine_of setup.old)) (machine_of setup.new) }
     ensures entered { setup.new.entered ≡ setup.old.entered }
 {
@@ -193,11 +188,7 @@ fn parameter_in(line: &[u8], tokens: &[Token]) -> Option<Parameter>
 }
 
 #[tactic(auto, unfolding(crate::specs::Machine::parameter_line))]
-fn choose(
-    setup: &mut Setup,
-    parameter: Parameter,
-    operands: &[Operand],
-) -> Result<(), LineFault>
+fn choose(setup: &mut Setup, parameter: Parameter, operands: &[Operand]) -> Result<(), LineFault>
     ensures gives { Gives result (parameter_line parameter operands.now (machine_of setup.old)) (machine_of setup.new) }
     ensures entered { setup.new.entered ≡ setup.old.entered }
 {
@@ -357,13 +348,7 @@ fn operands_for(
     ensures { Answers (λ v. v.items) result (operands_on malformed work.entry.text.now (value_in labels.now) work.entry.here (drop first tokens.now)) }
 {
     operands_on(
-        alloc,
-        malformed,
-        work.text,
-        tokens,
-        first,
-        labels,
-        work.here,
+        alloc, malformed, work.text, tokens, first, labels, work.here,
     )
 }
 

@@ -90,7 +90,7 @@ fn piece_with(outer: Option<i128>, atoms: &[Atom]) -> Option<Piece>
             Atom::Comma,
             Atom::Value(innermost),
             Atom::Close,
-            ..,
+            ..
         ] => Some(Piece {
             operand: Operand::Full(outer, *inner, *innermost),
             size: 6,
@@ -202,9 +202,11 @@ pub(crate) fn three_in(operands: &[Operand]) -> Result<(i128, i128, i128), Kind>
     ensures { result ≡ three_in operands.now }
 {
     match operands {
-        [Operand::Plain(Some(a)), Operand::Plain(Some(b)), Operand::Plain(Some(c))] => {
-            Ok((*a, *b, *c))
-        }
+        [
+            Operand::Plain(Some(a)),
+            Operand::Plain(Some(b)),
+            Operand::Plain(Some(c)),
+        ] => { Ok((*a, *b, *c)) }
         [Operand::Plain(_), Operand::Plain(_), Operand::Plain(_)] => Err(Kind::UnknownLabel),
         _ => Err(Kind::BadDirective),
     }

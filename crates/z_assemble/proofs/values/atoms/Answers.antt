@@ -9,8 +9,8 @@ pub loop-at-preserved : goal.loop-at-preserved
 loop-at-preserved c = record {
   within = c.atom_at-atom.ensures.within;
   same =
-    rw c.in_ok-push.ensures.items
-    (atoms_pushed (value_in_line c.args.line.now (value_in c.args.labels.now) c.args.here) c.args.tokens.now c.loop-at.at c.atom_at-atom.result.1 c.loop-at.atoms.items _ _ c.loop-at-test.true c.atom_at-atom.ensures.atom c.atom_at-atom.ensures.end c.loop-at.invariant.same);
+      rw c.in_ok-push.ensures.items
+      (atoms_pushed (value_in_line c.args.line.now (value_in c.args.labels.now) c.args.here) c.args.tokens.now c.loop-at.at c.atom_at-atom.result.1 c.loop-at.atoms.items _ _ c.loop-at-test.true c.atom_at-atom.ensures.atom c.atom_at-atom.ensures.end c.loop-at.invariant.same);
 }
 
 pub returns : goal.returns
