@@ -1,5 +1,5 @@
 -- The parts of tokens, and the operands of parts.
-use Rattle.std.proofs.Common.{◌≡◌, ℕ, zero, suc, ◌+◌, ◌-◌, ◌<◌, ◌≤◌, ℤ, Bool, true, false, cond, if◌then◌else◌, ◌==◌, List, [], ◌∷◌, ◌++◌, length, take, drop, get_or, slice_index, Option, Some, None, option_map, Result, Ok, Err, refl, sym, ap, ◌∙◌, subst, arith, append_assoc, append-nil, drop-drop, length-drop, add-one}
+use Rattle.std.proofs.Common.{◌≡◌, ℕ, zero, suc, ◌+◌, ◌-◌, ◌<◌, ◌≤◌, ℤ, Bool, true, false, if◌then◌else◌, ◌==◌, List, [], ◌∷◌, ◌++◌, length, take, drop, get_or, slice_index, Option, Some, None, option_map, refl, sym, ap, ◌∙◌, arith, append_assoc, append-nil, drop-drop, length-drop, add-one}
 use Rattle.std.proofs.lemmas.Grind.{common_steps}
 use Rattle.std.proofs.lemmas.List.{drop_all}
 use Rattle.z_text.specs.Expressions.{expression_size, expression_of, end_of, end_after, sum_of, term_value, value_of_kind, is_sign, add, signed, with_value, value_to}
@@ -9,7 +9,7 @@ use Rattle.z_text.specs.declared.labels.Labels.{Labels}
 use Rattle.z_text.specs.declared.token.Token.{Token}
 use Rattle.z_text.specs.declared.token.TokenKind.{TokenKind}
 use Rattle.z_text.specs.declared.token.TokenKind.TheVariants as tokens
-use Rattle.z_assemble.specs.Operands.{Valuation, atom_at, atom_for, atom_size, size_for, atoms_from, mark_of, operands_from, operands_of, operand_here, size_here, piece_at, checked, goes_on_rightly, with_operand, size_of_piece}
+use Rattle.z_assemble.specs.Operands.{Valuation, atom_at, atom_for, atom_size, size_for, atoms_from, mark_of, operands_from, operands_of, piece_at, checked, goes_on_rightly, with_operand, size_of_piece}
 use Rattle.z_assemble.specs.Values.{value_in_line, value_there, sum_in, value_of_term}
 use Rattle.z_assemble.specs.declared.operand.Atom.{Atom}
 use Rattle.z_assemble.specs.declared.operand.Atom.TheVariants.{Value}

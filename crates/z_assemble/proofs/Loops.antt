@@ -5,12 +5,11 @@ use Rattle.std.proofs.lemmas.List.{drop_all}
 use denote.Ref.{Bor}
 use Rattle.tx_journal.specs.declared.events.Event.{Event}
 use Rattle.z_assemble.specs.Chain as chain
-use Rattle.z_assemble.specs.Listing.{Plan, Task, task_of, line_gives}
-use Rattle.z_assemble.specs.Machine.{Machine, Known, task_gives}
+use Rattle.z_assemble.specs.Listing.{Plan, task_of}
+use Rattle.z_assemble.specs.Machine.{Machine, Known}
 use Rattle.z_assemble.specs.Schedule.{with_item, with_items}
 use Rattle.z_assemble.specs.Steps.{Gives, Passes}
-use Rattle.z_assemble.specs.Text.{without_end}
-use Rattle.z_assemble.specs.Whole.{on, first_on, first_over, second_on, second_over, ◌>>=◌}
+use Rattle.z_assemble.specs.Whole.{first_on, first_over, second_on, second_over, ◌>>=◌}
 use Rattle.z_assemble.specs.declared.draft.Work.{Work}
 use Rattle.z_assemble.specs.declared.fault.AssembleFault.{AssembleFault}
 use Rattle.z_assemble.specs.declared.fault.AssembleFault.TheVariants as ends

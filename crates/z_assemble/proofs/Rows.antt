@@ -1,12 +1,11 @@
 -- The first row of a name is the one that is found.
-use Rattle.std.proofs.Common.{◌≡◌, ℕ, zero, suc, ◌+◌, ◌<◌, ◌≤◌, Bool, true, false, List, [], ◌∷◌, length, get_or, Option, Some, None, refl, sym, ap, ◌∙◌, subst, arith, if◌then◌else◌}
+use Rattle.std.proofs.Common.{◌≡◌, ℕ, zero, suc, ◌+◌, ◌<◌, Bool, true, false, List, [], ◌∷◌, length, get_or, Option, Some, None, refl, sym, ap, ◌∙◌, subst, arith, if◌then◌else◌}
 use Rattle.std.proofs.lemmas.Slice.Eq.{bytes_eq-Decides}
 use Rattle.std.specs.Str.{bytes_eq}
 use Rattle.z_instr.proofs.Distinct.{one_name}
 use Rattle.z_instr.proofs.TableFacts.{same_table}
-use Rattle.z_instr.specs.Lines.{entry_of}
 use Rattle.z_instr.specs.Table.{Entry, table, entry_at, no_entry}
-use Rattle.z_instr.specs.declared.table.TheConstants.{ROWS, TABLE}
+use Rattle.z_instr.specs.declared.table.TheConstants.{ROWS}
 use Rattle.z_assemble.specs.Operations.{row_from, row_named}
 
 by_name : (n : ℕ) (name : List ℕ) (rest : Option ℕ) (b : Bool) → b ≡ false → (if b then Some n else rest) ≡ rest

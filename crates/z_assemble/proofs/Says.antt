@@ -1,11 +1,11 @@
 -- The functions on lists and the relations on whole lines say the same.
-use Rattle.std.proofs.Common.{◌≡◌, ℕ, ◌+◌, Bool, true, false, List, [], ◌∷◌, length, Option, Some, None, Result, Ok, Err, ◌⊎◌, inl, inr, refl, sym, ap, ◌∙◌, subst, nat_lt, ◌==◌, if◌then◌else◌, ◌≤◌, le-ltb}
+use Rattle.std.proofs.Common.{◌≡◌, ℕ, ◌+◌, Bool, true, false, List, [], ◌∷◌, length, Result, Ok, Err, ◌⊎◌, inl, inr, refl, sym, ap, ◌∙◌, subst, nat_lt, ◌==◌, if◌then◌else◌, ◌≤◌, le-ltb}
 use Rattle.std.specs.Prelude.{IfOk, IfErr}
 use Rattle.tx_journal.specs.Content.{Content}
 use Rattle.z_assemble.specs.Listing.{Plan, Task, line_gives}
 use Rattle.z_assemble.specs.Machine.{Machine, Known, task_gives}
 use Rattle.z_assemble.specs.Text.{lines_of, without_end}
-use Rattle.z_assemble.specs.Whole.{◌>>=◌, on, fault_at, blank, ready, known_in, image_of, first_over, second_over, finished, after_first, over_lines, assembled, First, Second, FaultInFirst, FaultInSecond, IsFault, Stands, FirstFault, too_long, too_many, in_first, in_second, no_cpu, IsOutcome, HasFault}
+use Rattle.z_assemble.specs.Whole.{◌>>=◌, on, fault_at, blank, ready, known_in, image_of, first_over, second_over, finished, after_first, over_lines, assembled, First, Second, FaultInFirst, FaultInSecond, Stands, FirstFault, too_long, too_many, in_first, in_second, no_cpu, IsOutcome, HasFault}
 use Rattle.z_assemble.specs.declared.fault.AssembleFault.{AssembleFault}
 use Rattle.z_assemble.specs.declared.fault.AssembleFault.TheVariants as ends
 use Rattle.z_assemble.specs.declared.fault.Kind.{Kind}

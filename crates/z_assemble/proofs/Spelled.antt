@@ -2,7 +2,7 @@
 use Rattle.std.proofs.Common.{◌≡◌, ℕ, ℤ, true, List, Some, Ok, Err, if◌then◌else◌, refl, sym, ap, ◌∙◌}
 use Rattle.z_instr.specs.Made.{Has}
 use Rattle.z_instr.specs.Reading.{spelled, spelling, Reads}
-use Rattle.z_instr.specs.Table.{Entry, entry_at}
+use Rattle.z_instr.specs.Table.{entry_at}
 use Rattle.z_instr.specs.declared.format.Format.{Format}
 use Rattle.z_instr.specs.declared.format.Format.TheVariants.{RR, I, RX, RRE, RRFa, RRFc, RXY, RI, RIL, RS, RSY, SI, SIY, SIL, S, SS, RIEb, RIEc}
 use Rattle.z_instr.specs.declared.instr.Fields.{Fields}

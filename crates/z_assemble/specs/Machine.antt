@@ -1,5 +1,5 @@
 -- The second reading of the lines, when all labels are known: instructions, and what the machine starts from.
-use Rattle.std.specs.Prelude.{ℕ, zero, suc, ℤ, pos, negsuc, ◌+◌, ◌%◌, Bool, true, false, not, ◌&&◌, List, [], ◌∷◌, ◌++◌, length, drop, Option, Some, None, is_none, Result, Ok, Err, nat_lt, nat_le, ◌==◌, if◌then◌else◌, slice_set, codes, sum_by, get_or}
+use Rattle.std.specs.Prelude.{ℕ, zero, suc, ℤ, pos, negsuc, ◌+◌, Bool, true, false, not, ◌&&◌, List, [], ◌∷◌, ◌++◌, length, drop, Option, Some, None, is_none, Result, Ok, Err, nat_lt, nat_le, ◌==◌, if◌then◌else◌, slice_set, codes, sum_by, get_or}
 use Rattle.std.specs.List.{list_any}
 use Rattle.std.specs.Str.{bytes_eq}
 use Rattle.z_text.specs.Line.{span}
@@ -17,7 +17,7 @@ use Rattle.tx_journal.specs.declared.image.Show.{Show}
 use Rattle.tx_ladder.specs.Parameters.{Parameters}
 use Rattle.tx_ladder.specs.declared.parms.TheConstants.{REJECT, FIRM, LATE, STARVE, STOP, DELAY}
 use Rattle.z_assemble.specs.Code.{code_for}
-use Rattle.z_assemble.specs.Listing.{Task, heads_in, operands_in, operation_in, field_behind, is_below, is_doubleword, to_nat, first_token}
+use Rattle.z_assemble.specs.Listing.{Task, heads_in, operands_in, operation_in, field_behind, is_below, is_doubleword, to_nat}
 use Rattle.z_assemble.specs.Operations.{size_of_row}
 use Rattle.z_assemble.specs.Chain.{◌>>=◌}
 use Rattle.z_assemble.specs.Schedule.{scheduled}

@@ -1,5 +1,5 @@
 -- The operands of a line: what its tokens and the values of its expressions say.
-use Rattle.std.specs.Prelude.{ℕ, zero, suc, ℤ, pos, negsuc, ◌+◌, ◌-◌, ◌/◌, ◌%◌, ◌^◌, ◌-ℤ◌, Bool, true, false, not, ◌&&◌, cond, List, [], ◌∷◌, take, drop, Option, Some, None, is_none, option_map, option_and_then, Result, Ok, Err, ◌==◌, nat_lt, if◌then◌else◌}
+use Rattle.std.specs.Prelude.{ℕ, zero, suc, ℤ, pos, negsuc, ◌-◌, ◌/◌, ◌%◌, ◌^◌, ◌-ℤ◌, Bool, true, false, not, ◌&&◌, cond, List, [], ◌∷◌, take, drop, Option, Some, None, is_none, option_and_then, Result, Ok, Err, ◌==◌, nat_lt, if◌then◌else◌}
 use Rattle.std.specs.List.{list_any}
 use Rattle.z_text.specs.Expressions.{expression_size}
 use Rattle.z_text.specs.declared.token.Token.{Token}

@@ -1,5 +1,5 @@
 -- Which operation a name is.
-use Rattle.std.specs.Prelude.{ℕ, suc, ◌+◌, Bool, true, false, List, [], ◌∷◌, Option, Some, None, codes, if◌then◌else◌, ◌<◌, nat_lt}
+use Rattle.std.specs.Prelude.{ℕ, suc, List, [], ◌∷◌, Option, Some, None, codes, if◌then◌else◌}
 use Rattle.std.specs.Str.{bytes_eq}
 use Rattle.z_instr.specs.Layout.{format_length}
 use Rattle.z_instr.specs.Table.{Entry, table, entry_at}

@@ -1,4 +1,4 @@
-use Rattle.std.proofs.Common.{◌≡◌, length, map, sym, ap, ◌∙◌, arith, refl, append-nil, ◌++◌}
+use Rattle.std.proofs.Common.{◌≡◌, length, map, sym, ap, ◌∙◌, arith, append-nil, ◌++◌}
 use Rattle.z_assemble.proofs.Pieces.{pieces_none, pieces_pushed}
 use Rattle.z_assemble.proofs.lines.pieces_by.Goals as goal
 

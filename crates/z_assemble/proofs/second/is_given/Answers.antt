@@ -1,4 +1,4 @@
-use Rattle.std.proofs.Common.{◌∙◌, ◌≡◌, sym, ap, true}
+use Rattle.std.proofs.Common.{◌∙◌, sym}
 use Rattle.z_regs.specs.Cpu.{cpu_of}
 use Rattle.z_assemble.specs.Machine.{has_prefix}
 use Rattle.z_assemble.proofs.Lists.{any_here, any_over, any_map}

@@ -1,6 +1,5 @@
-use Rattle.std.proofs.Common.{◌∙◌, sym, ap, subst, ◌++◌, ◌≡◌, append-nil, drop}
+use Rattle.std.proofs.Common.{◌∙◌, sym, ap, ◌++◌, append-nil}
 use Rattle.z_text.specs.Labels.{value_in}
-use Rattle.z_assemble.specs.Operands.{atoms_from}
 use Rattle.z_assemble.specs.Values.{value_in_line}
 use Rattle.z_assemble.proofs.Atoms.{atoms_pushed, no_atoms}
 use Rattle.z_assemble.proofs.values.atoms.Goals as goal

@@ -1,4 +1,4 @@
-use Rattle.std.proofs.Common.{◌∙◌, sym, ap, arith}
+use Rattle.std.proofs.Common.{◌∙◌, sym, ap}
 use Rattle.z_assemble.specs.Operands.{goes_on_rightly}
 use Rattle.z_assemble.proofs.Atoms.{operands_pushed, no_operand, wrong_behind, operands_end}
 use Rattle.z_assemble.proofs.values.operands_from.Goals as goal

@@ -1,4 +1,4 @@
-use Rattle.std.proofs.Common.{sym, refl}
+use Rattle.std.proofs.Common.{refl}
 use Rattle.z_assemble.proofs.Lists.{place_step, places_over}
 use Rattle.z_assemble.proofs.whole.places_of.Goals as goal
 
