@@ -1,5 +1,6 @@
 -- Counting the numbers below a bound that pass a test.
-use Rattle.std.proofs.Common.{◌≡◌, ◌≢◌, ℕ, zero, suc, ◌+◌, ◌<◌, ◌≤◌, Bool, true, false, eqb, List, [], ◌∷◌, length, ⊎_elim, refl, sym, ap, ◌∙◌, arith, inl, inr}
+use Rattle.std.proofs.Common.{◌≡◌, ◌≢◌, ℕ, zero, suc, ◌+◌, ◌<◌, ◌≤◌, Bool, true, false, eqb, List, [], ◌∷◌}
+use Rattle.std.proofs.Common.{length, ⊎_elim, refl, sym, ap, ◌∙◌, arith, inl, inr}
 use Rattle.std.specs.Prelude.{◌⊎◌, ◌||◌, ◌&&◌, not}
 use Rattle.std.specs.List.{list_any}
 use Rattle.std.proofs.lemmas.Bool.{cases_eq, cases_Bool, eq-eqb, ne_eqb, cond-true, cond-false}
@@ -24,22 +25,28 @@ pub but_at-other : (f : ℕ → Bool) (at : ℕ) (value : Bool) (k : ℕ) → k 
 but_at-other f at value k ne = cond-false (eqb k at) value (f k) (ne_eqb k at ne)
 
 -- one number's answer changed
-pub count_but_at : (n : ℕ) (f : ℕ → Bool) (at : ℕ) (value : Bool) → at < n → count_below n (but_at f at value) + one_if (f at) ≡ count_below n f + one_if value
+pub count_but_at : (n : ℕ) (f : ℕ → Bool) (at : ℕ) (value : Bool) → at < n
+    → count_below n (but_at f at value) + one_if (f at) ≡ count_below n f + one_if value
 unfolding count_below
 count_but_at zero f at value lt = absurd (omega arith)
 count_but_at (suc n) f at value lt =
     cases (cases_eq at n)
     (λ e.
-    let before = count_agree n (but_at f at value) f (λ k low. but_at-other f at value k (λ same. absurd (omega (arith, e, same, low)))) in
-    let last : one_if (but_at f at value n) ≡ one_if value = ap (λ k. one_if (but_at f at value k)) (sym e) ∙ ap one_if (but_at-same f at value) in
+    let before =
+    count_agree n (but_at f at value) f
+    (λ k low. but_at-other f at value k (λ same. absurd (omega (arith, e, same, low)))) in
+    let last : one_if (but_at f at value n) ≡ one_if value = ap (λ k. one_if (but_at f at value k)) (sym e)
+    ∙ ap one_if (but_at-same f at value) in
     let mine : one_if (f at) ≡ one_if (f n) = ap (λ k. one_if (f k)) e in
     omega arith)
     (λ ne.
     let before = count_but_at n f at value (omega arith) in
-    let last : one_if (but_at f at value n) ≡ one_if (f n) = ap one_if (but_at-other f at value n (λ same. ne (sym same))) in
+    let last : one_if (but_at f at value n) ≡ one_if (f n) =
+    ap one_if (but_at-other f at value n (λ same. ne (sym same))) in
     omega arith)
 
-pub count_le : (n : ℕ) (f g : ℕ → Bool) → ((k : ℕ) → k < n → f k ≡ true → g k ≡ true) → count_below n f ≤ count_below n g
+pub count_le : (n : ℕ) (f g : ℕ → Bool) → ((k : ℕ) → k < n → f k ≡ true → g k ≡ true)
+    → count_below n f ≤ count_below n g
 unfolding count_below
 count_le zero f g h = omega arith
 count_le (suc n) f g h =
@@ -74,7 +81,8 @@ count_one zero x = omega arith
 count_one (suc n) x =
     cases (cases_eq x n)
     (λ e.
-    let before = count_none n (λ k. eqb x k) (λ k lt. ne_eqb x k (λ same. absurd (omega (arith, e, same, lt)))) in
+    let before =
+    count_none n (λ k. eqb x k) (λ k lt. ne_eqb x k (λ same. absurd (omega (arith, e, same, lt)))) in
     let last : one_if (eqb x n) ≡ 1 = ap one_if (eq-eqb x n e) in
     omega arith)
     (λ ne.
@@ -86,9 +94,16 @@ count_one (suc n) x =
 pub count_listed : (n : ℕ) (xs : List ℕ) → count_below n (λ k. list_any (λ x. eqb x k) xs) ≤ length xs
 count_listed n [] = omega (arith, count_none n (λ k. false) (λ k lt. refl))
 count_listed n (x ∷ xs) =
-    omega (arith, count_or n (λ k. eqb x k) (λ k. list_any (λ y. eqb y k) xs), count_one n x, count_listed n xs)
+    omega (
+      arith,
+      count_or n (λ k. eqb x k) (λ k. list_any (λ y. eqb y k) xs),
+      count_one n x,
+      count_listed n
+          xs,
+    )
 
-pub search_below : (n : ℕ) (f : ℕ → Bool) → ((k : ℕ) × (k < n) × (f k ≡ true)) ⊎ ((k : ℕ) → k < n → f k ≡ false)
+pub search_below : (n : ℕ) (f : ℕ → Bool)
+    → ((k : ℕ) × (k < n) × (f k ≡ true)) ⊎ ((k : ℕ) → k < n → f k ≡ false)
 search_below zero f = inr (λ k lt. absurd (omega arith))
 search_below (suc n) f =
     cases (search_below n f)
@@ -103,11 +118,13 @@ inside_from_not true false h e = let n : true ≡ false = h in cc
 inside_from_not false b h e = let n : false ≡ true = e in cc
 
 -- where more numbers pass one test than another, one passes the first alone
-pub one_outside : (n : ℕ) (f g : ℕ → Bool) → count_below n g < count_below n f → (k : ℕ) × (k < n) × ((f k && not (g k)) ≡ true)
+pub one_outside : (n : ℕ) (f g : ℕ → Bool) → count_below n g < count_below n f
+    → (k : ℕ) × (k < n) × ((f k && not (g k)) ≡ true)
 one_outside n f g more =
     cases (search_below n (λ k. f k && not (g k)))
     (λ found. found)
-    (λ none. absurd (omega (arith, more, count_le n f g (λ k lt e. inside_from_not (f k) (g k) (none k lt) e))))
+    (λ none. absurd
+    (omega (arith, more, count_le n f g (λ k lt e. inside_from_not (f k) (g k) (none k lt) e))))
 
 -- no more numbers pass than there are
 pub count_at_most : (n : ℕ) (f : ℕ → Bool) → count_below n f ≤ n

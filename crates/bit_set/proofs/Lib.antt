@@ -1,3 +1,4 @@
+-- Words of marks, the marks of a set, and counts of them.
 pub mod Words
 pub mod Marks
 pub mod Counts

@@ -1,8 +1,11 @@
 -- The marks that words of 64 bits stand for.
-use Rattle.std.proofs.Common.{◌≡◌, ◌≢◌, ℕ, ◌+◌, ◌-◌, ◌*◌, ◌/◌, ◌%◌, ◌^◌, ◌<◌, ◌≤◌, Bool, true, false, cond, ltb, List, length, get_or, set, replicate, Option, Some, None, IfSome, IfNone, ⊎_elim, sym, ap, subst, ◌∙◌, arith}
+use Rattle.std.proofs.Common.{◌≡◌, ◌≢◌, ℕ, ◌+◌, ◌-◌, ◌*◌, ◌/◌, ◌%◌, ◌^◌, ◌<◌, ◌≤◌, Bool, true, false, cond}
+use Rattle.std.proofs.Common.{ltb, List, length, get_or, set, replicate, Option, Some, None, IfSome, IfNone}
+use Rattle.std.proofs.Common.{⊎_elim, sym, ap, subst, ◌∙◌, arith}
 use Rattle.std.specs.Prelude.{◌⊎◌, All}
 use Rattle.std.proofs.lemmas.Bool.{cases_lt, cases_eq, cond-true, cond-false, lt-ltb, le-ltb}
-use Rattle.std.proofs.lemmas.List.{get_or_past, length-set, length-replicate, get_or-set_same, get_or-set_other, get_or-replicate, ext_get_or}
+use Rattle.std.proofs.lemmas.List.{get_or_past, length-set, length-replicate, get_or-set_same}
+use Rattle.std.proofs.lemmas.List.{get_or-set_other, get_or-replicate, ext_get_or}
 use Rattle.std.proofs.lemmas.List.FromFn.{length-map-range_with_len, get_or-map-range_with_len}
 use Rattle.std.proofs.lemmas.Nat.Bits.{bit_at-zero}
 use Rattle.bit_set.specs.Bits.{bit, bits_of, IsLowestBit, IsNext, NoneMarked}
@@ -18,44 +21,79 @@ pub length-bits_of : (words : List ℕ) → length (bits_of words) ≡ 64 * leng
 unfolding bits_of
 length-bits_of words = length-map-range_with_len (bit_in words) 0 (64 * length words)
 
-pub get_or-bits_of : (words : List ℕ) (k : ℕ) (d : Bool) → k < 64 * length words → get_or (bits_of words) k d ≡ bit (get_or words (k / 64) 0) (k % 64)
+pub get_or-bits_of : (words : List ℕ) (k : ℕ) (d : Bool) → k < 64 * length words
+    → get_or (bits_of words) k d ≡ bit (get_or words (k / 64) 0) (k % 64)
 unfolding bits_of
-get_or-bits_of words k d lt = get_or-map-range_with_len (bit_in words) 0 (64 * length words) k k d lt (omega arith)
+get_or-bits_of words k d lt =
+    get_or-map-range_with_len (bit_in words) 0 (64 * length words) k k d lt (omega arith)
 
 -- one bit of one word is written
-pub bits_of-set : (words : List ℕ) (word at : ℕ) (mark : Bool) → at < 64 * length words → bit word (at % 64) ≡ mark → ((i : ℕ) → i < 64 → i ≢ at % 64 → bit word i ≡ bit (get_or words (at / 64) 0) i) → bits_of (set words (at / 64) word) ≡ set (bits_of words) at mark
+pub bits_of-set : (words : List ℕ) (word at : ℕ) (mark : Bool) → at < 64 * length words
+    → bit word (at % 64) ≡ mark
+    → ((i : ℕ) → i < 64 → i ≢ at % 64 → bit word i ≡ bit (get_or words (at / 64) 0) i)
+    → bits_of (set words (at / 64) word) ≡ set (bits_of words) at mark
 bits_of-set words word at mark lt here others =
-    ext_get_or false _ _ same_length (λ k under. at_place k (omega (arith, under, length-bits_of (set words (at / 64) word), length-set words (at / 64) word)))
+    ext_get_or false _ _ same_length
+    (λ k under. at_place k
+    (omega (arith, under, length-bits_of (set words (at / 64) word), length-set words (at / 64) word)))
   where
     same_length : length (bits_of (set words (at / 64) word)) ≡ length (set (bits_of words) at mark)
-    same_length = omega (arith, length-bits_of (set words (at / 64) word), length-set words (at / 64) word, length-set (bits_of words) at mark, length-bits_of words)
+    same_length =
+        omega (
+          arith,
+          length-bits_of (set words (at / 64) word),
+          length-set words (at / 64) word,
+          length-set
+              (bits_of words) at mark,
+          length-bits_of words,
+        )
 
-    in_set : (k : ℕ) → k < 64 * length words → get_or (bits_of (set words (at / 64) word)) k false ≡ bit (get_or (set words (at / 64) word) (k / 64) 0) (k % 64)
-    in_set k under = get_or-bits_of (set words (at / 64) word) k false (omega (arith, under, length-set words (at / 64) word))
+    in_set : (k : ℕ) → k < 64 * length words
+        → get_or (bits_of (set words (at / 64) word)) k false ≡ bit
+        (get_or (set words (at / 64) word) (k / 64) 0) (k % 64)
+    in_set k under =
+        get_or-bits_of (set words (at / 64) word) k false
+        (omega (arith, under, length-set words (at / 64) word))
 
     read_here : (k : ℕ) → k / 64 ≡ at / 64 → get_or (set words (at / 64) word) (k / 64) 0 ≡ word
-    read_here k e = ap (λ w. get_or (set words (at / 64) word) w 0) e ∙ get_or-set_same words (at / 64) word 0 (omega arith)
+    read_here k e = ap (λ w. get_or (set words (at / 64) word) w 0) e
+        ∙ get_or-set_same words (at / 64) word 0 (omega arith)
 
-    at_place : (k : ℕ) → k < 64 * length words → get_or (bits_of (set words (at / 64) word)) k false ≡ get_or (set (bits_of words) at mark) k false
+    at_place : (k : ℕ) → k < 64 * length words
+        → get_or (bits_of (set words (at / 64) word)) k false ≡ get_or (set (bits_of words) at mark) k false
     at_place k under =
         cases (cases_eq k at)
-        (λ e. in_set k under ∙ ap (λ w. bit w (k % 64)) (read_here k (ap (λ n. n / 64) e)) ∙ ap (λ n. bit word (n % 64)) e ∙ here
-        ∙ sym (ap (λ n. get_or (set (bits_of words) at mark) n false) e ∙ get_or-set_same (bits_of words) at mark false (omega (arith, lt, length-bits_of words))))
+        (λ e. in_set k under ∙ ap (λ w. bit w (k % 64)) (read_here k (ap (λ n. n / 64) e))
+        ∙ ap (λ n. bit word (n % 64)) e ∙ here
+        ∙ sym (ap (λ n. get_or (set (bits_of words) at mark) n false) e
+        ∙ get_or-set_same (bits_of words) at mark false (omega (arith, lt, length-bits_of words))))
         (λ ne. in_set k under
         ∙ cases (cases_eq (k / 64) (at / 64))
-        (λ e. ap (λ w. bit w (k % 64)) (read_here k e) ∙ others (k % 64) (omega arith) (λ same. ne (omega (arith, e, same))) ∙ ap (λ w. bit (get_or words w 0) (k % 64)) (sym e))
+        (λ e. ap (λ w. bit w (k % 64)) (read_here k e)
+        ∙ others (k % 64) (omega arith) (λ same. ne (omega (arith, e, same)))
+        ∙ ap (λ w. bit (get_or words w 0) (k % 64)) (sym e))
         (λ off. ap (λ w. bit w (k % 64)) (get_or-set_other words (at / 64) (k / 64) word 0 off))
         ∙ sym (get_or-set_other (bits_of words) at k mark false ne ∙ get_or-bits_of words k false under))
 
 -- words of zeros have no marks
 pub bits_of-zeros : (n : ℕ) → bits_of (replicate n 0) ≡ replicate (64 * n) false
 bits_of-zeros n =
-    ext_get_or false _ _ same_length (λ k under. at_place k (omega (arith, under, length-bits_of (replicate n 0), length-replicate {A = ℕ} n 0)))
+    ext_get_or false _ _ same_length
+    (λ k under. at_place k
+    (omega (arith, under, length-bits_of (replicate n 0), length-replicate {A = ℕ} n 0)))
   where
     same_length : length (bits_of (replicate n 0)) ≡ length (replicate (64 * n) false)
-    same_length = omega (arith, length-bits_of (replicate n 0), length-replicate {A = ℕ} n 0, length-replicate {A = Bool} (64 * n) false)
+    same_length =
+        omega (
+          arith,
+          length-bits_of (replicate n 0),
+          length-replicate {A = ℕ} n 0,
+          length-replicate {A =
+              Bool} (64 * n) false,
+        )
 
-    at_place : (k : ℕ) → k < 64 * n → get_or (bits_of (replicate n 0)) k false ≡ get_or (replicate (64 * n) false) k false
+    at_place : (k : ℕ) → k < 64 * n
+        → get_or (bits_of (replicate n 0)) k false ≡ get_or (replicate (64 * n) false) k false
     at_place k under =
         get_or-bits_of (replicate n 0) k false (omega (arith, under, length-replicate {A = ℕ} n 0))
         ∙ ap (λ w. bit w (k % 64)) (get_or-replicate n (k / 64) 0 0 (omega arith))
@@ -63,7 +101,8 @@ bits_of-zeros n =
         ∙ sym (get_or-replicate (64 * n) k false false under)
 
 -- words of 64 bits with the same marks are equal
-pub same_words : (a b : List ℕ) → All (λ w. w < 2 ^ 64) a → All (λ w. w < 2 ^ 64) b → bits_of a ≡ bits_of b → a ≡ b
+pub same_words : (a b : List ℕ) → All (λ w. w < 2 ^ 64) a → All (λ w. w < 2 ^ 64) b → bits_of a ≡ bits_of b
+    → a ≡ b
 same_words a b fa fb e = ext_get_or 0 a b len at
   where
     len : length a ≡ length b
@@ -82,12 +121,17 @@ same_words a b fa fb e = ext_get_or 0 a b len at
         ∙ ap (λ n. bit (get_or b n 0) ((w * 64 + i) % 64)) quotient ∙ ap (bit (get_or b w 0)) rest
 
     at : (w : ℕ) → w < length a → get_or a w 0 ≡ get_or b w 0
-    at w lt = same_word (get_or a w 0) (get_or b w 0) (fa w 0 lt) (fb w 0 (omega (arith, lt, len))) (λ i within. bits_alike w i lt within)
+    at w lt =
+        same_word (get_or a w 0) (get_or b w 0) (fa w 0 lt) (fb w 0 (omega (arith, lt, len)))
+        (λ i within. bits_alike w i lt within)
 
 -- ---- the next mark
 
 -- no mark below a word, and none in it below a bit
-none_up_to : (words : List ℕ) (from w s b : ℕ) → w < length words → b ≤ 64 → NoneMarked (bits_of words) from (w * 64 + s) → ((i : ℕ) → s ≤ i → i < b → bit (get_or words w 0) i ≡ false) → NoneMarked (bits_of words) from (w * 64 + b)
+none_up_to : (words : List ℕ) (from w s b : ℕ) → w < length words → b ≤ 64
+    → NoneMarked (bits_of words) from (w * 64 + s)
+    → ((i : ℕ) → s ≤ i → i < b → bit (get_or words w 0) i ≡ false)
+    → NoneMarked (bits_of words) from (w * 64 + b)
 none_up_to words from w s b lt most below_it in_it = λ k le under.
     cases (cases_lt k (w * 64 + s))
     (λ low. below_it k le low)
@@ -96,42 +140,58 @@ none_up_to words from w s b lt most below_it in_it = λ k le under.
     let quotient : k / 64 ≡ w = omega arith in
     let s_le : s ≤ k % 64 = omega arith in
     let b_lt : k % 64 < b = omega arith in
-    get_or-bits_of words k false (omega arith) ∙ ap (λ n. bit (get_or words n 0) (k % 64)) quotient ∙ in_it (k % 64) s_le b_lt)
+    get_or-bits_of words k false (omega arith) ∙ ap (λ n. bit (get_or words n 0) (k % 64)) quotient
+    ∙ in_it (k % 64) s_le b_lt)
 
-pub none_in_word : (words : List ℕ) (from w s : ℕ) → w < length words → NoneMarked (bits_of words) from (w * 64 + s) → ((i : ℕ) → s ≤ i → i < 64 → bit (get_or words w 0) i ≡ false) → NoneMarked (bits_of words) from (w * 64 + 64)
+pub none_in_word : (words : List ℕ) (from w s : ℕ) → w < length words
+    → NoneMarked (bits_of words) from (w * 64 + s)
+    → ((i : ℕ) → s ≤ i → i < 64 → bit (get_or words w 0) i ≡ false)
+    → NoneMarked (bits_of words) from (w * 64 + 64)
 none_in_word words from w s lt below_it in_it = none_up_to words from w s 64 lt (omega arith) below_it in_it
 
 abbrev found_at : ℕ → ℕ → Option ℕ
 found_at at end = cond (ltb at end) (Some at) None
 
-pub next_found : (words : List ℕ) (from w s b end : ℕ) → w < length words → from ≤ w * 64 + s → NoneMarked (bits_of words) from (w * 64 + s) → IsLowestBit (get_or words w 0) s b → IfSome (found_at (w * 64 + b) end) (λ at. IsNext (bits_of words) from end at)
+pub next_found : (words : List ℕ) (from w s b end : ℕ) → w < length words → from ≤ w * 64 + s
+    → NoneMarked (bits_of words) from (w * 64 + s) → IsLowestBit (get_or words w 0) s b
+    → IfSome (found_at (w * 64 + b) end) (λ at. IsNext (bits_of words) from end at)
 next_found words from w s b end lt le below_it lowest =
     cases (cases_lt (w * 64 + b) end)
-    (λ yes. subst (λ o. IfSome o (λ at. IsNext (bits_of words) from end at)) (sym (cond-true (ltb (w * 64 + b) end) (Some (w * 64 + b)) None (lt-ltb _ _ yes)))
+    (λ yes. subst (λ o. IfSome o (λ at. IsNext (bits_of words) from end at))
+    (sym (cond-true (ltb (w * 64 + b) end) (Some (w * 64 + b)) None (lt-ltb _ _ yes)))
     (record {
       from_on = omega (arith, le, lowest.from_on);
       below = yes;
       marked = at_bit lowest.within lowest.set;
       first = none_up_to words from w s b lt (omega (arith, lowest.within)) below_it lowest.first;
     }))
-    (λ over. subst (λ o. IfSome o (λ at. IsNext (bits_of words) from end at)) (sym (cond-false (ltb (w * 64 + b) end) (Some (w * 64 + b)) None (le-ltb _ _ over))) tt)
+    (λ over. subst (λ o. IfSome o (λ at. IsNext (bits_of words) from end at))
+    (sym (cond-false (ltb (w * 64 + b) end) (Some (w * 64 + b)) None (le-ltb _ _ over))) tt)
   where
     at_bit : b < 64 → bit (get_or words w 0) b ≡ true → get_or (bits_of words) (w * 64 + b) false ≡ true
     at_bit within one =
         let quotient : (w * 64 + b) / 64 ≡ w = omega arith in
         let rest : (w * 64 + b) % 64 ≡ b = omega arith in
-        get_or-bits_of words (w * 64 + b) false (omega arith) ∙ ap (λ n. bit (get_or words n 0) ((w * 64 + b) % 64)) quotient ∙ ap (bit (get_or words w 0)) rest ∙ one
+        get_or-bits_of words (w * 64 + b) false (omega arith)
+        ∙ ap (λ n. bit (get_or words n 0) ((w * 64 + b) % 64)) quotient ∙ ap (bit (get_or words w 0)) rest
+        ∙ one
 
-pub next_none : (words : List ℕ) (from w s b end : ℕ) → w < length words → NoneMarked (bits_of words) from (w * 64 + s) → IsLowestBit (get_or words w 0) s b → IfNone (found_at (w * 64 + b) end) (NoneMarked (bits_of words) from end)
+pub next_none : (words : List ℕ) (from w s b end : ℕ) → w < length words
+    → NoneMarked (bits_of words) from (w * 64 + s) → IsLowestBit (get_or words w 0) s b
+    → IfNone (found_at (w * 64 + b) end) (NoneMarked (bits_of words) from end)
 next_none words from w s b end lt below_it lowest =
     cases (cases_lt (w * 64 + b) end)
-    (λ yes. subst (λ o. IfNone o (NoneMarked (bits_of words) from end)) (sym (cond-true (ltb (w * 64 + b) end) (Some (w * 64 + b)) None (lt-ltb _ _ yes))) tt)
-    (λ over. subst (λ o. IfNone o (NoneMarked (bits_of words) from end)) (sym (cond-false (ltb (w * 64 + b) end) (Some (w * 64 + b)) None (le-ltb _ _ over)))
-    (λ k le under. none_up_to words from w s b lt (omega (arith, lowest.within)) below_it lowest.first k le (omega (arith, over, under))))
+    (λ yes. subst (λ o. IfNone o (NoneMarked (bits_of words) from end))
+    (sym (cond-true (ltb (w * 64 + b) end) (Some (w * 64 + b)) None (lt-ltb _ _ yes))) tt)
+    (λ over. subst (λ o. IfNone o (NoneMarked (bits_of words) from end))
+    (sym (cond-false (ltb (w * 64 + b) end) (Some (w * 64 + b)) None (le-ltb _ _ over)))
+    (λ k le under. none_up_to words from w s b lt (omega (arith, lowest.within)) below_it lowest.first k le
+    (omega (arith, over, under))))
 
 -- an empty set has no member
 pub clear_at : (n k : ℕ) → get_or (replicate n false) k false ≡ false
 clear_at n k =
     cases (cases_lt k n)
     (λ low. get_or-replicate n k false false low)
-    (λ high. get_or_past (replicate n false) k false (omega (arith, length-replicate {A = Bool} n false, high)))
+    (λ high. get_or_past (replicate n false) k false
+    (omega (arith, length-replicate {A = Bool} n false, high)))

@@ -1,9 +1,12 @@
 -- One word: its bits as tests, and what is read from them.
-use Rattle.std.proofs.Common.{◌≡◌, ◌≢◌, ℕ, ◌-◌, ◌*◌, ◌%◌, ◌^◌, ◌<◌, ◌≤◌, min, Bool, true, false, cond, eqb, ⊎_elim, refl, sym, ap, ◌∙◌, arith, w64, bit_and}
+use Rattle.std.proofs.Common.{◌≡◌, ◌≢◌, ℕ, ◌-◌, ◌*◌, ◌%◌, ◌^◌, ◌<◌, ◌≤◌, min, Bool, true, false, cond, eqb}
+use Rattle.std.proofs.Common.{⊎_elim, refl, sym, ap, ◌∙◌, arith, w64, bit_and}
 use Rattle.std.specs.Prelude.{◌⊎◌, not}
 use Rattle.std.specs.Int.{bit_at, trailing_zeros}
 use Rattle.std.proofs.lemmas.Bool.{cases_lt, cases_eq, eq-eqb, ne_eqb, eqb-true, eqb-false}
-use Rattle.std.proofs.lemmas.Nat.Bits.{bit_at-lt, bit_at_and, bit_at_mask_inside, bit_at_mask_below, bit_at-trailing_zeros, bit_at-zero, ones_shl, and_pow, same_from_bits_below}
+use Rattle.std.proofs.lemmas.Nat.Bits.{bit_at-lt, bit_at_and, bit_at_mask_inside, bit_at_mask_below}
+use Rattle.std.proofs.lemmas.Nat.Bits.{bit_at-trailing_zeros, bit_at-zero, ones_shl, and_pow}
+use Rattle.std.proofs.lemmas.Nat.Bits.{same_from_bits_below}
 use Rattle.std.proofs.lemmas.Nat.{one_shl, pow_pos, and_le_l}
 use Rattle.bit_set.specs.Bits.{bit, IsLowestBit}
 
@@ -37,7 +40,8 @@ bit_at_is word i = bit_at_from word i (eqb (bit_at word i) 1) refl
 -- words with the same bits are equal
 pub same_word : (a b : ℕ) → a < 2 ^ 64 → b < 2 ^ 64 → ((i : ℕ) → i < 64 → bit a i ≡ bit b i) → a ≡ b
 same_word a b fa fb same =
-    same_from_bits_below 64 a b fa fb (λ i lt. bit_at_is a i ∙ ap (λ t. cond t 1 0) (same i lt) ∙ sym (bit_at_is b i))
+    same_from_bits_below 64 a b fa fb (λ i lt. bit_at_is a i ∙ ap (λ t. cond t 1 0) (same i lt)
+    ∙ sym (bit_at_is b i))
 
 abbrev pub high_of : ℕ → ℕ → ℕ
 high_of word from = bit_and word ((2 ^ 64 - 1) * 2 ^ from % 2 ^ 64)
@@ -48,20 +52,25 @@ high_inside word from i lt le within =
     let mask = ones_shl 64 from (omega arith) in
     let one = bit_at_mask_inside from 64 i le within in
     let small = bit_at-lt word i in
-    ap (λ m. bit_at (bit_and word m) i) mask ∙ bit_at_and word (2 ^ 64 - 2 ^ from) i ∙ ap (min (bit_at word i)) one ∙ omega arith
+    ap (λ m. bit_at (bit_and word m) i) mask ∙ bit_at_and word (2 ^ 64 - 2 ^ from) i
+    ∙ ap (min (bit_at word i)) one ∙ omega arith
 
 high_below : (word from i : ℕ) → from < 64 → i < from → bit_at (high_of word from) i ≡ 0
 high_below word from i lt under =
     let mask = ones_shl 64 from (omega arith) in
-    ap (λ m. bit_at (bit_and word m) i) mask ∙ bit_at_and word (2 ^ 64 - 2 ^ from) i ∙ ap (min (bit_at word i)) (bit_at_mask_below from 64 i under) ∙ omega arith
+    ap (λ m. bit_at (bit_and word m) i) mask ∙ bit_at_and word (2 ^ 64 - 2 ^ from) i
+    ∙ ap (min (bit_at word i)) (bit_at_mask_below from 64 i under) ∙ omega arith
 
-pub none_high : (word from : ℕ) → from < 64 → high_of word from ≡ 0 → (i : ℕ) → from ≤ i → i < 64 → bit word i ≡ false
+pub none_high : (word from : ℕ) → from < 64 → high_of word from ≡ 0 → (i : ℕ) → from ≤ i → i < 64
+    → bit word i ≡ false
 none_high word from lt e = λ i le within.
     bit_of_zero word i (sym (high_inside word from i lt le within) ∙ ap (λ w. bit_at w i) e ∙ bit_at-zero i)
 
-pub lowest_high : (word from : ℕ) → from < 64 → word < 2 ^ 64 → high_of word from ≢ 0 → IsLowestBit word from (trailing_zeros w64 (high_of word from))
+pub lowest_high : (word from : ℕ) → from < 64 → word < 2 ^ 64 → high_of word from ≢ 0
+    → IsLowestBit word from (trailing_zeros w64 (high_of word from))
 lowest_high word from lt fits some =
-    let small : high_of word from < 2 ^ 64 = omega (arith, and_le_l word ((2 ^ 64 - 1) * 2 ^ from % 2 ^ 64), fits) in
+    let small : high_of word from < 2 ^ 64 =
+    omega (arith, and_le_l word ((2 ^ 64 - 1) * 2 ^ from % 2 ^ 64), fits) in
     let lowest = bit_at-trailing_zeros w64 (high_of word from) (omega arith) small in
     let at : ℕ = trailing_zeros w64 (high_of word from) in
     let within : at < 64 = lowest.0 in
@@ -70,17 +79,22 @@ lowest_high word from lt fits some =
       within = within;
       from_on = up;
       set = bit_of_one word at (sym (high_inside word from at lt up within) ∙ lowest.1);
-      first = λ i le under. bit_of_zero word i (sym (high_inside word from i lt le (omega arith)) ∙ lowest.2 i under);
+      first = λ i le under. bit_of_zero word i (sym (high_inside word from i lt le (omega arith))
+          ∙ lowest.2 i under);
     }
   where
     cases_from : (word from at : ℕ) → from < 64 → bit_at (high_of word from) at ≡ 1 → from ≤ at
-    cases_from word from at lt one = cases (cases_lt at from) (λ under. absurd (omega (arith, high_below word from at lt under, one))) (λ up. up)
+    cases_from word from at lt one =
+        cases (cases_lt at from) (λ under. absurd (omega (arith, high_below word from at lt under, one)))
+        (λ up. up)
 
 product_test : (b n : ℕ) → b < 2 → 0 < n → not (eqb (b * n) 0) ≡ eqb b 1
 product_test b n small some =
     cases (cases_eq b 1)
-    (λ one. let up : (b * n) ≢ 0 = λ e. absurd (omega (arith, ap (λ x. x * n) one, e, some)) in ap not (ne_eqb (b * n) 0 up) ∙ sym (eq-eqb b 1 one))
-    (λ other. let zero : b ≡ 0 = omega arith in ap not (eq-eqb (b * n) 0 (ap (λ x. x * n) zero ∙ omega arith)) ∙ sym (ne_eqb b 1 other))
+    (λ one. let up : (b * n) ≢ 0 = λ e. absurd (omega (arith, ap (λ x. x * n) one, e, some)) in
+    ap not (ne_eqb (b * n) 0 up) ∙ sym (eq-eqb b 1 one))
+    (λ other. let zero : b ≡ 0 = omega arith in ap not (eq-eqb (b * n) 0 (ap (λ x. x * n) zero ∙ omega arith))
+    ∙ sym (ne_eqb b 1 other))
 
 -- the test of one bit by a mask
 pub tested : (word at : ℕ) → at < 64 → not (eqb (bit_and word (1 * 2 ^ at % 2 ^ 64)) 0) ≡ bit word at

@@ -9,7 +9,8 @@ bit word i = bit_at word i == 1
 
 -- the bits of words of 64 bits, from the lowest bit of the first word on
 unfoldable pub bits_of : List ℕ → List Bool
-bits_of words = map (λ k. bit (slice_index_or words (k / 64) 0) (k % 64)) (range_with_len 0 (64 * length words))
+bits_of words =
+    map (λ k. bit (slice_index_or words (k / 64) 0) (k % 64)) (range_with_len 0 (64 * length words))
 
 -- the lowest bit from a place on that is one
 pub record IsLowestBit (word from at : ℕ) : Type 0 where

@@ -1,9 +1,11 @@
 -- The others who stand against a request, and the line to give up.
-use Rattle.std.proofs.Common.{◌≡◌, ◌≢◌, ℕ, ◌+◌, ◌<◌, ◌≤◌, Bool, true, false, eqb, List, [], ◌∷◌, get_or, None, is_some, refl, sym, ap, subst, ◌∙◌, arith}
+use Rattle.std.proofs.Common.{◌≡◌, ◌≢◌, ℕ, ◌+◌, ◌<◌, ◌≤◌, Bool, true, false, eqb, List, [], ◌∷◌, get_or, None}
+use Rattle.std.proofs.Common.{is_some, refl, sym, ap, subst, ◌∙◌, arith}
 use Rattle.std.specs.Prelude.{◌&&◌, ◌||◌, not, Contains, filter}
 use Rattle.std.specs.List.{list_any, range_with_len}
 use Rattle.std.specs.List.Sorted.{IsStrictlyIncreasing}
-use Rattle.std.proofs.lemmas.Bool.{cases_eq, cases_Bool, eq-eqb, ne_eqb, eqb-true, eqb-false, and_parts, and_from, cond-true, cond-false, not-true, not_from_false}
+use Rattle.std.proofs.lemmas.Bool.{cases_eq, cases_Bool, eq-eqb, ne_eqb, eqb-true, eqb-false, and_parts}
+use Rattle.std.proofs.lemmas.Bool.{and_from, cond-true, cond-false, not-true, not_from_false}
 use Rattle.std.proofs.lemmas.List.FromFn.{length-range_with_len, get_or-range_with_len}
 use Rattle.std.proofs.lemmas.List.Folds.{Any-from_list_any, list_any_at}
 use Rattle.std.proofs.lemmas.List.Kept.{IsStrictlyIncreasing-filter}
@@ -24,10 +26,12 @@ contains_from xs other e =
     (found.0, found.2, subst (λ x. get_or xs found.0 x ≡ x) same found.3)
 
 is_in_from : (xs : List ℕ) (other : ℕ) → Contains xs other → is_in xs other ≡ true
-is_in_from xs other c = list_any_at (λ x. eqb x other) xs c.0 other c.1 (eq-eqb (get_or xs c.0 other) other c.2)
+is_in_from xs other c =
+    list_any_at (λ x. eqb x other) xs c.0 other c.1 (eq-eqb (get_or xs c.0 other) other c.2)
 
 -- a filter keeps those that pass
-is_in-filter : (test : ℕ → Bool) (xs : List ℕ) (other : ℕ) → is_in (filter test xs) other ≡ (is_in xs other && test other)
+is_in-filter : (test : ℕ → Bool) (xs : List ℕ) (other : ℕ)
+    → is_in (filter test xs) other ≡ (is_in xs other && test other)
 is_in-filter test [] other = refl
 is_in-filter test (x ∷ xs) other =
     cases (cases_eq x other)
@@ -69,50 +73,84 @@ increasing_range n = λ k lt.
     let before : k < n = omega arith in
     omega (arith, get_or-range_with_len 0 n k 0 before, get_or-range_with_len 0 n (k + 1) 0 within)
 
-pub against-rising : (cpus : ℕ) (held : Holders) (cpu line : ℕ) (wanted : Mode) → IsStrictlyIncreasing (against cpus held cpu line wanted)
+pub against-rising : (cpus : ℕ) (held : Holders) (cpu line : ℕ) (wanted : Mode)
+    → IsStrictlyIncreasing (against cpus held cpu line wanted)
 unfolding against
 against-rising cpus held cpu line wanted =
-    IsStrictlyIncreasing-filter (λ other. not (eqb other cpu) && is_against wanted (held other line)) (range_with_len 0 cpus) (increasing_range cpus)
+    IsStrictlyIncreasing-filter (λ other. not (eqb other cpu) && is_against wanted (held other line))
+    (range_with_len 0 cpus) (increasing_range cpus)
 
 -- as a test: who is in the list
-pub is_in-against : (cpus : ℕ) (held : Holders) (cpu line : ℕ) (wanted : Mode) (other : ℕ) → list_any (λ x. eqb x other) (against cpus held cpu line wanted) ≡ (list_any (λ x. eqb x other) (range_with_len 0 cpus) && (not (eqb other cpu) && is_against wanted (held other line)))
+pub is_in-against : (cpus : ℕ) (held : Holders) (cpu line : ℕ) (wanted : Mode) (other : ℕ)
+    → list_any (λ x. eqb x other)
+    (against cpus held cpu line wanted) ≡ (list_any (λ x. eqb x other) (range_with_len 0 cpus)
+    && (not (eqb other cpu) && is_against wanted (held other line)))
 unfolding against
 is_in-against cpus held cpu line wanted other =
     is_in-filter (λ o. not (eqb o cpu) && is_against wanted (held o line)) (range_with_len 0 cpus) other
 
-pub from_against : (cpus : ℕ) (held : Holders) (cpu line : ℕ) (wanted : Mode) (other : ℕ) → Contains (against cpus held cpu line wanted) other → (other < cpus) × (other ≢ cpu) × (is_against wanted (held other line) ≡ true)
+pub from_against : (cpus : ℕ) (held : Holders) (cpu line : ℕ) (wanted : Mode) (other : ℕ)
+    → Contains (against cpus held cpu line wanted) other
+    → (other < cpus) × (other ≢ cpu) × (is_against wanted (held other line) ≡ true)
 from_against cpus held cpu line wanted other c =
-    let all = and_parts (is_in (range_with_len 0 cpus) other) (not (eqb other cpu) && is_against wanted (held other line)) (sym (is_in-against cpus held cpu line wanted other) ∙ is_in_from (against cpus held cpu line wanted) other c) in
+    let all =
+    and_parts (is_in (range_with_len 0 cpus) other)
+    (not (eqb other cpu) && is_against wanted (held other line))
+    (sym (is_in-against cpus held cpu line wanted other)
+    ∙ is_in_from (against cpus held cpu line wanted) other c) in
     let own = and_parts (not (eqb other cpu)) (is_against wanted (held other line)) all.1 in
     (below_from_in_range cpus other all.0, eqb-false other cpu (not-true (eqb other cpu) own.0), own.1)
 
-pub in_against : (cpus : ℕ) (held : Holders) (cpu line : ℕ) (wanted : Mode) (other : ℕ) → (other < cpus) × (other ≢ cpu) × (is_against wanted (held other line) ≡ true) → Contains (against cpus held cpu line wanted) other
+pub in_against : (cpus : ℕ) (held : Holders) (cpu line : ℕ) (wanted : Mode) (other : ℕ)
+    → (other < cpus) × (other ≢ cpu) × (is_against wanted (held other line) ≡ true)
+    → Contains (against cpus held cpu line wanted) other
 in_against cpus held cpu line wanted other p =
     contains_from (against cpus held cpu line wanted) other
     (is_in-against cpus held cpu line wanted other
-    ∙ and_from (is_in (range_with_len 0 cpus) other) (not (eqb other cpu) && is_against wanted (held other line)) (in_range_from cpus other p.0)
-    (and_from (not (eqb other cpu)) (is_against wanted (held other line)) (not_from_false (eqb other cpu) (ne_eqb other cpu p.1)) p.2))
+    ∙ and_from (is_in (range_with_len 0 cpus) other)
+    (not (eqb other cpu) && is_against wanted (held other line)) (in_range_from cpus other p.0)
+    (and_from (not (eqb other cpu)) (is_against wanted (held other line))
+    (not_from_false (eqb other cpu) (ne_eqb other cpu p.1)) p.2))
 
 -- where nobody stands against a request, no other CPU's hold does
-pub none_against : (cpus : ℕ) (held : Holders) (cpu line : ℕ) (wanted : Mode) → against cpus held cpu line wanted ≡ [] → (other : ℕ) → other < cpus → other ≢ cpu → is_against wanted (held other line) ≡ false
+pub none_against : (cpus : ℕ) (held : Holders) (cpu line : ℕ) (wanted : Mode)
+    → against cpus held cpu line wanted ≡ [] → (other : ℕ) → other < cpus → other ≢ cpu
+    → is_against wanted (held other line) ≡ false
 none_against cpus held cpu line wanted none = λ other lt ne.
     cases (cases_Bool (is_against wanted (held other line)))
     (λ stands.
-    let there = is_in_from (against cpus held cpu line wanted) other (in_against cpus held cpu line wanted other (lt, ne, stands)) in
+    let there =
+    is_in_from (against cpus held cpu line wanted) other
+    (in_against cpus held cpu line wanted other (lt, ne, stands)) in
     let off : false ≡ true = ap (λ l. is_in l other) (sym none) ∙ there in cc)
     (λ off. off)
 
 -- ---- the line to give up
 
-outside_from : (held : Holders) (cpu : ℕ) (kept kept' : ℕ → Bool) → ((k : ℕ) → is_some (held cpu k) ≡ true → kept' k ≡ false → kept k ≡ false) → ((k : ℕ) × (k < LINES) × ((is_some (held cpu k) && not (kept' k)) ≡ true)) → (line : ℕ) × IsOutside held cpu kept line
+outside_from : (held : Holders) (cpu : ℕ) (kept kept' : ℕ → Bool)
+    → ((k : ℕ) → is_some (held cpu k) ≡ true → kept' k ≡ false → kept k ≡ false)
+    → ((k : ℕ) × (k < LINES) × ((is_some (held cpu k) && not (kept' k)) ≡ true))
+    → (line : ℕ) × IsOutside held cpu kept line
 outside_from held cpu kept kept' weaker found =
-    let parts = and_parts (is_some (held cpu found.0)) (not (kept' found.0)) found.2 in
-    (found.0, record { in_storage = found.1; held_line = parts.0; not_kept = weaker found.0 parts.0 (not-true (kept' found.0) parts.1) })
+    let parts = and_parts (is_some (held cpu found.0)) (not (kept' found.0)) found.2 in (
+      found.0,
+      record {
+        in_storage = found.1;
+        held_line = parts.0;
+        not_kept =
+            weaker found.0 parts.0 (not-true (kept' found.0) parts.1);
+      },
+    )
 
-pub holds_outside : (held : Holders) (cpu : ℕ) (kept : ℕ → Bool) → count_below LINES kept < lines_held held cpu → (line : ℕ) × IsOutside held cpu kept line
-holds_outside held cpu kept more = outside_from held cpu kept kept (λ k _ off. off) (one_outside LINES (λ line. is_some (held cpu line)) kept more)
+pub holds_outside : (held : Holders) (cpu : ℕ) (kept : ℕ → Bool)
+    → count_below LINES kept < lines_held held cpu → (line : ℕ) × IsOutside held cpu kept line
+holds_outside held cpu kept more =
+    outside_from held cpu kept kept (λ k _ off. off)
+    (one_outside LINES (λ line. is_some (held cpu line)) kept more)
 
-pub holds_outside_for_one_more : (held : Holders) (cpu wanted : ℕ) (kept : ℕ → Bool) → MOST_HELD ≤ lines_held held cpu → count_below LINES kept ≤ MOST_HELD → wanted < LINES → kept wanted ≡ true → held cpu wanted ≡ None → (line : ℕ) × IsOutside held cpu kept line
+pub holds_outside_for_one_more : (held : Holders) (cpu wanted : ℕ) (kept : ℕ → Bool)
+    → MOST_HELD ≤ lines_held held cpu → count_below LINES kept ≤ MOST_HELD → wanted < LINES
+    → kept wanted ≡ true → held cpu wanted ≡ None → (line : ℕ) × IsOutside held cpu kept line
 holds_outside_for_one_more held cpu wanted kept full few lt needed free =
     let fewer : count_below LINES (but_at kept wanted false) < lines_held held cpu =
     omega (arith, count_but_at LINES kept wanted false lt, ap one_if needed, full, few) in
@@ -127,7 +165,9 @@ nil_from_none [] none = refl
 nil_from_none (x ∷ xs) none = absurd (none x (0, omega arith, refl))
 
 -- where no other CPU's hold stands against a request, the list is empty
-pub nobody_against : (cpus : ℕ) (held : Holders) (cpu line : ℕ) (wanted : Mode) → ((other : ℕ) → other < cpus → other ≢ cpu → is_against wanted (held other line) ≡ false) → against cpus held cpu line wanted ≡ []
+pub nobody_against : (cpus : ℕ) (held : Holders) (cpu line : ℕ) (wanted : Mode)
+    → ((other : ℕ) → other < cpus → other ≢ cpu → is_against wanted (held other line) ≡ false)
+    → against cpus held cpu line wanted ≡ []
 nobody_against cpus held cpu line wanted none =
     nil_from_none (against cpus held cpu line wanted) (λ other c.
     let stands = from_against cpus held cpu line wanted other c in

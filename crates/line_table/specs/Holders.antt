@@ -1,5 +1,6 @@
 -- Who holds a line, who stands against a request, and what every table keeps.
-use Rattle.std.specs.Prelude.{◌≡◌, ◌≢◌, ℕ, ◌+◌, ◌*◌, ◌<◌, ◌≤◌, Bool, true, false, ◌&&◌, not, ◌==◌, nat_lt, if◌then◌else◌, List, filter, Option, Some, None, is_some}
+use Rattle.std.specs.Prelude.{◌≡◌, ◌≢◌, ℕ, ◌+◌, ◌*◌, ◌<◌, ◌≤◌, Bool, true, false, ◌&&◌, not, ◌==◌, nat_lt}
+use Rattle.std.specs.Prelude.{if◌then◌else◌, List, filter, Option, Some, None, is_some}
 use Rattle.std.specs.List.{slice_index_or, range_with_len}
 use Rattle.bit_set.specs.Counts.{count_below}
 use Rattle.line_table.specs.declared.table.Mode.{Mode}

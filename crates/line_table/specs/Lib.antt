@@ -1,2 +1,3 @@
+-- Who holds which line, and the rows of marks that tell it.
 pub mod Holders
 pub mod Rows

@@ -1,6 +1,7 @@
 //! Laws of line tables, each the contract of a function that does nothing.
 
-ghost use Rattle.std.specs.Prelude.{◌≡◌, ◌≢◌, ℕ, ◌<◌, ◌≤◌, ◌↔◌, Bool, true, false, List, length, Contains, Some, None, is_some};
+ghost use Rattle.std.specs.Prelude.{◌≡◌, ◌≢◌, ℕ, ◌<◌, ◌≤◌, ◌↔◌, Bool, true, false, List, length, Contains};
+ghost use Rattle.std.specs.Prelude.{Some, None, is_some};
 ghost use Rattle.std.specs.List.Sorted.{IsStrictlyIncreasing};
 ghost use Rattle.bit_set.specs.Counts.{count_below};
 ghost use Rattle.line_table.specs.Holders.{Holders, against, is_against, lines_held, IsOutside};
@@ -10,13 +11,19 @@ ghost use Rattle.line_table.specs.declared.table.TheConstants.{LINES, MOST_HELD}
 /// The list of those that stand against a request has just the other CPUs whose hold does, in rising
 /// order.
 pub fn against_lists_the_others()
-    ensures members { (cpus : ℕ) (held : Holders) (cpu line : ℕ) (wanted : Mode) (other : ℕ) → Contains (against cpus held cpu line wanted) other ↔ ((other < cpus) × (other ≢ cpu) × (is_against wanted (held other line) ≡ true)) }
-    ensures rising { (cpus : ℕ) (held : Holders) (cpu line : ℕ) (wanted : Mode) → IsStrictlyIncreasing (against cpus held cpu line wanted) }
+    ensures members { (cpus : ℕ) (held : Holders) (cpu line : ℕ) (wanted : Mode) (other : ℕ)
+        → Contains (against cpus held cpu line wanted) other
+        ↔ ((other < cpus) × (other ≢ cpu) × (is_against wanted (held other line) ≡ true)) }
+    ensures rising { (cpus : ℕ) (held : Holders) (cpu line : ℕ) (wanted : Mode)
+        → IsStrictlyIncreasing (against cpus held cpu line wanted) }
 {}
 
 /// A CPU that holds more lines than are kept holds one that is not kept. So a CPU that holds as many
 /// lines as it may, keeps no more, and keeps one that it does not hold yet, has a line to give up.
 pub fn holds_a_line_outside()
-    ensures of_fewer { (held : Holders) (cpu : ℕ) (kept : ℕ → Bool) → count_below LINES kept < lines_held held cpu → (line : ℕ) × IsOutside held cpu kept line }
-    ensures for_one_more { (held : Holders) (cpu wanted : ℕ) (kept : ℕ → Bool) → MOST_HELD ≤ lines_held held cpu → count_below LINES kept ≤ MOST_HELD → wanted < LINES → kept wanted ≡ true → held cpu wanted ≡ None → (line : ℕ) × IsOutside held cpu kept line }
+    ensures of_fewer { (held : Holders) (cpu : ℕ) (kept : ℕ → Bool)
+        → count_below LINES kept < lines_held held cpu → (line : ℕ) × IsOutside held cpu kept line }
+    ensures for_one_more { (held : Holders) (cpu wanted : ℕ) (kept : ℕ → Bool)
+        → MOST_HELD ≤ lines_held held cpu → count_below LINES kept ≤ MOST_HELD → wanted < LINES
+        → kept wanted ≡ true → held cpu wanted ≡ None → (line : ℕ) × IsOutside held cpu kept line }
 {}

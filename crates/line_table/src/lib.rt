@@ -8,3 +8,6 @@ mod table;
 
 pub use laws::{against_lists_the_others, holds_a_line_outside};
 pub use table::{LINES, LineTable, MOST_HELD, Mode, NoMemory};
+
+#[cfg(test)]
+mod tests;

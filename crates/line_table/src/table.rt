@@ -1,5 +1,7 @@
+//! The table of lines and their holders.
 ghost use Rattle.std.specs.Prelude.{◌≡◌, ◌≢◌, ℕ, ◌<◌, ◌≤◌, true, [], Some, None, IfOk, IfSome, IfNone};
-ghost use Rattle.line_table.specs.Holders.{Holdings, nobody, holding, lines_held, against, IsSound, IsFirstHeld, mode_in};
+ghost use Rattle.line_table.specs.Holders.{Holdings, nobody, holding, lines_held, against, IsSound};
+ghost use Rattle.line_table.specs.Holders.{IsFirstHeld, mode_in};
 ghost use Rattle.line_table.specs.Rows.{mode_from};
 
 use bit_set::BitSet;
@@ -49,7 +51,8 @@ impl Model for LineTable {
 
     ghost Value = { Holdings };
 
-    ghost view = { λ t. record { cpus = vec_len t.counts; modes = modes_of (vec_len t.counts) t.held t.exclusive } };
+    ghost view = { λ t. let cpus = vec_len t.counts in
+        record { cpus = cpus; modes = modes_of cpus t.held t.exclusive } };
 
     ghost invariant = { λ t. IsKept t.width t.held t.holders t.exclusive t.counts.items };
 }
@@ -183,38 +186,5 @@ fn is_exclusive(mode: Mode) -> bool
     match mode {
         Mode::Shared => false,
         Mode::Exclusive => true,
-    }
-}
-
-#[cfg(test)]
-mod tests {
-    use super::*;
-    use std::test::Fail;
-
-    #[test]
-    fn grants_and_gives_up(rt: HostRuntime) -> Result<(), Fail> {
-        let mut table = LineTable::open(rt.alloc(), 3)?;
-        assert_eq!(rt; table.next_holder(144, 0), None);
-        assert_eq!(rt; table.next_line(2, 0), None);
-        assert!(rt; table.held(2) < MOST_HELD);
-        table.grant(2, 144, Mode::Exclusive);
-        assert_eq!(rt; table.mode_of(2, 144), Some(Mode::Exclusive));
-        assert_eq!(rt; table.next_line(2, 100), Some(144));
-        assert_eq!(rt; table.held(2), 1);
-        table.demote(2, 144);
-        assert!(rt; table.held(1) < MOST_HELD);
-        table.grant(1, 144, Mode::Shared);
-        assert_eq!(rt; table.mode_of(2, 144), Some(Mode::Shared));
-        assert_eq!(rt; table.next_holder(144, 0), Some(1));
-        table.give_up(1, 144);
-        assert_eq!(rt; table.mode_of(1, 144), None);
-        assert_eq!(rt; table.next_holder(144, 0), Some(2));
-        Ok(())
-    }
-
-    #[test]
-    fn has_laws() {
-        crate::against_lists_the_others();
-        crate::holds_a_line_outside();
     }
 }

@@ -1,18 +1,24 @@
--- Footprints and their limits: what is kept beside the marks stays true, and the counts are those of the sets.
-use Rattle.std.proofs.Common.{◌≡◌, ℕ, ◌+◌, ◌<◌, ◌≤◌, Bool, true, false, cond, ltb, List, [], ◌∷◌, length, get_or, Ok, Err, refl, sym, ap, ◌∙◌, arith}
+-- Footprints and their limits: what is kept beside the marks stays true, and the counts are those of the
+-- sets.
+use Rattle.std.proofs.Common.{◌≡◌, ℕ, ◌+◌, ◌<◌, ◌≤◌, Bool, true, false, cond, ltb, List, [], ◌∷◌, length}
+use Rattle.std.proofs.Common.{get_or, replicate, Result, Ok, Err, refl, sym, ap, ◌∙◌, arith}
 use Rattle.std.specs.Prelude.{◌||◌, ◌&&◌, not}
 use Rattle.std.proofs.lemmas.Bool.{cases_lt, cond-true, cond-false, lt-ltb, le-ltb}
-use Rattle.std.proofs.lemmas.List.{ext_get_or}
+use Rattle.std.proofs.lemmas.List.{ext_get_or, length-replicate}
 use Rattle.bit_set.specs.Counts.{count_below}
 use Rattle.bit_set.proofs.Counts.{count_agree, count_none}
+use Rattle.bit_set.proofs.Marks.{clear_at}
 use Rattle.z_regs.specs.declared.ranges.Range.{Range}
 use Rattle.line_table.specs.declared.table.TheConstants.{LINES}
+use Rattle.tx_footprint.specs.declared.footprint.Overflow.{Overflow}
 use Rattle.tx_footprint.specs.declared.footprint.Overflow.TheVariants.{Fetch, Store}
 use Rattle.tx_footprint.specs.declared.footprint.TheConstants.{MOST_LINES, MOST_BLOCKS}
+use Rattle.tx_footprint.specs.declared.places.Kind.{Kind}
 use Rattle.tx_footprint.specs.declared.places.Kind.TheVariants.{Line, FetchedLine, StoredLine, StoredBlock}
 use Rattle.tx_footprint.specs.declared.places.TheConstants.{LINE_SIZE, BLOCKS}
-use Rattle.tx_footprint.specs.Places.{has_place, fetches, stores, stores_block, touched_by, marked_or_touched}
-use Rattle.tx_footprint.specs.Touched.{Sets, untouched, touching, line_count, block_count, fit_of, sets_of, IsKept}
+use Rattle.tx_footprint.specs.Places.{has_place, fetches, stores, touched_by, marked_or_touched}
+use Rattle.tx_footprint.specs.Touched.{Sets, untouched, touching, line_count, block_count, fit_of}
+use Rattle.tx_footprint.specs.Touched.{Touched, sets_of, IsKept}
 use Rattle.tx_footprint.proofs.Spans.{cases}
 
 -- ---- a line is touched where it is fetched or stored
@@ -24,7 +30,8 @@ either_way true false f s = refl
 either_way false true f s = refl
 either_way false false f s = refl
 
-touched_line : (ranges : List Range) (line : ℕ) → touched_by Line ranges line ≡ (fetches ranges line || stores ranges line)
+touched_line : (ranges : List Range) (line : ℕ)
+    → touched_by Line ranges line ≡ (fetches ranges line || stores ranges line)
 touched_line [] line = refl
 touched_line (r ∷ rs) line =
     ap (λ b. has_place LINE_SIZE r line || b) (touched_line rs line)
@@ -36,38 +43,38 @@ regroup false true true b = refl
 regroup false true false b = refl
 regroup false false a b = refl
 
-union_after : (f s t : Bool) (ranges : List Range) (line : ℕ) → t ≡ (f || s) → (t || touched_by Line ranges line) ≡ ((f || fetches ranges line) || (s || stores ranges line))
+union_after : (f s t : Bool) (ranges : List Range) (line : ℕ) → t ≡ (f || s)
+    → (t || touched_by Line ranges line) ≡ ((f || fetches ranges line) || (s || stores ranges line))
 union_after f s t ranges line e =
     ap (λ b. b || touched_by Line ranges line) e ∙ ap (λ b. (f || s) || b) (touched_line ranges line)
     ∙ regroup f s (fetches ranges line) (stores ranges line)
 
--- ---- the counts after ranges were added
-
-pub lines_after : (touched fetched stored blocks : List Bool) (lines stored_blocks added : ℕ) (ranges : List Range) → IsKept touched fetched stored blocks lines stored_blocks → added + count_below LINES (λ line. get_or touched line false) ≡ count_below LINES (marked_or_touched touched Line ranges) → lines + added ≡ line_count (touching (sets_of (record { fetched = fetched; stored = stored; blocks = blocks })) ranges)
-lines_after touched fetched stored blocks lines stored_blocks added ranges kept counted =
-    let alike = count_agree LINES (marked_or_touched touched Line ranges) (λ line. (get_or fetched line false || fetches ranges line) || (get_or stored line false || stores ranges line))
-    (λ line _. union_after (get_or fetched line false) (get_or stored line false) (get_or touched line false) ranges line (kept.union line)) in
-    omega (arith, kept.counted_lines, counted, alike)
-
-pub blocks_after : (touched fetched stored blocks : List Bool) (lines stored_blocks added : ℕ) (ranges : List Range) → IsKept touched fetched stored blocks lines stored_blocks → added + count_below BLOCKS (λ block. get_or blocks block false) ≡ count_below BLOCKS (marked_or_touched blocks StoredBlock ranges) → stored_blocks + added ≡ block_count (touching (sets_of (record { fetched = fetched; stored = stored; blocks = blocks })) ranges)
-blocks_after touched fetched stored blocks lines stored_blocks added ranges kept counted =
-    omega (arith, kept.counted_blocks, counted)
-
 -- ---- whether sets fit
 
+-- the second limit, which is tested where the first is kept
+abbrev blocks_fit : Sets → Result (Unit {0}) Overflow
+blocks_fit sets = cond (ltb MOST_BLOCKS (block_count sets)) (Err Store) (Ok tt)
+
 pub too_many_lines : (sets : Sets) → MOST_LINES < line_count sets → fit_of sets ≡ Err Fetch
-too_many_lines sets lt = cond-true (ltb MOST_LINES (line_count sets)) (Err Fetch) (cond (ltb MOST_BLOCKS (block_count sets)) (Err Store) (Ok tt)) (lt-ltb _ _ lt)
+too_many_lines sets lt =
+    cond-true (ltb MOST_LINES (line_count sets)) (Err Fetch) (blocks_fit sets) (lt-ltb _ _ lt)
 
-pub lines_fit : (sets : Sets) → line_count sets ≤ MOST_LINES → fit_of sets ≡ cond (ltb MOST_BLOCKS (block_count sets)) (Err Store) (Ok tt)
-lines_fit sets le = cond-false (ltb MOST_LINES (line_count sets)) (Err Fetch) (cond (ltb MOST_BLOCKS (block_count sets)) (Err Store) (Ok tt)) (le-ltb _ _ le)
+pub lines_fit : (sets : Sets) → line_count sets ≤ MOST_LINES → fit_of sets ≡ blocks_fit sets
+lines_fit sets le =
+    cond-false (ltb MOST_LINES (line_count sets)) (Err Fetch) (blocks_fit sets) (le-ltb _ _ le)
 
-pub too_many_blocks : (sets : Sets) → line_count sets ≤ MOST_LINES → MOST_BLOCKS < block_count sets → fit_of sets ≡ Err Store
-too_many_blocks sets le lt = lines_fit sets le ∙ cond-true (ltb MOST_BLOCKS (block_count sets)) (Err Store) (Ok tt) (lt-ltb _ _ lt)
+pub too_many_blocks : (sets : Sets) → line_count sets ≤ MOST_LINES → MOST_BLOCKS < block_count sets
+    → fit_of sets ≡ Err Store
+too_many_blocks sets le lt =
+    lines_fit sets le ∙ cond-true (ltb MOST_BLOCKS (block_count sets)) (Err Store) (Ok tt) (lt-ltb _ _ lt)
 
-pub all_fit : (sets : Sets) → line_count sets ≤ MOST_LINES → block_count sets ≤ MOST_BLOCKS → fit_of sets ≡ Ok tt
-all_fit sets le few = lines_fit sets le ∙ cond-false (ltb MOST_BLOCKS (block_count sets)) (Err Store) (Ok tt) (le-ltb _ _ few)
+pub all_fit : (sets : Sets) → line_count sets ≤ MOST_LINES → block_count sets ≤ MOST_BLOCKS
+    → fit_of sets ≡ Ok tt
+all_fit sets le few =
+    lines_fit sets le ∙ cond-false (ltb MOST_BLOCKS (block_count sets)) (Err Store) (Ok tt) (le-ltb _ _ few)
 
-pub fits_from : (sets : Sets) → fit_of sets ≡ Ok tt → (line_count sets ≤ MOST_LINES) × (block_count sets ≤ MOST_BLOCKS)
+pub fits_from : (sets : Sets) → fit_of sets ≡ Ok tt
+    → (line_count sets ≤ MOST_LINES) × (block_count sets ≤ MOST_BLOCKS)
 fits_from sets e =
     cases (cases_lt MOST_LINES (line_count sets))
     (λ over. let n : Err Fetch ≡ Ok tt = sym (too_many_lines sets over) ∙ e in cc)
@@ -75,48 +82,135 @@ fits_from sets e =
     (λ over. let n : Err Store ≡ Ok tt = sym (too_many_blocks sets le over) ∙ e in cc)
     (λ few. (le, few)))
 
--- ---- what is kept
+-- ---- nothing is touched
 
-pub nothing_kept : (touched fetched stored blocks : List Bool) → length touched ≡ LINES → length fetched ≡ LINES → length stored ≡ LINES → length blocks ≡ BLOCKS → ((k : ℕ) → get_or touched k false ≡ false) → ((k : ℕ) → get_or fetched k false ≡ false) → ((k : ℕ) → get_or stored k false ≡ false) → ((k : ℕ) → get_or blocks k false ≡ false) → IsKept touched fetched stored blocks 0 0
-nothing_kept touched fetched stored blocks touched_size fetched_size stored_size blocks_size no_touched no_fetched no_stored no_blocks =
+-- marks of their size, none of them set
+pub record AreClear (size : ℕ) (marks : List Bool) : Type 0 where
+  pub size_is : length marks ≡ size
+  pub none : (k : ℕ) → get_or marks k false ≡ false
+
+pub are_clear : {marks : List Bool} (n size : ℕ) → marks ≡ replicate n false → n ≡ size → AreClear size marks
+are_clear n size is same = record {
+  size_is = ap length is ∙ length-replicate n false ∙ same;
+  none = λ k. ap (λ l. get_or l k false) is ∙ clear_at n k;
+}
+
+pub nothing_kept : {touched fetched stored blocks : List Bool} → AreClear LINES touched
+    → AreClear LINES fetched
+    → AreClear LINES stored → AreClear BLOCKS blocks → IsKept touched fetched stored blocks 0 0
+nothing_kept {touched} {fetched} {stored} {blocks} no_touched no_fetched no_stored no_blocks =
     record {
-      touched_size = touched_size;
-      fetched_size = fetched_size;
-      stored_size = stored_size;
-      blocks_size = blocks_size;
-      union = λ k. no_touched k ∙ sym (ap (λ b. b || get_or stored k false) (no_fetched k) ∙ no_stored k);
-      counted_lines = sym (count_none LINES (λ k. get_or touched k false) (λ k _. no_touched k));
-      counted_blocks = sym (count_none BLOCKS (λ k. get_or blocks k false) (λ k _. no_blocks k));
+      touched_size = no_touched.size_is;
+      fetched_size = no_fetched.size_is;
+      stored_size = no_stored.size_is;
+      blocks_size = no_blocks.size_is;
+      union = λ k. no_touched.none k
+          ∙ sym (ap (λ b. b || get_or stored k false) (no_fetched.none k) ∙ no_stored.none k);
+      counted_lines = sym (count_none LINES (λ k. get_or touched k false) (λ k _. no_touched.none k));
+      counted_blocks = sym (count_none BLOCKS (λ k. get_or blocks k false) (λ k _. no_blocks.none k));
       most_lines = omega arith;
       most_blocks = omega arith;
     }
 
-pub nothing_touched : (fetched stored blocks : List Bool) → ((k : ℕ) → get_or fetched k false ≡ false) → ((k : ℕ) → get_or stored k false ≡ false) → ((k : ℕ) → get_or blocks k false ≡ false) → sets_of (record { fetched = fetched; stored = stored; blocks = blocks }) ≡ untouched
-nothing_touched fetched stored blocks no_fetched no_stored no_blocks =
-    λ i. record { fetched = λ k. no_fetched k i; stored = λ k. no_stored k i; blocks = λ k. no_blocks k i }
+pub nothing_touched : {fetched stored blocks : List Bool} → AreClear LINES fetched → AreClear LINES stored
+    → AreClear BLOCKS blocks
+    → sets_of (record { fetched = fetched; stored = stored; blocks = blocks }) ≡ untouched
+nothing_touched no_fetched no_stored no_blocks = λ i. record {
+  fetched = λ k. no_fetched.none k i;
+  stored = λ k. no_stored.none k i;
+  blocks = λ k. no_blocks.none k i;
+}
 
-pub added_kept : (touched fetched stored blocks touched' fetched' stored' blocks' : List Bool) (lines stored_blocks lines' stored_blocks' : ℕ) (ranges : List Range) → IsKept touched fetched stored blocks lines stored_blocks → length touched' ≡ length touched → length fetched' ≡ length fetched → length stored' ≡ length stored → length blocks' ≡ length blocks → ((k : ℕ) → get_or touched' k false ≡ marked_or_touched touched Line ranges k) → ((k : ℕ) → get_or fetched' k false ≡ marked_or_touched fetched FetchedLine ranges k) → ((k : ℕ) → get_or stored' k false ≡ marked_or_touched stored StoredLine ranges k) → ((k : ℕ) → get_or blocks' k false ≡ marked_or_touched blocks StoredBlock ranges k) → lines' ≡ line_count (touching (sets_of (record { fetched = fetched; stored = stored; blocks = blocks })) ranges) → stored_blocks' ≡ block_count (touching (sets_of (record { fetched = fetched; stored = stored; blocks = blocks })) ranges) → lines' ≤ MOST_LINES → stored_blocks' ≤ MOST_BLOCKS → IsKept touched' fetched' stored' blocks' lines' stored_blocks'
-added_kept touched fetched stored blocks touched' fetched' stored' blocks' lines stored_blocks lines' stored_blocks' ranges kept ts fs ss bs t_is f_is s_is b_is lines_are blocks_are few_lines few_blocks =
-    record {
-      touched_size = ts ∙ kept.touched_size;
-      fetched_size = fs ∙ kept.fetched_size;
-      stored_size = ss ∙ kept.stored_size;
-      blocks_size = bs ∙ kept.blocks_size;
-      union = λ k. union_at k;
-      counted_lines = lines_are ∙ sym (count_agree LINES (λ k. get_or touched' k false) (λ line. (get_or fetched line false || fetches ranges line) || (get_or stored line false || stores ranges line)) (λ k _. t_is k ∙ together k));
-      counted_blocks = blocks_are ∙ sym (count_agree BLOCKS (λ k. get_or blocks' k false) (λ block. get_or blocks block false || stores_block ranges block) (λ k _. b_is k));
-      most_lines = few_lines;
-      most_blocks = few_blocks;
-    }
-  where
-    together : (k : ℕ) → marked_or_touched touched Line ranges k ≡ ((get_or fetched k false || fetches ranges k) || (get_or stored k false || stores ranges k))
-    together k = union_after (get_or fetched k false) (get_or stored k false) (get_or touched k false) ranges k (kept.union k)
+-- ---- ranges are added
 
-    union_at : (k : ℕ) → get_or touched' k false ≡ (get_or fetched' k false || get_or stored' k false)
-    union_at k =
-        t_is k ∙ together k
-        ∙ sym (ap (λ b. b || get_or stored' k false) (f_is k) ∙ ap (λ b. (get_or fetched k false || fetches ranges k) || b) (s_is k))
+-- the places of this kind that ranges touch were added to the marks
+pub record AreAdded (kind : Kind) (ranges : List Range) (before after : List Bool) : Type 0 where
+  pub size : length after ≡ length before
+  pub marks : (k : ℕ) → get_or after k false ≡ marked_or_touched before kind ranges k
+
+-- of a footprint with these marks and counts
+module _ {touched fetched stored blocks : List Bool} {lines stored_blocks : ℕ}
+    (kept : IsKept touched fetched stored blocks lines stored_blocks) (ranges : List Range) where
+  -- the sets with the ranges
+  abbrev after : Sets
+  after = touching (sets_of (record { fetched = fetched; stored = stored; blocks = blocks })) ranges
+
+  together : (k : ℕ) → marked_or_touched touched Line ranges k ≡ (after.fetched k || after.stored k)
+  together k =
+      union_after (get_or fetched k false) (get_or stored k false) (get_or touched k false) ranges k
+      (kept.union k)
+
+  -- so many places of a kind that were not marked are touched
+  abbrev Adds : ℕ → ℕ → List Bool → Kind → Type 0
+  Adds added size marks kind =
+      added + count_below size (λ k. get_or marks k false) ≡ count_below size
+      (marked_or_touched marks kind ranges)
+
+  lines_counted : (added : ℕ) → Adds added LINES touched Line → lines + added ≡ line_count after
+  lines_counted added counted =
+      let alike =
+      count_agree LINES (marked_or_touched touched Line ranges) (λ k. after.fetched k || after.stored k)
+      (λ k _. together k) in
+      omega (arith, kept.counted_lines, counted, alike)
+
+  -- the counts of what the footprint is seen as
+  pub lines_after : {seen : Touched} (added : ℕ)
+      → record { fetched = fetched; stored = stored; blocks = blocks } ≡ seen → Adds added LINES touched Line
+      → lines + added ≡ line_count (touching (sets_of seen) ranges)
+  lines_after added view_is counted =
+      lines_counted added counted ∙ ap (λ (v : Touched). line_count (touching (sets_of v) ranges)) view_is
+
+  pub blocks_after : {seen : Touched} (added : ℕ)
+      → record { fetched = fetched; stored = stored; blocks = blocks } ≡ seen
+      → Adds added BLOCKS blocks StoredBlock
+      → stored_blocks + added ≡ block_count (touching (sets_of seen) ranges)
+  blocks_after added view_is counted =
+      let here : stored_blocks + added ≡ block_count after = omega (arith, kept.counted_blocks, counted) in
+      here ∙ ap (λ (v : Touched). block_count (touching (sets_of v) ranges)) view_is
+
+  pub added_kept : {seen : Touched} {touched' fetched' stored' blocks' : List Bool}
+      {lines' stored_blocks' : ℕ}
+      → record { fetched = fetched; stored = stored; blocks = blocks } ≡ seen
+      → AreAdded Line ranges touched touched' → AreAdded FetchedLine ranges fetched fetched'
+      → AreAdded StoredLine ranges stored stored' → AreAdded StoredBlock ranges blocks blocks'
+      → lines' ≡ line_count (touching (sets_of seen) ranges) → lines' ≤ MOST_LINES
+      → stored_blocks' ≡ block_count (touching (sets_of seen) ranges) → stored_blocks' ≤ MOST_BLOCKS
+      → IsKept touched' fetched' stored' blocks' lines' stored_blocks'
+  added_kept {seen} {touched'} {fetched'} {stored'} {blocks'} view_is t f s b lines_are few_lines blocks_are
+      few_blocks =
+      record {
+        touched_size = t.size ∙ kept.touched_size;
+        fetched_size = f.size ∙ kept.fetched_size;
+        stored_size = s.size ∙ kept.stored_size;
+        blocks_size = b.size ∙ kept.blocks_size;
+        union = λ k. t.marks k ∙ together k
+            ∙ sym (ap (λ x. x || get_or stored' k false) (f.marks k)
+            ∙ ap (λ x. after.fetched k || x) (s.marks k));
+        counted_lines = lines_are
+            ∙ sym (ap (λ (v : Touched). line_count (touching (sets_of v) ranges)) view_is)
+            ∙ sym (count_agree LINES (λ k. get_or touched' k false) (λ k. after.fetched k || after.stored k)
+            (λ k _. t.marks k ∙ together k));
+        counted_blocks = blocks_are
+            ∙ sym (ap (λ (v : Touched). block_count (touching (sets_of v) ranges)) view_is)
+            ∙ sym (count_agree BLOCKS (λ k. get_or blocks' k false) after.blocks (λ k _. b.marks k));
+        most_lines = few_lines;
+        most_blocks = few_blocks;
+      }
 
 -- marks of one size are equal where their sets are
-pub same_marks : (a b : List Bool) → length a ≡ length b → ((k : ℕ) → get_or a k false ≡ get_or b k false) → a ≡ b
+pub same_marks : (a b : List Bool) → length a ≡ length b → ((k : ℕ) → get_or a k false ≡ get_or b k false)
+    → a ≡ b
 same_marks a b size same = ext_get_or false a b size (λ k _. same k)
+
+-- the marks inside two footprints have the same sets where the footprints do
+pub sets_inside : {marks others : Touched} {seen also : Touched} → marks ≡ seen → others ≡ also
+    → sets_of seen ≡ sets_of also → sets_of marks ≡ sets_of others
+sets_inside is also_is same = ap sets_of is ∙ same ∙ sym (ap sets_of also_is)
+
+-- footprints are seen with the same sets where the marks inside them are the same
+pub sets_outside : {marks others seen also : Touched} → marks ≡ seen → others ≡ also
+    → marks.fetched ≡ others.fetched → marks.stored ≡ others.stored → marks.blocks ≡ others.blocks
+    → sets_of seen ≡ sets_of also
+sets_outside {marks} {others} is also_is fetched stored blocks =
+    let same : marks ≡ others = λ i. record { fetched = fetched i; stored = stored i; blocks = blocks i } in
+    ap sets_of (sym is ∙ same ∙ also_is)

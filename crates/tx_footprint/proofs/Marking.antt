@@ -1,5 +1,6 @@
 -- Marking and counting the places of ranges, one range and one place after the other.
-use Rattle.std.proofs.Common.{◌≡◌, ◌≢◌, ℕ, ◌+◌, ◌<◌, ◌≤◌, Bool, true, false, ltb, leb, List, length, get_or, take, Some, refl, sym, ap, subst, ◌∙◌, arith}
+use Rattle.std.proofs.Common.{◌≡◌, ◌≢◌, ℕ, ◌+◌, ◌<◌, ◌≤◌, Bool, true, false, ltb, leb, List, length, get_or}
+use Rattle.std.proofs.Common.{take, Some, refl, sym, ap, subst, ◌∙◌, arith}
 use Rattle.std.specs.Prelude.{◌||◌, ◌&&◌, not, All, slice_get}
 use Rattle.std.specs.Int.{from_bool}
 use Rattle.std.proofs.lemmas.Bool.{cases_eq, cases_lt, and_right, and_from, or_from, le-leb, lt-ltb, le-ltb}
@@ -13,24 +14,37 @@ use Rattle.tx_footprint.specs.declared.places.Kind.{Kind}
 use Rattle.tx_footprint.specs.Places.{IsInStorage, covers, touched_by, lies_in, marked_or_touched}
 use Rattle.tx_footprint.proofs.Spans.{cases}
 
-pub storage_at : (ranges : List Range) (i : ℕ) (r : Range) → All IsInStorage ranges → slice_get ranges i ≡ Some r → IsInStorage r
-storage_at ranges i r all e = subst IsInStorage (get_or_from_slice_get ranges i r r e) (all i r (slice_get_within ranges i r e))
+pub storage_at : (ranges : List Range) (i : ℕ) (r : Range) → All IsInStorage ranges
+    → slice_get ranges i ≡ Some r → IsInStorage r
+storage_at ranges i r all e =
+    subst IsInStorage (get_or_from_slice_get ranges i r r e) (all i r (slice_get_within ranges i r e))
 
-pub touched_more : (kind : Kind) (ranges : List Range) (i : ℕ) (r : Range) (place : ℕ) → slice_get ranges i ≡ Some r → touched_by kind (take (i + 1) ranges) place ≡ (touched_by kind (take i ranges) place || covers kind r place)
+pub touched_more : (kind : Kind) (ranges : List Range) (i : ℕ) (r : Range) (place : ℕ)
+    → slice_get ranges i ≡ Some r
+    → touched_by kind (take (i + 1) ranges)
+    place ≡ (touched_by kind (take i ranges) place || covers kind r place)
 touched_more kind ranges i r place e =
     list_any_more (λ x. covers kind x place) ranges i r (slice_get_within ranges i r e)
-    ∙ ap (λ x. touched_by kind (take i ranges) place || covers kind x place) (get_or_from_slice_get ranges i r r e)
+    ∙ ap (λ x. touched_by kind (take i ranges) place || covers kind x place)
+    (get_or_from_slice_get ranges i r r e)
 
 -- a place that one of the first ranges touches
-pub touched_at : (kind : Kind) (ranges : List Range) (n i : ℕ) (r : Range) (place : ℕ) → slice_get ranges i ≡ Some r → i < n → n ≤ length ranges → covers kind r place ≡ true → touched_by kind (take n ranges) place ≡ true
+pub touched_at : (kind : Kind) (ranges : List Range) (n i : ℕ) (r : Range) (place : ℕ)
+    → slice_get ranges i ≡ Some r → i < n → n ≤ length ranges → covers kind r place ≡ true
+    → touched_by kind (take n ranges) place ≡ true
 touched_at kind ranges n i r place e lt within covered =
-    list_any_at (λ x. covers kind x place) (take n ranges) i r (omega (arith, lt, within, length-take n ranges))
-    (ap (λ x. covers kind x place) (get_or-take n ranges i r lt ∙ get_or_from_slice_get ranges i r r e) ∙ covered)
+    list_any_at (λ x. covers kind x place) (take n ranges) i r
+    (omega (arith, lt, within, length-take n ranges))
+    (ap (λ x. covers kind x place) (get_or-take n ranges i r lt ∙ get_or_from_slice_get ranges i r r e)
+    ∙ covered)
 
 -- one range more that does not touch the place
-pub still_untouched : (kind : Kind) (ranges : List Range) (i : ℕ) (r : Range) (place : ℕ) → slice_get ranges i ≡ Some r → touched_by kind (take i ranges) place ≡ false → covers kind r place ≡ false → touched_by kind (take (i + 1) ranges) place ≡ false
+pub still_untouched : (kind : Kind) (ranges : List Range) (i : ℕ) (r : Range) (place : ℕ)
+    → slice_get ranges i ≡ Some r → touched_by kind (take i ranges) place ≡ false
+    → covers kind r place ≡ false → touched_by kind (take (i + 1) ranges) place ≡ false
 still_untouched kind ranges i r place e before off =
-    touched_more kind ranges i r place e ∙ or_from (touched_by kind (take i ranges) place) (covers kind r place) before off
+    touched_more kind ranges i r place e
+    ∙ or_from (touched_by kind (take i ranges) place) (covers kind r place) before off
 
 pub or_assoc : (a b c : Bool) → ((a || b) || c) ≡ (a || (b || c))
 or_assoc true b c = refl
@@ -45,7 +59,10 @@ or_false true = refl
 or_false false = refl
 
 -- one range more: what it touches is added to what was marked or touched
-pub marked_more : (marks : List Bool) (kind : Kind) (ranges : List Range) (i : ℕ) (r : Range) (place : ℕ) → slice_get ranges i ≡ Some r → marked_or_touched marks kind (take (i + 1) ranges) place ≡ (marked_or_touched marks kind (take i ranges) place || covers kind r place)
+pub marked_more : (marks : List Bool) (kind : Kind) (ranges : List Range) (i : ℕ) (r : Range) (place : ℕ)
+    → slice_get ranges i ≡ Some r
+    → marked_or_touched marks kind (take (i + 1) ranges)
+    place ≡ (marked_or_touched marks kind (take i ranges) place || covers kind r place)
 marked_more marks kind ranges i r place e =
     ap (λ b. get_or marks place false || b) (touched_more kind ranges i r place e)
     ∙ sym (or_assoc (get_or marks place false) (touched_by kind (take i ranges) place) (covers kind r place))
@@ -56,38 +73,59 @@ lies_next : (first at k : ℕ) → k ≢ at → lies_in first (at + 1) k ≡ lie
 lies_next first at k ne =
     cases (cases_lt k at)
     (λ low. ap (λ b. leb first k && b) (lt-ltb k (at + 1) (omega (arith, low)) ∙ sym (lt-ltb k at low)))
-    (λ high. ap (λ b. leb first k && b) (le-ltb k (at + 1) (omega (arith, high, ne)) ∙ sym (le-ltb k at high)))
+    (λ high. ap (λ b. leb first k && b) (le-ltb k (at + 1) (omega (arith, high, ne))
+    ∙ sym (le-ltb k at high)))
 
 lies_last : (first at : ℕ) → first ≤ at → lies_in first (at + 1) at ≡ true
-lies_last first at le = and_from (leb first at) (ltb at (at + 1)) (le-leb first at le) (lt-ltb at (at + 1) (omega arith))
+lies_last first at le =
+    and_from (leb first at) (ltb at (at + 1)) (le-leb first at le) (lt-ltb at (at + 1) (omega arith))
 
 lies_not_yet : (first at : ℕ) → lies_in first at at ≡ false
 lies_not_yet first at = and_right (leb first at) (ltb at at) (le-ltb at at (omega arith))
 
 -- one place more: it counts where it was not there
-pub count_next : (n : ℕ) (there : ℕ → Bool) (first at : ℕ) → first ≤ at → at < n → count_below n (λ k. there k || lies_in first (at + 1) k) ≡ count_below n (λ k. there k || lies_in first at k) + from_bool (not (there at))
+pub count_next : (n : ℕ) (there : ℕ → Bool) (first at : ℕ) → first ≤ at → at < n
+    → count_below n (λ k. there k || lies_in first (at + 1) k) ≡ count_below n
+    (λ k. there k || lies_in first at k) + from_bool (not (there at))
 count_next n there first at le lt =
     let so_far : ℕ → Bool = λ k. there k || lies_in first at k in
-    let alike = count_agree n (λ k. there k || lies_in first (at + 1) k) (but_at so_far at true) (λ k _. each k) in
-    omega (arith, alike, count_but_at n so_far at true lt, ap one_if (ap (λ b. there at || b) (lies_not_yet first at) ∙ or_false (there at)), split (there at))
+    let alike =
+    count_agree n (λ k. there k || lies_in first (at + 1) k) (but_at so_far at true) (λ k _. each k) in
+    omega (
+      arith,
+      alike,
+      count_but_at n so_far at true lt,
+      ap one_if
+          (ap (λ b. there at || b) (lies_not_yet first at) ∙ or_false (there at)),
+      split (there at),
+    )
   where
-    each : (k : ℕ) → (there k || lies_in first (at + 1) k) ≡ but_at (λ j. there j || lies_in first at j) at true k
+    each : (k : ℕ)
+        → (there k || lies_in first (at + 1) k) ≡ but_at (λ j. there j || lies_in first at j) at true k
     each k =
         cases (cases_eq k at)
         (λ e.
-        ap (λ j. there j || lies_in first (at + 1) j) e ∙ ap (λ b. there at || b) (lies_last first at le) ∙ or_true (there at)
-        ∙ sym (ap (but_at (λ j. there j || lies_in first at j) at true) e ∙ but_at-same (λ j. there j || lies_in first at j) at true))
-        (λ ne. ap (λ b. there k || b) (lies_next first at k ne) ∙ sym (but_at-other (λ j. there j || lies_in first at j) at true k ne))
+        ap (λ j. there j || lies_in first (at + 1) j) e ∙ ap (λ b. there at || b) (lies_last first at le)
+        ∙ or_true (there at)
+        ∙ sym (ap (but_at (λ j. there j || lies_in first at j) at true) e
+        ∙ but_at-same (λ j. there j || lies_in first at j) at true))
+        (λ ne. ap (λ b. there k || b) (lies_next first at k ne)
+        ∙ sym (but_at-other (λ j. there j || lies_in first at j) at true k ne))
 
     split : (b : Bool) → one_if b + from_bool (not b) ≡ 1
     split true = refl
     split false = refl
 
 -- after the last place all of the range is
-pub count_end : (n : ℕ) (marks : List Bool) (kind : Kind) (ranges : List Range) (i first end : ℕ) (r : Range) → slice_get ranges i ≡ Some r → ((k : ℕ) → lies_in first end k ≡ covers kind r k) → count_below n (λ k. marked_or_touched marks kind (take i ranges) k || lies_in first end k) ≡ count_below n (marked_or_touched marks kind (take (i + 1) ranges))
+pub count_end : (n : ℕ) (marks : List Bool) (kind : Kind) (ranges : List Range) (i first end : ℕ) (r : Range)
+    → slice_get ranges i ≡ Some r → ((k : ℕ) → lies_in first end k ≡ covers kind r k)
+    → count_below n (λ k. marked_or_touched marks kind (take i ranges) k || lies_in first end k) ≡ count_below
+    n (marked_or_touched marks kind (take (i + 1) ranges))
 count_end n marks kind ranges i first end r e places =
-    count_agree n (λ k. marked_or_touched marks kind (take i ranges) k || lies_in first end k) (marked_or_touched marks kind (take (i + 1) ranges))
-    (λ k _. ap (λ b. marked_or_touched marks kind (take i ranges) k || b) (places k) ∙ sym (marked_more marks kind ranges i r k e))
+    count_agree n (λ k. marked_or_touched marks kind (take i ranges) k || lies_in first end k)
+    (marked_or_touched marks kind (take (i + 1) ranges))
+    (λ k _. ap (λ b. marked_or_touched marks kind (take i ranges) k || b) (places k)
+    ∙ sym (marked_more marks kind ranges i r k e))
 
 pub at_most_one : (b : Bool) → from_bool b ≤ 1
 at_most_one true = omega arith

@@ -1,2 +1,3 @@
+-- The places of ranges, and what a footprint is seen as.
 pub mod Places
 pub mod Touched

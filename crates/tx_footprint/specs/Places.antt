@@ -1,18 +1,20 @@
 -- The lines and blocks of ranges of storage.
-use Rattle.std.specs.Prelude.{ℕ, ◌+◌, ◌/◌, ◌<◌, ◌≤◌, Bool, true, false, ◌&&◌, ◌||◌, not, ◌==◌, nat_lt, nat_le, List}
+use Rattle.std.specs.Prelude.{ℕ, ◌+◌, ◌/◌, ◌<◌, ◌≤◌, Bool, true, false, ◌&&◌, ◌||◌, not, ◌==◌, nat_lt, nat_le}
+use Rattle.std.specs.Prelude.{List}
 use Rattle.std.specs.List.{list_any, range_with_len, slice_index_or}
+use Rattle.z_regs.specs.Prefix.{storage_size}
 use Rattle.z_regs.specs.declared.ranges.Range.{Range}
 use Rattle.line_table.specs.declared.table.TheConstants.{LINES}
 use Rattle.tx_footprint.specs.declared.places.Kind.{Kind}
 use Rattle.tx_footprint.specs.declared.places.Kind.TheVariants.{Line, FetchedLine, StoredLine, StoredBlock}
-use Rattle.tx_footprint.specs.declared.places.TheConstants.{LINE_SIZE, BLOCK_SIZE, STORAGE_SIZE, BLOCKS}
+use Rattle.tx_footprint.specs.declared.places.TheConstants.{LINE_SIZE, BLOCK_SIZE, BLOCKS}
 
 -- the addresses of a range, and its bytes all in storage
 abbrev pub addresses : Range → List ℕ
 addresses r = range_with_len r.first r.length
 
 abbrev pub IsInStorage : Range → Type 0
-IsInStorage r = (address : ℕ) → r.first ≤ address → address < r.first + r.length → address < STORAGE_SIZE
+IsInStorage r = (address : ℕ) → r.first ≤ address → address < r.first + r.length → address < storage_size
 
 -- whether a place of some size has a byte of the range
 unfoldable pub has_place : ℕ → Range → ℕ → Bool

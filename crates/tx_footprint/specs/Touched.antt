@@ -1,5 +1,6 @@
 -- What a footprint is seen as, and its limits.
-use Rattle.std.specs.Prelude.{◌≡◌, ℕ, ◌≤◌, Bool, false, ◌||◌, nat_lt, if◌then◌else◌, List, length, Result, Ok, Err}
+use Rattle.std.specs.Prelude.{◌≡◌, ℕ, ◌≤◌, Bool, false, ◌||◌, nat_lt, if◌then◌else◌, List, length, Result, Ok}
+use Rattle.std.specs.Prelude.{Err}
 use Rattle.std.specs.List.{slice_index_or}
 use Rattle.bit_set.specs.Counts.{count_below}
 use Rattle.z_regs.specs.declared.ranges.Range.{Range}
@@ -37,7 +38,9 @@ block_count sets = count_below BLOCKS sets.blocks
 
 -- whether sets keep the limits
 abbrev pub fit_of : Sets → Result (Unit {0}) Overflow
-fit_of sets = if nat_lt MOST_LINES (line_count sets) then Err Fetch else (if nat_lt MOST_BLOCKS (block_count sets) then Err Store else Ok tt)
+fit_of sets =
+    if nat_lt MOST_LINES (line_count sets) then Err Fetch else
+    (if nat_lt MOST_BLOCKS (block_count sets) then Err Store else Ok tt)
 
 -- a footprint as data: a mark for each line and block of storage
 pub record Touched : Type 0 where
@@ -59,7 +62,9 @@ pub record IsKept (touched fetched stored blocks : List Bool) (lines stored_bloc
   pub fetched_size : length fetched ≡ LINES
   pub stored_size : length stored ≡ LINES
   pub blocks_size : length blocks ≡ BLOCKS
-  pub union : (line : ℕ) → slice_index_or touched line false ≡ (slice_index_or fetched line false || slice_index_or stored line false)
+  pub union : (line : ℕ)
+      → slice_index_or touched line
+      false ≡ (slice_index_or fetched line false || slice_index_or stored line false)
   pub counted_lines : lines ≡ count_below LINES (λ line. slice_index_or touched line false)
   pub counted_blocks : stored_blocks ≡ count_below BLOCKS (λ block. slice_index_or blocks block false)
   pub most_lines : lines ≤ MOST_LINES

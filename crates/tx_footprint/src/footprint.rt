@@ -1,6 +1,8 @@
+//! The footprint, over sets of lines and blocks.
 ghost use Rattle.std.specs.Prelude.{◌≡◌, ℕ, ◌<◌, ◌≤◌, ◌↔◌, All, IsTrue, IfOk, Ok, Err};
 ghost use Rattle.tx_footprint.specs.Places.{IsInStorage};
-ghost use Rattle.tx_footprint.specs.Touched.{Touched, untouched, touching, line_count, block_count, fit_of, sets_of};
+ghost use Rattle.tx_footprint.specs.Touched.{Touched, untouched, touching, line_count, block_count, fit_of};
+ghost use Rattle.tx_footprint.specs.Touched.{sets_of};
 
 pub use crate::places::BLOCKS;
 use crate::places::{Kind, added, mark};
@@ -88,12 +90,14 @@ impl Footprint {
         self.block_count = 0;
     }
 
-    /// Whether the footprint would keep its limits with these ranges too. `Fetch` exactly where it
-    /// would have too many lines; else `Store` exactly where it would have too many stored blocks.
+    /// Whether the footprint would keep its limits with these ranges, by absolute addresses, too. `Fetch`
+    /// exactly where it would have too many lines; else `Store` exactly where it would have too many stored
+    /// blocks.
     pub fn fits(&self, touches: &Touches) -> Result<(), Overflow>
         requires { All IsInStorage touches.now }
         ensures exact { result ≡ fit_of (touching (sets_of self.now) touches.now) }
-        ensures fetch { (result ≡ Err Overflow.Fetch) ↔ (MOST_LINES < line_count (touching (sets_of self.now) touches.now)) }
+        ensures fetch { (result ≡ Err Overflow.Fetch)
+            ↔ (MOST_LINES < line_count (touching (sets_of self.now) touches.now)) }
     {
         if self.line_count + added(&self.touched, touches, Kind::Line) > MOST_LINES {
             return Err(Overflow::Fetch);
@@ -104,7 +108,7 @@ impl Footprint {
         Ok(())
     }
 
-    /// The ranges are touched too.
+    /// The ranges, by absolute addresses, are touched too.
     pub fn add(&mut self, touches: &Touches)
         requires in_storage { All IsInStorage touches.now }
         requires fits { fit_of (touching (sets_of self.old) touches.now) ≡ Ok tt }

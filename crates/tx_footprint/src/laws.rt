@@ -9,17 +9,24 @@ ghost use Rattle.tx_footprint.specs.Touched.{Sets, line_count, touching};
 
 /// A range has a place exactly where one of its addresses lies there.
 pub fn has_the_places_of_its_addresses()
-    ensures { (size : ℕ) (r : Range) (place : ℕ) → (has_place size r place ≡ true) ↔ ((address : ℕ) × (r.first ≤ address) × (address < r.first + r.length) × (address / size ≡ place)) }
+    ensures { (size : ℕ) (r : Range) (place : ℕ)
+        → (has_place size r place ≡ true)
+        ↔ ((address : ℕ) × (r.first ≤ address) × (address < r.first + r.length)
+        × (address / size ≡ place)) }
 {}
 
 /// A line that is both fetched and stored is counted once: there are no more lines than fetched and
 /// stored ones together, and as many as there are lines of either kind alone where they are the same.
 pub fn counts_a_line_once()
-    ensures at_most { (sets : Sets) → line_count sets ≤ count_below LINES sets.fetched + count_below LINES sets.stored }
-    ensures once { (sets : Sets) → sets.fetched ≡ sets.stored → line_count sets ≡ count_below LINES sets.stored }
+    ensures at_most { (sets : Sets)
+        → line_count sets ≤ count_below LINES sets.fetched + count_below
+        LINES sets.stored }
+    ensures once { (sets : Sets) → sets.fetched ≡ sets.stored
+        → line_count sets ≡ count_below LINES sets.stored }
 {}
 
 /// Ranges that are touched in turn leave what all of them together do.
 pub fn adds_in_turn()
-    ensures { (sets : Sets) (first second : List Range) → touching (touching sets first) second ≡ touching sets (first ++ second) }
+    ensures { (sets : Sets) (first second : List Range)
+        → touching (touching sets first) second ≡ touching sets (first ++ second) }
 {}

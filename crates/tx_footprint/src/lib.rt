@@ -2,6 +2,9 @@
 //! that it stored, within their limits. The fetch and store footprints are those of the
 //! transactional-execution facility (z/Architecture Principles of Operation, SA22-7832); the limits are
 //! this project's.
+//!
+//! All ranges are by absolute addresses: a caller whose CPU has a prefix hands over the absolute ranges of
+//! its operands, so lines and blocks are those of storage itself.
 #![tactic(auto)]
 
 mod footprint;
@@ -10,7 +13,7 @@ mod places;
 
 pub use footprint::{BLOCKS, Footprint, MOST_BLOCKS, MOST_LINES, NoMemory, Overflow};
 pub use laws::{adds_in_turn, counts_a_line_once, has_the_places_of_its_addresses};
-pub use places::{BLOCK_SIZE, LINE_SIZE, STORAGE_SIZE};
+pub use places::{BLOCK_SIZE, LINE_SIZE};
 
 #[cfg(test)]
 mod tests;

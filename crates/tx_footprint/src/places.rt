@@ -1,14 +1,13 @@
-//! Places of storage that ranges touch: lines and blocks, counted and marked in sets.
+//! Places of storage that ranges of absolute addresses touch: lines and blocks, counted and marked in sets.
 
-ghost use Rattle.std.specs.Prelude.{◌≡◌, ℕ, ◌+◌, ◌<◌, ◌≤◌, ◌||◌, All, List, length, take, slice_index_or, false, not};
+ghost use Rattle.std.specs.Prelude.{◌≡◌, ℕ, ◌+◌, ◌<◌, ◌≤◌, ◌||◌, All, List, length, take, slice_index_or};
+ghost use Rattle.std.specs.Prelude.{false, not};
 ghost use Rattle.bit_set.specs.Counts.{count_below};
-ghost use Rattle.tx_footprint.specs.Places.{IsInStorage, size_of, places_of, records, covers, touched_by, lies_in, marked_or_touched};
+ghost use Rattle.tx_footprint.specs.Places.{IsInStorage, size_of, places_of, records, covers, touched_by};
+ghost use Rattle.tx_footprint.specs.Places.{lies_in, marked_or_touched};
 
 use bit_set::BitSet;
 use z_regs::{Range, Touches};
-
-/// The bytes of storage.
-pub const STORAGE_SIZE: u64 = 1_048_576;
 
 /// The bytes of a line.
 pub const LINE_SIZE: u64 = 256;
@@ -126,7 +125,9 @@ fn added_by(set: &BitSet, touches: &Touches, i: u8, kind: Kind) -> u32
     requires size { length set.now ≡ places_of kind }
     requires some { i < length touches.now }
     requires in_storage { All IsInStorage touches.now }
-    ensures { result + count_below (places_of kind) (marked_or_touched set.now kind (take i touches.now)) ≡ count_below (places_of kind) (marked_or_touched set.now kind (take (i + 1) touches.now)) }
+    ensures { let places = places_of kind in
+        result + count_below places (marked_or_touched set.now kind (take i touches.now))
+        ≡ count_below places (marked_or_touched set.now kind (take (i + 1) touches.now)) }
 {
     let span = span_of(touches.at(i), kind);
     let mut added = 0;
@@ -140,7 +141,9 @@ fn added_by(set: &BitSet, touches: &Touches, i: u8, kind: Kind) -> u32
 pub fn added(set: &BitSet, touches: &Touches, kind: Kind) -> u32
     requires size { length set.now ≡ places_of kind }
     requires in_storage { All IsInStorage touches.now }
-    ensures { result + count_below (places_of kind) (λ place. slice_index_or set.now place false) ≡ count_below (places_of kind) (marked_or_touched set.now kind touches.now) }
+    ensures { let places = places_of kind in
+        result + count_below places (λ place. slice_index_or set.now place false)
+        ≡ count_below places (marked_or_touched set.now kind touches.now) }
 {
     let mut added = 0;
     for i in 0..touches.count() {
@@ -154,7 +157,8 @@ fn mark_span(set: &mut BitSet, span: Span)
     requires order { span.first ≤ span.end }
     requires within { span.end ≤ length set.old }
     ensures size { length set.new ≡ length set.old }
-    ensures marks { (k : ℕ) → slice_index_or set.new k false ≡ (slice_index_or set.old k false || lies_in span.first span.end k) }
+    ensures marks { (k : ℕ) → slice_index_or set.new k
+        false ≡ (slice_index_or set.old k false || lies_in span.first span.end k) }
 {
     for place in span.first..span.end {
         set.insert(place);

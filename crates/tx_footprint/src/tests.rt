@@ -1,9 +1,10 @@
+//! Worked footprints, at their limits too.
 ghost use Rattle.std.specs.Prelude.{◌+◌, ◌≤◌, All};
 ghost use Rattle.tx_footprint.specs.Places.{IsInStorage};
 
-use crate::{Footprint, Overflow, STORAGE_SIZE};
+use crate::{Footprint, Overflow};
 use std::test::Fail;
-use z_regs::{Range, Touches};
+use z_regs::{Range, STORAGE_SIZE, Touches};
 
 /// One range of a doubleword.
 fn doubleword(first: u64, store: bool) -> Touches
@@ -36,6 +37,17 @@ fn counts_a_line_once(rt: HostRuntime) -> Result<(), Fail> {
     take(&mut footprint, 0x9080, true)?;
     assert!(rt; footprint.lines() == 1 && footprint.blocks() == 1);
     assert!(rt; footprint.fetched(144) && footprint.stored(144) && !footprint.stored(145));
+    Ok(())
+}
+
+#[test]
+fn fetched_is_not_stored(rt: HostRuntime) -> Result<(), Fail> {
+    let mut footprint = Footprint::open(rt.alloc())?;
+    take(&mut footprint, 0x9000, false)?;
+    take(&mut footprint, 0x9100, true)?;
+    assert!(rt; footprint.fetched(144) && !footprint.stored(144));
+    assert!(rt; footprint.stored(145) && !footprint.fetched(145));
+    assert!(rt; footprint.lines() == 2 && footprint.blocks() == 1);
     Ok(())
 }
 
@@ -86,9 +98,12 @@ fn takes_64_blocks(rt: HostRuntime) -> Result<(), Fail> {
     Ok(())
 }
 
+/// Whether values of a type may move between threads and be shared by them.
+fn is_shared<T: Send + Sync>() -> bool {
+    true
+}
+
 #[test]
-fn has_laws() {
-    crate::has_the_places_of_its_addresses();
-    crate::counts_a_line_once();
-    crate::adds_in_turn();
+fn footprints_are_shared_by_threads(rt: HostRuntime) {
+    assert!(rt; is_shared::<Footprint>() && is_shared::<Overflow>());
 }

@@ -18,9 +18,7 @@ use tx_control::abort_codes::{
     EXTERNAL_INTERRUPTION, FETCH_CONFLICT, FETCH_OVERFLOW, FILTERED_EXCEPTION, NESTING_DEPTH,
     PROGRAM_INTERRUPTION, RESTRICTED_INSTRUCTION, STARVED, STORE_CONFLICT, STORE_OVERFLOW,
 };
-
-/// The bytes of storage.
-const STORAGE_SIZE: u64 = 1_048_576;
+use z_regs::STORAGE_SIZE;
 
 /// The bytes of a line of storage.
 const LINE_SIZE: u64 = 256;

@@ -1,1 +1,2 @@
+-- What is kept beside the stop queue.
 pub mod Kept

@@ -23,7 +23,9 @@ compare_logical_of a b = order_code (nat_cmp a b)
 -- the bits of a in those of the k rightmost places where the mask has a one, from the left
 unfoldable pub selected : ℕ → ℕ → ℕ → List ℕ
 selected zero a mask = []
-selected (suc k) a mask = if nat_eq (bit_at mask k) 1 then bit_at a k ∷ selected k a mask else selected k a mask
+selected (suc k) a mask =
+    if nat_eq (bit_at mask k) 1 then bit_at a k ∷ selected k a mask
+    else selected k a mask
 
 -- the first of some bits
 unfoldable pub leftmost : List ℕ → ℕ
@@ -32,7 +34,10 @@ leftmost (b ∷ rest) = b
 
 -- 0 where all selected bits are zero, or none is selected; 3 where all are ones; else the code for both kinds
 abbrev pub test_code : List ℕ → ℕ → ℕ
-test_code picked mixed = if list_all (λ b. nat_eq b 0) picked then 0 else if list_all (λ b. nat_eq b 1) picked then 3 else mixed
+test_code picked mixed =
+    if list_all (λ b. nat_eq b 0) picked then 0
+    else if list_all (λ b. nat_eq b 1) picked then 3
+    else mixed
 
 unfoldable pub test_under_mask_of : ℕ → ℕ → ℕ
 test_under_mask_of byte mask = test_code (selected 8 byte mask) 1
@@ -48,7 +53,9 @@ zeros_left (suc k) a = if nat_eq (bit_at a k) 0 then suc (zeros_left k a) else 0
 
 -- That number, the doubleword without its first one, and the code; 64 and code 0 where there is no one.
 unfoldable pub leftmost_one_of : ℕ → ℕ × ℕ × ℕ
-leftmost_one_of a = if nat_eq a 0 then (64, 0, 0) else let zeros = zeros_left 64 a in (zeros, a - 2 ^ (63 - zeros), 2)
+leftmost_one_of a =
+    if nat_eq a 0 then (64, 0, 0)
+    else let zeros = zeros_left 64 a in (zeros, a - 2 ^ (63 - zeros), 2)
 
 -- a number with a first one has so many zeros left of it in a doubleword, and this rest right of it
 unfoldable pub HasFirstOne : ℕ → ℕ → ℕ → Type 0

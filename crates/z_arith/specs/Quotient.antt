@@ -1,5 +1,6 @@
 -- Quotients and remainders.
-use Rattle.std.specs.Prelude.{ℕ, ◌+◌, ◌*◌, ◌/◌, ◌%◌, ◌^◌, ◌<◌, ◌≡◌, ℤ, pos, ◌+ℤ◌, ◌*ℤ◌, int_div, int_rem, unsigned_abs, not, ◌||◌, ◌⊎◌, nat_eq, nat_lt, if◌then◌else◌, Result, Ok, Err}
+use Rattle.std.specs.Prelude.{ℕ, ◌+◌, ◌*◌, ◌/◌, ◌%◌, ◌^◌, ◌<◌, ◌≡◌, ℤ, pos, ◌+ℤ◌, ◌*ℤ◌, int_div, int_rem}
+use Rattle.std.specs.Prelude.{unsigned_abs, not, ◌||◌, ◌⊎◌, nat_eq, nat_lt, if◌then◌else◌, Result, Ok, Err}
 use Rattle.std.specs.Int.{is_negative}
 use Rattle.z_arith.specs.declared.DivideFault.{DivideFault}
 use Rattle.z_arith.specs.Whole.{signed, modulo, fits_signed}
@@ -36,10 +37,12 @@ divide_logical_of high low divisor =
 
 -- what the three calls give, remainder first, in whole numbers
 unfoldable pub DividesWord : ℕ → ℕ → ℕ × ℕ → Type 0
-DividesWord dividend divisor pair = IsDivision (signed 64 dividend) (signed 32 divisor) (signed 32 pair.1) (signed 32 pair.0)
+DividesWord dividend divisor pair =
+    IsDivision (signed 64 dividend) (signed 32 divisor) (signed 32 pair.1) (signed 32 pair.0)
 
 unfoldable pub DividesDouble : ℕ → ℕ → ℕ × ℕ → Type 0
-DividesDouble dividend divisor pair = IsDivision (signed 64 dividend) (signed 64 divisor) (signed 64 pair.1) (signed 64 pair.0)
+DividesDouble dividend divisor pair =
+    IsDivision (signed 64 dividend) (signed 64 divisor) (signed 64 pair.1) (signed 64 pair.0)
 
 unfoldable pub DividesLogical : ℕ → ℕ → ℕ → ℕ × ℕ → Type 0
 DividesLogical high low divisor pair = (pair.1 * divisor + pair.0 ≡ high * 2 ^ 64 + low) × (pair.0 < divisor)

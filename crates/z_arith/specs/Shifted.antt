@@ -4,7 +4,8 @@ use Rattle.std.specs.Int.{int_div_euclid}
 use Rattle.z_arith.specs.declared.Width.{Width}
 use Rattle.z_arith.specs.declared.Answer.{Answer}
 use Rattle.z_arith.specs.declared.Shift.{Shift}
-use Rattle.z_arith.specs.declared.Shift.TheVariants.{LeftLogical, RightLogical, LeftSigned, RightSigned, Rotate}
+use Rattle.z_arith.specs.declared.Shift.TheVariants.{LeftLogical, RightLogical, LeftSigned, RightSigned}
+use Rattle.z_arith.specs.declared.Shift.TheVariants.{Rotate}
 use Rattle.z_arith.specs.Whole.{bits, signed, fits_signed, sign_code, signed_answer, plain_answer}
 
 -- the leftmost of k bits as it is, and beside it what is kept of the others when they go left

@@ -1,8 +1,10 @@
-// Comparisons, tests of bits, and the search for the first one.
+//! Comparisons, tests of bits, and the search for the first one.
 ghost use Rattle.std.specs.Prelude.{◌≡◌, ◌<◌, ◌^◌};
 ghost use Rattle.std.specs.Int.{bit_at};
 ghost use Rattle.z_arith.specs.Whole.{bits};
-ghost use Rattle.z_arith.specs.Comparison.{order_code, compare_signed_of, compare_logical_of, test_under_mask_of, test_halfword_of, leftmost_one_of, HasFirstOne};
+ghost use Rattle.z_arith.specs.Comparison.{order_code, compare_signed_of, compare_logical_of};
+ghost use Rattle.z_arith.specs.Comparison.{test_under_mask_of, test_halfword_of, leftmost_one_of};
+ghost use Rattle.z_arith.specs.Comparison.{HasFirstOne};
 
 use crate::Width;
 use crate::numbers::number;
@@ -27,7 +29,7 @@ fn code_of(order: Ordering) -> u8
 pub fn compare_signed(w: Width, a: u64, b: u64) -> u8
     requires a_in { a < 2 ^ bits w }
     requires b_in { b < 2 ^ bits w }
-    ensures answer { result ≡ compare_signed_of w a b }
+    ensures value { result ≡ compare_signed_of w a b }
     ensures code { result < 4 }
 {
     code_of(number(w, a).cmp(&number(w, b)))
@@ -39,7 +41,7 @@ pub fn compare_signed(w: Width, a: u64, b: u64) -> u8
 pub fn compare_logical(w: Width, a: u64, b: u64) -> u8
     requires a_in { a < 2 ^ bits w }
     requires b_in { b < 2 ^ bits w }
-    ensures answer { result ≡ compare_logical_of a b }
+    ensures value { result ≡ compare_logical_of a b }
     ensures code { result < 4 }
 {
     code_of(a.cmp(&b))
@@ -49,7 +51,7 @@ pub fn compare_logical(w: Width, a: u64, b: u64) -> u8
 /// zeros or the mask is zero, 3 where all are ones, and else 1.
 #[tactic(auto, using(crate::proofs::BitLemmas::test_by_and), unfolding(crate::specs::Comparison::test_under_mask_of))]
 pub fn test_under_mask(byte: u8, mask: u8) -> u8
-    ensures answer { result ≡ test_under_mask_of byte mask }
+    ensures value { result ≡ test_under_mask_of byte mask }
     ensures code { result < 4 }
 {
     let ones = byte & mask;
@@ -67,7 +69,7 @@ pub fn test_under_mask(byte: u8, mask: u8) -> u8
 /// of them is a zero, and 2 where it is a one.
 #[tactic(auto, using(crate::proofs::BitLemmas::test_by_and, crate::proofs::BitLemmas::leftmost_is), unfolding(crate::specs::Comparison::test_halfword_of))]
 pub fn test_halfword(value: u16, mask: u16) -> u8
-    ensures answer { result ≡ test_halfword_of value mask }
+    ensures value { result ≡ test_halfword_of value mask }
     ensures code { result < 4 }
 {
     let ones = value & mask;
@@ -93,7 +95,7 @@ fn bit(value: u16, place: u32) -> u8
 /// order: FLOGR. The code is 2 where there is a one; else it is 0, and the number is 64.
 #[tactic(auto, using(crate::proofs::BitLemmas::zeros_left_is), unfolding(crate::specs::Comparison::leftmost_one_of, crate::specs::Comparison::HasFirstOne))]
 pub fn leftmost_one(value: u64) -> (u64, u64, u8)
-    ensures answer { result ≡ leftmost_one_of value }
+    ensures value { result ≡ leftmost_one_of value }
     ensures code { result.2 < 4 }
     ensures first { 0 < value → HasFirstOne value result.0 result.1 }
 {

@@ -1,6 +1,6 @@
-// The fixed-point arithmetic of z/Architecture (Principles of Operation, SA22-7832, "General
-// Instructions"), in whole numbers: what the general and the storage instructions compute of their
-// operands, apart from registers, storage and program mask.
+//! The fixed-point arithmetic of z/Architecture (Principles of Operation, SA22-7832, "General
+//! Instructions"), in whole numbers: what the general and the storage instructions compute of their
+//! operands, apart from registers, storage and program mask.
 //
 // Operands and results are bit patterns. A word is a number below 2^32, in a `u64`; a doubleword is any
 // `u64`. Where a call reads a pattern with a sign, one whose leftmost bit is one stands for the number

@@ -1,4 +1,4 @@
-// Bit patterns and the numbers that they stand for, at either width.
+//! Bit patterns and the numbers that they stand for, at either width.
 ghost use Rattle.std.specs.Prelude.{◌≡◌, ◌<◌, ◌≤◌, ◌^◌, ◌↔◌, ◌-◌, ◌%◌, IsTrue, if◌then◌else◌};
 ghost use Rattle.z_arith.specs.Whole.{bits, signed, modulo, sign_code};
 

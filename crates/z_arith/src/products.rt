@@ -1,4 +1,4 @@
-// Products, with a sign and without.
+//! Products, with a sign and without.
 ghost use Rattle.std.specs.Prelude.{◌≡◌, ◌<◌, ◌^◌};
 ghost use Rattle.z_arith.specs.Whole.{bits};
 ghost use Rattle.z_arith.specs.Product.{multiply_low_of, multiply_word_of, multiply_logical_of};
@@ -12,7 +12,7 @@ use crate::numbers::{doubleword, low};
 pub fn multiply_low(w: Width, a: u64, b: u64) -> u64
     requires a_in { a < 2 ^ bits w }
     requires b_in { b < 2 ^ bits w }
-    ensures answer { result ≡ multiply_low_of w a b }
+    ensures value { result ≡ multiply_low_of w a b }
     ensures fits { result < 2 ^ bits w }
 {
     low(w, a.wrapping_mul(b))

@@ -1,6 +1,7 @@
-// Quotients and remainders, with a sign and without.
+//! Quotients and remainders, with a sign and without.
 ghost use Rattle.std.specs.Prelude.{◌≡◌, IfOk};
-ghost use Rattle.z_arith.specs.Quotient.{divide_word_of, divide_double_of, divide_logical_of, DividesWord, DividesDouble, DividesLogical};
+ghost use Rattle.z_arith.specs.Quotient.{divide_word_of, divide_double_of, divide_logical_of, DividesWord};
+ghost use Rattle.z_arith.specs.Quotient.{DividesDouble, DividesLogical};
 
 use crate::numbers::{doubleword, number, word};
 use crate::{DivideFault, Width};
@@ -12,7 +13,7 @@ use crate::{DivideFault, Width};
 /// The fault comes exactly where the divisor is 0 or the quotient does not fit a word.
 #[tactic(auto, unfolding(crate::specs::Quotient::divide_word_of))]
 pub fn divide_word(dividend: u64, divisor: u32) -> Result<(u32, u32), DivideFault>
-    ensures answer { result ≡ divide_word_of dividend divisor }
+    ensures value { result ≡ divide_word_of dividend divisor }
     ensures division { IfOk result (DividesWord dividend divisor) }
 {
     let n = number(Width::Double, dividend);
@@ -31,7 +32,7 @@ pub fn divide_word(dividend: u64, divisor: u32) -> Result<(u32, u32), DivideFaul
 /// lowest number by -1.
 #[tactic(auto, unfolding(crate::specs::Quotient::divide_double_of))]
 pub fn divide_double(dividend: u64, divisor: u64) -> Result<(u64, u64), DivideFault>
-    ensures answer { result ≡ divide_double_of dividend divisor }
+    ensures value { result ≡ divide_double_of dividend divisor }
     ensures division { IfOk result (DividesDouble dividend divisor) }
 {
     let n = number(Width::Double, dividend);
@@ -46,7 +47,7 @@ pub fn divide_double(dividend: u64, divisor: u64) -> Result<(u64, u64), DivideFa
 /// The fault comes exactly where the divisor is 0 or the quotient does not fit a doubleword.
 #[tactic(auto, unfolding(crate::specs::Quotient::divide_logical_of, crate::specs::Quotient::DividesLogical))]
 pub fn divide_logical(high: u64, low: u64, divisor: u64) -> Result<(u64, u64), DivideFault>
-    ensures answer { result ≡ divide_logical_of high low divisor }
+    ensures value { result ≡ divide_logical_of high low divisor }
     ensures division { IfOk result (DividesLogical high low divisor) }
 {
     // The quotient fits exactly where the left doubleword is below the divisor.

@@ -1,7 +1,9 @@
-// Shifts and rotations.
-ghost use Rattle.std.specs.Prelude.{◌≡◌, ◌≢◌, ◌<◌, ◌≤◌, ◌^◌, ◌↔◌, ◌*◌, ◌/◌, ◌%◌, IsTrue, false, not, nat_eq, nat_lt, ◌+◌, ◌-◌, if◌then◌else◌};
+//! Shifts and rotations.
+ghost use Rattle.std.specs.Prelude.{◌≡◌, ◌≢◌, ◌<◌, ◌≤◌, ◌^◌, ◌↔◌, ◌*◌, ◌/◌, ◌%◌, IsTrue, false, not, nat_eq};
+ghost use Rattle.std.specs.Prelude.{nat_lt, ◌+◌, ◌-◌, if◌then◌else◌};
 ghost use Rattle.z_arith.specs.Whole.{bits};
-ghost use Rattle.z_arith.specs.Shifted.{shift_of, left_signed_of, right_signed_of, rotated, kept_bits, lost_bits, sign_copies, LosesUnlike};
+ghost use Rattle.z_arith.specs.Shifted.{shift_of, left_signed_of, right_signed_of, rotated, kept_bits};
+ghost use Rattle.z_arith.specs.Shifted.{lost_bits, sign_copies, LosesUnlike};
 
 use crate::numbers::{doubleword, has_sign, low, number, settled, sign_bit, size};
 use crate::{Answer, Shift, Width};
@@ -19,7 +21,7 @@ use crate::{Answer, Shift, Width};
 pub fn shift(kind: Shift, w: Width, value: u64, amount: u32) -> Answer
     requires value_in { value < 2 ^ bits w }
     requires amount_in { amount < 64 }
-    ensures answer { result ≡ shift_of kind w value amount }
+    ensures value { result ≡ shift_of kind w value amount }
     ensures lost { kind ≡ Shift.LeftSigned → (IsTrue result.overflow ↔ LosesUnlike (bits w) value amount) }
     ensures fits { result.value < 2 ^ bits w }
     ensures code { result.condition < 4 }
@@ -90,7 +92,7 @@ fn kept(w: Width, value: u64, amount: u32) -> u64
 fn left_signed(w: Width, value: u64, amount: u32) -> Answer
     requires value_in { value < 2 ^ bits w }
     requires amount_in { amount < 64 }
-    ensures answer { result ≡ left_signed_of (bits w) value amount }
+    ensures value { result ≡ left_signed_of (bits w) value amount }
     ensures lost { IsTrue result.overflow ↔ LosesUnlike (bits w) value amount }
     ensures fits { result.value < 2 ^ bits w }
     ensures code { result.condition < 4 }
@@ -102,7 +104,7 @@ fn left_signed(w: Width, value: u64, amount: u32) -> Answer
 fn right_signed(w: Width, value: u64, amount: u32) -> Answer
     requires value_in { value < 2 ^ bits w }
     requires amount_in { amount < 64 }
-    ensures answer { result ≡ right_signed_of (bits w) value amount }
+    ensures value { result ≡ right_signed_of (bits w) value amount }
     ensures fits { result.value < 2 ^ bits w }
     ensures code { result.condition < 4 }
 {
@@ -114,7 +116,7 @@ fn right_signed(w: Width, value: u64, amount: u32) -> Answer
 #[tactic(auto, using(crate::proofs::ShiftLemmas::rotated_below), unfolding(crate::specs::Shifted::rotated))]
 fn rotate(w: Width, value: u64, amount: u32) -> u64
     requires value_in { value < 2 ^ bits w }
-    ensures answer { result ≡ rotated (bits w) value (amount % bits w) }
+    ensures value { result ≡ rotated (bits w) value (amount % bits w) }
     ensures fits { result < 2 ^ bits w }
 {
     let all = u128::from(sign_bit(w)) * 2;

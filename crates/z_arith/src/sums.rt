@@ -1,7 +1,8 @@
-// Sums and differences, with a sign and without.
+//! Sums and differences, with a sign and without.
 ghost use Rattle.std.specs.Prelude.{◌≡◌, ◌<◌, ◌^◌, nat_eq};
 ghost use Rattle.z_arith.specs.Whole.{bits};
-ghost use Rattle.z_arith.specs.Sum.{add_of, subtract_of, add_logical_of, carry_code, subtract_logical_of, positive_of, negative_of, complement_of};
+ghost use Rattle.z_arith.specs.Sum.{add_of, subtract_of, add_logical_of, carry_code, subtract_logical_of};
+ghost use Rattle.z_arith.specs.Sum.{positive_of, negative_of, complement_of};
 
 use crate::numbers::{has_sign, low, settled, sign_bit};
 use crate::{Answer, Width};
@@ -13,7 +14,7 @@ use crate::{Answer, Width};
 pub fn add(w: Width, a: u64, b: u64) -> Answer
     requires a_in { a < 2 ^ bits w }
     requires b_in { b < 2 ^ bits w }
-    ensures answer { result ≡ add_of w a b }
+    ensures value { result ≡ add_of w a b }
     ensures fits { result.value < 2 ^ bits w }
     ensures code { result.condition < 4 }
 {
@@ -29,7 +30,7 @@ pub fn add(w: Width, a: u64, b: u64) -> Answer
 pub fn subtract(w: Width, a: u64, b: u64) -> Answer
     requires a_in { a < 2 ^ bits w }
     requires b_in { b < 2 ^ bits w }
-    ensures answer { result ≡ subtract_of w a b }
+    ensures value { result ≡ subtract_of w a b }
     ensures fits { result.value < 2 ^ bits w }
     ensures code { result.condition < 4 }
 {
@@ -53,7 +54,7 @@ fn logical_code(carries: bool, value: u64) -> u8
 pub fn add_logical(w: Width, a: u64, b: u64, carry: bool) -> Answer
     requires a_in { a < 2 ^ bits w }
     requires b_in { b < 2 ^ bits w }
-    ensures answer { result ≡ add_logical_of w a b carry }
+    ensures value { result ≡ add_logical_of w a b carry }
     ensures fits { result.value < 2 ^ bits w }
     ensures code { result.condition < 4 }
 {
@@ -79,7 +80,7 @@ pub fn add_logical(w: Width, a: u64, b: u64, carry: bool) -> Answer
 pub fn subtract_logical(w: Width, a: u64, b: u64, borrow: bool) -> Answer
     requires a_in { a < 2 ^ bits w }
     requires b_in { b < 2 ^ bits w }
-    ensures answer { result ≡ subtract_logical_of w a b borrow }
+    ensures value { result ≡ subtract_logical_of w a b borrow }
     ensures fits { result.value < 2 ^ bits w }
     ensures code { result.condition < 4 }
 {
@@ -97,7 +98,7 @@ pub fn subtract_logical(w: Width, a: u64, b: u64, borrow: bool) -> Answer
 #[tactic(auto, unfolding(crate::specs::Sum::complement_of))]
 pub fn complement(w: Width, a: u64) -> Answer
     requires { a < 2 ^ bits w }
-    ensures answer { result ≡ complement_of w a }
+    ensures value { result ≡ complement_of w a }
     ensures fits { result.value < 2 ^ bits w }
     ensures code { result.condition < 4 }
 {
@@ -109,7 +110,7 @@ pub fn complement(w: Width, a: u64) -> Answer
 #[tactic(auto, unfolding(crate::specs::Sum::positive_of, crate::specs::Sum::complement_of))]
 pub fn positive(w: Width, a: u64) -> Answer
     requires { a < 2 ^ bits w }
-    ensures answer { result ≡ positive_of w a }
+    ensures value { result ≡ positive_of w a }
     ensures fits { result.value < 2 ^ bits w }
     ensures code { result.condition < 4 }
 {
@@ -125,7 +126,7 @@ pub fn positive(w: Width, a: u64) -> Answer
 #[tactic(auto, unfolding(crate::specs::Sum::negative_of, crate::specs::Sum::complement_of))]
 pub fn negative(w: Width, a: u64) -> Answer
     requires { a < 2 ^ bits w }
-    ensures answer { result ≡ negative_of w a }
+    ensures value { result ≡ negative_of w a }
     ensures fits { result.value < 2 ^ bits w }
     ensures code { result.condition < 4 }
 {

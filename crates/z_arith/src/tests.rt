@@ -1,5 +1,5 @@
-// Corner cases of each call: 0, 1, -1 and the extremes of each width. What is expected was computed
-// outside, in whole numbers of any size.
+//! Corner cases of each call: 0, 1, -1 and the extremes of each width. What is expected was computed
+//! outside, in whole numbers of any size.
 ghost use Rattle.std.specs.Prelude.{◌<◌, ◌^◌, ◌↔◌, IsTrue};
 ghost use Rattle.z_arith.specs.Whole.{bits};
 

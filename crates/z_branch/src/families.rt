@@ -1,10 +1,11 @@
-// What each kind does. No kind here raises an exception, and the destination is that of the CPU as it was.
+//! What each kind does. No kind here raises an exception, and the destination is that of the CPU as it was.
 ghost use Rattle.std.specs.Prelude.{◌≡◌, ◌<◌, ◌^◌};
 ghost use Rattle.z_arith.specs.Whole.{bits};
 ghost use Rattle.z_instr.specs.Operands.{selects};
 ghost use Rattle.z_regs.specs.Cpu.{cpu_of};
 ghost use Rattle.z_effect.specs.Registers.{target as target_of};
-ghost use Rattle.z_effect.specs.declared.kind.Branch.TheVariants.{OnCondition, OnCount, AndSave, OnCompare, OnCompareImmediate, ServiceCall};
+ghost use Rattle.z_effect.specs.declared.kind.Branch.TheVariants.{OnCondition, OnCount, AndSave, OnCompare};
+ghost use Rattle.z_effect.specs.declared.kind.Branch.TheVariants.{OnCompareImmediate, ServiceCall};
 ghost use Rattle.z_effect.specs.BranchEffect.{branch_effect, destination as destination_of, going, counted};
 ghost use Rattle.z_effect.specs.After.{Sets};
 
@@ -27,7 +28,8 @@ fn destination(place: Place, instr: &Instr, image: &CpuImage) -> Option<u64>
     }
 }
 
-/// Goes on at the destination where the branch is taken and there is one, else behind the instruction of `n` bytes.
+/// Goes on at the destination where the branch is taken and there is one, else behind the instruction of `n`
+/// bytes.
 fn go(image: &mut CpuImage, n: u8, is_taken: bool, destination: Option<u64>)
     ensures { cpu_of image.new ≡ going n is_taken destination (cpu_of image.old) }
 {
@@ -49,7 +51,8 @@ fn count_down(w: Width, instr: &Instr, image: &CpuImage) -> u64
 /// Branches where the mask selects the code.
 #[tactic(auto, unfolding(z_effect::specs::BranchEffect::branch_effect))]
 pub fn on_condition(place: Place, n: u8, instr: &Instr, image: &mut CpuImage)
-    ensures { Sets (branch_effect (OnCondition place) n instr.now (cpu_of image.old)) n (cpu_of image.old) (cpu_of image.new) (Ok tt) }
+    ensures { Sets (branch_effect (OnCondition place) n instr.now (cpu_of image.old)) n (cpu_of image.old)
+        (cpu_of image.new) (Ok tt) }
 {
     let to = destination(place, instr, image);
     let is_taken = is_selected(instr.mask, image.condition);
@@ -59,7 +62,8 @@ pub fn on_condition(place: Place, n: u8, instr: &Instr, image: &mut CpuImage)
 /// Counts R1 down and branches where it is not zero.
 #[tactic(auto, unfolding(z_effect::specs::BranchEffect::branch_effect))]
 pub fn on_count(place: Place, w: Width, n: u8, instr: &Instr, image: &mut CpuImage)
-    ensures { Sets (branch_effect (OnCount place w) n instr.now (cpu_of image.old)) n (cpu_of image.old) (cpu_of image.new) (Ok tt) }
+    ensures { Sets (branch_effect (OnCount place w) n instr.now (cpu_of image.old)) n (cpu_of image.old)
+        (cpu_of image.new) (Ok tt) }
 {
     let to = destination(place, instr, image);
     let less = count_down(w, instr, image);
@@ -70,7 +74,8 @@ pub fn on_count(place: Place, w: Width, n: u8, instr: &Instr, image: &mut CpuIma
 /// Puts the next address into R1 and branches.
 #[tactic(auto, unfolding(z_effect::specs::BranchEffect::branch_effect))]
 pub fn and_save(place: Place, n: u8, instr: &Instr, image: &mut CpuImage)
-    ensures { Sets (branch_effect (AndSave place) n instr.now (cpu_of image.old)) n (cpu_of image.old) (cpu_of image.new) (Ok tt) }
+    ensures { Sets (branch_effect (AndSave place) n instr.now (cpu_of image.old)) n (cpu_of image.old)
+        (cpu_of image.new) (Ok tt) }
 {
     let to = destination(place, instr, image);
     let next = next_address(image, n);
@@ -81,7 +86,8 @@ pub fn and_save(place: Place, n: u8, instr: &Instr, image: &mut CpuImage)
 /// Goes on at the target where the mask selects this code, else behind the instruction of `n` bytes.
 fn go_where_selected(code: u8, n: u8, instr: &Instr, image: &mut CpuImage)
     requires { code < 4 }
-    ensures { cpu_of image.new ≡ going n (selects instr.now.mask code) (Some (target_of instr.now (cpu_of image.old))) (cpu_of image.old) }
+    ensures { cpu_of image.new ≡ going n (selects instr.now.mask code)
+        (Some (target_of instr.now (cpu_of image.old))) (cpu_of image.old) }
 {
     let to = Some(target(instr, image));
     go(image, n, is_selected(instr.mask, code), to);
@@ -90,7 +96,8 @@ fn go_where_selected(code: u8, n: u8, instr: &Instr, image: &mut CpuImage)
 /// Branches where the mask selects the code that comparing R1 with R2 would set.
 #[tactic(auto, unfolding(z_effect::specs::BranchEffect::branch_effect))]
 pub fn on_compare(order: Order, w: Width, n: u8, instr: &Instr, image: &mut CpuImage)
-    ensures { Sets (branch_effect (OnCompare order w) n instr.now (cpu_of image.old)) n (cpu_of image.old) (cpu_of image.new) (Ok tt) }
+    ensures { Sets (branch_effect (OnCompare order w) n instr.now (cpu_of image.old)) n (cpu_of image.old)
+        (cpu_of image.new) (Ok tt) }
 {
     let first = operand(image, w, instr.r1);
     let second = operand(image, w, instr.r2);
@@ -100,7 +107,8 @@ pub fn on_compare(order: Order, w: Width, n: u8, instr: &Instr, image: &mut CpuI
 /// Branches where the mask selects the code that comparing R1 with the byte would set.
 #[tactic(auto, unfolding(z_effect::specs::BranchEffect::branch_effect))]
 pub fn on_compare_immediate(n: u8, instr: &Instr, image: &mut CpuImage)
-    ensures { Sets (branch_effect OnCompareImmediate n instr.now (cpu_of image.old)) n (cpu_of image.old) (cpu_of image.new) (Ok tt) }
+    ensures { Sets (branch_effect OnCompareImmediate n instr.now (cpu_of image.old)) n (cpu_of image.old)
+        (cpu_of image.new) (Ok tt) }
 {
     let first = register(image, instr.r1);
     let byte = immediate(Width::Double, i64::from(instr.d2));
@@ -111,7 +119,8 @@ pub fn on_compare_immediate(n: u8, instr: &Instr, image: &mut CpuImage)
 /// Halts the CPU behind the instruction.
 #[tactic(auto, unfolding(z_effect::specs::BranchEffect::branch_effect))]
 pub fn service_call(n: u8, instr: &Instr, image: &mut CpuImage)
-    ensures { Sets (branch_effect ServiceCall n instr.now (cpu_of image.old)) n (cpu_of image.old) (cpu_of image.new) (Ok tt) }
+    ensures { Sets (branch_effect ServiceCall n instr.now (cpu_of image.old)) n (cpu_of image.old)
+        (cpu_of image.new) (Ok tt) }
 {
     advance(image, n);
     image.state = RunState::Halted;

@@ -1,5 +1,6 @@
-//! Instructions that say where to go on: branches on the condition code, on a count and on a comparison, branches that save
-//! the next address, and the supervisor call (z/Architecture, Principles of Operation, SA22-7832, "General Instructions").
+//! Instructions that say where to go on: branches on the condition code, on a count and on a comparison,
+//! branches that save the next address, and the supervisor call (z/Architecture, Principles of Operation,
+//! SA22-7832, "General Instructions").
 #![tactic(auto)]
 
 mod families;

@@ -1,4 +1,4 @@
-// One instruction.
+//! One instruction.
 ghost use Rattle.std.specs.Prelude.{◌≡◌, ℕ, true};
 ghost use Rattle.z_regs.specs.Cpu.{cpu_of};
 ghost use Rattle.z_effect.specs.Kinds.{kind_at};
@@ -25,7 +25,8 @@ pub fn is_mine(op: Op) -> bool
 
 /// Does what the kind says.
 fn run(branch: Branch, n: u8, instr: &Instr, image: &mut CpuImage)
-    ensures { Sets (branch_effect branch n instr.now (cpu_of image.old)) n (cpu_of image.old) (cpu_of image.new) (Ok tt) }
+    ensures { Sets (branch_effect branch n instr.now (cpu_of image.old)) n (cpu_of image.old)
+        (cpu_of image.new) (Ok tt) }
 {
     match branch {
         Branch::OnCondition(place) => families::on_condition(place, n, instr, image),
@@ -39,15 +40,16 @@ fn run(branch: Branch, n: u8, instr: &Instr, image: &mut CpuImage)
 
 /// Executes an instruction that says where to go on. It touches no storage and raises no exception.
 ///
-/// Registers, condition code, program mask, state and the address of the next instruction become those that the definition of
-/// one instruction gives, at any nesting depth.
+/// Registers, condition code, program mask, state and the address of the next instruction become those that
+/// the definition of one instruction gives, at any nesting depth.
 pub fn execute<V: Bytes>(
     instr: &Instr,
     image: &mut CpuImage,
     _view: &mut V,
 ) -> Result<(), Exception>
     requires mine { is_branch (kind_at instr.now.op.number) ≡ true }
-    ensures does { (depth : ℕ) → Executes depth instr.now (cpu_of image.old) (cpu_of image.new) (V.bytes _view.old) (V.bytes _view.new) result }
+    ensures does { (depth : ℕ) → Executes depth instr.now (cpu_of image.old) (cpu_of image.new)
+        (V.bytes _view.old) (V.bytes _view.new) result }
     ensures view { V.bytes _view.new ≡ V.bytes _view.old }
 {
     let n = length_in(line(instr.op).format);

@@ -1,4 +1,4 @@
-// Instructions as QEMU and Hercules answer, and the supervisor call.
+//! Instructions as QEMU and Hercules answer, and the supervisor call.
 
 use crate::{execute, is_mine};
 use std::process::Abort;
@@ -27,8 +27,8 @@ impl Bytes for OneByte {
     }
 }
 
-/// An instruction, the CPU before and after. The registers are R1, R2, index, base and mask; the numbers are the displacement,
-/// the immediate and the compared byte. Two general registers are set before.
+/// An instruction, the CPU before and after. The registers are R1, R2, index, base and mask; the numbers are
+/// the displacement, the immediate and the compared byte. Two general registers are set before.
 struct Case {
     name: &'static [u8],
     registers: [u8; 5],
@@ -41,7 +41,11 @@ struct Case {
 }
 
 macro_rules! case {
-    ($name:literal $registers:tt $numbers:tt at $address:literal code $condition:literal, $one:literal: $first:literal, $two:literal: $second:literal => $next:literal, $three:literal: $third:literal) => {
+    (
+        $name:literal $registers:tt $numbers:tt at $address:literal code $condition:literal,
+        $one:literal: $first:literal, $two:literal: $second:literal
+        => $next:literal, $three:literal: $third:literal
+    ) => {
         Case {
             name: $name,
             registers: $registers,
@@ -56,29 +60,55 @@ macro_rules! case {
 }
 
 static CASES: [Case; 23] = [
-    case!(b"BCR" [0, 0, 0, 0, 15] [0, 0, 0] at 0xB7840 code 0, 0: 0xFFFF_FFFF_FFFF_FF80, 0: 0xFFFF_FFFF_FFFF_FF80 => 0xB7842, 0: 0xFFFF_FFFF_FFFF_FF80),
-    case!(b"BCR" [0, 12, 0, 0, 12] [0, 0, 0] at 0x1FF08 code 3, 12: 0x2ED82, 12: 0x2ED82 => 0x1FF0A, 12: 0x2ED82),
-    case!(b"BCTR" [1, 0, 0, 0, 0] [0, 0, 0] at 0xED2E0 code 0, 0: 0x80000001, 1: 0x80000000 => 0xED2E2, 1: 0x7FFFFFFF),
+    case!(b"BCR" [0, 0, 0, 0, 15] [0, 0, 0] at 0xB7840 code 0,
+        0: 0xFFFF_FFFF_FFFF_FF80, 0: 0xFFFF_FFFF_FFFF_FF80
+        => 0xB7842, 0: 0xFFFF_FFFF_FFFF_FF80),
+    case!(b"BCR" [0, 12, 0, 0, 12] [0, 0, 0] at 0x1FF08 code 3, 12: 0x2ED82, 12: 0x2ED82
+        => 0x1FF0A, 12: 0x2ED82),
+    case!(b"BCTR" [1, 0, 0, 0, 0] [0, 0, 0] at 0xED2E0 code 0, 0: 0x80000001, 1: 0x80000000
+        => 0xED2E2, 1: 0x7FFFFFFF),
     case!(b"BCTR" [1, 1, 0, 0, 0] [0, 0, 0] at 0xB004C code 0, 1: 0x25F6E, 1: 0x25F6E => 0x25F6E, 1: 0x25F6D),
-    case!(b"BCTGR" [14, 0, 0, 0, 0] [0, 0, 0] at 0xC6C6E code 0, 0: 0x0000_0001_0000_0000, 14: 0xFFFF_FFFF_0000_0001 => 0xC6C72, 14: 0xFFFF_FFFF_0000_0000),
-    case!(b"BASR" [3, 0, 0, 0, 0] [0, 0, 0] at 0xC254 code 2, 0: 0x252B_D196_CC45_AA3B, 3: 0x973F_65FF_C96D_3554 => 0xC256, 3: 0xC256),
+    case!(b"BCTGR" [14, 0, 0, 0, 0] [0, 0, 0] at 0xC6C6E code 0,
+        0: 0x0000_0001_0000_0000, 14: 0xFFFF_FFFF_0000_0001
+        => 0xC6C72, 14: 0xFFFF_FFFF_0000_0000),
+    case!(b"BASR" [3, 0, 0, 0, 0] [0, 0, 0] at 0xC254 code 2,
+        0: 0x252B_D196_CC45_AA3B, 3: 0x973F_65FF_C96D_3554
+        => 0xC256, 3: 0xC256),
     case!(b"BASR" [4, 4, 0, 0, 0] [0, 0, 0] at 0x47EC code 0, 4: 0xBC884, 4: 0xBC884 => 0xBC884, 4: 0x47EE),
-    case!(b"BC" [0, 0, 2, 5, 15] [4095, 0, 0] at 0x8E0A8 code 1, 2: 0x2AFC7, 5: 0xED48 => 0x3AD0E, 2: 0x2AFC7),
-    case!(b"BC" [0, 0, 8, 11, 14] [1834, 0, 0] at 0x12680 code 1, 8: 0xE1603, 11: 0xFFFF_FFFF_FFF5_A395 => 0x3C0C2, 8: 0xE1603),
-    case!(b"BCT" [5, 0, 0, 8, 0] [4084, 0, 0] at 0xBC728 code 3, 5: 0x0000_0001_0000_0000, 8: 0xC5BD2 => 0xC6BC6, 5: 0x0000_0001_FFFF_FFFF),
-    case!(b"BCT" [0, 0, 0, 15, 0] [4095, 0, 0] at 0xD605A code 2, 0: 0xFFFF_FFFF_0000_0001, 15: 0xA4C73 => 0xD605E, 0: 0xFFFF_FFFF_0000_0000),
+    case!(b"BC" [0, 0, 2, 5, 15] [4095, 0, 0] at 0x8E0A8 code 1, 2: 0x2AFC7, 5: 0xED48
+        => 0x3AD0E, 2: 0x2AFC7),
+    case!(b"BC" [0, 0, 8, 11, 14] [1834, 0, 0] at 0x12680 code 1, 8: 0xE1603, 11: 0xFFFF_FFFF_FFF5_A395
+        => 0x3C0C2, 8: 0xE1603),
+    case!(b"BCT" [5, 0, 0, 8, 0] [4084, 0, 0] at 0xBC728 code 3, 5: 0x0000_0001_0000_0000, 8: 0xC5BD2
+        => 0xC6BC6, 5: 0x0000_0001_FFFF_FFFF),
+    case!(b"BCT" [0, 0, 0, 15, 0] [4095, 0, 0] at 0xD605A code 2, 0: 0xFFFF_FFFF_0000_0001, 15: 0xA4C73
+        => 0xD605E, 0: 0xFFFF_FFFF_0000_0000),
     case!(b"BRC" [0, 0, 0, 0, 8] [0, -60, 0] at 0xE32A0 code 0, 0: 0, 0: 0 => 0xE3228, 0: 0),
     case!(b"BRC" [0, 0, 0, 0, 10] [0, -20485, 0] at 0xEB1BE code 3, 0: 0, 0: 0 => 0xEB1C2, 0: 0),
     case!(b"BRCL" [0, 0, 0, 0, 7] [0, -40148, 0] at 0xCA91E code 2, 0: 0, 0: 0 => 0xB6F76, 0: 0),
-    case!(b"BRAS" [1, 0, 0, 0, 0] [0, 87, 0] at 0xB67BE code 2, 1: 0xF669_7D18_A033_0822, 1: 0xF669_7D18_A033_0822 => 0xB686C, 1: 0xB67C2),
-    case!(b"BRASL" [10, 0, 0, 0, 0] [0, -390898, 0] at 0xDF010 code 2, 10: 0x20000000, 10: 0x20000000 => 0x2022C, 10: 0xDF016),
+    case!(b"BRAS" [1, 0, 0, 0, 0] [0, 87, 0] at 0xB67BE code 2,
+        1: 0xF669_7D18_A033_0822, 1: 0xF669_7D18_A033_0822
+        => 0xB686C, 1: 0xB67C2),
+    case!(b"BRASL" [10, 0, 0, 0, 0] [0, -390898, 0] at 0xDF010 code 2, 10: 0x20000000, 10: 0x20000000
+        => 0x2022C, 10: 0xDF016),
     case!(b"BRCT" [12, 0, 0, 0, 0] [0, -10024, 0] at 0x14B14 code 2, 12: 0, 12: 0 => 0xFCC4, 12: 0xFFFFFFFF),
-    case!(b"BRCTG" [14, 0, 0, 0, 0] [0, 17219, 0] at 0xEE31C code 3, 14: 0, 14: 0 => 0xF69A2, 14: 0xFFFF_FFFF_FFFF_FFFF),
-    case!(b"CRJ" [3, 2, 0, 0, 12] [0, -9401, 0] at 0xDD35A code 1, 2: 0x849A_A6A8_7FFF_FFFF, 3: 0x9F22_CA23_8000_0000 => 0xD89E8, 2: 0x849A_A6A8_7FFF_FFFF),
-    case!(b"CRJ" [11, 10, 0, 0, 3] [0, 15322, 0] at 0x8B024 code 1, 10: 0x06F0_FCD8_0000_0001, 11: 0xE6BE_0843_0000_0001 => 0x8B02A, 10: 0x06F0_FCD8_0000_0001),
-    case!(b"CLGRJ" [0, 10, 0, 0, 15] [0, -123, 0] at 0x98050 code 1, 0: 0x74ED_2945_9C50_288F, 10: 0x8451_0E93_18A0_E64A => 0x97F5A, 0: 0x74ED_2945_9C50_288F),
-    case!(b"CGIJ" [12, 0, 0, 0, 3] [0, -6759, -9] at 0x1F2CC code 3, 12: 0x5555_5555_5555_5555, 12: 0x5555_5555_5555_5555 => 0x1BDFE, 12: 0x5555_5555_5555_5555),
-    case!(b"CGIJ" [5, 0, 0, 0, 11] [0, -21359, 0] at 0xCC72 code 3, 5: 0xFFFF_FFFF_FFFF_FFFF, 5: 0xFFFF_FFFF_FFFF_FFFF => 0xCC78, 5: 0xFFFF_FFFF_FFFF_FFFF),
+    case!(b"BRCTG" [14, 0, 0, 0, 0] [0, 17219, 0] at 0xEE31C code 3, 14: 0, 14: 0
+        => 0xF69A2, 14: 0xFFFF_FFFF_FFFF_FFFF),
+    case!(b"CRJ" [3, 2, 0, 0, 12] [0, -9401, 0] at 0xDD35A code 1,
+        2: 0x849A_A6A8_7FFF_FFFF, 3: 0x9F22_CA23_8000_0000
+        => 0xD89E8, 2: 0x849A_A6A8_7FFF_FFFF),
+    case!(b"CRJ" [11, 10, 0, 0, 3] [0, 15322, 0] at 0x8B024 code 1,
+        10: 0x06F0_FCD8_0000_0001, 11: 0xE6BE_0843_0000_0001
+        => 0x8B02A, 10: 0x06F0_FCD8_0000_0001),
+    case!(b"CLGRJ" [0, 10, 0, 0, 15] [0, -123, 0] at 0x98050 code 1,
+        0: 0x74ED_2945_9C50_288F, 10: 0x8451_0E93_18A0_E64A
+        => 0x97F5A, 0: 0x74ED_2945_9C50_288F),
+    case!(b"CGIJ" [12, 0, 0, 0, 3] [0, -6759, -9] at 0x1F2CC code 3,
+        12: 0x5555_5555_5555_5555, 12: 0x5555_5555_5555_5555
+        => 0x1BDFE, 12: 0x5555_5555_5555_5555),
+    case!(b"CGIJ" [5, 0, 0, 0, 11] [0, -21359, 0] at 0xCC72 code 3,
+        5: 0xFFFF_FFFF_FFFF_FFFF, 5: 0xFFFF_FFFF_FFFF_FFFF
+        => 0xCC78, 5: 0xFFFF_FFFF_FFFF_FFFF),
 ];
 
 impl Case {

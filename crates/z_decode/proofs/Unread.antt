@@ -14,7 +14,8 @@ pub spare_not_zero : (bytes : List ℕ) (n : ℕ) → AreBytes bytes → n < ROW
     is_spare_zero (entry_at n).format (entry_at n).single bytes ≡ false → (i : Instr) → Reads bytes i → ⊥
 spare_not_zero bytes n b h f s i r =
     let e = one_row n i.op.number bytes h i.op.known b f (reads_opcode bytes i r) in
-    let t = subst (λ m. is_spare_zero (entry_at m).format (entry_at m).single bytes ≡ true) (sym e) (reads_spare bytes i r) in
+    let t = subst (λ m. is_spare_zero (entry_at m).format (entry_at m).single bytes ≡ true) (sym e)
+    (reads_spare bytes i r) in
     cc
 
 -- what follows from what a clause says where there is no value

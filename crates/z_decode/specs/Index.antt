@@ -1,5 +1,6 @@
 -- How bytes and rows are brought into one order: by a key of two bytes.
-use Rattle.std.specs.Prelude.{ℕ, ◌+◌, ◌*◌, ◌/◌, ◌%◌, List, [], ◌∷◌, get_or, Bool, true, false, nat_eq, nat_lt, nat_le, ◌||◌, ◌&&◌, if◌then◌else◌}
+use Rattle.std.specs.Prelude.{ℕ, ◌+◌, ◌*◌, ◌/◌, ◌%◌, List, [], ◌∷◌, get_or, Bool, true, false, nat_eq, nat_lt}
+use Rattle.std.specs.Prelude.{nat_le, ◌||◌, ◌&&◌, if◌then◌else◌}
 use Rattle.std.specs.List.{list_all, list_any}
 use Rattle.z_instr.specs.declared.format.Place.{Place}
 use Rattle.z_instr.specs.declared.format.Place.TheVariants.{First, FirstTwo, FirstHalf, Ends}
@@ -45,7 +46,8 @@ is_rising (x ∷ xs) = list_all (nat_le x) xs && is_rising xs
 -- each number is that of a row, and the key beside it is that row's
 abbrev pub are_keys_of_rows : List Entry → List ℕ → List ℕ → Bool
 are_keys_of_rows es [] [] = true
-are_keys_of_rows es (k ∷ ks) (n ∷ ns) = nat_lt n 188 && (nat_eq (key_of (get_or es n no_entry)) k && are_keys_of_rows es ks ns)
+are_keys_of_rows es (k ∷ ks) (n ∷ ns) =
+    nat_lt n 188 && (nat_eq (key_of (get_or es n no_entry)) k && are_keys_of_rows es ks ns)
 are_keys_of_rows es _ _ = false
 
 abbrev pub is_key_among : List ℕ → Entry → Bool

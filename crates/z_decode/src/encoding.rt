@@ -1,4 +1,4 @@
-// Bytes from instructions.
+//! Bytes from instructions.
 ghost use Rattle.std.specs.Prelude.{◌≡◌, ◌<◌, ◌≤◌, take, drop, List, [], ◌∷◌, ℕ};
 ghost use Rattle.z_instr.specs.Table.{entry_at};
 ghost use Rattle.z_instr.specs.Layout.{format_length};

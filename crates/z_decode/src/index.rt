@@ -1,4 +1,4 @@
-// An index of the instruction table: the row of an opcode by a binary search.
+//! An index of the instruction table: the row of an opcode by a binary search.
 ghost use Rattle.std.specs.Prelude.{◌≡◌, ℕ, ◌<◌, ◌≤◌, length, slice_index, IfSome, IfNone};
 ghost use Rattle.z_instr.specs.Table.{entry_at};
 ghost use Rattle.z_instr.specs.Layout.{length_by, format_length};

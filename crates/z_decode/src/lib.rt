@@ -1,4 +1,4 @@
-// The bytes of instructions: which instruction they read as, and which bytes an instruction has.
+//! The bytes of instructions: which instruction they read as, and which bytes an instruction has.
 #![tactic(auto)]
 
 mod encoding;

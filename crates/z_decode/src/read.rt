@@ -1,10 +1,12 @@
-// The fields of an instruction's bytes, format by format.
-ghost use Rattle.std.specs.Prelude.{◌≡◌, ℕ, ◌<◌, ◌≤◌, ◌+◌, ◌*◌, ◌%◌, ◌^◌, length, true, false, slice_index, negsuc, pos, cond};
+//! The fields of an instruction's bytes, format by format.
+ghost use Rattle.std.specs.Prelude.{◌≡◌, ℕ, ◌<◌, ◌≤◌, ◌+◌, ◌*◌, ◌%◌, ◌^◌, length, true, false, slice_index};
+ghost use Rattle.std.specs.Prelude.{negsuc, pos, cond};
 ghost use Rattle.z_instr.specs.Table.{entry_at};
 ghost use Rattle.z_instr.specs.Ranges.{is_within, half, full, long, signed_byte};
 ghost use Rattle.z_instr.specs.Reading.{Reads, modulo};
 ghost use Rattle.z_instr.specs.Places.{HasOpcode, is_spare_zero};
-ghost use Rattle.z_instr.specs.declared.format.Format.TheVariants.{RR, I, RX, RRE, RRFa, RRFc, RXY, RI, RIL, RS, RSY, SI, SIY, SIL, S, SS, RIEb, RIEc};
+ghost use Rattle.z_instr.specs.declared.format.Format.TheVariants.{RR, I, RX, RRE, RRFa, RRFc, RXY, RI, RIL};
+ghost use Rattle.z_instr.specs.declared.format.Format.TheVariants.{RS, RSY, SI, SIY, SIL, S, SS, RIEb, RIEc};
 
 use z_instr::instr::Instr;
 use z_instr::op::Op;

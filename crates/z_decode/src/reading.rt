@@ -1,4 +1,4 @@
-// Instructions from bytes.
+//! Instructions from bytes.
 ghost use Rattle.std.specs.Prelude.{◌≡◌, ℕ, ◌<◌, ◌≤◌, length, slice_index, IfOk, IfErr, true, IsTrue};
 ghost use Rattle.z_instr.specs.Table.{entry_at};
 ghost use Rattle.z_instr.specs.Lines.{entry_of};

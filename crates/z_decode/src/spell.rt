@@ -1,9 +1,11 @@
-// The bytes of an instruction, format by format.
-ghost use Rattle.std.specs.Prelude.{◌≡◌, ℕ, ◌<◌, ◌≤◌, ◌^◌, ◌+◌, length, pos, negsuc, ◌≤ℤ◌, ◌<ℤ◌, IsTrue, true};
+//! The bytes of an instruction, format by format.
+ghost use Rattle.std.specs.Prelude.{◌≡◌, ℕ, ◌<◌, ◌≤◌, ◌^◌, ◌+◌, length, pos, negsuc, ◌≤ℤ◌, ◌<ℤ◌, IsTrue};
+ghost use Rattle.std.specs.Prelude.{true};
 ghost use Rattle.z_instr.specs.Table.{entry_at};
 ghost use Rattle.z_instr.specs.Ranges.{is_within, long, half, full, bounds, short, zero_alone};
 ghost use Rattle.z_instr.specs.Reading.{spelled, modulo};
-ghost use Rattle.z_instr.specs.declared.format.Format.TheVariants.{RR, I, RX, RRE, RRFa, RRFc, RXY, RI, RIL, RS, RSY, SI, SIY, SIL, S, SS, RIEb, RIEc};
+ghost use Rattle.z_instr.specs.declared.format.Format.TheVariants.{RR, I, RX, RRE, RRFa, RRFc, RXY, RI, RIL};
+ghost use Rattle.z_instr.specs.declared.format.Format.TheVariants.{RS, RSY, SI, SIY, SIL, S, SS, RIEb, RIEc};
 
 use z_instr::instr::Instr;
 

@@ -1,16 +1,18 @@
-// Encodings that an outside assembler gave, the ends of each field's range, and every row by way of its bytes.
+//! Encodings that an outside assembler gave, the ends of each field's range, and every row by way of its
+//! bytes.
 
 use crate::{Code, NoReading, decode, encode, length_of};
 use std::process::Abort;
 use std::test::Fail;
 use z_instr::instr::{Fields, Instr};
 use z_instr::limits::{Bounds, field_limits};
-use z_instr::lookup::{find, row};
+use z_instr::lookup::{find, line, row};
 use z_instr::op::Op;
+use z_instr::operand::Demand;
 use z_instr::table::ROWS;
 
-/// An instruction and its bytes. The registers are R1, R2, R3, the index, both bases and the mask; the numbers
-/// are both displacements and the immediate.
+/// An instruction and its bytes. The registers are R1, R2, R3, the index, both bases and the mask; the
+/// numbers are both displacements and the immediate.
 struct Case {
     name: &'static [u8],
     registers: [u8; 7],
@@ -237,5 +239,60 @@ fn every_row_comes_back_from_its_bytes(rt: HostRuntime) {
         assert!(rt; comes_back(op, Fields::zero()), "row {number}");
         assert!(rt; comes_back(op, highest_fields(op)), "row {number}");
         assert!(rt; find(row(op).name.bytes()) == Some(op), "row {number}");
+    }
+}
+
+/// Refused in every transaction.
+static RESTRICTED: [&[u8]; 3] = [b"PPA", b"SPM", b"SVC"];
+
+/// Refused in constrained transactions, in the order of the alphabet.
+static NOT_PERMITTED: [&[u8]; 43] = [
+    b"AGSI", b"ASI", b"BASR", b"BC", b"BCR", b"BCT", b"BCTGR", b"BCTR", b"BRAS", b"BRASL", b"CLC",
+    b"CS", b"CSG", b"DLGR", b"DR", b"DSGR", b"ETND", b"FLOGR", b"LAA", b"LAAG", b"LANG", b"LAOG",
+    b"LAXG", b"MGHI", b"MHI", b"MLGR", b"MR", b"MS", b"MSG", b"MSGR", b"MSR", b"MVC", b"NC",
+    b"NTSTG", b"OC", b"PPA", b"SAR", b"SPM", b"SVC", b"TABORT", b"TBEGIN", b"TBEGINC", b"XC",
+];
+
+/// R1 has to be even.
+static EVEN_PAIRS: [&[u8]; 6] = [b"DLGR", b"DR", b"DSGR", b"FLOGR", b"MLGR", b"MR"];
+
+/// The operand has to stand on a boundary of its size.
+static BOUNDARIES: [&[u8]; 8] = [
+    b"CS", b"CSG", b"LAA", b"LAAG", b"LANG", b"LAOG", b"LAXG", b"NTSTG",
+];
+
+/// What an operation demands by the lists above and by its name.
+fn demand_of(name: &[u8]) -> Demand {
+    if EVEN_PAIRS.contains(&name) {
+        return Demand::EvenPair;
+    }
+    if BOUNDARIES.contains(&name) {
+        return Demand::Boundary;
+    }
+    match name {
+        b"TABORT" => Demand::AbortCode,
+        b"TBEGIN" => Demand::Begin,
+        b"TBEGINC" => Demand::BeginConstrained,
+        b"SVC" => Demand::ServiceZero,
+        _ => Demand::Nothing,
+    }
+}
+
+/// The lists were copied from the architecture's, and from no table here.
+#[test]
+fn flags_of_every_row_are_those_of_the_lists(rt: HostRuntime) {
+    for number in 0..ROWS {
+        let line = line(Op { number });
+        let row = row(Op { number });
+        let name = row.name.bytes();
+        assert!(rt;
+            row.restricted == RESTRICTED.contains(&name),
+            "row {number}"
+        );
+        assert!(rt;
+            row.permitted != NOT_PERMITTED.contains(&name),
+            "row {number}"
+        );
+        assert!(rt; line.demand == demand_of(name), "row {number}");
     }
 }

@@ -3,3 +3,5 @@ pub mod TableFacts
 pub mod Stored
 pub mod Storeless
 pub mod Examples
+pub mod Prefix
+mod TransactionExamples

@@ -44,11 +44,22 @@ IsBeside k (r ∷ rs) = (r.store ≡ true → (k < r.first) ⊎ (r.first + r.len
 abbrev pub exception : ℕ → ℕ → Exception
 exception code n = record { code = code; fetch = false; length = n }
 
-abbrev pub answer_of : ℕ → Outcome → Result (Unit {0}) Exception
-answer_of n (Did c bytes) = Ok tt
-answer_of n (Overflowed c bytes) = Err (exception FIXED_POINT_OVERFLOW n)
-answer_of n Divides = Err (exception FIXED_POINT_DIVIDE n)
-answer_of n (Aborts code) = Ok tt
+-- how an instruction ends: it is done, it raises an exception, or it aborts the transaction with a code
+pub data Ending : Type 0 where
+  Done : Ending
+  Raises : Exception → Ending
+  AbortsWith : ℕ → Ending
+
+abbrev pub answer_of : ℕ → Outcome → Ending
+answer_of n (Did c bytes) = Done
+answer_of n (Overflowed c bytes) = Raises (exception FIXED_POINT_OVERFLOW n)
+answer_of n Divides = Raises (exception FIXED_POINT_DIVIDE n)
+answer_of n (Aborts code) = AbortsWith code
+
+-- what the answer of a call says of that; no call that answers so stands for an abort
+abbrev pub told : Result (Unit {0}) Exception → Ending
+told (Ok u) = Done
+told (Err e) = Raises e
 
 abbrev pub cpu_after : Cpu → Outcome → Cpu
 cpu_after old (Did c bytes) = c
@@ -64,12 +75,12 @@ storage_after rs s (Aborts code) = s
 
 -- a call answers and leaves a CPU as the outcome says
 pub record Sets (o : Outcome) (n : ℕ) (old new : Cpu) (r : Result (Unit {0}) Exception) : Type 0 where
-  pub answer : r ≡ answer_of n o
+  pub answer : told r ≡ answer_of n o
   pub image : new ≡ cpu_after old o
 
 -- and storage, by the ranges
 pub record Leaves (o : Outcome) (n : ℕ) (ranges : List Span) (old new : Cpu) (s t : List ℕ) (r : Result (Unit {0}) Exception) : Type 0 where
-  pub answer : r ≡ answer_of n o
+  pub answer : told r ≡ answer_of n o
   pub image : new ≡ cpu_after old o
   pub view : t ≡ storage_after ranges s o
 

@@ -10,3 +10,5 @@ pub mod Kinds
 pub mod One
 pub mod After
 pub mod Facts
+pub mod Beginning
+pub mod Interrupted

@@ -4,8 +4,11 @@ ghost use Rattle.z_instr.specs.Table.{entry_at};
 ghost use Rattle.z_instr.specs.Operands.{Span};
 ghost use Rattle.z_instr.specs.declared.table.TheConstants.{ROWS};
 ghost use Rattle.z_effect.specs.Kinds.{kind_at, doings};
+ghost use Rattle.z_instr.specs.declared.instr.Instr.{Instr};
+ghost use Rattle.z_regs.specs.Cpu.{Cpu};
+ghost use Rattle.z_effect.specs.One.{one};
 ghost use Rattle.z_effect.specs.Facts.{operands_of, is_named_once};
-ghost use Rattle.z_effect.specs.After.{AreInside, IsBeside, with_stored};
+ghost use Rattle.z_effect.specs.After.{cpu_after, AreInside, IsBeside, with_stored};
 
 /// Each operation is named in one place of the table of effects, and touches the operands that its row of the instruction
 /// table says.
@@ -18,4 +21,9 @@ pub fn kinds_are_sound()
 pub fn only_stored_bytes_change()
     ensures size { (ranges : List Span) (bytes s : List ℕ) → AreInside ranges s → length (with_stored ranges bytes s) ≡ length s }
     ensures others { (ranges : List Span) (bytes s : List ℕ) (k : ℕ) → AreInside ranges s → IsBeside k ranges → get_or (with_stored ranges bytes s) k 0 ≡ get_or s k 0 }
+{}
+
+/// No instruction changes the prefix.
+pub fn the_prefix_stays()
+    ensures { (i : Instr) (c : Cpu) (depth : ℕ) (bytes : List ℕ) → (cpu_after c (one i c depth bytes)).prefix ≡ c.prefix }
 {}

@@ -10,6 +10,7 @@ mod lookup;
 mod operations;
 mod steps;
 mod table;
+mod transactions;
 
 pub use lookup::kind_of;
 pub use operations::{combine, compare, extend, immediate, item, logic, shift, size_in, zero_code};
@@ -17,6 +18,7 @@ pub use steps::{
     advance, after, conclude, exception, next_address, operand, put, put_pair, register, settle,
     target,
 };
+pub use transactions::{delay, interrupt, opened, transact};
 
 #[cfg(test)]
 mod tests;

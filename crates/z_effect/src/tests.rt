@@ -6,9 +6,9 @@ use crate::kind::{
     Transaction,
 };
 use crate::{
-    advance, after, combine, compare, conclude, exception, extend, immediate, item, kind_of, laws,
-    logic, next_address, operand, put, put_pair, register, settle, shift, size_in, target,
-    zero_code,
+    advance, after, combine, compare, conclude, delay, exception, extend, immediate, interrupt,
+    item, kind_of, logic, next_address, opened, operand, put, put_pair, register, settle, shift,
+    size_in, target, transact, zero_code,
 };
 use std::test::Fail;
 use tx_control::Exception;
@@ -17,7 +17,8 @@ use z_arith::{Answer, Shift, Width};
 use z_instr::instr::{Fields, Instr};
 use z_instr::lookup::find;
 use z_instr::operand::Size;
-use z_regs::CpuImage;
+use z_instr::roles::begins;
+use z_regs::{CpuImage, RunState};
 
 /// A CPU at 4000, in hexadecimal, with all registers zero but register 1.
 fn cpu(value: u64) -> CpuImage {
@@ -76,12 +77,6 @@ fn kinds_by_operations(rt: HostRuntime) -> Result<(), Fail> {
     );
     assert!(rt; matches!(kind(b"TEND")?, Kind::Transaction(Transaction::End)));
     Ok(())
-}
-
-#[test]
-fn laws_hold() {
-    laws::kinds_are_sound();
-    laws::only_stored_bytes_change();
 }
 
 #[test]
@@ -213,5 +208,42 @@ fn overflow_by_the_mask(rt: HostRuntime) -> Result<(), Fail> {
     let ended = settle(&instr, &mut image, 4, Width::Word, nine);
     assert_eq!(rt; ended, Err(exception(FIXED_POINT_OVERFLOW, 4)));
     assert_eq!(rt; (image.general[1], image.address), (9, 0x4006));
+    Ok(())
+}
+
+/// What the two executors of the transaction instructions share.
+#[test]
+fn transaction_steps(rt: HostRuntime) -> Result<(), Fail> {
+    let mut image = cpu(256);
+    let assist = find(b"PPA").ok_or("PPA")?;
+    let fields = Fields {
+        r1: 1,
+        mask: 1,
+        ..Fields::zero()
+    };
+    let assist = Instr::new(assist, fields).ok_or("an assist")?;
+    assert_eq!(rt; delay(&assist, &image), 64);
+    transact(Transaction::ExtractDepth, &assist, &mut image, 4, 16);
+    assert_eq!(rt; image.general[1], 16);
+    assert_eq!(rt; image.address, 0x4004);
+    let exception = exception(FIXED_POINT_OVERFLOW, 6);
+    interrupt(&mut image, exception);
+    assert_eq!(rt; image.address, 0x400A);
+    assert!(rt; image.state == RunState::Interrupted(FIXED_POINT_OVERFLOW));
+    Ok(())
+}
+
+#[test]
+fn a_level_is_opened(rt: HostRuntime) -> Result<(), Fail> {
+    let op = find(b"TBEGINC").ok_or("TBEGINC")?;
+    let fields = Fields {
+        imm: 0xFF0F,
+        ..Fields::zero()
+    };
+    let begin = Instr::new(op, fields).ok_or("a begin")?;
+    assert!(rt; begins(begin.op));
+    let level = opened(&begin, &cpu(0));
+    assert_eq!(rt; level.mask, 0xFF);
+    assert!(rt; level.constrained && !level.f && level.pifc == 0);
     Ok(())
 }

@@ -1,4 +1,4 @@
-// Instructions on bits 48 to 63 of R1.
+//! Instructions on bits 48 to 63 of R1.
 ghost use Rattle.std.specs.Prelude.{◌≡◌, ◌<◌, ◌^◌};
 ghost use Rattle.z_arith.specs.Whole.{modulo};
 ghost use Rattle.z_regs.specs.Cpu.{cpu_of};
@@ -40,7 +40,8 @@ fn put_halfword(instr: &Instr, image: &mut CpuImage, value: u64)
 
 /// The result of an operation on the halfword and the immediate.
 fn combined_halfword(kind: Logic, instr: &Instr, image: &CpuImage) -> u64
-    ensures value { result ≡ logic_of kind (halfword_of instr.now (cpu_of image.now)) (modulo 16 instr.now.imm) }
+    ensures value { result ≡ logic_of kind (halfword_of instr.now (cpu_of image.now))
+        (modulo 16 instr.now.imm) }
     ensures fits { result < 2 ^ 16 }
 {
     let a = halfword(instr, image);
@@ -56,7 +57,8 @@ pub fn low_halfword(
     instr: &Instr,
     image: &mut CpuImage,
 ) -> Result<(), Exception>
-    ensures { Sets (general_effect (general.LowHalfword kind) n instr.now (cpu_of image.old)) n (cpu_of image.old) (cpu_of image.new) result }
+    ensures { Sets (general_effect (general.LowHalfword kind) n instr.now (cpu_of image.old)) n
+        (cpu_of image.old) (cpu_of image.new) result }
 {
     let value = combined_halfword(kind, instr, image);
     put_halfword(instr, image, value);
@@ -66,7 +68,8 @@ pub fn low_halfword(
 /// Puts the immediate in the halfword's place.
 #[tactic(auto, unfolding(z_effect::specs::GeneralEffect::general_effect))]
 pub fn insert(n: u8, instr: &Instr, image: &mut CpuImage) -> Result<(), Exception>
-    ensures { Sets (general_effect general.InsertHalfword n instr.now (cpu_of image.old)) n (cpu_of image.old) (cpu_of image.new) result }
+    ensures { Sets (general_effect general.InsertHalfword n instr.now (cpu_of image.old)) n (cpu_of image.old)
+        (cpu_of image.new) result }
 {
     put_halfword(instr, image, u64::from(immediate_halfword(instr)));
     finish(image, n)
@@ -75,7 +78,8 @@ pub fn insert(n: u8, instr: &Instr, image: &mut CpuImage) -> Result<(), Exceptio
 /// Tests those bits of the halfword that the immediate selects.
 #[tactic(auto, unfolding(z_effect::specs::GeneralEffect::general_effect))]
 pub fn test(n: u8, instr: &Instr, image: &mut CpuImage) -> Result<(), Exception>
-    ensures { Sets (general_effect general.TestHalfword n instr.now (cpu_of image.old)) n (cpu_of image.old) (cpu_of image.new) result }
+    ensures { Sets (general_effect general.TestHalfword n instr.now (cpu_of image.old)) n (cpu_of image.old)
+        (cpu_of image.new) result }
 {
     let code = test_halfword(halfword(instr, image), immediate_halfword(instr));
     finish_with(code, n, image)

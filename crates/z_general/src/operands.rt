@@ -1,9 +1,10 @@
-// The operands of an instruction without an operand in storage.
+//! The operands of an instruction without an operand in storage.
 ghost use Rattle.std.specs.Prelude.{◌≡◌, ◌<◌, ◌^◌, ◌%◌};
 ghost use Rattle.z_arith.specs.Whole.{bits};
 ghost use Rattle.z_regs.specs.Cpu.{cpu_of};
 ghost use Rattle.z_effect.specs.Operations.{bits_in};
-ghost use Rattle.z_effect.specs.GeneralEffect.{first_operand as first_of, second_operand as second_of, amount as amount_of};
+ghost use Rattle.z_effect.specs.GeneralEffect.{first_operand as first_of, second_operand as second_of};
+ghost use Rattle.z_effect.specs.GeneralEffect.{amount as amount_of};
 
 use z_arith::Width;
 use z_effect::kind::Source;

@@ -1,4 +1,4 @@
-// Instructions with results in R1 and the register after it.
+//! Instructions with results in R1 and the register after it.
 ghost use Rattle.std.specs.Prelude.{◌≡◌, ◌<◌, ◌^◌};
 ghost use Rattle.z_arith.specs.Whole.{bits};
 ghost use Rattle.z_regs.specs.Cpu.{cpu_of};
@@ -27,7 +27,8 @@ fn finish_pair(
 ) -> Result<(), Exception>
     requires first_in { first < 2 ^ bits w }
     requires second_in { second < 2 ^ bits w }
-    ensures { Sets (done (advanced n (with_pair w instr.now.r1 first second (cpu_of image.old)))) n (cpu_of image.old) (cpu_of image.new) result }
+    ensures { Sets (done (advanced n (with_pair w instr.now.r1 first second (cpu_of image.old)))) n
+        (cpu_of image.old) (cpu_of image.new) result }
 {
     put_pair(image, w, instr.r1, first, second);
     finish(image, n)
@@ -36,7 +37,8 @@ fn finish_pair(
 /// The product of two words with a sign.
 #[tactic(auto, unfolding(z_effect::specs::GeneralEffect::general_effect))]
 pub fn multiply_word(n: u8, instr: &Instr, image: &mut CpuImage) -> Result<(), Exception>
-    ensures { Sets (general_effect general.MultiplyWord n instr.now (cpu_of image.old)) n (cpu_of image.old) (cpu_of image.new) result }
+    ensures { Sets (general_effect general.MultiplyWord n instr.now (cpu_of image.old)) n (cpu_of image.old)
+        (cpu_of image.new) result }
 {
     let a = operand(image, Width::Word, after(instr.r1)) as u32;
     let b = operand(image, Width::Word, instr.r2) as u32;
@@ -49,7 +51,8 @@ pub fn multiply_word(n: u8, instr: &Instr, image: &mut CpuImage) -> Result<(), E
 /// The product of two doublewords without a sign.
 #[tactic(auto, unfolding(z_effect::specs::GeneralEffect::general_effect))]
 pub fn multiply_logical(n: u8, instr: &Instr, image: &mut CpuImage) -> Result<(), Exception>
-    ensures { Sets (general_effect general.MultiplyLogical n instr.now (cpu_of image.old)) n (cpu_of image.old) (cpu_of image.new) result }
+    ensures { Sets (general_effect general.MultiplyLogical n instr.now (cpu_of image.old)) n
+        (cpu_of image.old) (cpu_of image.new) result }
 {
     let a = register(image, after(instr.r1));
     let b = register(image, instr.r2);
@@ -60,7 +63,8 @@ pub fn multiply_logical(n: u8, instr: &Instr, image: &mut CpuImage) -> Result<()
 /// Two words, as one number with a sign, by a word.
 #[tactic(auto, unfolding(z_effect::specs::GeneralEffect::general_effect))]
 pub fn divide_word(n: u8, instr: &Instr, image: &mut CpuImage) -> Result<(), Exception>
-    ensures { Sets (general_effect general.DivideWord n instr.now (cpu_of image.old)) n (cpu_of image.old) (cpu_of image.new) result }
+    ensures { Sets (general_effect general.DivideWord n instr.now (cpu_of image.old)) n (cpu_of image.old)
+        (cpu_of image.new) result }
 {
     let left = operand(image, Width::Word, instr.r1);
     let right = operand(image, Width::Word, after(instr.r1));
@@ -77,7 +81,8 @@ pub fn divide_word(n: u8, instr: &Instr, image: &mut CpuImage) -> Result<(), Exc
 /// A doubleword by a doubleword, both with a sign.
 #[tactic(auto, unfolding(z_effect::specs::GeneralEffect::general_effect))]
 pub fn divide_double(n: u8, instr: &Instr, image: &mut CpuImage) -> Result<(), Exception>
-    ensures { Sets (general_effect general.DivideDouble n instr.now (cpu_of image.old)) n (cpu_of image.old) (cpu_of image.new) result }
+    ensures { Sets (general_effect general.DivideDouble n instr.now (cpu_of image.old)) n (cpu_of image.old)
+        (cpu_of image.new) result }
 {
     let dividend = register(image, after(instr.r1));
     match z_arith::divide_double(dividend, register(image, instr.r2)) {
@@ -91,7 +96,8 @@ pub fn divide_double(n: u8, instr: &Instr, image: &mut CpuImage) -> Result<(), E
 /// Two doublewords, as one number without a sign, by a doubleword.
 #[tactic(auto, unfolding(z_effect::specs::GeneralEffect::general_effect))]
 pub fn divide_logical(n: u8, instr: &Instr, image: &mut CpuImage) -> Result<(), Exception>
-    ensures { Sets (general_effect general.DivideLogical n instr.now (cpu_of image.old)) n (cpu_of image.old) (cpu_of image.new) result }
+    ensures { Sets (general_effect general.DivideLogical n instr.now (cpu_of image.old)) n (cpu_of image.old)
+        (cpu_of image.new) result }
 {
     let left = register(image, instr.r1);
     let right = register(image, after(instr.r1));
@@ -106,7 +112,8 @@ pub fn divide_logical(n: u8, instr: &Instr, image: &mut CpuImage) -> Result<(), 
 /// The first one of R2.
 #[tactic(auto, unfolding(z_effect::specs::GeneralEffect::general_effect))]
 pub fn find_leftmost_one(n: u8, instr: &Instr, image: &mut CpuImage) -> Result<(), Exception>
-    ensures { Sets (general_effect general.FindLeftmostOne n instr.now (cpu_of image.old)) n (cpu_of image.old) (cpu_of image.new) result }
+    ensures { Sets (general_effect general.FindLeftmostOne n instr.now (cpu_of image.old)) n
+        (cpu_of image.old) (cpu_of image.new) result }
 {
     let (zeros, rest, code) = z_arith::leftmost_one(register(image, instr.r2));
     put_pair(image, Width::Double, instr.r1, zeros, rest);

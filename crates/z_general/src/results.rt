@@ -1,4 +1,4 @@
-// Instructions that put one result into R1, or compare.
+//! Instructions that put one result into R1, or compare.
 ghost use Rattle.std.specs.Prelude.{◌≡◌, ◌<◌};
 ghost use Rattle.z_regs.specs.Cpu.{cpu_of};
 ghost use Rattle.z_effect.specs.declared.kind.General.TheVariants as general;
@@ -24,7 +24,8 @@ pub fn compute(
     instr: &Instr,
     image: &mut CpuImage,
 ) -> Result<(), Exception>
-    ensures { Sets (general_effect (general.Compute operation w source) n instr.now (cpu_of image.old)) n (cpu_of image.old) (cpu_of image.new) result }
+    ensures { Sets (general_effect (general.Compute operation w source) n instr.now (cpu_of image.old)) n
+        (cpu_of image.old) (cpu_of image.new) result }
 {
     let a = first_operand(source, w, instr, image);
     let b = second_operand(source, w, instr, image);
@@ -42,7 +43,8 @@ pub fn compare(
     instr: &Instr,
     image: &mut CpuImage,
 ) -> Result<(), Exception>
-    ensures { Sets (general_effect (general.Compare order w source) n instr.now (cpu_of image.old)) n (cpu_of image.old) (cpu_of image.new) result }
+    ensures { Sets (general_effect (general.Compare order w source) n instr.now (cpu_of image.old)) n
+        (cpu_of image.old) (cpu_of image.new) result }
 {
     let a = first_operand(source, w, instr, image);
     let b = second_operand(source, w, instr, image);
@@ -52,7 +54,8 @@ pub fn compare(
 /// Shifts the word in R1.
 #[tactic(auto, unfolding(z_effect::specs::GeneralEffect::general_effect))]
 pub fn shift_first(kind: Shift, n: u8, instr: &Instr, image: &mut CpuImage) -> Result<(), Exception>
-    ensures { Sets (general_effect (general.ShiftFirst kind) n instr.now (cpu_of image.old)) n (cpu_of image.old) (cpu_of image.new) result }
+    ensures { Sets (general_effect (general.ShiftFirst kind) n instr.now (cpu_of image.old)) n
+        (cpu_of image.old) (cpu_of image.new) result }
 {
     let value = operand(image, Width::Word, instr.r1);
     let far = amount(instr, image);
@@ -69,7 +72,8 @@ pub fn shift_third(
     instr: &Instr,
     image: &mut CpuImage,
 ) -> Result<(), Exception>
-    ensures { Sets (general_effect (general.ShiftThird kind w) n instr.now (cpu_of image.old)) n (cpu_of image.old) (cpu_of image.new) result }
+    ensures { Sets (general_effect (general.ShiftThird kind w) n instr.now (cpu_of image.old)) n
+        (cpu_of image.old) (cpu_of image.new) result }
 {
     let value = operand(image, w, instr.r3);
     let far = amount(instr, image);

@@ -1,4 +1,4 @@
-// One instruction.
+//! One instruction.
 ghost use Rattle.std.specs.Prelude.{◌≡◌, ℕ, true};
 ghost use Rattle.z_regs.specs.Cpu.{cpu_of};
 ghost use Rattle.z_effect.specs.Kinds.{kind_at};
@@ -16,7 +16,8 @@ use z_instr::lookup::line;
 use z_instr::op::Op;
 use z_regs::{Bytes, CpuImage};
 
-/// Whether an operation has no operand in storage, does not branch and is not about transactions: whether [`execute`] is for it.
+/// Whether an operation has no operand in storage, does not branch and is not about transactions: whether
+/// [`execute`] is for it.
 pub fn is_mine(op: Op) -> bool
     ensures { result ≡ is_general (kind_at op.number) }
 {
@@ -25,7 +26,8 @@ pub fn is_mine(op: Op) -> bool
 
 /// Does what a kind says to an instruction's registers.
 fn run(kind: General, n: u8, instr: &Instr, image: &mut CpuImage) -> Result<(), Exception>
-    ensures { Sets (general_effect kind n instr.now (cpu_of image.old)) n (cpu_of image.old) (cpu_of image.new) result }
+    ensures { Sets (general_effect kind n instr.now (cpu_of image.old)) n (cpu_of image.old)
+        (cpu_of image.new) result }
 {
     match kind {
         General::Compute(operation, w, source) => {
@@ -53,18 +55,20 @@ fn run(kind: General, n: u8, instr: &Instr, image: &mut CpuImage) -> Result<(), 
     }
 }
 
-/// Executes an instruction for which [`is_mine`] holds: changes registers, condition code, program mask and address as the
-/// architecture says, and nothing in storage.
+/// Executes an instruction for which [`is_mine`] holds: changes registers, condition code, program mask and
+/// address as the architecture says, and nothing in storage.
 ///
-/// The error is a fixed-point overflow exception, after all is done, where the result overflows and the leftmost bit of the
-/// program mask is one; or a fixed-point divide exception, with all as before. Whether R1 of a pair is even is not looked at.
+/// The error is a fixed-point overflow exception, after all is done, where the result overflows and the
+/// leftmost bit of the program mask is one; or a fixed-point divide exception, with all as before. Whether R1
+/// of a pair is even is not looked at.
 pub fn execute<V: Bytes>(
     instr: &Instr,
     image: &mut CpuImage,
     _view: &mut V,
 ) -> Result<(), Exception>
     requires mine { is_general (kind_at instr.now.op.number) ≡ true }
-    ensures does { (depth : ℕ) → Executes depth instr.now (cpu_of image.old) (cpu_of image.new) (V.bytes _view.old) (V.bytes _view.new) result }
+    ensures does { (depth : ℕ) → Executes depth instr.now (cpu_of image.old) (cpu_of image.new)
+        (V.bytes _view.old) (V.bytes _view.new) result }
     ensures view { V.bytes _view.new ≡ V.bytes _view.old }
 {
     let n = length_in(line(instr.op).format);

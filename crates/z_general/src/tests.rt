@@ -1,4 +1,4 @@
-// Expected values are those that QEMU and Hercules answer, but where a line says otherwise.
+//! Expected values are those that QEMU and Hercules answer, but where a line says otherwise.
 
 ghost use Rattle.std.specs.Prelude.{◌<◌};
 

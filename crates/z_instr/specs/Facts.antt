@@ -74,3 +74,8 @@ abbrev pub has_fitting_immediate : Entry → Bool
 has_fitting_immediate e =
     (not (has_two_lists e.operands) || is_plain_below 256 e)
     && ((not (is_service e.demand) || is_plain_below 256 e) && (not (is_begin e.demand) || is_plain_below 65536 e))
+
+-- two tests answer alike
+abbrev pub agree : Bool → Bool → Bool
+agree true b = b
+agree false b = not b

@@ -4,6 +4,9 @@ pub mod Layout
 pub mod Ranges
 pub mod Facts
 pub mod Made
+pub mod Computing
 pub mod Reading
 pub mod Operands
 pub mod Places
+pub mod Roles
+pub mod Access

@@ -1,6 +1,7 @@
 // What holds of the whole table, and of every reading. Each law is the contract of a function that does
 // nothing.
 ghost use Rattle.std.specs.Prelude.{◌≡◌, ◌<◌, ℕ, List, length, get_or, true, nat_eq, ◌≤◌, All};
+ghost use Rattle.std.specs.Prelude.{◌↔◌, Some, None};
 ghost use Rattle.std.specs.List.{list_any};
 ghost use Rattle.z_instr.specs.Operands.{Span, IsSmall, pieces, spans, HoldsByteOf};
 ghost use Rattle.z_instr.specs.Table.{entry_at};
@@ -9,6 +10,7 @@ ghost use Rattle.z_instr.specs.Facts.{has_fitting_name, is_refused_alike, has_tw
 ghost use Rattle.z_instr.specs.Ranges.{is_within, bounds};
 ghost use Rattle.z_instr.specs.Places.{HasOpcode};
 ghost use Rattle.z_instr.specs.Reading.{AreBytes, AreSame, Reads};
+ghost use Rattle.z_instr.specs.Computing.{reading_of};
 ghost use Rattle.z_instr.specs.declared.instr.Instr.{Instr};
 ghost use Rattle.z_instr.specs.declared.table.TheConstants.{ROWS};
 
@@ -53,4 +55,17 @@ pub fn immediates_are_plain()
 pub fn operands_are_small()
     ensures count { (i : Instr) (general : List ℕ) (code : ℕ) → length (spans i general code) ≤ 2 }
     ensures size { (i : Instr) (general : List ℕ) (code : ℕ) → All IsSmall (spans i general code) }
+{}
+
+/// Instructions of one operation with the same fields are one instruction.
+pub fn fields_make_instructions()
+    ensures { (i j : Instr) → AreSame i j → i ≡ j }
+{}
+
+/// The computed reading of a list is an instruction exactly where the list reads as it, and there is none
+/// exactly where the list reads as no instruction.
+pub fn reading_computes()
+    ensures there { (bytes : List ℕ) (i : Instr) → Reads bytes i → reading_of bytes ≡ Some i }
+    ensures reads { (bytes : List ℕ) (i : Instr) → reading_of bytes ≡ Some i → Reads bytes i }
+    ensures none { (bytes : List ℕ) → (reading_of bytes ≡ None) ↔ ((i : Instr) → Reads bytes i → ⊥) }
 {}

@@ -12,6 +12,7 @@ pub mod lookup;
 pub mod name;
 pub mod op;
 pub mod operand;
+pub mod roles;
 pub mod row;
 pub mod table;
 #[cfg(test)]

@@ -3,11 +3,11 @@
 use crate::addresses::{first_address, is_selected, registers_named, second_address};
 use crate::format::{Format, Place, length_in, place_of};
 use crate::instr::{Fields, Instr};
-use crate::laws;
 use crate::limits::field_limits;
 use crate::lookup::{find, line, row};
 use crate::name::Name;
 use crate::operand::{Demand, Operands, Size};
+use crate::roles::{begins, block_named, is_end, is_relative_branch, sets_access_register};
 use std::test::Fail;
 
 #[test]
@@ -78,16 +78,6 @@ fn fields_are_held_to_their_ranges(rt: HostRuntime) -> Result<(), Fail> {
     Ok(())
 }
 
-#[test]
-fn laws_are_called() {
-    laws::rows_are_distinct();
-    laws::rows_are_sound();
-    laws::readings_are_unique();
-    laws::pieces_hold_bytes();
-    laws::operands_are_small();
-    laws::immediates_are_plain();
-}
-
 // An address takes base, index and displacement; register number 0 adds nothing, and the sum goes on from 2^64 at 0.
 #[test]
 fn addresses_of_operands(rt: HostRuntime) -> Result<(), Fail> {
@@ -124,5 +114,25 @@ fn registers_and_codes_named(rt: HostRuntime) -> Result<(), Fail> {
     assert!(rt; is_selected(1, 3) && !is_selected(1, 0));
     assert_eq!(rt; Size::Halfword.bytes(), 2);
     assert_eq!(rt; Size::Doubleword.bytes(), 8);
+    Ok(())
+}
+
+// Which operations the rules of transactions name.
+#[test]
+fn roles_in_transactions(rt: HostRuntime) -> Result<(), Fail> {
+    let branch = find(b"BRC").ok_or("BRC")?;
+    let load_address = find(b"LARL").ok_or("LARL")?;
+    assert!(rt; is_relative_branch(branch) && !is_relative_branch(load_address));
+    assert!(rt; is_end(find(b"TEND").ok_or("TEND")?) && !is_end(branch));
+    assert!(rt; sets_access_register(find(b"SAR").ok_or("SAR")?));
+    let begin = find(b"TBEGIN").ok_or("TBEGIN")?;
+    assert!(rt; begins(begin) && begins(find(b"TBEGINC").ok_or("TBEGINC")?));
+    let fields = Fields {
+        b: 5,
+        d: 8,
+        ..Fields::zero()
+    };
+    let begin = Instr::new(begin, fields).ok_or("a begin")?;
+    assert_eq!(rt; block_named(&begin, &[0x9000; 16]), Some(0x9008));
     Ok(())
 }

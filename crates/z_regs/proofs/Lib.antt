@@ -1,2 +1,6 @@
--- What a list of marks says of the set of marked places.
+-- Sets of pages, the exchange of two areas of storage, program status words, and worked values.
 pub mod Marks
+pub mod Exchange
+pub mod MovedBytes
+pub mod Words
+mod Examples

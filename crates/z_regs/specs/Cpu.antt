@@ -17,11 +17,23 @@ pub record Cpu : Type 0 where
 
 abbrev pub cpu_of : CpuImage → Cpu
 cpu_of c = record {
-    general = c.general; access = c.access; address = c.address; condition = c.condition; mask = c.mask;
-    state = c.state; prefix = c.prefix }
+  general = c.general;
+  access = c.access;
+  address = c.address;
+  condition = c.condition;
+  mask = c.mask;
+  state = c.state;
+  prefix = c.prefix;
+}
 
 -- a running CPU without a prefix at its entry address, with zeros elsewhere
 abbrev pub started : ℕ → Cpu
 started address = record {
-    general = replicate 16 0; access = replicate 16 0; address = address; condition = 0; mask = 0;
-    state = state.Running; prefix = None }
+  general = replicate 16 0;
+  access = replicate 16 0;
+  address = address;
+  condition = 0;
+  mask = 0;
+  state = state.Running;
+  prefix = None;
+}

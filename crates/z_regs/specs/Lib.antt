@@ -2,3 +2,7 @@
 pub mod Cpu
 pub mod Pages
 pub mod Prefix
+pub mod Pairs
+pub mod Seen
+pub mod Psw
+pub mod Absolute

@@ -4,14 +4,23 @@
 mod bytes;
 mod guard;
 mod image;
+pub mod laws;
+mod prefix;
+mod psw;
 mod ranges;
+mod real;
 mod storage;
+mod waiting;
 
 pub use bytes::Bytes;
 pub use guard::{Guard, PAGES};
 pub use image::{CpuImage, RunState};
+pub use prefix::{AREA_SIZE, STORAGE_SIZE, absolute, place_of};
+pub use psw::{load_psw, psw_of};
 pub use ranges::{Range, Touches};
+pub use real::RealView;
 pub use storage::{NoMemory, Storage};
+pub use waiting::Waiting;
 
 #[cfg(test)]
 mod tests;

@@ -1,5 +1,6 @@
 //! Shared storage.
 ghost use Rattle.std.specs.Prelude.{◌≡◌, List, ℕ, length, vec_len, IfOk, slice_index, slice_set};
+ghost use Rattle.z_regs.specs.Prefix.{storage_size};
 
 use crate::Bytes;
 use std::alloc::Global;
@@ -26,7 +27,7 @@ impl Model for Storage {
 impl Storage {
     /// Storage that holds these bytes, which are 1,048,576. `NoMemory` comes for want of memory.
     pub fn open(alloc: Global, bytes: &[u8]) -> Result<Storage, NoMemory>
-        requires { length bytes.now ≡ 1048576 }
+        requires { length bytes.now ≡ storage_size }
         ensures { IfOk result (λ storage. storage ≡ bytes.now) }
     {
         match Vec::from_slice(alloc, bytes) {
@@ -38,7 +39,7 @@ impl Storage {
     /// All the bytes.
     pub fn as_slice(&self) -> &[u8]
         ensures bytes { result.now ≡ self.now }
-        ensures size { length self.now ≡ 1048576 }
+        ensures size { length self.now ≡ storage_size }
     {
         self.bytes.as_slice()
     }

@@ -1,5 +1,7 @@
 -- Steps of the loops over the bytes of two operands.
-use Rattle.std.proofs.Common.{◌≡◌, ℕ, zero, suc, ◌<◌, ◌≤◌, ◌+◌, ◌-◌, List, [], ◌∷◌, ◌++◌, length, get_or, set, drop, Bool, true, false, nat_eq, nat_lt, refl, sym, ap, ◌∙◌, arith, inl, inr, ◌⊎◌}
+use Rattle.std.proofs.Common.{◌≡◌, ℕ, zero, suc, ◌<◌, ◌≤◌, ◌+◌, ◌-◌, List, [], ◌∷◌, ◌++◌, length, get_or, set}
+use Rattle.std.proofs.Common.{drop, Bool, true, false, nat_eq, nat_lt, refl, sym, ap, ◌∙◌, arith, inl, inr}
+use Rattle.std.proofs.Common.{◌⊎◌}
 use Rattle.std.specs.Prelude.{if◌then◌else◌, ◌&&◌}
 use Rattle.std.specs.List.{list_all}
 use Rattle.std.proofs.lemmas.List.{length_push, get_or-take, get_or-drop}
@@ -21,11 +23,16 @@ unfolding results
 length-results zero m ahead a b = refl
 length-results (suc k) m ahead a b =
     let before = results k m ahead a b in
-    omega (arith, length_push before (mixed m (get_or a k 0) (source_byte k ahead b before)), length-results k m ahead a b)
+    omega (
+      arith,
+      length_push before (mixed m (get_or a k 0) (source_byte k ahead b before)),
+      length-results k m ahead a b,
+    )
 
 -- the next result
 results_more : (k : ℕ) (m : Combination) (ahead : ℕ) (a b : List ℕ)
-    → results (k + 1) m ahead a b ≡ results k m ahead a b ++ mixed m (get_or a k 0) (source_byte k ahead b (results k m ahead a b)) ∷ []
+    → results (k + 1) m ahead a b ≡ results k m ahead a b ++
+    mixed m (get_or a k 0) (source_byte k ahead b (results k m ahead a b)) ∷ []
 unfolding results
 results_more k m ahead a b = ap (λ j. results j m ahead a b) (add-one k)
 
@@ -48,25 +55,40 @@ lead_cases : (n a b : ℕ) → Lead n a b
 lead_cases n a b =
     elim (cases_lt b a) [
       | inl l ↦ elim (cases_lt (a - b) n) [
-        | inl r ↦ inl (l, r, (let e : nat_lt b a ≡ true = lt-ltb b a l in let f : nat_lt (a - b) n ≡ true = lt-ltb (a - b) n r in rw (e, f) refl))
-        | inr r ↦ inr (inr r, (let f : nat_lt (a - b) n ≡ false = le-ltb (a - b) n r in rw f (both (nat_lt b a) (a - b) n)))
+        | inl r ↦ inl (
+          l,
+          r,
+          (let e : nat_lt b a ≡ true =
+              lt-ltb b a l in let f : nat_lt (a - b) n ≡ true = lt-ltb (a - b) n r in rw (e, f) refl),
+        )
+        | inr r ↦ inr (
+          inr r,
+          (let f : nat_lt (a - b) n ≡ false =
+              le-ltb (a - b) n r in rw f (both (nat_lt b a) (a - b) n)),
+        )
       ]
       | inr l ↦ inr (inl l, (let e : nat_lt b a ≡ false = le-ltb b a l in rw e refl))
     ]
 
 -- below the lead the second operand's byte is as it was
-apart : (s : List ℕ) (a b k n : ℕ) (xs : List ℕ) → length xs ≡ k → a + n ≤ length s → k < n → Lead n a b → k < lead n a b
+apart : (s : List ℕ) (a b k n : ℕ) (xs : List ℕ) → length xs ≡ k → a + n ≤ length s → k < n → Lead n a b →
+    k < lead n a b
     → get_or (written s a xs) (b + k) 0 ≡ get_or s (b + k) 0
 apart s a b k n xs l p q (inl (x, y, z)) w = below s a xs (b + k) (omega arith) (omega (arith, z))
 apart s a b k n xs l p q (inr (inl x, z)) w = above s a xs (b + k) (omega arith) (omega (arith, l))
 apart s a b k n xs l p q (inr (inr x, z)) w = below s a xs (b + k) (omega arith) (omega (arith, z))
 
 -- from it on, it is a result
-within : (s : List ℕ) (a b k n : ℕ) (xs : List ℕ) → length xs ≡ k → a + n ≤ length s → k < n → Lead n a b → lead n a b ≤ k
+within : (s : List ℕ) (a b k n : ℕ) (xs : List ℕ) → length xs ≡ k → a + n ≤ length s → k < n → Lead n a b →
+    lead n a b ≤ k
     → get_or (written s a xs) (b + k) 0 ≡ get_or xs (k - lead n a b) 0
 within s a b k n xs l p q (inl (x, y, z)) w =
     let e : b + k ≡ a + (k - lead n a b) = omega (arith, z) in
-    ap (λ j. get_or (written s a xs) j 0) e ∙ inside s a xs (k - lead n a b) (omega arith) (omega (arith, l, z))
+    ap (λ j. get_or (written s a xs) j 0) e ∙ inside s a xs (k - lead n a b) (omega arith) (omega (
+      arith,
+      l,
+      z,
+    ))
 within s a b k n xs l p q (inr (x, z)) w = absurd (omega (arith, z))
 
 -- a byte of an operand
@@ -80,25 +102,33 @@ made m s a b n k = results k m (lead n a b) (range_at s a n) (range_at s b n)
 first_byte : (m : Combination) (s : List ℕ) (a b k n : ℕ) → k < n → a + n ≤ length s
     → get_or (written s a (made m s a b n k)) (a + k) 0 ≡ get_or (range_at s a n) k 0
 first_byte m s a b k n h p =
-    above s a (made m s a b n k) (a + k) (omega arith) (omega (arith, length-results k m (lead n a b) (range_at s a n) (range_at s b n)))
+    above s a (made m s a b n k) (a + k) (omega arith) (omega (
+      arith,
+      length-results k m (lead n a b) (range_at s a n) (range_at s b n),
+    ))
     ∙ sym (in_range s a n k h)
 
 second_byte : (m : Combination) (s : List ℕ) (a b k n : ℕ) → k < n → a + n ≤ length s
-    → get_or (written s a (made m s a b n k)) (b + k) 0 ≡ source_byte k (lead n a b) (range_at s b n) (made m s a b n k)
+    → get_or (written s a (made m s a b n k)) (b + k) 0 ≡ source_byte k (lead n a b) (range_at s b n)
+    (made m s a b n k)
 second_byte m s a b k n h p =
     let xs = made m s a b n k in
     let l : length xs ≡ k = length-results k m (lead n a b) (range_at s a n) (range_at s b n) in
-    pick k (lead n a b) (get_or (range_at s b n) k 0) (get_or xs (k - lead n a b) 0) (get_or (written s a xs) (b + k) 0)
+    pick k (lead n a b) (get_or (range_at s b n) k 0) (get_or xs (k - lead n a b) 0)
+    (get_or (written s a xs) (b + k) 0)
     (λ w. apart s a b k n xs l p h (lead_cases n a b) w ∙ sym (in_range s b n k h))
     (λ w. within s a b k n xs l p h (lead_cases n a b) w)
 
 -- the byte that the loop makes is the next result
-made_more : (m : Combination) (s now : List ℕ) (a b k n v : ℕ) → k < n → a + n ≤ length s → now ≡ written s a (made m s a b n k)
-    → v ≡ mixed m (get_or now (a + k) 0) (get_or now (b + k) 0) → made m s a b n (k + 1) ≡ made m s a b n k ++ v ∷ []
+made_more : (m : Combination) (s now : List ℕ) (a b k n v : ℕ) → k < n → a + n ≤ length s →
+    now ≡ written s a (made m s a b n k)
+    → v ≡ mixed m (get_or now (a + k) 0) (get_or now (b + k) 0) → made m s a b n (k + 1) ≡ made m s a b n k ++
+    v ∷ []
 made_more m s now a b k n v h p e f =
     let xs = made m s a b n k in
     results_more k m (lead n a b) (range_at s a n) (range_at s b n)
-    ∙ ap (λ x. xs ++ mixed m x (source_byte k (lead n a b) (range_at s b n) xs) ∷ []) (sym (first_byte m s a b k n h p))
+    ∙ ap (λ x. xs ++ mixed m x (source_byte k (lead n a b) (range_at s b n) xs) ∷
+    []) (sym (first_byte m s a b k n h p))
     ∙ ap (λ y. xs ++ mixed m (get_or (written s a xs) (a + k) 0) y ∷ []) (sym (second_byte m s a b k n h p))
     ∙ ap (λ t. xs ++ mixed m (get_or t (a + k) 0) (get_or t (b + k) 0) ∷ []) (sym e)
     ∙ ap (λ x. xs ++ x ∷ []) (sym f)
@@ -111,13 +141,16 @@ pub stored_none : (m : Combination) (s : List ℕ) (a b n : ℕ) → s ≡ writt
 unfolding results
 stored_none m s a b n = written_none s a
 
-pub zero_none : (m : Combination) (s : List ℕ) (a b n : ℕ) → true ≡ list_all (λ x. nat_eq x 0) (made m s a b n 0)
+pub zero_none : (m : Combination) (s : List ℕ) (a b n : ℕ) →
+    true ≡ list_all (λ x. nat_eq x 0) (made m s a b n 0)
 unfolding results
 zero_none m s a b n = refl
 
 -- one turn stores the next result
-pub stored_step : (m : Combination) (s now new : List ℕ) (a b k n v : ℕ) → k < n → a + n ≤ length s → now ≡ written s a (made m s a b n k)
-    → v ≡ mixed m (get_or now (a + k) 0) (get_or now (b + k) 0) → new ≡ set now (a + k) v → new ≡ written s a (made m s a b n (k + 1))
+pub stored_step : (m : Combination) (s now new : List ℕ) (a b k n v : ℕ) → k < n → a + n ≤ length s →
+    now ≡ written s a (made m s a b n k)
+    → v ≡ mixed m (get_or now (a + k) 0) (get_or now (b + k) 0) → new ≡ set now (a + k) v →
+    new ≡ written s a (made m s a b n (k + 1))
 stored_step m s now new a b k n v h p e f g =
     let xs = made m s a b n k in
     let l : length xs ≡ k = length-results k m (lead n a b) (range_at s a n) (range_at s b n) in
@@ -132,8 +165,10 @@ unit true = refl
 unit false = refl
 
 -- and tells whether it is zero
-pub zero_step : (m : Combination) (s now : List ℕ) (a b k n v : ℕ) (before : Bool) → k < n → a + n ≤ length s → now ≡ written s a (made m s a b n k)
-    → v ≡ mixed m (get_or now (a + k) 0) (get_or now (b + k) 0) → before ≡ list_all (λ x. nat_eq x 0) (made m s a b n k)
+pub zero_step : (m : Combination) (s now : List ℕ) (a b k n v : ℕ) (before : Bool) → k < n →
+    a + n ≤ length s → now ≡ written s a (made m s a b n k)
+    → v ≡ mixed m (get_or now (a + k) 0) (get_or now (b + k) 0) →
+    before ≡ list_all (λ x. nat_eq x 0) (made m s a b n k)
     → (before && nat_eq v 0) ≡ list_all (λ x. nat_eq x 0) (made m s a b n (k + 1))
 zero_step m s now a b k n v before h p e f g =
     let xs = made m s a b n k in

@@ -1,5 +1,6 @@
 -- The items of several registers, one after the other.
-use Rattle.std.proofs.Common.{◌≡◌, ℕ, zero, suc, ◌<◌, ◌≤◌, ◌+◌, ◌-◌, ◌*◌, ◌%◌, List, length, take, drop, refl, sym, ap, ◌∙◌, arith, length-append}
+use Rattle.std.proofs.Common.{◌≡◌, ℕ, zero, suc, ◌<◌, ◌≤◌, ◌+◌, ◌-◌, ◌*◌, ◌%◌, List, length, take, drop, refl}
+use Rattle.std.proofs.Common.{sym, ap, ◌∙◌, arith, length-append}
 use Rattle.std.proofs.lemmas.List.{drop-take, drop-drop, take_all}
 use Rattle.std.proofs.Math.Numerals.{add-one}
 use Rattle.std.proofs.Math.Nat.{zero-mul}
@@ -19,27 +20,40 @@ use Rattle.z_storage.proofs.Writes.{written_none, written_then}
 -- ---- stored
 
 -- an item that is stored leaves storage as large as it was
-pub length-stored : (s : List ℕ) (address : ℕ) (size : Size) (value : ℕ) → address + bytes_of size ≤ length s → length (written s address (stored size value)) ≡ length s
+pub length-stored : (s : List ℕ) (address : ℕ) (size : Size) (value : ℕ) →
+    address + bytes_of size ≤ length s → length (written s address (stored size value)) ≡ length s
 length-stored s address size value h =
-    length-written s address (stored size value) (omega (arith, length-bytes_high_first (bytes_of size) value))
+    length-written s address (stored size value) (omega (
+      arith,
+      length-bytes_high_first (bytes_of size) value,
+    ))
 
 pub length-items : (k : ℕ) (w : Width) (r : ℕ) (c : Cpu) → length (items k w r c) ≡ k * bytes_of (item w)
 unfolding items
 length-items zero w r c = sym (zero-mul (bytes_of (item w)))
 length-items (suc k) w r c =
-    grind (arith, length-append (items k w r c) (stored (item w) (register c ((r + k) % 16))), length-items k w r c, length-bytes_high_first (bytes_of (item w)) (register c ((r + k) % 16)))
+    grind (
+      arith,
+      length-append (items k w r c) (stored (item w) (register c ((r + k) % 16))),
+      length-items k w r c,
+      length-bytes_high_first (bytes_of (item w)) (register c ((r + k) % 16)),
+    )
 
 -- as many bytes as the registers have
-pub whole_items : (k : ℕ) (w : Width) (r : ℕ) (c : Cpu) → take (k * bytes_of (item w)) (items k w r c) ≡ items k w r c
+pub whole_items : (k : ℕ) (w : Width) (r : ℕ) (c : Cpu) → take (k * bytes_of (item w)) (items k w r c) ≡
+    items k w r c
 whole_items k w r c = take_all (k * bytes_of (item w)) (items k w r c) (omega (arith, length-items k w r c))
 
-pub none_stored : (w : Width) (r : ℕ) (s : List ℕ) (address : ℕ) (c : Cpu) → s ≡ written s address (items zero w r c)
+pub none_stored : (w : Width) (r : ℕ) (s : List ℕ) (address : ℕ) (c : Cpu) →
+    s ≡ written s address (items zero w r c)
 unfolding items
 none_stored w r s address c = written_none s address
 
 -- a step of the loop that stores registers
-pub store_step : (k : ℕ) (w : Width) (r : ℕ) (s now new : List ℕ) (address : ℕ) (c : Cpu) → address ≤ length s → now ≡ written s address (items k w r c)
-    → new ≡ written now (address + k * bytes_of (item w)) (stored (item w) (register c ((r + k) % 16))) → new ≡ written s address (items (k + 1) w r c)
+pub store_step : (k : ℕ) (w : Width) (r : ℕ) (s now new : List ℕ) (address : ℕ) (c : Cpu) →
+    address ≤ length s → now ≡ written s address (items k w r c)
+    → new ≡ written now (address + k * bytes_of (item w)) (stored (item w) (register c ((r + k) % 16))) →
+    new ≡ written s address (items (k + 1) w r c)
 unfolding items
 store_step k w r s now new address c h e f =
     let next = stored (item w) (register c ((r + k) % 16)) in
@@ -52,13 +66,16 @@ store_step k w r s now new address c h e f =
 -- ---- loaded
 
 -- the number behind others in a range is the number at its place in storage
-number_behind : (s : List ℕ) (address b before m : ℕ) → b ≤ m → big_from 0 b (drop before (range_at s address (before + m))) ≡ big_from 0 b (range_at s (address + before) b)
+number_behind : (s : List ℕ) (address b before m : ℕ) → b ≤ m →
+    big_from 0 b (drop before (range_at s address (before + m))) ≡
+    big_from 0 b (range_at s (address + before) b)
 number_behind s address b before m h =
     ap (big_from 0 b) (drop-take before m (drop address s) ∙ ap (take m) (drop-drop before address s))
     ∙ big_from-take 0 b m (drop (address + before) s) (omega arith)
     ∙ sym (big_from-take 0 b b (drop (address + before) s) (omega arith))
 
-others : (w : Width) (k count : ℕ) → k < count → count * bytes_of (item w) ≡ k * bytes_of (item w) + (count - k) * bytes_of (item w)
+others : (w : Width) (k count : ℕ) → k < count →
+    count * bytes_of (item w) ≡ k * bytes_of (item w) + (count - k) * bytes_of (item w)
 others Word k count h = omega arith
 others Double k count h = omega arith
 
@@ -71,10 +88,12 @@ unfolding with_items
 none_loaded w r bytes c = refl
 
 -- a step of the loop that loads registers
-pub load_step : (k : ℕ) (w : Width) (r count : ℕ) (s : List ℕ) (address : ℕ) (c now new : Cpu) (value : ℕ) → k < count
+pub load_step : (k : ℕ) (w : Width) (r count : ℕ) (s : List ℕ) (address : ℕ) (c now new : Cpu) (value : ℕ) →
+    k < count
     → now ≡ with_items k w r (range_at s address (count * bytes_of (item w))) c
     → value ≡ number (item w) (range_at s (address + k * bytes_of (item w)) (bytes_of (item w)))
-    → new ≡ with_register w ((r + k) % 16) value now → new ≡ with_items (k + 1) w r (range_at s address (count * bytes_of (item w))) c
+    → new ≡ with_register w ((r + k) % 16) value now →
+    new ≡ with_items (k + 1) w r (range_at s address (count * bytes_of (item w))) c
 unfolding with_items
 load_step k w r count s address c now new value h e f g =
     let b = bytes_of (item w) in

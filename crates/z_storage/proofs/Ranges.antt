@@ -1,5 +1,6 @@
 -- Storage after an operation on one range.
-use Rattle.std.proofs.Common.{◌≡◌, ℕ, List, [], ◌∷◌, ◌&&◌, Bool, take, true, false, refl, ap, ◌∙◌, ◌+◌, ◌≤◌, length, drop, arith}
+use Rattle.std.proofs.Common.{◌≡◌, ℕ, List, [], ◌∷◌, ◌&&◌, Bool, take, true, false, refl, ap, ◌∙◌, ◌+◌, ◌≤◌}
+use Rattle.std.proofs.Common.{length, drop, arith}
 use Rattle.std.proofs.lemmas.List.{take_all, length-take}
 use Rattle.std.specs.Prelude.{nat_le, if◌then◌else◌}
 use Rattle.z_instr.specs.declared.operand.Size.{Size}
@@ -26,11 +27,15 @@ whole_item Word value = refl
 whole_item Doubleword value = refl
 
 -- an item is stored, whether there is an exception or not
-by_overflow : (b : Bool) (a : ℕ) (size : Size) (value : ℕ) (c : Cpu) (s : List ℕ) → storage_after (span a (bytes_of size) true ∷ []) s (if b then Overflowed c (stored size value) else Did c (stored size value)) ≡ written s a (stored size value)
+by_overflow : (b : Bool) (a : ℕ) (size : Size) (value : ℕ) (c : Cpu) (s : List ℕ) →
+    storage_after (span a (bytes_of size) true ∷ []) s (if b then Overflowed c (stored size value)
+    else Did c (stored size value)) ≡ written s a (stored size value)
 by_overflow true a size value c s = ap (written s a) (whole_item size value)
 by_overflow false a size value c s = ap (written s a) (whole_item size value)
 
-pub stored_item : (overflow : Bool) (a : ℕ) (size : Size) (value : ℕ) (c : Cpu) (s : List ℕ) → storage_after (span a (bytes_of size) true ∷ []) s (ended overflow c (stored size value)) ≡ written s a (stored size value)
+pub stored_item : (overflow : Bool) (a : ℕ) (size : Size) (value : ℕ) (c : Cpu) (s : List ℕ) →
+    storage_after (span a (bytes_of size) true ∷ []) s (ended overflow c (stored size value)) ≡
+    written s a (stored size value)
 stored_item overflow a size value c s = by_overflow (overflow && nat_le 8 c.mask) a size value c s
 
 -- a range whose bytes are stored back stays

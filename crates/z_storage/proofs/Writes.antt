@@ -1,15 +1,20 @@
 -- Bytes that are written one after the other.
-use Rattle.std.proofs.Common.{◌≡◌, ℕ, ◌<◌, ◌≤◌, ◌+◌, List, [], ◌∷◌, ◌++◌, length, get_or, set, take, drop, sym, ap, ◌∙◌, arith, length-append, length-drop, append_assoc, append-nil, drop-drop}
-use Rattle.std.proofs.lemmas.List.{take_more, take_at, set_at, drop_more, length-take-le, take-append-drop, places}
+use Rattle.std.proofs.Common.{◌≡◌, ℕ, ◌<◌, ◌≤◌, ◌+◌, List, [], ◌∷◌, ◌++◌, length, get_or, set, take, drop}
+use Rattle.std.proofs.Common.{sym, ap, ◌∙◌, arith, length-append, length-drop, append_assoc, append-nil}
+use Rattle.std.proofs.Common.{drop-drop}
+use Rattle.std.proofs.lemmas.List.{take_more, take_at, set_at, drop_more, length-take-le, take-append-drop}
+use Rattle.std.proofs.lemmas.List.{places}
 use Rattle.std.proofs.Math.Seq.{drop-append-add}
 use Rattle.std.proofs.Math.Nat.{add-zero}
 use Rattle.z_effect.specs.After.{range_at, written}
 
 -- what is written begins with so many bytes
-length-before : (s : List ℕ) (first : ℕ) (bytes : List ℕ) → first ≤ length s → length (take first s ++ bytes) ≡ first + length bytes
+length-before : (s : List ℕ) (first : ℕ) (bytes : List ℕ) → first ≤ length s →
+    length (take first s ++ bytes) ≡ first + length bytes
 length-before s first bytes h = omega (arith, length-append (take first s) bytes, length-take-le first s h)
 
-pub inside : (s : List ℕ) (first : ℕ) (bytes : List ℕ) (k : ℕ) → first ≤ length s → k < length bytes → get_or (written s first bytes) (first + k) 0 ≡ get_or bytes k 0
+pub inside : (s : List ℕ) (first : ℕ) (bytes : List ℕ) (k : ℕ) → first ≤ length s → k < length bytes →
+    get_or (written s first bytes) (first + k) 0 ≡ get_or bytes k 0
 inside s first bytes k h l = grind (arith, places)
 
 -- none
@@ -21,18 +26,21 @@ written_none s first =
     ∙ take-append-drop first s)
 
 -- bytes written right behind others
-pub written_then : (s : List ℕ) (first : ℕ) (xs ys : List ℕ) → first ≤ length s → written (written s first xs) (first + length xs) ys ≡ written s first (xs ++ ys)
+pub written_then : (s : List ℕ) (first : ℕ) (xs ys : List ℕ) → first ≤ length s →
+    written (written s first xs) (first + length xs) ys ≡ written s first (xs ++ ys)
 written_then s first xs ys h =
     let head = take first s ++ xs in
     let rest = drop (first + length xs) s in
     let size : length head ≡ first + length xs = length-before s first xs h in
-    let seam : first + length (xs ++ ys) ≡ first + length xs + length ys = omega (arith, length-append xs ys) in
+    let seam : first + length (xs ++ ys) ≡ first + length xs + length ys =
+    omega (arith, length-append xs ys) in
     let behind : drop (first + length xs + length ys) (head ++ rest) ≡ drop (first + length (xs ++ ys)) s =
     ap (λ n. drop (n + length ys) (head ++ rest)) (sym size)
     ∙ drop-append-add head rest (length ys)
     ∙ drop-drop (length ys) (first + length xs) s
     ∙ ap (λ n. drop n s) (sym seam) in
-    ap (λ t. t ++ ys ++ drop (first + length xs + length ys) (head ++ rest)) (take_at head rest (first + length xs) size)
+    ap (λ t. t ++ ys ++ drop (first + length xs + length ys) (head ++ rest))
+    (take_at head rest (first + length xs) size)
     ∙ ap (λ t. head ++ ys ++ t) behind
     ∙ ap (λ t. t ++ drop (first + length (xs ++ ys)) s) (append_assoc (take first s) xs ys)
 
@@ -44,17 +52,25 @@ set_is_written s k b h =
     ∙ sym (append_assoc (take k s) (b ∷ []) (drop (k + 1) s))
 
 -- one byte more, behind those that were written
-pub written_more : (s : List ℕ) (first : ℕ) (bytes : List ℕ) (b : ℕ) → first + length bytes < length s → set (written s first bytes) (first + length bytes) b ≡ written s first (bytes ++ b ∷ [])
+pub written_more : (s : List ℕ) (first : ℕ) (bytes : List ℕ) (b : ℕ) → first + length bytes < length s →
+    set (written s first bytes) (first + length bytes) b ≡ written s first (bytes ++ b ∷ [])
 written_more s first bytes b h =
     let size : first + length bytes < length (written s first bytes) =
-    omega (arith, length-append (take first s ++ bytes) (drop (first + length bytes) s), length-before s first bytes (omega arith), length-drop (first + length bytes) s) in
+    omega (
+      arith,
+      length-append (take first s ++ bytes) (drop (first + length bytes) s),
+      length-before s first bytes (omega arith),
+      length-drop (first + length bytes) s,
+    ) in
     set_is_written (written s first bytes) (first + length bytes) b size
     ∙ written_then s first bytes (b ∷ []) (omega arith)
 
 -- bytes that are written back as they were
-pub written_same : (s : List ℕ) (first n : ℕ) → first + n ≤ length s → written s first (range_at s first n) ≡ s
+pub written_same : (s : List ℕ) (first n : ℕ) → first + n ≤ length s → written s first (range_at s first n) ≡
+    s
 written_same s first n h =
-    let size : length (range_at s first n) ≡ n = length-take-le n (drop first s) (omega (arith, length-drop first s)) in
+    let size : length (range_at s first n) ≡ n =
+    length-take-le n (drop first s) (omega (arith, length-drop first s)) in
     ap (λ k. take first s ++ range_at s first n ++ drop (first + k) s) size
     ∙ append_assoc (take first s) (range_at s first n) (drop (first + n) s)
     ∙ ap (λ t. take first s ++ (range_at s first n ++ t)) (sym (drop-drop n first s))
@@ -62,7 +78,8 @@ written_same s first n h =
     ∙ take-append-drop first s
 
 -- a step of a loop that writes bytes from the left
-pub write_step : (s now bytes : List ℕ) (first k : ℕ) → k < length bytes → first + length bytes ≤ length s → now ≡ written s first (take k bytes)
+pub write_step : (s now bytes : List ℕ) (first k : ℕ) → k < length bytes → first + length bytes ≤ length s →
+    now ≡ written s first (take k bytes)
     → set now (first + k) (get_or bytes k 0) ≡ written s first (take (k + 1) bytes)
 write_step s now bytes first k h l e =
     let size : length (take k bytes) ≡ k = length-take-le k bytes (omega arith) in

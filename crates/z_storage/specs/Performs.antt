@@ -13,6 +13,8 @@ use Rattle.z_effect.specs.After.{touched, Leaves}
 abbrev pub ranges : Storage → Instr → Cpu → List Span
 ranges k i c = spans_in (storage_operands k) i c.general c.condition
 
--- A call does what an operation on storage does, as an instruction of n bytes, to a CPU and to what it sees of storage.
+-- A call does what an operation on storage does, as an instruction of n bytes, to a CPU and to what it sees
+-- of storage.
 abbrev pub Performs : Storage → ℕ → Instr → Cpu → Cpu → List ℕ → List ℕ → Result (Unit {0}) Exception → Type 0
-Performs k n i old new s t r = Leaves (storage_effect k n i old (touched (ranges k i old) s)) n (ranges k i old) old new s t r
+Performs k n i old new s t r =
+    Leaves (storage_effect k n i old (touched (ranges k i old) s)) n (ranges k i old) old new s t r

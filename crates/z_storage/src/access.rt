@@ -1,5 +1,6 @@
 //! Numbers in storage, the leftmost byte first, and the byte of an immediate.
 ghost use Rattle.std.specs.Prelude.{◌≡◌, ◌<◌, ◌≤◌, ◌+◌, ◌^◌, length};
+ghost use Rattle.z_regs.specs.Prefix.{storage_size};
 ghost use Rattle.z_instr.specs.Operands.{bytes_of};
 ghost use Rattle.z_instr.specs.declared.operand.Size.TheVariants.{Byte};
 ghost use Rattle.z_arith.specs.Whole.{bits, modulo};
@@ -20,7 +21,7 @@ const MOST: usize = 8;
 
 /// The number in an item of storage.
 pub fn fetch<V: Bytes>(view: &V, address: u64, size: Size) -> u64
-    requires size { length (V.bytes view.now) ≡ 1048576 }
+    requires size { length (V.bytes view.now) ≡ storage_size }
     requires inside { address + bytes_of size ≤ length (V.bytes view.now) }
     ensures value { result ≡ number size (range_at (V.bytes view.now) address (bytes_of size)) }
     ensures fits { result < 2 ^ bits_in size }
@@ -35,7 +36,7 @@ pub fn fetch<V: Bytes>(view: &V, address: u64, size: Size) -> u64
 
 /// The number in an item that has a register's width.
 pub fn fetch_item<V: Bytes>(view: &V, address: u64, w: Width) -> u64
-    requires size { length (V.bytes view.now) ≡ 1048576 }
+    requires size { length (V.bytes view.now) ≡ storage_size }
     requires inside { address + bytes_of (item_of w) ≤ length (V.bytes view.now) }
     ensures value { result ≡ number (item_of w) (range_at (V.bytes view.now) address (bytes_of (item_of w))) }
     ensures fits { result < 2 ^ bits w }
@@ -48,7 +49,7 @@ pub fn fetch_item<V: Bytes>(view: &V, address: u64, w: Width) -> u64
 
 /// The number in an item, brought to a width.
 pub fn fetch_piece<V: Bytes>(view: &V, address: u64, w: Width, part: Part) -> u64
-    requires size { length (V.bytes view.now) ≡ 1048576 }
+    requires size { length (V.bytes view.now) ≡ storage_size }
     requires inside { address + bytes_of (size_of part) ≤ length (V.bytes view.now) }
     ensures value { result ≡ piece w part (range_at (V.bytes view.now) address (bytes_of (size_of part))) }
     ensures fits { result < 2 ^ bits w }
@@ -58,7 +59,7 @@ pub fn fetch_piece<V: Bytes>(view: &V, address: u64, w: Width, part: Part) -> u6
 
 /// A byte of storage.
 pub fn fetch_byte<V: Bytes>(view: &V, address: u64) -> u8
-    requires size { length (V.bytes view.now) ≡ 1048576 }
+    requires size { length (V.bytes view.now) ≡ storage_size }
     requires inside { address + 1 ≤ length (V.bytes view.now) }
     ensures { result ≡ number Byte (range_at (V.bytes view.now) address 1) }
 {
@@ -74,7 +75,7 @@ pub fn immediate_byte(instr: &Instr) -> u8
 
 /// Stores bytes, one after the other.
 fn put_all<V: Bytes>(view: &mut V, address: u64, bytes: &[u8])
-    requires size { length (V.bytes view.old) ≡ 1048576 }
+    requires size { length (V.bytes view.old) ≡ storage_size }
     requires inside { address + length bytes.now ≤ length (V.bytes view.old) }
     ensures { V.bytes view.new ≡ written (V.bytes view.old) address bytes.now }
 {
@@ -85,7 +86,7 @@ fn put_all<V: Bytes>(view: &mut V, address: u64, bytes: &[u8])
 
 /// Stores the rightmost bytes of a number, as many as the item has.
 pub fn store<V: Bytes>(view: &mut V, address: u64, size: Size, value: u64)
-    requires size { length (V.bytes view.old) ≡ 1048576 }
+    requires size { length (V.bytes view.old) ≡ storage_size }
     requires inside { address + bytes_of size ≤ length (V.bytes view.old) }
     ensures { V.bytes view.new ≡ written (V.bytes view.old) address (stored size value) }
 {

@@ -1,7 +1,9 @@
 //! Operations that fetch one item of storage and store nothing.
 ghost use Rattle.std.specs.Prelude.{◌≡◌, length};
+ghost use Rattle.z_regs.specs.Prefix.{storage_size};
 ghost use Rattle.z_regs.specs.Cpu.{cpu_of};
-ghost use Rattle.z_effect.specs.declared.kind.Storage.TheVariants.{Compute, Compare, CompareImmediate, TestUnderMask, InsertByte, LoadSelected};
+ghost use Rattle.z_effect.specs.declared.kind.Storage.TheVariants.{Compute, Compare, CompareImmediate};
+ghost use Rattle.z_effect.specs.declared.kind.Storage.TheVariants.{TestUnderMask, InsertByte, LoadSelected};
 ghost use Rattle.z_effect.specs.After.{AreInside};
 ghost use Rattle.z_storage.specs.Performs.{ranges, Performs};
 
@@ -26,9 +28,11 @@ pub fn compute<V: Bytes>(
     image: &mut CpuImage,
     view: &V,
 ) -> Result<(), Exception>
-    requires size { length (V.bytes view.now) ≡ 1048576 }
-    requires inside { AreInside (ranges (Compute operation w part) instr.now (cpu_of image.old)) (V.bytes view.now) }
-    ensures { Performs (Compute operation w part) n instr.now (cpu_of image.old) (cpu_of image.new) (V.bytes view.now) (V.bytes view.now) result }
+    requires size { length (V.bytes view.now) ≡ storage_size }
+    requires inside { AreInside (ranges (Compute operation w part) instr.now (cpu_of image.old))
+        (V.bytes view.now) }
+    ensures { Performs (Compute operation w part) n instr.now (cpu_of image.old) (cpu_of image.new)
+        (V.bytes view.now) (V.bytes view.now) result }
 {
     let first = operand(image, w, instr.r1);
     let second = fetch_piece(view, first_address(instr, &image.general), w, part);
@@ -47,9 +51,11 @@ pub fn compare_register<V: Bytes>(
     image: &mut CpuImage,
     view: &V,
 ) -> Result<(), Exception>
-    requires size { length (V.bytes view.now) ≡ 1048576 }
-    requires inside { AreInside (ranges (Compare order w part) instr.now (cpu_of image.old)) (V.bytes view.now) }
-    ensures { Performs (Compare order w part) n instr.now (cpu_of image.old) (cpu_of image.new) (V.bytes view.now) (V.bytes view.now) result }
+    requires size { length (V.bytes view.now) ≡ storage_size }
+    requires inside { AreInside (ranges (Compare order w part) instr.now (cpu_of image.old))
+        (V.bytes view.now) }
+    ensures { Performs (Compare order w part) n instr.now (cpu_of image.old) (cpu_of image.new)
+        (V.bytes view.now) (V.bytes view.now) result }
 {
     let second = fetch_piece(view, first_address(instr, &image.general), w, part);
     image.condition = compare(order, w, operand(image, w, instr.r1), second);
@@ -68,9 +74,11 @@ pub fn compare_immediate<V: Bytes>(
     image: &mut CpuImage,
     view: &V,
 ) -> Result<(), Exception>
-    requires size { length (V.bytes view.now) ≡ 1048576 }
-    requires inside { AreInside (ranges (CompareImmediate order w part) instr.now (cpu_of image.old)) (V.bytes view.now) }
-    ensures { Performs (CompareImmediate order w part) n instr.now (cpu_of image.old) (cpu_of image.new) (V.bytes view.now) (V.bytes view.now) result }
+    requires size { length (V.bytes view.now) ≡ storage_size }
+    requires inside { AreInside (ranges (CompareImmediate order w part) instr.now (cpu_of image.old))
+        (V.bytes view.now) }
+    ensures { Performs (CompareImmediate order w part) n instr.now (cpu_of image.old) (cpu_of image.new)
+        (V.bytes view.now) (V.bytes view.now) result }
 {
     let first = fetch_piece(view, first_address(instr, &image.general), w, part);
     image.condition = compare(order, w, first, immediate(w, instr.imm));
@@ -86,9 +94,10 @@ pub fn test_byte<V: Bytes>(
     image: &mut CpuImage,
     view: &V,
 ) -> Result<(), Exception>
-    requires size { length (V.bytes view.now) ≡ 1048576 }
+    requires size { length (V.bytes view.now) ≡ storage_size }
     requires inside { AreInside (ranges TestUnderMask instr.now (cpu_of image.old)) (V.bytes view.now) }
-    ensures { Performs TestUnderMask n instr.now (cpu_of image.old) (cpu_of image.new) (V.bytes view.now) (V.bytes view.now) result }
+    ensures { Performs TestUnderMask n instr.now (cpu_of image.old) (cpu_of image.new) (V.bytes view.now)
+        (V.bytes view.now) result }
 {
     let byte = fetch_byte(view, first_address(instr, &image.general));
     image.condition = test_under_mask(byte, immediate_byte(instr));
@@ -104,9 +113,10 @@ pub fn insert_byte<V: Bytes>(
     image: &mut CpuImage,
     view: &V,
 ) -> Result<(), Exception>
-    requires size { length (V.bytes view.now) ≡ 1048576 }
+    requires size { length (V.bytes view.now) ≡ storage_size }
     requires inside { AreInside (ranges InsertByte instr.now (cpu_of image.old)) (V.bytes view.now) }
-    ensures { Performs InsertByte n instr.now (cpu_of image.old) (cpu_of image.new) (V.bytes view.now) (V.bytes view.now) result }
+    ensures { Performs InsertByte n instr.now (cpu_of image.old) (cpu_of image.new) (V.bytes view.now)
+        (V.bytes view.now) result }
 {
     let byte = fetch_byte(view, first_address(instr, &image.general));
     let old = register(image, instr.r1);
@@ -128,9 +138,10 @@ pub fn load_selected<V: Bytes>(
     image: &mut CpuImage,
     view: &V,
 ) -> Result<(), Exception>
-    requires size { length (V.bytes view.now) ≡ 1048576 }
+    requires size { length (V.bytes view.now) ≡ storage_size }
     requires inside { AreInside (ranges LoadSelected instr.now (cpu_of image.old)) (V.bytes view.now) }
-    ensures { Performs LoadSelected n instr.now (cpu_of image.old) (cpu_of image.new) (V.bytes view.now) (V.bytes view.now) result }
+    ensures { Performs LoadSelected n instr.now (cpu_of image.old) (cpu_of image.new) (V.bytes view.now)
+        (V.bytes view.now) result }
 {
     if !is_selected(instr.mask, image.condition) {
         advance(image, n);

@@ -1,6 +1,7 @@
-//! Operations on the bytes of two operands in storage, which may overlap in any way (Principles of Operation, "Move", "And",
-//! "Compare Logical": operands are processed a byte at a time, from the left).
+//! Operations on the bytes of two operands in storage, which may overlap in any way (Principles of Operation,
+//! "Move", "And", "Compare Logical": operands are processed a byte at a time, from the left).
 ghost use Rattle.std.specs.Prelude.{◌≡◌, ◌<◌, ◌≤◌, ◌+◌, ℕ, List, true, length, nat_eq};
+ghost use Rattle.z_regs.specs.Prefix.{storage_size};
 ghost use Rattle.std.specs.List.{list_all};
 ghost use Rattle.z_instr.specs.Operands.{length_of};
 ghost use Rattle.z_instr.specs.Ranges.{is_within, bounds};
@@ -37,8 +38,8 @@ fn mix(combination: Combination, first: u8, second: u8) -> u8
     }
 }
 
-/// Makes `count` bytes of the target, from the left, each of a byte of both operands as it is by then. The answer is whether
-/// all results are zero.
+/// Makes `count` bytes of the target, from the left, each of a byte of both operands as it is by then. The
+/// answer is whether all results are zero.
 fn combine_bytes<V: Bytes>(
     combination: Combination,
     view: &mut V,
@@ -46,11 +47,14 @@ fn combine_bytes<V: Bytes>(
     source: u64,
     count: u64,
 ) -> bool
-    requires size { length (V.bytes view.old) ≡ 1048576 }
-    requires target_in { target + count ≤ 1048576 }
-    requires source_in { source + count ≤ 1048576 }
-    ensures stored { V.bytes view.new ≡ written (V.bytes view.old) target (results count combination (lead count target source) (range_at (V.bytes view.old) target count) (range_at (V.bytes view.old) source count)) }
-    ensures zero { result ≡ list_all (λ b. nat_eq b 0) (results count combination (lead count target source) (range_at (V.bytes view.old) target count) (range_at (V.bytes view.old) source count)) }
+    requires size { length (V.bytes view.old) ≡ storage_size }
+    requires target_in { target + count ≤ storage_size }
+    requires source_in { source + count ≤ storage_size }
+    ensures stored { V.bytes view.new ≡
+        written (V.bytes view.old) target (results count combination (lead count target source)
+        (range_at (V.bytes view.old) target count) (range_at (V.bytes view.old) source count)) }
+    ensures zero { result ≡ list_all (λ b. nat_eq b 0) (results count combination (lead count target source)
+        (range_at (V.bytes view.old) target count) (range_at (V.bytes view.old) source count)) }
 {
     let mut zero = true;
     for k in 0..count {
@@ -63,10 +67,11 @@ fn combine_bytes<V: Bytes>(
 
 /// Compares `count` bytes from the left: 0 equal, 1 where the first list is low, 2 where it is high.
 fn order_in<V: Bytes>(view: &V, first: u64, second: u64, count: u64) -> u8
-    requires size { length (V.bytes view.now) ≡ 1048576 }
-    requires first_in { first + count ≤ 1048576 }
-    requires second_in { second + count ≤ 1048576 }
-    ensures order { result ≡ order_of_bytes (range_at (V.bytes view.now) first count) (range_at (V.bytes view.now) second count) }
+    requires size { length (V.bytes view.now) ≡ storage_size }
+    requires first_in { first + count ≤ storage_size }
+    requires second_in { second + count ≤ storage_size }
+    ensures order { result ≡ order_of_bytes (range_at (V.bytes view.now) first count)
+        (range_at (V.bytes view.now) second count) }
     ensures code { result < 4 }
 {
     for k in 0..count {
@@ -81,16 +86,18 @@ fn order_in<V: Bytes>(view: &V, first: u64, second: u64, count: u64) -> u8
 
 /// Sets the code by whether all results are zero, where a combination sets it.
 fn set_code(combination: Combination, zero: bool, image: &mut CpuImage)
-    ensures { (made : List ℕ) → zero ≡ list_all (λ b. nat_eq b 0) made → cpu_of image.new ≡ with_code_of combination made (cpu_of image.old) }
+    ensures { (made : List ℕ) → zero ≡ list_all (λ b. nat_eq b 0) made → cpu_of image.new ≡
+        with_code_of combination made (cpu_of image.old) }
 {
     if let Combination::Logic(_) = combination {
         image.condition = if zero { 0 } else { 1 };
     }
 }
 
-/// MVC, NC, OC and XC, the instruction having `n` bytes. From the left, each byte of the first operand becomes that of the
-/// combination with the byte of the second, where later bytes see the results of earlier ones. The code becomes 0 where all
-/// results are zero and 1 where one is not; a move leaves it. There is no error.
+/// MVC, NC, OC and XC, the instruction having `n` bytes. From the left, each byte of the first operand
+/// becomes that of the combination with the byte of the second, where later bytes see the results of earlier
+/// ones. The code becomes 0 where all results are zero and 1 where one is not; a move leaves it. There is no
+/// error.
 #[tactic(auto, unfolding(z_instr::specs::Operands::spans_in))]
 pub fn byte_by_byte<V: Bytes>(
     combination: Combination,
@@ -99,10 +106,12 @@ pub fn byte_by_byte<V: Bytes>(
     image: &mut CpuImage,
     view: &mut V,
 ) -> Result<(), Exception>
-    requires size { length (V.bytes view.old) ≡ 1048576 }
+    requires size { length (V.bytes view.old) ≡ storage_size }
     requires code { is_within (bounds 0 256) instr.now.imm ≡ true }
-    requires inside { AreInside (ranges (ByteByByte combination) instr.now (cpu_of image.old)) (V.bytes view.old) }
-    ensures { Performs (ByteByByte combination) n instr.now (cpu_of image.old) (cpu_of image.new) (V.bytes view.old) (V.bytes view.new) result }
+    requires inside { AreInside (ranges (ByteByByte combination) instr.now (cpu_of image.old))
+        (V.bytes view.old) }
+    ensures { Performs (ByteByByte combination) n instr.now (cpu_of image.old) (cpu_of image.new)
+        (V.bytes view.old) (V.bytes view.new) result }
 {
     let target = first_address(instr, &image.general);
     let source = second_address(instr, &image.general);
@@ -112,8 +121,9 @@ pub fn byte_by_byte<V: Bytes>(
     Ok(())
 }
 
-/// CLC, the instruction having `n` bytes. The leftmost bytes that differ decide: the code becomes 1 where that of the first
-/// operand is low, 2 where it is high, 0 where none differ. Storage stays. There is no error.
+/// CLC, the instruction having `n` bytes. The leftmost bytes that differ decide: the code becomes 1 where
+/// that of the first operand is low, 2 where it is high, 0 where none differ. Storage stays. There is no
+/// error.
 #[tactic(auto, unfolding(z_effect::specs::StorageEffect::storage_effect, z_instr::specs::Operands::spans_in))]
 pub fn compare_bytes<V: Bytes>(
     n: u8,
@@ -121,10 +131,11 @@ pub fn compare_bytes<V: Bytes>(
     image: &mut CpuImage,
     view: &V,
 ) -> Result<(), Exception>
-    requires size { length (V.bytes view.now) ≡ 1048576 }
+    requires size { length (V.bytes view.now) ≡ storage_size }
     requires code { is_within (bounds 0 256) instr.now.imm ≡ true }
     requires inside { AreInside (ranges CompareBytes instr.now (cpu_of image.old)) (V.bytes view.now) }
-    ensures { Performs CompareBytes n instr.now (cpu_of image.old) (cpu_of image.new) (V.bytes view.now) (V.bytes view.now) result }
+    ensures { Performs CompareBytes n instr.now (cpu_of image.old) (cpu_of image.new) (V.bytes view.now)
+        (V.bytes view.now) result }
 {
     let first = first_address(instr, &image.general);
     let second = second_address(instr, &image.general);

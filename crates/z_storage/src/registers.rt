@@ -1,5 +1,6 @@
 //! Operations that load or store several registers, 0 after 15.
 ghost use Rattle.std.specs.Prelude.{◌≡◌, ◌<◌, ◌≤◌, ◌+◌, ◌*◌, length};
+ghost use Rattle.z_regs.specs.Prefix.{storage_size};
 ghost use Rattle.z_instr.specs.Operands.{bytes_of};
 ghost use Rattle.z_regs.specs.Cpu.{cpu_of};
 ghost use Rattle.z_effect.specs.declared.kind.Storage.TheVariants.{LoadMany, StoreMany};
@@ -17,7 +18,7 @@ use z_regs::{Bytes, CpuImage};
 
 /// The address of an item behind `k` others.
 fn place(address: u64, w: Width, k: u8) -> u64
-    requires { address + k * bytes_of (item_of w) ≤ 1048576 }
+    requires { address + k * bytes_of (item_of w) ≤ storage_size }
     ensures { result ≡ address + k * bytes_of (item_of w) }
 {
     match w {
@@ -35,7 +36,7 @@ fn store_registers<V: Bytes>(
     address: u64,
     view: &mut V,
 )
-    requires size { length (V.bytes view.old) ≡ 1048576 }
+    requires size { length (V.bytes view.old) ≡ storage_size }
     requires first_in { first < 16 }
     requires few { count < 17 }
     requires inside { address + count * bytes_of (item_of w) ≤ length (V.bytes view.old) }
@@ -56,11 +57,13 @@ fn load_registers<V: Bytes>(
     address: u64,
     view: &V,
 )
-    requires size { length (V.bytes view.now) ≡ 1048576 }
+    requires size { length (V.bytes view.now) ≡ storage_size }
     requires first_in { first < 16 }
     requires few { count < 17 }
     requires inside { address + count * bytes_of (item_of w) ≤ length (V.bytes view.now) }
-    ensures { cpu_of image.new ≡ with_items count w first (range_at (V.bytes view.now) address (count * bytes_of (item_of w))) (cpu_of image.old) }
+    ensures { cpu_of image.new ≡
+        with_items count w first (range_at (V.bytes view.now) address (count * bytes_of (item_of w)))
+        (cpu_of image.old) }
 {
     for k in 0..count {
         let value = fetch_item(view, place(address, w, k), w);
@@ -77,9 +80,10 @@ pub fn load_many<V: Bytes>(
     image: &mut CpuImage,
     view: &V,
 ) -> Result<(), Exception>
-    requires size { length (V.bytes view.now) ≡ 1048576 }
+    requires size { length (V.bytes view.now) ≡ storage_size }
     requires inside { AreInside (ranges (LoadMany w) instr.now (cpu_of image.old)) (V.bytes view.now) }
-    ensures { Performs (LoadMany w) n instr.now (cpu_of image.old) (cpu_of image.new) (V.bytes view.now) (V.bytes view.now) result }
+    ensures { Performs (LoadMany w) n instr.now (cpu_of image.old) (cpu_of image.new) (V.bytes view.now)
+        (V.bytes view.now) result }
 {
     let address = first_address(instr, &image.general);
     load_registers(w, instr.r1, registers_named(instr), image, address, view);
@@ -96,9 +100,10 @@ pub fn store_many<V: Bytes>(
     image: &mut CpuImage,
     view: &mut V,
 ) -> Result<(), Exception>
-    requires size { length (V.bytes view.old) ≡ 1048576 }
+    requires size { length (V.bytes view.old) ≡ storage_size }
     requires inside { AreInside (ranges (StoreMany w) instr.now (cpu_of image.old)) (V.bytes view.old) }
-    ensures { Performs (StoreMany w) n instr.now (cpu_of image.old) (cpu_of image.new) (V.bytes view.old) (V.bytes view.new) result }
+    ensures { Performs (StoreMany w) n instr.now (cpu_of image.old) (cpu_of image.new) (V.bytes view.old)
+        (V.bytes view.new) result }
 {
     let address = first_address(instr, &image.general);
     store_registers(w, instr.r1, registers_named(instr), image, address, view);

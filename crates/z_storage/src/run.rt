@@ -1,5 +1,6 @@
 //! One instruction.
 ghost use Rattle.std.specs.Prelude.{◌≡◌, ℕ, length, slice_index, true};
+ghost use Rattle.z_regs.specs.Prefix.{storage_size};
 ghost use Rattle.z_instr.specs.Facts.{has_two_lists};
 ghost use Rattle.z_instr.specs.Ranges.{is_within, bounds};
 ghost use Rattle.z_regs.specs.Cpu.{cpu_of};
@@ -18,7 +19,8 @@ use z_instr::lookup::line;
 use z_instr::op::Op;
 use z_regs::{Bytes, CpuImage};
 
-/// Whether an operation has an operand in storage and is not about transactions: whether [`execute`] is for it.
+/// Whether an operation has an operand in storage and is not about transactions: whether [`execute`] is for
+/// it.
 pub fn is_mine(op: Op) -> bool
     ensures { result ≡ is_storage (kind_at op.number) }
 {
@@ -33,10 +35,12 @@ fn run<V: Bytes>(
     image: &mut CpuImage,
     view: &mut V,
 ) -> Result<(), Exception>
-    requires size { length (V.bytes view.old) ≡ 1048576 }
-    requires lists { has_two_lists (storage_operands kind) ≡ true → is_within (bounds 0 256) instr.now.imm ≡ true }
+    requires size { length (V.bytes view.old) ≡ storage_size }
+    requires lists { has_two_lists (storage_operands kind) ≡ true → is_within (bounds 0 256) instr.now.imm ≡
+        true }
     requires inside { AreInside (ranges kind instr.now (cpu_of image.old)) (V.bytes view.old) }
-    ensures { Performs kind n instr.now (cpu_of image.old) (cpu_of image.new) (V.bytes view.old) (V.bytes view.new) result }
+    ensures { Performs kind n instr.now (cpu_of image.old) (cpu_of image.new) (V.bytes view.old)
+        (V.bytes view.new) result }
 {
     match kind {
         Storage::Compute(operation, w, part) => {
@@ -67,19 +71,21 @@ fn run<V: Bytes>(
     }
 }
 
-/// Executes an instruction for which [`is_mine`] holds: changes registers, condition code, address and the stored operand as
-/// the architecture says, and no other byte of storage.
+/// Executes an instruction for which [`is_mine`] holds: changes registers, condition code, address and the
+/// stored operand as the architecture says, and no other byte of storage.
 ///
-/// `view` has 1,048,576 bytes, and all operands lie in them; `z_touch` tests that. Numbers in storage have their leftmost byte
-/// first. The error is a fixed-point overflow exception, after all is done, where the result overflows and the leftmost bit
-/// of the program mask is one.
+/// `view` has 1,048,576 bytes, and all operands lie in them; `z_touch` tests that. Numbers in storage have
+/// their leftmost byte first. The error is a fixed-point overflow exception, after all is done, where the
+/// result overflows and the leftmost bit of the program mask is one.
 pub fn execute<V: Bytes>(instr: &Instr, image: &mut CpuImage, view: &mut V) -> Result<(), Exception>
     requires mine { is_storage (kind_at instr.now.op.number) ≡ true }
-    requires size { length (V.bytes view.old) ≡ 1048576 }
+    requires size { length (V.bytes view.old) ≡ storage_size }
     requires inside { AreInside (ranges_of instr.now (cpu_of image.old)) (V.bytes view.old) }
-    ensures does { (depth : ℕ) → Executes depth instr.now (cpu_of image.old) (cpu_of image.new) (V.bytes view.old) (V.bytes view.new) result }
-    ensures beside { (k : ℕ) → IsBeside k (ranges_of instr.now (cpu_of image.old)) → slice_index (V.bytes view.new) k ≡ slice_index (V.bytes view.old) k }
-    ensures size { length (V.bytes view.new) ≡ 1048576 }
+    ensures does { (depth : ℕ) → Executes depth instr.now (cpu_of image.old) (cpu_of image.new)
+        (V.bytes view.old) (V.bytes view.new) result }
+    ensures beside { (k : ℕ) → IsBeside k (ranges_of instr.now (cpu_of image.old)) →
+        slice_index (V.bytes view.new) k ≡ slice_index (V.bytes view.old) k }
+    ensures size { length (V.bytes view.new) ≡ storage_size }
 {
     let n = length_in(line(instr.op).format);
     match kind_of(instr.op) {

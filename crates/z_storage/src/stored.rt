@@ -1,7 +1,10 @@
 //! Operations that store one item of storage.
 ghost use Rattle.std.specs.Prelude.{◌≡◌, length};
+ghost use Rattle.z_regs.specs.Prefix.{storage_size};
 ghost use Rattle.z_regs.specs.Cpu.{cpu_of};
-ghost use Rattle.z_effect.specs.declared.kind.Storage.TheVariants.{Store, StoreImmediate, ByteLogic, AddImmediate, CompareAndSwap, LoadAnd, StoreSelected};
+ghost use Rattle.z_effect.specs.declared.kind.Storage.TheVariants.{Store, StoreImmediate, ByteLogic};
+ghost use Rattle.z_effect.specs.declared.kind.Storage.TheVariants.{AddImmediate, CompareAndSwap, LoadAnd};
+ghost use Rattle.z_effect.specs.declared.kind.Storage.TheVariants.{StoreSelected};
 ghost use Rattle.z_effect.specs.After.{AreInside};
 ghost use Rattle.z_storage.specs.Performs.{ranges, Performs};
 
@@ -26,9 +29,10 @@ pub fn store_register<V: Bytes>(
     image: &mut CpuImage,
     view: &mut V,
 ) -> Result<(), Exception>
-    requires size { length (V.bytes view.old) ≡ 1048576 }
+    requires size { length (V.bytes view.old) ≡ storage_size }
     requires inside { AreInside (ranges (Store size) instr.now (cpu_of image.old)) (V.bytes view.old) }
-    ensures { Performs (Store size) n instr.now (cpu_of image.old) (cpu_of image.new) (V.bytes view.old) (V.bytes view.new) result }
+    ensures { Performs (Store size) n instr.now (cpu_of image.old) (cpu_of image.new) (V.bytes view.old)
+        (V.bytes view.new) result }
 {
     let address = first_address(instr, &image.general);
     store(view, address, size, register(image, instr.r1));
@@ -45,9 +49,11 @@ pub fn store_immediate<V: Bytes>(
     image: &mut CpuImage,
     view: &mut V,
 ) -> Result<(), Exception>
-    requires size { length (V.bytes view.old) ≡ 1048576 }
-    requires inside { AreInside (ranges (StoreImmediate size) instr.now (cpu_of image.old)) (V.bytes view.old) }
-    ensures { Performs (StoreImmediate size) n instr.now (cpu_of image.old) (cpu_of image.new) (V.bytes view.old) (V.bytes view.new) result }
+    requires size { length (V.bytes view.old) ≡ storage_size }
+    requires inside { AreInside (ranges (StoreImmediate size) instr.now (cpu_of image.old))
+        (V.bytes view.old) }
+    ensures { Performs (StoreImmediate size) n instr.now (cpu_of image.old) (cpu_of image.new)
+        (V.bytes view.old) (V.bytes view.new) result }
 {
     let address = first_address(instr, &image.general);
     store(view, address, size, immediate(Width::Double, instr.imm));
@@ -64,9 +70,10 @@ pub fn byte_logic<V: Bytes>(
     image: &mut CpuImage,
     view: &mut V,
 ) -> Result<(), Exception>
-    requires size { length (V.bytes view.old) ≡ 1048576 }
+    requires size { length (V.bytes view.old) ≡ storage_size }
     requires inside { AreInside (ranges (ByteLogic kind) instr.now (cpu_of image.old)) (V.bytes view.old) }
-    ensures { Performs (ByteLogic kind) n instr.now (cpu_of image.old) (cpu_of image.new) (V.bytes view.old) (V.bytes view.new) result }
+    ensures { Performs (ByteLogic kind) n instr.now (cpu_of image.old) (cpu_of image.new) (V.bytes view.old)
+        (V.bytes view.new) result }
 {
     let address = first_address(instr, &image.general);
     let byte = fetch_byte(view, address);
@@ -86,9 +93,10 @@ pub fn add_immediate<V: Bytes>(
     image: &mut CpuImage,
     view: &mut V,
 ) -> Result<(), Exception>
-    requires size { length (V.bytes view.old) ≡ 1048576 }
+    requires size { length (V.bytes view.old) ≡ storage_size }
     requires inside { AreInside (ranges (AddImmediate w) instr.now (cpu_of image.old)) (V.bytes view.old) }
-    ensures { Performs (AddImmediate w) n instr.now (cpu_of image.old) (cpu_of image.new) (V.bytes view.old) (V.bytes view.new) result }
+    ensures { Performs (AddImmediate w) n instr.now (cpu_of image.old) (cpu_of image.new) (V.bytes view.old)
+        (V.bytes view.new) result }
 {
     let address = first_address(instr, &image.general);
     let answer = add(w, fetch_item(view, address, w), immediate(w, instr.imm));
@@ -105,9 +113,10 @@ pub fn compare_and_swap<V: Bytes>(
     image: &mut CpuImage,
     view: &mut V,
 ) -> Result<(), Exception>
-    requires size { length (V.bytes view.old) ≡ 1048576 }
+    requires size { length (V.bytes view.old) ≡ storage_size }
     requires inside { AreInside (ranges (CompareAndSwap w) instr.now (cpu_of image.old)) (V.bytes view.old) }
-    ensures { Performs (CompareAndSwap w) n instr.now (cpu_of image.old) (cpu_of image.new) (V.bytes view.old) (V.bytes view.new) result }
+    ensures { Performs (CompareAndSwap w) n instr.now (cpu_of image.old) (cpu_of image.new) (V.bytes view.old)
+        (V.bytes view.new) result }
 {
     let address = first_address(instr, &image.general);
     let second = fetch_item(view, address, w);
@@ -134,9 +143,11 @@ pub fn load_and<V: Bytes>(
     image: &mut CpuImage,
     view: &mut V,
 ) -> Result<(), Exception>
-    requires size { length (V.bytes view.old) ≡ 1048576 }
-    requires inside { AreInside (ranges (LoadAnd operation w) instr.now (cpu_of image.old)) (V.bytes view.old) }
-    ensures { Performs (LoadAnd operation w) n instr.now (cpu_of image.old) (cpu_of image.new) (V.bytes view.old) (V.bytes view.new) result }
+    requires size { length (V.bytes view.old) ≡ storage_size }
+    requires inside { AreInside (ranges (LoadAnd operation w) instr.now (cpu_of image.old))
+        (V.bytes view.old) }
+    ensures { Performs (LoadAnd operation w) n instr.now (cpu_of image.old) (cpu_of image.new)
+        (V.bytes view.old) (V.bytes view.new) result }
 {
     let address = first_address(instr, &image.general);
     let old = fetch_item(view, address, w);
@@ -155,9 +166,10 @@ pub fn store_selected<V: Bytes>(
     image: &mut CpuImage,
     view: &mut V,
 ) -> Result<(), Exception>
-    requires size { length (V.bytes view.old) ≡ 1048576 }
+    requires size { length (V.bytes view.old) ≡ storage_size }
     requires inside { AreInside (ranges StoreSelected instr.now (cpu_of image.old)) (V.bytes view.old) }
-    ensures { Performs StoreSelected n instr.now (cpu_of image.old) (cpu_of image.new) (V.bytes view.old) (V.bytes view.new) result }
+    ensures { Performs StoreSelected n instr.now (cpu_of image.old) (cpu_of image.new) (V.bytes view.old)
+        (V.bytes view.new) result }
 {
     if is_selected(instr.mask, image.condition) {
         let address = first_address(instr, &image.general);

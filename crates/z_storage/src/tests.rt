@@ -1,6 +1,7 @@
-// Expected values are those that QEMU and Hercules answer, but where a line says otherwise.
+//! Expected values are those that QEMU and Hercules answer, but where a line says otherwise.
 
 ghost use Rattle.std.specs.Prelude.{◌≡◌, ◌<◌, ◌≤◌, ◌+◌, ℕ, List, length, true};
+ghost use Rattle.z_regs.specs.Prefix.{storage_size};
 ghost use Rattle.z_regs.specs.Cpu.{cpu_of};
 ghost use Rattle.z_effect.specs.After.{AreInside, ranges_of};
 
@@ -23,7 +24,8 @@ const END: u64 = 0xF_F000;
 
 /// Whether the operands lie in storage, which has 1,048,576 bytes, because both addresses are low.
 fn is_low(instr: &Instr, image: &CpuImage) -> bool
-    ensures { result ≡ true → (s : List ℕ) → length s ≡ 1048576 → AreInside (ranges_of instr.now (cpu_of image.now)) s }
+    ensures { result ≡ true → (s : List ℕ) → length s ≡ storage_size →
+        AreInside (ranges_of instr.now (cpu_of image.now)) s }
 {
     operands_are_small();
     first_address(instr, &image.general) < END && second_address(instr, &image.general) < END
@@ -83,8 +85,8 @@ fn step(
     image: &mut CpuImage,
     storage: &mut Storage,
 ) -> Result<u16, Fail>
-    requires { length storage.old ≡ 1048576 }
-    ensures { length storage.new ≡ 1048576 }
+    requires { length storage.old ≡ storage_size }
+    ensures { length storage.new ≡ storage_size }
 {
     let op = find(name).ok_or("no such mnemonic")?;
     let instr = Instr::new(op, fields).ok_or("no such instruction")?;
@@ -99,8 +101,8 @@ fn step(
 
 /// Puts a number into the four bytes at the place of operands.
 fn put(storage: &mut Storage, number: u32)
-    requires { length storage.old ≡ 1048576 }
-    ensures { length storage.new ≡ 1048576 }
+    requires { length storage.old ≡ storage_size }
+    ensures { length storage.new ≡ storage_size }
 {
     let bytes = number.to_be_bytes();
     storage.put(PLACE, bytes[0]);
@@ -111,7 +113,7 @@ fn put(storage: &mut Storage, number: u32)
 
 /// The number in those bytes.
 fn word(storage: &Storage) -> u32
-    requires { length storage.now ≡ 1048576 }
+    requires { length storage.now ≡ storage_size }
 {
     u32::from_be_bytes([
         storage.get(PLACE),
@@ -121,8 +123,8 @@ fn word(storage: &Storage) -> u32
     ])
 }
 
-/// What an instruction leaves in register 1, its condition code, the code of the exception and the word in storage, which
-/// held `number`.
+/// What an instruction leaves in register 1, its condition code, the code of the exception and the word in
+/// storage, which held `number`.
 fn result(
     alloc: Global,
     name: &[u8],

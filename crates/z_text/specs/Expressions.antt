@@ -1,5 +1,7 @@
 -- Expressions: a term or a signed term, and signed terms behind it.
-use Rattle.std.specs.Prelude.{◌≡◌, ℕ, ◌+◌, ◌-◌, ◌^◌, ◌<◌, ◌≤◌, ℤ, pos, negsuc, ◌+ℤ◌, ◌-ℤ◌, ◌≤ℤ◌, Bool, true, false, ◌&&◌, List, [], ◌∷◌, length, take, drop, Option, Some, None, is_none, option_map, Result, Ok, Err, ◌==◌, if◌then◌else◌, slice_index}
+use Rattle.std.specs.Prelude.{◌≡◌, ℕ, ◌+◌, ◌-◌, ◌^◌, ◌<◌, ◌≤◌, ℤ, pos, negsuc, ◌+ℤ◌, ◌-ℤ◌, ◌≤ℤ◌, Bool, true}
+use Rattle.std.specs.Prelude.{false, ◌&&◌, List, [], ◌∷◌, length, take, drop, Option, Some, None, is_none}
+use Rattle.std.specs.Prelude.{option_map, Result, Ok, Err, ◌==◌, if◌then◌else◌, slice_index}
 use Rattle.std.specs.List.{list_any}
 use Rattle.z_text.specs.Labels.{value_in}
 use Rattle.z_text.specs.Line.{as_read, span}
@@ -66,7 +68,8 @@ part first end ts = take (end - first) (drop first ts)
 -- No tokens from this place are an expression, or those to the end are one, and no more of them are.
 abbrev pub IsLongest : List Token → ℕ → Option ℕ → Type 0
 IsLongest ts at None = (end : ℕ) → end ≤ length ts → is_expression (part at end ts) ≡ false
-IsLongest ts at (Some end) = (is_expression (part at end ts) ≡ true) × ((longer : ℕ) → end < longer → longer ≤ length ts → is_expression (part at longer ts) ≡ false)
+IsLongest ts at (Some end) = (is_expression (part at end ts) ≡ true) × ((longer : ℕ) → end < longer →
+    longer ≤ length ts → is_expression (part at longer ts) ≡ false)
 
 -- the value of a term, if it has one: a label may have none
 abbrev pub value_of_kind : TokenKind → List ℕ → Labels → ℕ → Option ℤ
@@ -88,7 +91,8 @@ abbrev pub add : Option ℤ → Option ℤ → Option ℤ
 add (Some a) (Some b) = Some (a +ℤ b)
 add _ _ = None
 
--- The exact sum of the terms among these tokens, each with the sign before it. `negative`: a minus stood before the first.
+-- The exact sum of the terms among these tokens, each with the sign before it. `negative`: a minus stood
+-- before the first.
 unfoldable pub sum_of : List ℕ → Labels → ℕ → Bool → List Token → Option ℤ
 sum_of text labels here negative [] = Some (pos 0)
 sum_of text labels here negative (t ∷ ts) =
@@ -101,7 +105,8 @@ with_value (Some v) end = Ok (v, end)
 
 abbrev pub value_to : List ℕ → List Token → ℕ → Labels → ℕ → Option ℕ → Result (ℤ × ℕ) ExprFault
 value_to text ts at labels here None = Err BadToken
-value_to text ts at labels here (Some end) = with_value (sum_of text labels here false (take (end - at) (drop at ts))) end
+value_to text ts at labels here (Some end) =
+    with_value (sum_of text labels here false (take (end - at) (drop at ts))) end
 
 -- the value of the longest expression at a place, and the place after it
 unfoldable pub expression_of : List ℕ → List Token → ℕ → Labels → ℕ → Result (ℤ × ℕ) ExprFault
@@ -115,11 +120,14 @@ is_label _ = false
 abbrev pub lacks_value : List ℕ → Labels → Token → Bool
 lacks_value text labels t = is_label t.kind && is_none (value_in labels (as_read (span t.first t.end text)))
 
--- A value comes where there is an expression and each of its labels has a value, and each fault where it has its cause.
+-- A value comes where there is an expression and each of its labels has a value, and each fault where it has
+-- its cause.
 abbrev pub HasCause : List ℕ → List Token → ℕ → Labels → Result (ℤ × ℕ) ExprFault → Type 0
-HasCause text ts at labels (Ok r) = (end_of ts at ≡ Some r.1) × (list_any (lacks_value text labels) (part at r.1 ts) ≡ false)
+HasCause text ts at labels (Ok r) =
+    (end_of ts at ≡ Some r.1) × (list_any (lacks_value text labels) (part at r.1 ts) ≡ false)
 HasCause text ts at labels (Err BadToken) = end_of ts at ≡ None
-HasCause text ts at labels (Err UnknownLabel) = (end : ℕ) × (end_of ts at ≡ Some end) × (list_any (lacks_value text labels) (part at end ts) ≡ true)
+HasCause text ts at labels (Err UnknownLabel) =
+    (end : ℕ) × (end_of ts at ≡ Some end) × (list_any (lacks_value text labels) (part at end ts) ≡ true)
 
 -- from -2 ^ 64 to 2 ^ 64
 abbrev pub IsNear : ℤ → Type 0

@@ -1,12 +1,16 @@
 -- The tokens of a line, and what is wrong with it.
-use Rattle.std.specs.Prelude.{◌≡◌, ℕ, zero, suc, ◌+◌, ◌-◌, ◌<◌, ◌≤◌, Bool, true, false, not, ◌&&◌, ◌||◌, List, [], ◌∷◌, ◌++◌, length, drop, map, Option, Some, None, is_some, Result, Ok, Err, All, nat_lt, ◌==◌, if◌then◌else◌}
+use Rattle.std.specs.Prelude.{◌≡◌, ℕ, zero, suc, ◌+◌, ◌-◌, ◌<◌, ◌≤◌, Bool, true, false, not, ◌&&◌, ◌||◌, List}
+use Rattle.std.specs.Prelude.{[], ◌∷◌, ◌++◌, length, drop, map, Option, Some, None, is_some, Result, Ok, Err}
+use Rattle.std.specs.Prelude.{All, nat_lt, ◌==◌, if◌then◌else◌}
 use Rattle.std.specs.List.{prefix_len, list_any, list_all}
 use Rattle.std.specs.Char.{is_ascii_uppercase, is_ascii_digit}
-use Rattle.z_text.specs.Line.{as_read, fields_of, is_letter_or_digit, is_name, is_printed, keeps_operands_whole, says_nothing, span}
+use Rattle.z_text.specs.Line.{as_read, fields_of, is_letter_or_digit, is_name, is_printed}
+use Rattle.z_text.specs.Line.{keeps_operands_whole, says_nothing, span}
 use Rattle.z_text.specs.Numbers.{number_of}
 use Rattle.z_text.specs.declared.fields.Fields.{Fields}
 use Rattle.z_text.specs.declared.token.TokenKind.{TokenKind}
-use Rattle.z_text.specs.declared.token.TokenKind.TheVariants.{Name, Number, Hex, Sign, Open, Close, Comma, Star}
+use Rattle.z_text.specs.declared.token.TokenKind.TheVariants.{Name, Number, Hex, Sign, Open, Close, Comma}
+use Rattle.z_text.specs.declared.token.TokenKind.TheVariants.{Star}
 use Rattle.z_text.specs.declared.token.Token.{Token}
 use Rattle.z_text.specs.declared.token.TextFault.{TextFault}
 use Rattle.z_text.specs.declared.token.TextFault.TheVariants.{Memory, LineTooLong, BadToken, BadNumber}
@@ -18,7 +22,8 @@ begins_quote (b ∷ bs) = b == 39
 abbrev pub mark_of : ℕ → Option TokenKind
 mark_of b =
     if b == 43 then Some Sign else (if b == 45 then Some Sign else (if b == 40 then Some Open else
-    (if b == 41 then Some Close else (if b == 44 then Some Comma else (if b == 42 then Some Star else None)))))
+    (if b == 41 then Some Close else (if b == 44 then Some Comma else (if b == 42 then Some Star
+    else None)))))
 
 -- what kind of token begins these bytes: a digit and X with a quote begin numbers, a letter a name
 unfoldable pub kind_at : List ℕ → Option TokenKind
@@ -51,7 +56,8 @@ pub record Piece : Type 0 where
 abbrev pub piece_at : ℕ → List ℕ → Piece
 piece_at at bs = record { first = at; size = size_at bs; kind = kind_at bs }
 
--- The pieces that bytes are cut into, each as long as it can be. The first `skip` bytes belong to the piece before.
+-- The pieces that bytes are cut into, each as long as it can be. The first `skip` bytes belong to the piece
+-- before.
 unfoldable pub pieces : ℕ → ℕ → List ℕ → List Piece
 pieces skip at [] = []
 pieces (suc k) at (b ∷ bs) = pieces k (at + 1) bs
@@ -85,14 +91,16 @@ head_of f =
 
 -- a malformed label, or an operation that is malformed or missing
 unfoldable pub has_bad_head : List ℕ → Fields → Bool
-has_bad_head line f = (not (f.label_end == 0) && not (is_name (span 0 f.label_end line))) || not (is_name (span f.operation f.operation_end line))
+has_bad_head line f = (not (f.label_end == 0) && not (is_name (span 0 f.label_end line))) ||
+    not (is_name (span f.operation f.operation_end line))
 
 -- the tokens of the operands, if there is no bad one
 unfoldable pub operands_of : List ℕ → Fields → Option (List Token)
 operands_of line f =
     if keeps_operands_whole (span f.operation f.operation_end line)
     then (if list_all is_printed (span f.operands f.operands_end line) then Some [] else None)
-    else (if list_any is_bad (pieces_of f.operands f.operands_end line) then None else Some (map token_of (pieces_of f.operands f.operands_end line)))
+    else (if list_any is_bad (pieces_of f.operands f.operands_end line) then None
+    else Some (map token_of (pieces_of f.operands f.operands_end line)))
 
 abbrev pub behind : List Token → Option (List Token) → Option (List Token)
 behind head None = None
@@ -118,9 +126,11 @@ abbrev pub with_numbers : List ℕ → Option (List Token) → Result (List Toke
 with_numbers text None = Err BadToken
 with_numbers text (Some ts) = if list_all (is_good_number text) ts then Ok ts else Err BadNumber
 
--- The tokens of a line, or its first fault: its length, then a bad token anywhere, then a bad number anywhere.
+-- The tokens of a line, or its first fault: its length, then a bad token anywhere, then a bad number
+-- anywhere.
 unfoldable pub tokens_of : List ℕ → Result (List Token) TextFault
-tokens_of text = if nat_lt 120 (length text) then Err LineTooLong else with_numbers text (split_of (as_read text))
+tokens_of text = if nat_lt 120 (length text) then Err LineTooLong
+    else with_numbers text (split_of (as_read text))
 
 -- What is returned is the given answer, unless memory ran out.
 abbrev pub Gives : {X Y : Type 0} → (X → Y) → Result X TextFault → Result Y TextFault → Type 0
@@ -152,4 +162,5 @@ abbrev pub FillOperands : List ℕ → List Token → Type 0
 FillOperands line ts =
     says_nothing line ≡ false →
     keeps_operands_whole (span (fields_of line).operation (fields_of line).operation_end line) ≡ false →
-    (operands : List Token) × (ts ≡ head_of (fields_of line) ++ operands) × FillFrom (fields_of line).operands operands (fields_of line).operands_end
+    (operands : List Token) × (ts ≡ head_of (fields_of line) ++ operands) × FillFrom
+    (fields_of line).operands operands (fields_of line).operands_end

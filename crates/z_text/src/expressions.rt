@@ -1,6 +1,9 @@
+//! The longest expression at a place among tokens: where it ends, and its exact value.
 ghost use Rattle.std.specs.Prelude.{◌≡◌, ◌<◌, ◌≤◌, length, IfOk, IfSome, IsTrue};
 ghost use Rattle.z_text.specs.Tokens.{AreTokensIn};
-ghost use Rattle.z_text.specs.Expressions.{is_sign, is_term, begins_term, begins_signed_term, signed_terms_size, expression_size, end_of, expression_of, IsLongest, HasCause};
+ghost use Rattle.z_text.specs.Expressions.{is_sign, is_term, begins_term, begins_signed_term};
+ghost use Rattle.z_text.specs.Expressions.{signed_terms_size, expression_size, end_of, expression_of};
+ghost use Rattle.z_text.specs.Expressions.{IsLongest, HasCause};
 
 use crate::labels::Labels;
 use crate::sum::sum_of;
@@ -78,8 +81,8 @@ fn end_of(tokens: &[Token], at: usize) -> Option<usize>
     }
 }
 
-/// The place after the longest expression that begins at `at`, whether or not its labels have values; `None` exactly where
-/// none begins there.
+/// The place after the longest expression that begins at `at`, whether or not its labels have values; `None`
+/// exactly where none begins there.
 pub fn expression_end(tokens: &[Token], at: usize) -> Option<usize>
     requires { at ≤ length tokens.now }
     ensures is { result ≡ end_of tokens.now at }
@@ -116,9 +119,10 @@ fn value_at(
 
 /// The value of the longest expression that begins at `at`, and the place after it.
 ///
-/// An expression is a term or a signed term, and behind it signed terms. A term is a number, a label or an asterisk, which
-/// stands for `here`. The sum is exact. [`ExprFault::BadToken`] comes exactly where no expression begins at `at`, else
-/// [`ExprFault::UnknownLabel`] exactly where the expression has a label without a value.
+/// An expression is a term or a signed term, and behind it signed terms. A term is a number, a label or an
+/// asterisk, which stands for `here`. The sum is exact. [`ExprFault::BadToken`] comes exactly where no
+/// expression begins at `at`, else [`ExprFault::UnknownLabel`] exactly where the expression has a label
+/// without a value.
 pub fn expression(
     text: &[u8],
     tokens: &[Token],

@@ -1,8 +1,11 @@
+//! The parts of a line: its label, its operation and its operands.
 ghost use Rattle.std.specs.Prelude.{◌≡◌, ◌<◌, ◌≤◌, length, IsTrue};
 ghost use Rattle.std.specs.List.{prefix_len, list_all};
-ghost use Rattle.z_text.specs.Line.{is_blank, is_inked, is_printed, is_letter_or_digit, past, fields_of, says_nothing, is_name, keeps_operands_whole};
+ghost use Rattle.z_text.specs.Line.{is_blank, is_inked, is_printed, is_letter_or_digit, past, fields_of};
+ghost use Rattle.z_text.specs.Line.{says_nothing, is_name, keeps_operands_whole};
 
-/// Where the parts of a line stand: its label from the first byte to `label_end`, its operation, and its operands.
+/// Where the parts of a line stand: its label from the first byte to `label_end`, its operation, and its
+/// operands.
 #[derive(Clone, Copy, Debug, PartialEq, Eq)]
 pub struct Fields {
     /// The place after the label, 0 where there is none.

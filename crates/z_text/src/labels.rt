@@ -1,3 +1,4 @@
+//! Labels with their values.
 ghost use Rattle.std.specs.Prelude.{◌≡◌, ◌^◌, ◌-◌, pos, negsuc, ◌≤ℤ◌};
 
 use crate::token::NoMemory;
@@ -30,7 +31,8 @@ pub struct Labels {
 }
 
 impl Labels {
-    ghost use Rattle.std.specs.Prelude.{ℕ, List, Option, Some, None, IfOk, IfSome, OnErr, IsTrue, is_none, true, false, if◌then◌else◌};
+    ghost use Rattle.std.specs.Prelude.{ℕ, List, Option, Some, None, IfOk, IfSome, OnErr, IsTrue, is_none};
+    ghost use Rattle.std.specs.Prelude.{true, false, if◌then◌else◌};
     ghost use Rattle.std.specs.Str.{bytes_eq};
     ghost use Rattle.z_text.specs.Labels.{value_in};
 
@@ -56,13 +58,15 @@ impl Labels {
         }
     }
 
-    /// Adds a label, and says whether it was new. Where it was not, and where there is no memory, the labels stay as they
-    /// are.
+    /// Adds a label, and says whether it was new. Where it was not, and where there is no memory, the labels
+    /// stay as they are.
     pub fn add(&mut self, name: &[u8], value: i128) -> Result<bool, NoMemory>
         requires low { negsuc (2 ^ 63 - 1) ≤ℤ value }
         requires high { value ≤ℤ pos (2 ^ 64 - 1) }
         ensures new { IfOk result (λ added. added ≡ is_none (value_in self.old name.now)) }
-        ensures labels { IfOk result (λ added. (other : List ℕ) → value_in self.new other ≡ (if added then (if bytes_eq other name.now then Some value else value_in self.old other) else value_in self.old other)) }
+        ensures labels { IfOk result (λ added. (other : List ℕ) → value_in self.new other ≡
+            (if added then (if bytes_eq other name.now then Some value else value_in self.old other)
+            else value_in self.old other)) }
         ensures err { OnErr result ((other : List ℕ) → value_in self.new other ≡ value_in self.old other) }
     {
         if self.values.contains_key(name) {

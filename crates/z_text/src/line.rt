@@ -1,7 +1,10 @@
-ghost use Rattle.std.specs.Prelude.{◌≡◌, ◌<◌, ◌≤◌, ◌↔◌, ◌++◌, ◌+◌, false, length, All, IfOk, Option, Some, None, take};
+//! The tokens of a line.
+ghost use Rattle.std.specs.Prelude.{◌≡◌, ◌<◌, ◌≤◌, ◌↔◌, ◌++◌, ◌+◌, false, length, All, IfOk, Option, Some};
+ghost use Rattle.std.specs.Prelude.{None, take};
 ghost use Rattle.std.specs.List.{list_all};
 ghost use Rattle.z_text.specs.Line.{as_read, fields_of};
-ghost use Rattle.z_text.specs.Tokens.{tokens_of, split_of, operands_of, has_bad_head, head_of, is_good_number, Gives, LiesIn, AreTokensIn, FillOperands};
+ghost use Rattle.z_text.specs.Tokens.{tokens_of, split_of, operands_of, has_bad_head, head_of};
+ghost use Rattle.z_text.specs.Tokens.{is_good_number, Gives, LiesIn, AreTokensIn, FillOperands};
 ghost use Rattle.z_text.specs.Splits.{HasHead, GivesSplit, HasOperands};
 
 use crate::fields::{Fields, are_printed, fields_of, is_name, keeps_operands_whole, says_nothing};
@@ -59,7 +62,8 @@ fn operands(tokens: &mut Vec<Token>, line: &[u8], parts: Fields) -> Result<(), T
     requires within { parts.operands_end ≤ length line.now }
     requires inside { All (LiesIn (length line.now)) tokens.old.items }
     requires few { length tokens.old.items ≤ parts.operands }
-    ensures { HasOperands (length line.now) tokens.old.items tokens.new.items (operands_of line.now parts) result }
+    ensures { HasOperands (length line.now) tokens.old.items tokens.new.items
+        (operands_of line.now parts) result }
 {
     if keeps_operands_whole(&line[parts.operation..parts.operation_end]) {
         if are_printed(&line[parts.operands..parts.operands_end]) {
@@ -133,14 +137,15 @@ fn tokens_of(alloc: Global, text: &[u8]) -> Result<Vec<Token>, TextFault>
 
 /// The tokens of a line, in order.
 ///
-/// The text is one line without its line end. It begins with a label or with a blank; then come blanks, the operation,
-/// blanks, and the operands up to a blank. Blanks separate tokens. What follows the operands is a remark and is not read.
-/// The operands of DC and SCHED give no tokens; those of other lines are filled by theirs. Small letters are read as
-/// capitals. A line that is empty, all blanks, or begins with an asterisk has no tokens.
+/// The text is one line without its line end. It begins with a label or with a blank; then come blanks, the
+/// operation, blanks, and the operands up to a blank. Blanks separate tokens. What follows the operands is a
+/// remark and is not read. The operands of DC and SCHED give no tokens; those of other lines are filled by
+/// theirs. Small letters are read as capitals. A line that is empty, all blanks, or begins with an asterisk
+/// has no tokens.
 ///
-/// The first fault in this order is the answer: [`TextFault::LineTooLong`] above 120 bytes; [`TextFault::BadToken`]
-/// anywhere in the line; [`TextFault::BadNumber`] anywhere in the line. [`TextFault::Memory`] may come at any line that is
-/// not too long.
+/// The first fault in this order is the answer: [`TextFault::LineTooLong`] above 120 bytes;
+/// [`TextFault::BadToken`] anywhere in the line; [`TextFault::BadNumber`] anywhere in the line.
+/// [`TextFault::Memory`] may come at any line that is not too long.
 pub fn tokens(alloc: Global, text: &[u8]) -> Result<Vec<Token>, TextFault>
     ensures is { Gives (λ v. v.items) result (tokens_of text.now) }
     ensures inside { IfOk result (λ v. AreTokensIn text.now v.items) }

@@ -1,11 +1,14 @@
-ghost use Rattle.std.specs.Prelude.{◌≡◌, ◌+◌, ◌*◌, ◌<◌, ◌≤◌, ◌^◌, length, Option, Some, None, nat_lt, if◌then◌else◌};
+//! Numbers of the listing, decimal and hexadecimal.
+ghost use Rattle.std.specs.Prelude.{◌≡◌, ◌+◌, ◌*◌, ◌<◌, ◌≤◌, ◌^◌, length, Option, Some, None, nat_lt};
+ghost use Rattle.std.specs.Prelude.{if◌then◌else◌};
 ghost use Rattle.z_text.specs.Numbers.{number_in, quoted_hex, number_of};
 
 use crate::token::TokenKind;
 
 /// The number behind one more digit, where it fits.
 fn with_digit(number: u64, base: u8, digit: u32) -> Option<u64>
-    ensures { result ≡ (if nat_lt (number * base + digit) (2 ^ 64) then Some (number * base + digit) else None) }
+    ensures { result ≡ (if nat_lt (number * base + digit) (2 ^ 64) then Some (number * base + digit)
+        else None) }
 {
     let sum = u128::from(number) * u128::from(base) + u128::from(digit);
     if sum <= u128::from(u64::MAX) {

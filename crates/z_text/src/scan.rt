@@ -1,3 +1,4 @@
+//! Operands cut into tokens.
 ghost use Rattle.std.specs.Prelude.{◌≡◌, ◌<◌, ◌≤◌, length, All, Some};
 ghost use Rattle.std.specs.List.{prefix_len};
 ghost use Rattle.z_text.specs.Line.{is_letter_or_digit};
@@ -76,7 +77,8 @@ pub(crate) fn split(
     requires within { end ≤ length line.now }
     requires inside { All (LiesIn (length line.now)) tokens.old.items }
     requires few { length tokens.old.items ≤ first }
-    ensures { Splits (length line.now) end tokens.old.items tokens.new.items (pieces_of first end line.now) result }
+    ensures { Splits (length line.now) end tokens.old.items tokens.new.items
+        (pieces_of first end line.now) result }
 {
     let mut at = first;
     while at < end {

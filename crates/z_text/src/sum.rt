@@ -1,4 +1,7 @@
-ghost use Rattle.std.specs.Prelude.{◌≡◌, ◌∷◌, ◌+◌, ◌-◌, ◌*◌, ◌<◌, ◌≤◌, ◌^◌, pos, negsuc, ◌≤ℤ◌, ◌+ℤ◌, ◌-ℤ◌, List, length, drop, All, IfSome, Option, Bool, false, if◌then◌else◌, slice_index, ◌==◌, option_map};
+//! The sum of the terms of an expression.
+ghost use Rattle.std.specs.Prelude.{◌≡◌, ◌∷◌, ◌+◌, ◌-◌, ◌*◌, ◌<◌, ◌≤◌, ◌^◌, pos, negsuc, ◌≤ℤ◌, ◌+ℤ◌, ◌-ℤ◌};
+ghost use Rattle.std.specs.Prelude.{List, length, drop, All, IfSome, Option, Bool, false, if◌then◌else◌};
+ghost use Rattle.std.specs.Prelude.{slice_index, ◌==◌, option_map};
 ghost use Rattle.z_text.specs.Labels.{value_in};
 ghost use Rattle.z_text.specs.Line.{as_read};
 ghost use Rattle.z_text.specs.Numbers.{number_of};
@@ -83,7 +86,8 @@ fn with_token(
     requires high { sum.value ≤ℤ pos (2 ^ 72) }
     requires inside { LiesIn (length text.now) token }
     requires here { here ≤ 1048576 }
-    ensures total { (rest : List Token) → total text.now labels.now here sum (token ∷ rest) ≡ total_after text.now labels.now here result rest }
+    ensures total { (rest : List Token) → total text.now labels.now here sum (token ∷ rest) ≡
+        total_after text.now labels.now here result rest }
     ensures low_step { IfSome result (λ s. (sum.value +ℤ negsuc (2 ^ 64 - 1)) ≤ℤ s.value) }
     ensures high_step { IfSome result (λ s. s.value ≤ℤ (sum.value +ℤ pos (2 ^ 64))) }
 {
@@ -97,7 +101,8 @@ fn with_token(
     Some(with_value(sum, value))
 }
 
-/// The exact sum of the terms among these tokens, each with the sign before it; `None` where a label has no value.
+/// The exact sum of the terms among these tokens, each with the sign before it; `None` where a label has no
+/// value.
 pub(crate) fn sum_of(text: &[u8], tokens: &[Token], labels: &Labels, here: u64) -> Option<i128>
     requires inside { All (LiesIn (length text.now)) tokens.now }
     requires few { length tokens.now ≤ 120 }

@@ -1,10 +1,12 @@
+//! Lines with their tokens and expressions with their values, written by hand; an independent model gives the same.
 use crate::{ExprFault, Labels, TextFault, Token, TokenKind, expression, expression_end, tokens};
 use std::alloc::{AllocError, Global};
 use std::fmt::Write;
 use std::test::Fail;
 
-/// Lines with their tokens, each by a letter or mark of its kind, its first place and its end, or with their fault.
-static LINES: [(&str, &str); 99] = [
+/// Lines with their tokens, each by a letter or mark of its kind, its first place and its end, or with their
+/// fault.
+static LINES: [(&str, &str); 105] = [
     ("", ""),
     ("   ", ""),
     ("*", ""),
@@ -63,6 +65,10 @@ static LINES: [(&str, &str); 99] = [
     (" B \u{7f}", "BadToken"),
     (" B é", "BadToken"),
     (" B A=B", "BadToken"),
+    (" B A#1", "BadToken"),
+    (" B A$", "BadToken"),
+    ("A$ TEND", "BadToken"),
+    (" TEND$", "BadToken"),
     (" B 0", "N1-2 D3-4"),
     (" B 00000000000000000000000000000012", "N1-2 D3-35"),
     (" B 18446744073709551615", "N1-2 D3-23"),
@@ -91,6 +97,8 @@ static LINES: [(&str, &str); 99] = [
     (" DC X'00 00'", "N1-3"),
     (" DC ;!~", "N1-3"),
     (" DC \u{7f}", "BadToken"),
+    (" DC \u{1f}", "BadToken"),
+    (" DS ;", "BadToken"),
     ("A DC \t", "BadToken"),
     (" SCHED 0*5,X1", "N1-6"),
     (" Sched 12A", "N1-6"),
@@ -165,8 +173,8 @@ fn lines_and_their_tokens(rt: HostRuntime) -> Result<(), Fail> {
     Ok(())
 }
 
-/// Operands with a place among the line's tokens, the operation being the first, and the value of the expression there with
-/// the place after it, or its fault; then the place after it by its form alone.
+/// Operands with a place among the line's tokens, the operation being the first, and the value of the
+/// expression there with the place after it, or its fault; then the place after it by its form alone.
 static EXPRESSIONS: [(&str, usize, &str); 25] = [
     (" B A", 1, "5 2, Some(2)"),
     (" B a", 1, "5 2, Some(2)"),

@@ -1,3 +1,4 @@
+//! Tokens, and what is wrong where there are none.
 ghost use Rattle.std.specs.Prelude.{◌≡◌};
 ghost use Rattle.z_text.specs.declared.token.TextFault.TheVariants.{Memory};
 
@@ -42,8 +43,8 @@ pub enum TextFault {
     Memory,
     /// The line has more than 120 bytes.
     LineTooLong,
-    /// A malformed label or operation, a missing operation, operands that do not split into tokens, or a byte in them that
-    /// is not printed.
+    /// A malformed label or operation, a missing operation, operands that do not split into tokens, or a byte
+    /// in them that is not printed.
     BadToken,
     /// A number that is malformed or does not fit 64 bits.
     BadNumber,

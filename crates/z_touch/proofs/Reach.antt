@@ -11,7 +11,7 @@ use Rattle.tx_control.specs.declared.exceptions.Exception.{Exception}
 use Rattle.z_instr.specs.Table.{entry_at}
 use Rattle.z_instr.specs.Operands.{Span, IsSmall, spans, spans_in, inaccessible, inaccessible_in, is_inside, is_stored_into, where_wrong, addressing, protection}
 use Rattle.z_regs.specs.declared.ranges.Range.{Range}
-use Rattle.z_touch.specs.Refusals.{range_of, span_of, accessible_pages, unreachable, denial, answer, refused}
+use Rattle.z_touch.specs.Refusals.{range_of, span_of, unreachable, denial, answer, refused}
 
 list_any-map : (p : Span → Bool) (ranges : List Range) → list_any p (map span_of ranges) ≡ list_any (λ r. p (span_of r)) ranges
 list_any-map p [] = refl
@@ -19,18 +19,20 @@ list_any-map p (r ∷ ranges) = ap (λ b. p (span_of r) || b) (list_any-map p ra
 
 -- ---- which exception
 
-pub beyond : (ranges : List Range) (text : List ℕ) (after : Option ℕ) → list_all (λ r. is_inside accessible_pages (span_of r)) ranges ≡ false
-    → unreachable (map span_of ranges) text after ≡ Some addressing
-beyond ranges text after e =
+pub beyond : (ranges : List Range) (accessible text : List ℕ) (after : Option ℕ) →
+    list_all (λ r. is_inside accessible (span_of r)) ranges ≡ false →
+    unreachable (map span_of ranges) accessible text after ≡ Some addressing
+beyond ranges accessible text after e =
     ap (λ b. where_wrong (not b) addressing (where_wrong (list_any (is_stored_into text) (map span_of ranges)) protection after))
-    (list_all-map (is_inside accessible_pages) span_of ranges ∙ e)
+    (list_all-map (is_inside accessible) span_of ranges ∙ e)
 
-pub inside : (ranges : List Range) (text : List ℕ) (after : Option ℕ) (b : Bool) → list_all (λ r. is_inside accessible_pages (span_of r)) ranges ≡ true
-    → list_any (λ r. is_stored_into text (span_of r)) ranges ≡ b
-    → unreachable (map span_of ranges) text after ≡ where_wrong b protection after
-inside ranges text after b e f =
+pub inside : (ranges : List Range) (accessible text : List ℕ) (after : Option ℕ) (b : Bool) →
+    list_all (λ r. is_inside accessible (span_of r)) ranges ≡ true →
+    list_any (λ r. is_stored_into text (span_of r)) ranges ≡ b →
+    unreachable (map span_of ranges) accessible text after ≡ where_wrong b protection after
+inside ranges accessible text after b e f =
     ap (λ a. where_wrong (not a) addressing (where_wrong (list_any (is_stored_into text) (map span_of ranges)) protection after))
-    (list_all-map (is_inside accessible_pages) span_of ranges ∙ e)
+    (list_all-map (is_inside accessible) span_of ranges ∙ e)
     ∙ ap (λ a. where_wrong a protection after) (list_any-map (is_stored_into text) ranges ∙ f)
 
 -- ---- ranges and spans
@@ -42,18 +44,22 @@ spans_back (x ∷ xs) = ap (λ t. x ∷ t) (spans_back xs)
 pub small_ranges : (s : List Span) → All IsSmall s → All (λ r. IsSmall (span_of r)) (map range_of s)
 small_ranges s h = All-map (λ r. IsSmall (span_of r)) range_of s h
 
-pub denial_is : (i : Instr) (general : List ℕ) (condition depth : ℕ) (text : List ℕ)
-    → denial (entry_at i.op.number).demand (spans i general condition) i general depth text ≡ inaccessible i general condition depth accessible_pages text
+pub denial_is : (i : Instr) (general : List ℕ) (condition depth : ℕ) (accessible text : List ℕ) →
+    denial (entry_at i.op.number).demand (spans i general condition) i general depth accessible text ≡
+    inaccessible i general condition depth accessible text
 unfolding inaccessible_in
-denial_is i general condition depth text = refl
+denial_is i general condition depth accessible text = refl
 
-pub denied_is : (i : Instr) (general : List ℕ) (condition depth : ℕ) (text : List ℕ) (demand : Demand) (ranges : List Range)
-    → demand ≡ (entry_at i.op.number).demand → ranges ≡ map range_of (spans i general condition)
-    → denial demand (map span_of ranges) i general depth text ≡ inaccessible i general condition depth accessible_pages text
-denied_is i general condition depth text demand ranges e f =
-    (λ k. denial (e k) (map span_of (f k)) i general depth text)
-    ∙ ap (λ s. denial (entry_at i.op.number).demand s i general depth text) (spans_back (spans i general condition))
-    ∙ denial_is i general condition depth text
+pub denied_is : (i : Instr) (general : List ℕ) (condition depth : ℕ) (accessible text : List ℕ) (demand : Demand)
+    (ranges : List Range) → demand ≡ (entry_at i.op.number).demand →
+    ranges ≡ map range_of (spans i general condition) →
+    denial demand (map span_of ranges) i general depth accessible text ≡
+    inaccessible i general condition depth accessible text
+denied_is i general condition depth accessible text demand ranges e f =
+    (λ k. denial (e k) (map span_of (f k)) i general depth accessible text)
+    ∙ ap (λ s. denial (entry_at i.op.number).demand s i general depth accessible text)
+    (spans_back (spans i general condition))
+    ∙ denial_is i general condition depth accessible text
 
 pub ranges_of_row : (i : Instr) (general : List ℕ) (condition : ℕ) (o : Operands) (ranges : List Range)
     → o ≡ (entry_at i.op.number).operands → ranges ≡ map range_of (spans_in o i general condition) → ranges ≡ map range_of (spans i general condition)

@@ -1,6 +1,6 @@
 -- Pages of small ranges, and sets of pages as lists.
-use Rattle.std.proofs.Common.{◌≡◌, ℕ, zero, suc, ◌+◌, ◌-◌, ◌/◌, ◌<◌, ◌≤◌, Bool, true, false, ◌&&◌, ◌||◌, nat_eq, min, leb, ltb, List, take, Some, ◌⊎◌, ◌↔◌, inl, inr, refl, ap, sym, ◌∙◌, arith}
-use Rattle.std.specs.List.{list_any, list_all}
+use Rattle.std.proofs.Common.{◌≡◌, ℕ, zero, suc, ◌+◌, ◌-◌, ◌/◌, ◌<◌, ◌≤◌, Bool, true, false, cond, ◌&&◌, ◌||◌, nat_eq, leb, ltb, List, ◌∷◌, take, Option, None, Some, ◌⊎◌, ◌↔◌, inl, inr, refl, ap, sym, ◌∙◌, arith}
+use Rattle.std.specs.List.{list_any, list_all, filter}
 use Rattle.std.specs.Ordering.{nat_cmp}
 use Rattle.std.specs.Cmp.{unsigned_tied}
 use Rattle.std.specs.FinSet.{FinSet, contains, items, contains-items}
@@ -10,27 +10,79 @@ use Rattle.std.proofs.lemmas.Bool.{cases_lt}
 use Rattle.std.proofs.lemmas.Option.{get_or_from_slice_get, slice_get_within}
 use Rattle.std.proofs.lemmas.List.Folds.{list_all_at, list_all_more, list_any_at, list_any_more}
 use Rattle.z_instr.specs.Operands.{Span, from_up, pieces, IsSmall, is_inside}
-use Rattle.z_touch.specs.Refusals.{accessible_pages}
+use Rattle.z_instr.specs.Access.{accessible_pages, text_pages, absolute_page}
 
 any-from_up : (p first n : ℕ) → list_any (nat_eq p) (from_up first n) ≡ (leb first p && ltb p (first + n))
 any-from_up p first zero = grind (arith, nat_tests)
 any-from_up p first (suc n) = grind (arith, nat_tests, any-from_up p (suc first) n)
 
-pub any-accessible_pages : (p : ℕ) → list_any (nat_eq p) accessible_pages ≡ (leb 2 p && ltb p 256)
+pub any-without : (p : ℕ) → list_any (nat_eq p) (accessible_pages None) ≡ (leb 2 p && ltb p 256)
 unfolding accessible_pages
-any-accessible_pages p = any-from_up p 2 254
+any-without p = any-from_up p 2 254
+
+pub any-with : (prefix p : ℕ) → list_any (nat_eq p) (accessible_pages (Some prefix)) ≡ ltb p 256
+unfolding accessible_pages
+any-with prefix p = any-from_up p 0 256 ∙ grind (arith, nat_tests)
+
+or_false : (b : Bool) → (b || false) ≡ b
+or_false true = refl
+or_false false = refl
+
+kept : (p first : ℕ) (b : Bool) (xs : List ℕ) →
+    list_any (nat_eq p) (cond b (first ∷ xs) xs) ≡ ((nat_eq p first && b) || list_any (nat_eq p) xs)
+kept p first true xs = grind (arith, nat_tests)
+kept p first false xs = grind (arith, nat_tests)
+
+less : (p first n : ℕ) (test : ℕ → Bool) → p < first →
+    ((nat_eq p first && test first) || ((leb (suc first) p && ltb p (suc first + n)) && test p)) ≡
+    ((leb first p && ltb p (first + suc n)) && test p)
+less p first n test h = grind (arith, nat_tests)
+
+same : (p first n : ℕ) (test : ℕ → Bool) → p ≡ first →
+    ((nat_eq p first && test first) || ((leb (suc first) p && ltb p (suc first + n)) && test p)) ≡
+    ((leb first p && ltb p (first + suc n)) && test p)
+same p first n test h =
+    let e : test first ≡ test p = ap test (sym h) in
+    let a : nat_eq p first ≡ true = grind (arith, nat_tests) in
+    let b : leb (suc first) p ≡ false = grind (arith, nat_tests) in
+    let c : leb first p ≡ true = grind (arith, nat_tests) in
+    let d : ltb p (first + suc n) ≡ true = grind (arith, nat_tests) in
+    (λ k. (a k && e k) || ((b k && ltb p (suc first + n)) && test p)) ∙ or_false (test p) ∙ sym (λ k. (c k && d k) && test p)
+
+more : (p first n : ℕ) (test : ℕ → Bool) → first < p →
+    ((nat_eq p first && test first) || ((leb (suc first) p && ltb p (suc first + n)) && test p)) ≡
+    ((leb first p && ltb p (first + suc n)) && test p)
+more p first n test h =
+    let a : nat_eq p first ≡ false = grind (arith, nat_tests) in
+    let b : leb (suc first) p ≡ leb first p = grind (arith, nat_tests) in
+    let c : ltb p (suc first + n) ≡ ltb p (first + suc n) = grind (arith, nat_tests) in
+    λ k. (a k && test first) || ((b k && c k) && test p)
+
+-- a number is among those that pass a test exactly where it is among them and passes
+any-filter : (p first n : ℕ) (test : ℕ → Bool) →
+    list_any (nat_eq p) (filter test (from_up first n)) ≡ ((leb first p && ltb p (first + n)) && test p)
+any-filter p first zero test = grind (arith, nat_tests)
+any-filter p first (suc n) test =
+    kept p first (test first) (filter test (from_up (suc first) n))
+    ∙ ap (λ b. (nat_eq p first && test first) || b) (any-filter p (suc first) n test)
+    ∙ elim (cases_lt p first) [
+      | inl low ↦ less p first n test low
+      | inr high ↦ elim (cases_lt first p) [
+        | inl above ↦ more p first n test above
+        | inr there ↦ same p first n test (omega arith)
+      ]
+    ]
+
+-- the text pages as a CPU sees them
+pub any-text_pages : (prefix : Option ℕ) (text : List ℕ) (p : ℕ) →
+    list_any (nat_eq p) (text_pages prefix text) ≡ (ltb p 256 && list_any (nat_eq (absolute_page prefix p)) text)
+unfolding text_pages
+any-text_pages prefix text p =
+    any-filter p 0 256 (λ page. list_any (nat_eq (absolute_page prefix page)) text) ∙ grind (arith, nat_tests)
 
 -- a page is in the list of a set exactly where it is in the set
 pub any-items : (pages : FinSet nat_cmp) (p : ℕ) → list_any (nat_eq p) (items pages) ≡ contains pages p
 any-items pages p = sym (contains-items pages p ∙ (λ i. list_any (λ k. unsigned_tied p k i) (items pages)))
-
--- a page beyond the last one is in the set as little as a large page that stands for it
-pub any-items_capped : (pages : FinSet nat_cmp) (p m : ℕ) → m ≡ min p 4294967295 → ((q : ℕ) → 256 ≤ q → contains pages q ≡ false) → contains pages m ≡ list_any (nat_eq p) (items pages)
-any-items_capped pages p m e below =
-    elim (cases_lt p 4294967295) [
-      | inl small ↦ ap (contains pages) (let same : m ≡ p = omega arith in same) ∙ sym (any-items pages p)
-      | inr large ↦ below m (omega arith) ∙ sym (any-items pages p ∙ below p (omega arith))
-    ]
 
 -- ---- the one or two pages of a small range
 
@@ -100,13 +152,46 @@ to_pages first n some h =
     let high_end : (first + n - 1) / 4096 < 256 = omega arith in
     grind (arith, nat_tests)
 
-inside-pages : (s : Span) → IsSmall s → is_inside accessible_pages s ≡ ((leb 2 (s.first / 4096) && ltb (s.first / 4096) 256) && (leb 2 ((s.first + s.length - 1) / 4096) && ltb ((s.first + s.length - 1) / 4096) 256))
+inside-pages : (s : Span) → IsSmall s → is_inside (accessible_pages None) s ≡
+    ((leb 2 (s.first / 4096) && ltb (s.first / 4096) 256)
+    && (leb 2 ((s.first + s.length - 1) / 4096) && ltb ((s.first + s.length - 1) / 4096) 256))
 inside-pages s small =
-    all-pieces (λ p. list_any (nat_eq p) accessible_pages) s small
-    ∙ (λ k. any-accessible_pages (s.first / 4096) k && any-accessible_pages ((s.first + s.length - 1) / 4096) k)
+    all-pieces (λ p. list_any (nat_eq p) (accessible_pages None)) s small
+    ∙ (λ k. any-without (s.first / 4096) k && any-without ((s.first + s.length - 1) / 4096) k)
 
-pub inside_is_accessible : (s : Span) → IsSmall s → (is_inside accessible_pages s ≡ true) ↔ ((8192 ≤ s.first) × (s.first + s.length ≤ 1048576))
-inside_is_accessible s small = (
+pub inside_without : (s : Span) → IsSmall s →
+    (is_inside (accessible_pages None) s ≡ true) ↔ ((8192 ≤ s.first) × (s.first + s.length ≤ 1048576))
+inside_without s small = (
   λ h. from_pages s.first s.length small.some (sym (inside-pages s small) ∙ h),
   λ h. inside-pages s small ∙ to_pages s.first s.length small.some h,
 )
+
+below_end : (first n : ℕ) → 0 < n → (ltb (first / 4096) 256 && ltb ((first + n - 1) / 4096) 256) ≡ true →
+    first + n ≤ 1048576
+below_end first n some h =
+    let high : (first + n - 1) / 4096 < 256 = grind (arith, nat_tests) in
+    omega arith
+
+from_end : (first n : ℕ) → 0 < n → first + n ≤ 1048576 →
+    (ltb (first / 4096) 256 && ltb ((first + n - 1) / 4096) 256) ≡ true
+from_end first n some h =
+    let low : first / 4096 < 256 = omega arith in
+    let high : (first + n - 1) / 4096 < 256 = omega arith in
+    grind (arith, nat_tests)
+
+pub inside_with : (p : ℕ) (s : Span) → IsSmall s →
+    (is_inside (accessible_pages (Some p)) s ≡ true) ↔ (s.first + s.length ≤ 1048576)
+inside_with p s small =
+    let pages : is_inside (accessible_pages (Some p)) s ≡
+    (ltb (s.first / 4096) 256 && ltb ((s.first + s.length - 1) / 4096) 256) =
+    all-pieces (λ q. list_any (nat_eq q) (accessible_pages (Some p))) s small
+    ∙ (λ k. any-with p (s.first / 4096) k && any-with p ((s.first + s.length - 1) / 4096) k) in
+    let some = small.some in (
+      λ h. below_end s.first s.length some (sym pages ∙ h),
+      λ h. pages ∙ from_end s.first s.length some h,
+    )
+
+pub inside_ends : (prefix : Option ℕ) (s : Span) → IsSmall s → is_inside (accessible_pages prefix) s ≡ true →
+    s.first + s.length ≤ 1048576
+inside_ends None s small h = ((inside_without s small).0 h).1
+inside_ends (Some p) s small h = (inside_with p s small).0 h

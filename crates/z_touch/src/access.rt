@@ -4,7 +4,9 @@ ghost use Rattle.std.specs.FinSet.{items};
 ghost use Rattle.z_instr.specs.Operands.{IsSmall, spans, inaccessible};
 ghost use Rattle.z_instr.specs.Facts.{is_service};
 ghost use Rattle.z_instr.specs.Ranges.{is_within, bounds};
-ghost use Rattle.z_touch.specs.Refusals.{range_of, span_of, denial, answer, refusal, accessible_pages};
+ghost use Rattle.z_instr.specs.Access.{accessible_pages, text_pages};
+ghost use Rattle.z_regs.specs.Cpu.{cpu_of};
+ghost use Rattle.z_touch.specs.Refusals.{range_of, span_of, denial, answer, refusal};
 
 use crate::demands::{exception, specified};
 use crate::operands::{operands_in, single};
@@ -31,15 +33,20 @@ fn denied(
 ) -> Option<u16>
     requires small { All (λ r. IsSmall (span_of r)) operands.now }
     requires services { is_service demand ≡ true → is_within (bounds 0 256) instr.now.imm ≡ true }
-    ensures { result ≡ denial demand (map span_of operands.now) instr.now image.now.general depth (items guard.now) }
+    ensures { result ≡ denial demand (map span_of operands.now) instr.now image.now.general depth (accessible_pages image.now.prefix) (text_pages image.now.prefix (items guard.now)) }
 {
     match demand {
         Demand::Begin if depth == 0 && instr.b != 0 => {
             let block = single(first_address(instr, &image.general), 256, true);
-            forbidden(&block, guard, None)
+            forbidden(&block, image.prefix, guard, None)
         }
-        Demand::ServiceZero if instr.imm != 0 => forbidden(operands, guard, Some(OPERATION)),
-        _ => forbidden(operands, guard, None),
+        Demand::ServiceZero if instr.imm != 0 => forbidden(
+            operands,
+            image.prefix,
+            guard,
+            Some(OPERATION),
+        ),
+        _ => forbidden(operands, image.prefix, guard, None),
     }
 }
 
@@ -50,7 +57,7 @@ fn accessed(
     guard: &Guard,
     depth: u32,
 ) -> Result<Touches, Exception>
-    ensures { result ≡ answer (inaccessible instr.now image.now.general image.now.condition depth accessible_pages (items guard.now)) instr.now (map range_of (spans instr.now image.now.general image.now.condition)) }
+    ensures { result ≡ answer (inaccessible instr.now image.now.general image.now.condition depth (accessible_pages image.now.prefix) (text_pages image.now.prefix (items guard.now))) instr.now (map range_of (spans instr.now image.now.general image.now.condition)) }
 {
     immediates_are_plain();
     operands_are_small();
@@ -66,7 +73,7 @@ fn accessed(
 /// executed: special operation, specification, addressing for each operand, protection for each stored one, or
 /// operation for a service call with a number other than 0.
 ///
-/// `guard` has the text pages, and `depth` is the number of open transactions. The exception does not come at the fetch,
+/// Ranges are by real addresses. `guard` has the text pages of storage, and `depth` is the number of open transactions. The exception does not come at the fetch,
 /// and has the length of the instruction.
 pub fn touches(
     instr: &Instr,
@@ -74,7 +81,7 @@ pub fn touches(
     guard: &Guard,
     depth: u32,
 ) -> Result<Touches, Exception>
-    ensures { result ≡ answer (refusal instr.now image.now.general image.now.condition depth (items guard.now)) instr.now (map range_of (spans instr.now image.now.general image.now.condition)) }
+    ensures { result ≡ answer (refusal instr.now (cpu_of image.now) depth (items guard.now)) instr.now (map range_of (spans instr.now image.now.general image.now.condition)) }
 {
     specified(instr, image, depth)?;
     accessed(instr, image, guard, depth)

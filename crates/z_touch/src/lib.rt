@@ -3,12 +3,14 @@
 
 mod access;
 mod demands;
+mod fetch;
 pub mod laws;
 mod operands;
 mod pages;
 
 pub use access::touches;
 pub use demands::specified;
+pub use fetch::fetchable;
 
 #[cfg(test)]
 mod tests;

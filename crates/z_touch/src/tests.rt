@@ -1,5 +1,4 @@
-use crate::laws::operands_inside_are_accessible;
-use crate::{specified, touches};
+use crate::{fetchable, specified, touches};
 use std::test::Fail;
 use tx_control::{Exception, codes};
 use z_instr::addresses::{first_address, second_address};
@@ -146,7 +145,6 @@ fn special_operation_comes_first(rt: HostRuntime) -> Result<(), Fail> {
 
 #[test]
 fn addresses_wrap(rt: HostRuntime) -> Result<(), Fail> {
-    operands_inside_are_accessible();
     let op = find(b"MVC").ok_or("no such mnemonic")?;
     let fields = Fields {
         b: 1,
@@ -161,4 +159,33 @@ fn addresses_wrap(rt: HostRuntime) -> Result<(), Fail> {
     assert_eq!(rt; first_address(&instr, &image.general), 7);
     assert_eq!(rt; second_address(&instr, &image.general), 7);
     Ok(())
+}
+
+/// The exception of a fetch: odd before closed, and then byte by byte.
+#[test]
+fn fetches(rt: HostRuntime) {
+    let mut guard = Guard::none();
+    guard.add(4);
+    let mut image = CpuImage::entering(0x4ffe);
+    assert_eq!(rt; fetchable(&image, &guard, 2), Ok(()));
+    let protected = Exception {
+        code: codes::PROTECTION,
+        fetch: true,
+        length: 0,
+    };
+    assert_eq!(rt; fetchable(&image, &guard, 4), Err(protected));
+    image.address = 1_048_574;
+    assert_eq!(rt; fetchable(&image, &guard, 4), Err(protected));
+    image.address = u64::MAX - 1;
+    let closed = Exception {
+        code: codes::ADDRESSING,
+        ..protected
+    };
+    assert_eq!(rt; fetchable(&image, &guard, 6), Err(closed));
+    image.address = u64::MAX;
+    let odd = Exception {
+        code: codes::SPECIFICATION,
+        ..protected
+    };
+    assert_eq!(rt; fetchable(&image, &guard, 2), Err(odd));
 }

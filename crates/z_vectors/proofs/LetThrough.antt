@@ -1,23 +1,28 @@
 -- The operands in storage of an instruction that passes the operand tests lie in storage.
-use Rattle.std.proofs.Common.{◌≡◌, ℕ, ◌<◌, ◌+◌, ◌≤◌, Bool, true, false, ◌&&◌, not, List, [], ◌∷◌, length, Option, None, Some, Ok, refl, sym, ap, ◌∙◌, arith}
+use Rattle.std.proofs.Common.{◌≡◌, ℕ, ◌<◌, ◌+◌, ◌≤◌, Bool, true, false, ◌&&◌, not, List, [], ◌∷◌, length}
+use Rattle.std.proofs.Common.{Option, None, Some, Ok, refl, sym, ap, ◌∙◌, arith}
 use Rattle.std.specs.List.{All, list_all}
 use Rattle.std.proofs.lemmas.List.Elements.{All-head, All-tail}
 use Rattle.z_instr.specs.declared.table.TheConstants.{ROWS}
 use Rattle.z_instr.specs.declared.instr.Instr.{Instr}
 use Rattle.z_instr.specs.declared.operand.Demand.{Demand}
-use Rattle.z_instr.specs.declared.operand.Demand.TheVariants.{Nothing, EvenPair, Boundary, AbortCode, Begin, BeginConstrained, ServiceZero}
+use Rattle.z_instr.specs.declared.operand.Demand.TheVariants.{Nothing, EvenPair, Boundary, AbortCode, Begin}
+use Rattle.z_instr.specs.declared.operand.Demand.TheVariants.{BeginConstrained, ServiceZero}
 use Rattle.z_instr.specs.Table.{Entry, table, entry_at, no_entry}
 use Rattle.z_instr.specs.Facts.{is_begin}
-use Rattle.z_instr.specs.Operands.{Span, IsSmall, is_inside, tested_spans, where_wrong, unspecified, inaccessible, inaccessible_in}
+use Rattle.z_instr.specs.Operands.{Span, IsSmall, is_inside, tested_spans, where_wrong, unspecified}
+use Rattle.z_instr.specs.Operands.{inaccessible, inaccessible_in}
 use Rattle.z_instr.proofs.Passing.{passes, and_left, and_right}
 use Rattle.z_instr.proofs.SmallOperands.{sizes}
 use Rattle.z_regs.specs.declared.ranges.Range.{Range}
 use Rattle.z_regs.specs.Cpu.{Cpu}
+use Rattle.z_regs.specs.Prefix.{storage_size}
 use Rattle.z_effect.specs.Kinds.{kind_named, kind_at}
 use Rattle.z_effect.specs.Facts.{is_storage}
 use Rattle.z_effect.specs.After.{AreInside, ranges_of}
-use Rattle.z_touch.specs.Refusals.{accessible_pages, answer, first_of, refusal}
-use Rattle.z_touch.proofs.SmallRanges.{inside_is_accessible}
+use Rattle.z_instr.specs.Access.{accessible_pages, text_pages}
+use Rattle.z_touch.specs.Refusals.{answer, first_of, refusal}
+use Rattle.z_touch.proofs.SmallRanges.{inside_ends}
 
 -- ---- no operation on storage begins a transaction, so its operands are what is tested
 
@@ -41,7 +46,8 @@ other true true h e = sym h
 other true false h e = refl
 other false b h e = cc
 
-operands_tested : (d : Demand) (operands : List Span) (i : Instr) (general : List ℕ) (depth : ℕ) → is_begin d ≡ false → tested_spans d operands i general depth ≡ operands
+operands_tested : (d : Demand) (operands : List Span) (i : Instr) (general : List ℕ) (depth : ℕ) →
+    is_begin d ≡ false → tested_spans d operands i general depth ≡ operands
 operands_tested Nothing operands i general depth e = refl
 operands_tested EvenPair operands i general depth e = refl
 operands_tested Boundary operands i general depth e = refl
@@ -52,23 +58,29 @@ operands_tested ServiceZero operands i general depth e = refl
 
 -- ---- what passes is accessible
 
-accessible : (b : Bool) (code : ℕ) (after : Option ℕ) → where_wrong (not b) code after ≡ None → b ≡ true
-accessible true code after e = refl
-accessible false code after e = cc
+passed : (b : Bool) (code : ℕ) (after : Option ℕ) → where_wrong (not b) code after ≡ None → b ≡ true
+passed true code after e = refl
+passed false code after e = cc
 
-pages_accessible : (i : Instr) (c : Cpu) (depth : ℕ) (text : List ℕ) → is_begin (entry_at i.op.number).demand ≡ false
-    → inaccessible i c.general c.condition depth accessible_pages text ≡ None → list_all (is_inside accessible_pages) (ranges_of i c) ≡ true
+pages_accessible : (i : Instr) (c : Cpu) (depth : ℕ) (accessible text : List ℕ) →
+    is_begin (entry_at i.op.number).demand ≡ false →
+    inaccessible i c.general c.condition depth accessible text ≡ None →
+    list_all (is_inside accessible) (ranges_of i c) ≡ true
 unfolding inaccessible_in
-pages_accessible i c depth text plain e =
-    ap (list_all (is_inside accessible_pages)) (sym (operands_tested (entry_at i.op.number).demand (ranges_of i c) i c.general depth plain))
-    ∙ accessible _ _ _ e
+pages_accessible i c depth accessible text plain e =
+    ap (list_all (is_inside accessible))
+    (sym (operands_tested (entry_at i.op.number).demand (ranges_of i c) i c.general depth plain))
+    ∙ passed _ _ _ e
 
-bytes_in_storage : (rs : List Span) (s : List ℕ) → length s ≡ 1048576 → All IsSmall rs → list_all (is_inside accessible_pages) rs ≡ true → AreInside rs s
-bytes_in_storage [] s size small e = tt
-bytes_in_storage (r ∷ rs) s size small e =
-    let here : (8192 ≤ r.first) × (r.first + r.length ≤ 1048576) =
-    (inside_is_accessible r (All-head IsSmall r rs small)).0 (and_left (is_inside accessible_pages r) (list_all (is_inside accessible_pages) rs) e) in
-    (omega arith, bytes_in_storage rs s size (All-tail IsSmall r rs small) (and_right (is_inside accessible_pages r) (list_all (is_inside accessible_pages) rs) e))
+bytes_in_storage : (prefix : Option ℕ) (rs : List Span) (s : List ℕ) → length s ≡ storage_size → All IsSmall rs →
+    list_all (is_inside (accessible_pages prefix)) rs ≡ true → AreInside rs s
+bytes_in_storage prefix [] s size small e = tt
+bytes_in_storage prefix (r ∷ rs) s size small e =
+    let inside = is_inside (accessible_pages prefix) in
+    let here = inside_ends prefix r (All-head IsSmall r rs small) (and_left (inside r) (list_all inside rs) e) in (
+      omega (arith, here),
+      bytes_in_storage prefix rs s size (All-tail IsSmall r rs small) (and_right (inside r) (list_all inside rs) e),
+    )
 
 -- ---- what is answered with ranges passes
 
@@ -80,11 +92,13 @@ answered : (o : Option ℕ) (i : Instr) (x y : List Range) → Ok x ≡ answer o
 answered None i x y e = refl
 answered (Some code) i x y e = cc
 
-pub let_through : (i : Instr) (c : Cpu) (depth : ℕ) (text : List ℕ) (x y : List Range) → i.op.number < ROWS
-    → Ok x ≡ answer (refusal i c.general c.condition depth text) i y
-    → (s : List ℕ) → length s ≡ 1048576 → is_storage (kind_at i.op.number) ≡ true → AreInside (ranges_of i c) s
+pub let_through : (i : Instr) (c : Cpu) (depth : ℕ) (text : List ℕ) (x y : List Range) → i.op.number < ROWS →
+    Ok x ≡ answer (refusal i c depth text) i y →
+    (s : List ℕ) → length s ≡ storage_size → is_storage (kind_at i.op.number) ≡ true → AreInside (ranges_of i c) s
 let_through i c depth text x y known e s size mine =
-    let plain : is_begin (entry_at i.op.number).demand ≡ false = other (is_storage (kind_at i.op.number)) _ (begins_not i.op.number known) mine in
-    let passed : inaccessible i c.general c.condition depth accessible_pages text ≡ None =
-    second_none (unspecified i c.general depth) _ (answered _ i x y e) in
-    bytes_in_storage (ranges_of i c) s size (sizes (entry_at i.op.number).operands i c.general c.condition) (pages_accessible i c depth text plain passed)
+    let plain : is_begin (entry_at i.op.number).demand ≡ false =
+    other (is_storage (kind_at i.op.number)) _ (begins_not i.op.number known) mine in
+    let tested = inaccessible i c.general c.condition depth (accessible_pages c.prefix) (text_pages c.prefix text) in
+    let passes : tested ≡ None = second_none (unspecified i c.general depth) tested (answered _ i x y e) in
+    bytes_in_storage c.prefix (ranges_of i c) s size (sizes (entry_at i.op.number).operands i c.general c.condition)
+    (pages_accessible i c depth (accessible_pages c.prefix) (text_pages c.prefix text) plain passes)

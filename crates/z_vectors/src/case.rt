@@ -15,6 +15,13 @@ pub struct Scene {
     pub pieces: Vec<Piece>,
 }
 
+/// Which registers words have given, general and access registers.
+#[derive(Clone, Copy)]
+struct Given {
+    general: [bool; 16],
+    access: [bool; 16],
+}
+
 /// An instruction, and the CPU and storage before and after it.
 #[derive(Drop)]
 pub struct Case<'a> {
@@ -26,8 +33,8 @@ pub struct Case<'a> {
     pub exception: Option<u16>,
 }
 
-/// A running CPU of whose registers nothing is said: a general register holds C3A5F00D96E10000 with its number in bits 52 to 55
-/// and what is left to 15 in bits 60 to 63, an access register zero.
+/// A running CPU of whose registers nothing is said: a general register holds C3A5F00D96E10000 with its
+/// number in bits 52 to 55 and what is left to 15 in bits 60 to 63, an access register zero.
 fn unnamed() -> CpuImage {
     let mut general = [0; 16];
     for r in 0..16u8 {
@@ -64,6 +71,17 @@ fn digit(text: &str, limit: u8) -> Result<u8, Fault>
     }
 }
 
+/// Marks a register as given; malformed where it was given before.
+fn give(given: &mut [bool; 16], r: usize) -> Result<(), Fault>
+    requires { r < 16 }
+{
+    if given[r] {
+        return Err(Fault::Malformed);
+    }
+    given[r] = true;
+    Ok(())
+}
+
 /// Takes condition code and program mask from the next words.
 fn take_codes(image: &mut CpuImage, words: &mut Words<'_>) -> Result<(), Fault> {
     image.condition = digit(words.value("cc=")?, 4)?;
@@ -72,7 +90,8 @@ fn take_codes(image: &mut CpuImage, words: &mut Words<'_>) -> Result<(), Fault> 
 }
 
 impl Scene {
-    /// The CPU with registers as words say, and the pieces of storage that they name.
+    /// The CPU with registers as words say, and the pieces of storage that they name; malformed where two
+    /// words give the same.
     fn read(alloc: Global, image: CpuImage, text: &str) -> Result<Scene, Fault> {
         let mut scene = Scene {
             image,
@@ -81,24 +100,35 @@ impl Scene {
         if text.is_empty() {
             return Ok(scene);
         }
+        let mut given = Given {
+            general: [false; 16],
+            access: [false; 16],
+        };
         for word in text.split(' ') {
-            scene.take(alloc, word)?;
+            scene.take(alloc, word, &mut given)?;
         }
         Ok(scene)
     }
 
-    /// Takes a register or pieces of storage.
-    fn take(&mut self, alloc: Global, word: &str) -> Result<(), Fault> {
+    /// Takes a register or pieces of storage that no word has given yet.
+    fn take(&mut self, alloc: Global, word: &str, given: &mut Given) -> Result<(), Fault> {
         if let Some(pieces) = word.strip_prefix("m=") {
+            if !self.pieces.is_empty() {
+                return Err(Fault::Malformed);
+            }
             self.pieces = pieces_of(alloc, pieces)?;
             return Ok(());
         }
         let (name, value) = word.split_once('=').ok_or(Fault::Malformed)?;
         let value = hexadecimal(value)?;
         if let Some(r) = name.strip_prefix('r') {
-            self.image.general[register(r)?] = value;
+            let r = register(r)?;
+            give(&mut given.general, r)?;
+            self.image.general[r] = value;
         } else if let Some(r) = name.strip_prefix('a') {
-            self.image.access[register(r)?] = u32::try_from(value).map_err(|_| Fault::Malformed)?;
+            let r = register(r)?;
+            give(&mut given.access, r)?;
+            self.image.access[r] = u32::try_from(value).map_err(|_| Fault::Malformed)?;
         } else {
             return Err(Fault::Malformed);
         }

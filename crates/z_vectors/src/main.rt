@@ -1,9 +1,10 @@
 //! Compares the instruction crates with vectors: what other software says of the same instructions.
 //!
-//! Standard input has lines of three forms. `NAME by=.. ia=.. .. => at=.. ..` is one instruction with the CPU and storage before
-//! and after it; `LINE | BYTES` is a line of the listing and its bytes; `BYTES | LINE | ..` is bytes and the line they read as,
-//! `-` for none. A line that begins with `#` says nothing. Each line that the program answers otherwise is written with what
-//! differs, and then how many lines there were and how many differ. The exit status is 0 where none does.
+//! Standard input has lines of three forms. `NAME by=.. ia=.. .. => at=.. ..` is one instruction with the CPU
+//! and storage before and after it; `LINE | BYTES` is a line of the listing and its bytes; `BYTES | LINE | ..`
+//! is bytes and the line they read as, `-` for none. A line that begins with `#` says nothing. Each line that
+//! the program answers otherwise is written with what differs, and then how many lines there were and how many
+//! differ. The exit status is 0 where none does.
 #![tactic(auto)]
 
 mod case;
@@ -12,7 +13,6 @@ mod compare;
 mod fault;
 mod judge;
 mod numbers;
-mod operand;
 mod piece;
 mod reading;
 mod report;

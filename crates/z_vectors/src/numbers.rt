@@ -11,7 +11,7 @@ pub fn hexadecimal(text: &str) -> Result<u64, Fault> {
 }
 
 /// A number of the listing: decimal, with or without a sign, or hexadecimal digits in `X'..'`.
-pub fn listed(text: &str) -> Result<i64, Fault> {
+pub fn listing_number(text: &str) -> Result<i64, Fault> {
     match text.strip_prefix("X'") {
         Some(rest) => {
             let digits = rest.strip_suffix('\'').ok_or(Fault::Malformed)?;

@@ -6,7 +6,7 @@ use crate::numbers::hexadecimal;
 use std::alloc::Global;
 
 /// How many bytes storage has.
-pub const SIZE: u64 = 1_048_576;
+pub const SIZE: u64 = z_regs::STORAGE_SIZE;
 
 /// Bytes of storage from an address on, all inside.
 #[derive(Drop)]
@@ -31,7 +31,8 @@ impl Piece {
     /// The byte at an address, if the piece has one.
     fn byte_at(&self, address: u64) -> Option<u8>
         ensures before { address < self.now.first → result ≡ None }
-        ensures from { self.now.first ≤ address → result ≡ slice_get self.now.bytes.items (address - self.now.first) }
+        ensures from { self.now.first ≤ address →
+            result ≡ slice_get self.now.bytes.items (address - self.now.first) }
     {
         let place = address.checked_sub(self.first)?;
         self.bytes.get(place as usize).copied()

@@ -2,11 +2,18 @@
 
 use crate::code::Code;
 use crate::fault::Fault;
-use crate::operand::listing;
 use crate::spelling::is_spelling;
-use std::alloc::Global;
+use std::alloc::{AllocError, Global};
 use z_decode::encode;
 use z_instr::instr::Instr;
+use z_list::instruction_text;
+
+/// The instruction as the listing prints it.
+fn listing(alloc: Global, instr: &Instr) -> Result<String, Fault> {
+    let text = instruction_text(alloc, instr).map_err(|_| AllocError)?;
+    let text = str::from_utf8(text.as_slice()).map_err(|_| Fault::Malformed)?;
+    Ok(String::from_str(alloc, text)?)
+}
 
 /// What differs where an instruction does not have just these bytes; nothing where it does.
 fn spelt_otherwise(alloc: Global, instr: &Instr, code: &Code) -> Result<String, Fault> {
@@ -18,7 +25,8 @@ fn spelt_otherwise(alloc: Global, instr: &Instr, code: &Code) -> Result<String, 
     Ok(format!(in alloc; "encoded as {}", hex::encode(alloc, bytes)?)?)
 }
 
-/// What differs between the reading of bytes and a line of the listing in any spelling; nothing where all is the same.
+/// What differs between the reading of bytes and a line of the listing in any spelling; nothing where all is
+/// the same.
 pub fn line_difference(alloc: Global, line: &str, bytes: &str) -> Result<String, Fault> {
     let code = Code::read(alloc, bytes)?;
     let Some(instr) = code.instr() else {
@@ -30,7 +38,8 @@ pub fn line_difference(alloc: Global, line: &str, bytes: &str) -> Result<String,
     spelt_otherwise(alloc, &instr, &code)
 }
 
-/// What differs between the reading of bytes and a line as the listing is printed, `-` for none; nothing where all is the same.
+/// What differs between the reading of bytes and a line as the listing is printed, `-` for none; nothing
+/// where all is the same.
 pub fn bytes_difference(alloc: Global, bytes: &str, line: &str) -> Result<String, Fault> {
     let code = Code::read(alloc, bytes)?;
     let Some(instr) = code.instr() else {

@@ -1,11 +1,11 @@
 //! Lines of the listing as people write them.
 
 use crate::fault::Fault;
-use crate::numbers::listed;
-use crate::operand::{Operand, operands};
+use crate::numbers::listing_number;
 use std::alloc::Global;
 use z_instr::instr::Instr;
 use z_instr::lookup::row;
+use z_list::{Operand, operands};
 
 /// A mnemonic that stands for another one with this mask.
 struct Extended {
@@ -75,42 +75,52 @@ fn parts(text: &str) -> Result<(i64, Option<&str>), Fault> {
     match text.split_once('(') {
         Some((displacement, inner)) => {
             let inner = inner.strip_suffix(')').ok_or(Fault::Malformed)?;
-            Ok((listed(displacement)?, Some(inner)))
+            Ok((listing_number(displacement)?, Some(inner)))
         }
-        None => Ok((listed(text)?, None)),
+        None => Ok((listing_number(text)?, None)),
     }
 }
 
 /// The two numbers in parentheses.
 fn pair(inner: &str) -> Result<(i64, i64), Fault> {
     let (first, second) = inner.split_once(',').ok_or(Fault::Malformed)?;
-    Ok((listed(first)?, listed(second)?))
+    Ok((listing_number(first)?, listing_number(second)?))
 }
 
-/// An operand of the same form as another one. The register of an index or a base that is left out is 0.
-fn read_as(form: &Operand, text: &str) -> Result<Operand, Fault> {
+/// The numbers of an operand; those that its form lacks are 0.
+fn numbers_of(operand: &Operand) -> [i64; 3] {
+    match *operand {
+        Operand::Number(n) | Operand::Target(n) => [n, 0, 0],
+        Operand::Indexed(d, x, b) => [i64::from(d), i64::from(x), i64::from(b)],
+        Operand::Based(d, b) => [i64::from(d), i64::from(b), 0],
+        Operand::Counted(d, count, b) => [i64::from(d), i64::from(count), i64::from(b)],
+    }
+}
+
+/// The numbers of a text in the form of an operand. The register of an index or a base that is left out is 0.
+fn read_as(form: &Operand, text: &str) -> Result<[i64; 3], Fault> {
     match form {
-        Operand::Number(_) => Ok(Operand::Number(listed(text)?)),
+        Operand::Number(_) => Ok([listing_number(text)?, 0, 0]),
         Operand::Target(_) => {
             let distance = text.strip_prefix('*').ok_or(Fault::Malformed)?;
-            Ok(Operand::Target(listed(distance)?))
+            Ok([listing_number(distance)?, 0, 0])
         }
         Operand::Indexed(..) => match parts(text)? {
-            (d, None) => Ok(Operand::Indexed(d, 0, 0)),
+            (d, None) => Ok([d, 0, 0]),
             (d, Some(inner)) if inner.contains(',') => {
                 let (x, b) = pair(inner)?;
-                Ok(Operand::Indexed(d, x, b))
+                Ok([d, x, b])
             }
-            (d, Some(x)) => Ok(Operand::Indexed(d, listed(x)?, 0)),
+            (d, Some(x)) => Ok([d, listing_number(x)?, 0]),
         },
         Operand::Based(..) => match parts(text)? {
-            (d, None) => Ok(Operand::Based(d, 0)),
-            (d, Some(b)) => Ok(Operand::Based(d, listed(b)?)),
+            (d, None) => Ok([d, 0, 0]),
+            (d, Some(b)) => Ok([d, listing_number(b)?, 0]),
         },
         Operand::Counted(..) => {
             let (d, inner) = parts(text)?;
             let (count, b) = pair(inner.ok_or(Fault::Malformed)?)?;
-            Ok(Operand::Counted(d, count, b))
+            Ok([d, count, b])
         }
     }
 }
@@ -120,7 +130,7 @@ fn are_written(operands: &[Operand], text: &str) -> Result<bool, Fault> {
     let mut rest = text;
     for operand in operands {
         let (text, further) = cut(rest)?;
-        if read_as(operand, text)? != *operand {
+        if read_as(operand, text)? != numbers_of(operand) {
             return Ok(false);
         }
         rest = further;
@@ -136,7 +146,7 @@ pub fn is_spelling(alloc: Global, line: &str, instr: &Instr) -> Result<bool, Fau
     if row(instr.op).name.bytes() != base.as_bytes() {
         return Ok(false);
     }
-    let operands = operands(alloc, instr)?;
+    let operands = operands(instr);
     match (mask, operands.as_slice()) {
         (None, operands) => are_written(operands, text),
         (Some(mask), [first, others @ ..]) => Ok(

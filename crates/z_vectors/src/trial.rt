@@ -1,5 +1,6 @@
 //! One instruction, from its bytes to what it leaves.
 ghost use Rattle.std.specs.Prelude.{◌≡◌, List, ℕ, length, true};
+ghost use Rattle.z_regs.specs.Prefix.{storage_size};
 ghost use Rattle.z_regs.specs.Cpu.{cpu_of};
 ghost use Rattle.z_effect.specs.Kinds.{kind_at};
 ghost use Rattle.z_effect.specs.Facts.{is_storage};
@@ -39,8 +40,9 @@ fn pages_of(address: u64, code: &Code) -> Guard {
     guard
 }
 
-/// The CPU behind an instruction that an exception has stopped before it was completed: only the address has moved.
-fn stopped(mut image: CpuImage, code: u16, length: u8) -> Answer {
+/// The CPU behind an instruction that an exception has stopped before it was completed: only the address has
+/// moved.
+fn behind_exception(mut image: CpuImage, code: u16, length: u8) -> Answer {
     image.address = image.address.wrapping_add(u64::from(length));
     Answer {
         image,
@@ -48,9 +50,9 @@ fn stopped(mut image: CpuImage, code: u16, length: u8) -> Answer {
     }
 }
 
-/// The CPU behind an instruction that has been executed: an overflow comes when it is complete, a divide exception leaves the
-/// address.
-fn executed(image: CpuImage, outcome: Result<(), Exception>) -> Answer {
+/// The CPU behind an instruction that has been executed: an overflow comes when it is complete, a divide
+/// exception leaves the address.
+fn behind_execution(image: CpuImage, outcome: Result<(), Exception>) -> Answer {
     match outcome {
         Ok(()) => Answer {
             image,
@@ -60,7 +62,7 @@ fn executed(image: CpuImage, outcome: Result<(), Exception>) -> Answer {
             image,
             exception: Some(exception.code),
         },
-        Err(exception) => stopped(image, exception.code, exception.length),
+        Err(exception) => behind_exception(image, exception.code, exception.length),
     }
 }
 
@@ -70,35 +72,37 @@ fn execute(
     mut image: CpuImage,
     view: &mut Watched,
 ) -> Result<Answer, NobodysOperation>
-    requires { (s : List ℕ) → length s ≡ 1048576 → is_storage (kind_at instr.now.op.number) ≡ true → AreInside (ranges_of instr.now (cpu_of image)) s }
+    requires { (s : List ℕ) → length s ≡ storage_size → is_storage (kind_at instr.now.op.number) ≡ true →
+        AreInside (ranges_of instr.now (cpu_of image)) s }
 {
     if z_general::is_mine(instr.op) {
         let outcome = z_general::execute(instr, &mut image, view);
-        return Ok(executed(image, outcome));
+        return Ok(behind_execution(image, outcome));
     }
     if z_branch::is_mine(instr.op) {
         let outcome = z_branch::execute(instr, &mut image, view);
-        return Ok(executed(image, outcome));
+        return Ok(behind_execution(image, outcome));
     }
     if z_storage::is_mine(instr.op) {
         let outcome = z_storage::execute(instr, &mut image, view);
-        return Ok(executed(image, outcome));
+        return Ok(behind_execution(image, outcome));
     }
     Err(NobodysOperation)
 }
 
-/// What the bytes do to a CPU and to storage, outside of any transaction, where only the pages of the bytes hold text.
+/// What the bytes do to a CPU and to storage, outside of any transaction, where only the pages of the bytes
+/// hold text.
 pub fn attempt(
     code: &Code,
     image: CpuImage,
     view: &mut Watched,
 ) -> Result<Answer, NobodysOperation> {
     let Some(instr) = code.instr() else {
-        return Ok(stopped(image, OPERATION, code.length()));
+        return Ok(behind_exception(image, OPERATION, code.length()));
     };
     let guard = pages_of(image.address, code);
     match touches(&instr, &image, &guard, 0) {
         Ok(_) => execute(&instr, image, view),
-        Err(exception) => Ok(stopped(image, exception.code, exception.length)),
+        Err(exception) => Ok(behind_exception(image, exception.code, exception.length)),
     }
 }

@@ -1,5 +1,6 @@
 //! Storage that remembers where bytes were put.
 ghost use Rattle.std.specs.Prelude.{◌≡◌, ◌<◌, All, IfOk, length, replicate};
+ghost use Rattle.z_regs.specs.Prefix.{storage_size};
 
 use crate::piece::{Piece, SIZE};
 use std::alloc::{AllocError, Global};
@@ -12,8 +13,8 @@ pub struct Watched {
     puts: Vec<u64>,
     /// There was no memory for some address.
     has_forgotten: bool,
-    ghost size: { length storage ≡ 1048576 },
-    ghost inside: { All (λ a. a < 1048576) puts.items },
+    ghost size: { length storage ≡ storage_size },
+    ghost inside: { All (λ a. a < storage_size) puts.items },
 }
 
 impl Bytes for Watched {
@@ -58,7 +59,7 @@ impl Watched {
 
     /// The addresses at which bytes were put, in order; an error where there was no memory for one.
     pub fn puts(&self) -> Result<&[u64], AllocError>
-        ensures { IfOk result (λ puts. All (λ a. a < 1048576) puts.now) }
+        ensures { IfOk result (λ puts. All (λ a. a < storage_size) puts.now) }
     {
         if self.has_forgotten {
             return Err(AllocError);
@@ -75,9 +76,9 @@ impl Watched {
 
 /// Makes the bytes at addresses zero.
 fn erase(storage: &mut Storage, addresses: &[u64])
-    requires size { length storage.old ≡ 1048576 }
-    requires inside { All (λ a. a < 1048576) addresses.now }
-    ensures { length storage.new ≡ 1048576 }
+    requires size { length storage.old ≡ storage_size }
+    requires inside { All (λ a. a < storage_size) addresses.now }
+    ensures { length storage.new ≡ storage_size }
 {
     for address in addresses {
         storage.put(*address, 0);

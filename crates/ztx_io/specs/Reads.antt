@@ -10,8 +10,8 @@ use Rattle.ztx_io.specs.declared.whole.InFault.TheVariants as fault
 abbrev pub IsCount : ℕ → ℕ → Type 0
 IsCount n room = (0 < n) × (n ≤ room)
 
--- one call of `read`: the first n bytes of the buffer are the next n that were left and its rest is as it was; or nothing
--- is left; or nothing was taken
+-- one call of `read`: the first n bytes of the buffer are the next n that were left and its rest is as it
+-- was; or nothing is left; or nothing was taken
 abbrev pub Reads : Option (List ℕ) → Option (List ℕ) → List ℕ → List ℕ → Read → Type 0
 Reads left after buffer filled (answer.Got n) =
     IsCount n (length buffer) × Consumes left after (take n filled) × (drop n filled ≡ drop n buffer)

@@ -1,8 +1,8 @@
 //! The outside of the program: where its input comes from and where its output goes.
 //!
-//! A [`Source`] and a [`Sink`] may give and take bytes in pieces of any size and may fail at any call. [`read_all`] and
-//! [`write_all`] make whole transfers of them. Sources and sinks in memory tell their bytes; those over `std`'s readers and
-//! writers tell nothing of content.
+//! A [`Source`] and a [`Sink`] may give and take bytes in pieces of any size and may fail at any call.
+//! [`read_all`] and [`write_all`] make whole transfers of them. Sources and sinks in memory tell their bytes;
+//! those over `std`'s readers and writers tell nothing of content.
 #![tactic(auto)]
 
 ghost use Rattle.std.specs.Prelude.{◌≡◌, ℕ, ◌<◌, ◌≤◌, List, length, Option};
@@ -48,7 +48,8 @@ pub trait Source {
     /// How often a read has failed; the count never falls.
     ghost faults: { Self → ℕ };
 
-    /// Reads the next bytes into the front of `into`, which is not empty. What lies behind them there is unchanged.
+    /// Reads the next bytes into the front of `into`, which is not empty. What lies behind them there is
+    /// unchanged.
     fn read(&mut self, into: &mut [u8]) -> Read
         requires { 0 < length into.old }
         ensures step { Reads (left self.old) (left self.new) into.old into.new result }

@@ -1,5 +1,6 @@
 //! Sources and sinks in memory, which tell their bytes: for tests, and for callers that hold the whole input.
-ghost use Rattle.std.specs.Prelude.{◌≡◌, ℕ, ◌+◌, ◌<◌, ◌≤◌, ◌++◌, Some, None, IsNone, IsSome, IfSome, IfOk, OnErr, MatchOption, drop, take, length, [], vec_len, IsTrue, true};
+ghost use Rattle.std.specs.Prelude.{◌≡◌, ℕ, ◌+◌, ◌<◌, ◌≤◌, ◌++◌, Some, None, IsNone, IsSome, IfSome, IfOk};
+ghost use Rattle.std.specs.Prelude.{OnErr, MatchOption, drop, take, length, [], vec_len, IsTrue, true};
 ghost use Rattle.ztx_io.specs.Faults.{Rose};
 ghost use Rattle.ztx_io.specs.Reads.{IsCount};
 
@@ -65,9 +66,11 @@ impl Pieces {
     fn next_piece(&mut self, into: &mut [u8]) -> Option<usize>
         requires { 0 < length into.old }
         ensures end { IsNone result → drop self.old.given self.old.bytes.items ≡ [] }
-        ensures stays { IsNone result → drop self.new.given self.new.bytes.items ≡ drop self.old.given self.old.bytes.items }
+        ensures stays { IsNone result
+            → drop self.new.given self.new.bytes.items ≡ drop self.old.given self.old.bytes.items }
         ensures count { IfSome result (λ n. IsCount n (length into.old)) }
-        ensures given { IfSome result (λ n. drop self.old.given self.old.bytes.items ≡ take n into.new ++ drop self.new.given self.new.bytes.items) }
+        ensures given { IfSome result (λ n. drop self.old.given self.old.bytes.items ≡ take n into.new
+            ++ drop self.new.given self.new.bytes.items) }
         ensures rest { IfSome result (λ n. drop n into.new ≡ drop n into.old) }
     {
         let left = &self.bytes.as_slice()[self.given..];
@@ -121,8 +124,8 @@ pub struct MemorySource {
 }
 
 impl MemorySource {
-    /// A source of these bytes that gives at most `piece` of them a call, at least 1, and fails at the calls, counted from 1,
-    /// whose numbers are in `fail_at`.
+    /// A source of these bytes that gives at most `piece` of them a call, at least 1, and fails at the calls,
+    /// counted from 1, whose numbers are in `fail_at`.
     pub fn new(bytes: Vec<u8>, piece: usize, fail_at: Vec<u64>) -> MemorySource
         requires { 0 < piece }
         ensures left { ⟦<MemorySource as Source>⟧.left result ≡ Some bytes.items }
@@ -190,8 +193,8 @@ pub struct MemorySink {
 }
 
 impl MemorySink {
-    /// A sink that takes at most `piece` bytes a call, at least 1, and fails at the calls, counted from 1, whose numbers are in
-    /// `fail_at`.
+    /// A sink that takes at most `piece` bytes a call, at least 1, and fails at the calls, counted from 1,
+    /// whose numbers are in `fail_at`.
     pub fn new(alloc: Global, piece: usize, fail_at: Vec<u64>) -> MemorySink
         requires { 0 < piece }
         ensures held { ⟦<MemorySink as Sink>⟧.held result ≡ Some [] }

@@ -16,7 +16,9 @@ pub struct ReaderSource<R: io::Read> {
 
 impl<R: io::Read> ReaderSource<R> {
     /// A source that reads from `reader`, without faults so far.
-    pub fn new(reader: R) -> ReaderSource<R> {
+    pub fn new(reader: R) -> ReaderSource<R>
+        ensures { ⟦<ReaderSource<R> as Source>⟧.faults result ≡ 0 }
+    {
         ReaderSource { reader, faults: 0 }
     }
 }
@@ -53,7 +55,9 @@ pub struct WriterSink<W: io::Write> {
 
 impl<W: io::Write> WriterSink<W> {
     /// A sink that writes to `writer`, without faults so far.
-    pub fn new(writer: W) -> WriterSink<W> {
+    pub fn new(writer: W) -> WriterSink<W>
+        ensures { ⟦<WriterSink<W> as Sink>⟧.faults result ≡ 0 }
+    {
         WriterSink { writer, faults: 0 }
     }
 }

@@ -1,6 +1,9 @@
+//! Whole transfers in pieces, and what sources and sinks are handed.
+ghost use Rattle.std.specs.Prelude.{None};
+
 use crate::{
-    InFault, MemorySink, MemorySource, OutFault, ReaderSource, SureSink, SureSource, WriterSink,
-    read_all, write_all,
+    InFault, MemorySink, MemorySource, OutFault, Read, ReaderSource, Sink, Source, SureSink,
+    SureSource, Write, WriterSink, read_all, write_all,
 };
 use std::io;
 use std::test::Fail;
@@ -100,5 +103,58 @@ fn readers_and_writers(rt: HostRuntime) -> Result<(), Fail> {
     let mut sink = WriterSink::new(Stutters { calls: 0 });
     assert_eq!(rt; write_all(&mut sink, TEXT), Err(OutFault::Write));
     write_all(&mut sink, TEXT)?;
+    Ok(())
+}
+
+/// Takes at most seven bytes a call, and keeps how many it was handed in each of the first eight calls.
+#[derive(Drop)]
+struct Listener {
+    handed: [usize; 8],
+    calls: usize,
+}
+
+impl Sink for Listener {
+    ghost held = { λ s. None };
+
+    ghost faults = { λ s. 0 };
+
+    fn write(&mut self, piece: &[u8]) -> Write {
+        if self.calls < 8 {
+            self.handed[self.calls] = piece.len();
+            self.calls += 1;
+        }
+        Write::Took(piece.len().min(7))
+    }
+}
+
+#[test]
+fn each_call_is_handed_the_whole_rest(rt: HostRuntime) -> Result<(), Fail> {
+    let mut listener = Listener {
+        handed: [0; 8],
+        calls: 0,
+    };
+    write_all(&mut listener, TEXT)?;
+    assert_eq!(rt; listener.handed, [41, 34, 27, 20, 13, 6, 0, 0]);
+    Ok(())
+}
+
+#[test]
+fn pieces_have_their_size(rt: HostRuntime) -> Result<(), Fail> {
+    let mut room = [0u8; 100];
+    let mut source = SureSource::new(TEXT.to_vec(rt.alloc())?, 20);
+    assert_eq!(rt; source.read(&mut room), Read::Got(20));
+    assert_eq!(rt; source.read(&mut room), Read::Got(20));
+    assert_eq!(rt; source.read(&mut room), Read::Got(1));
+    assert_eq!(rt; source.read(&mut room), Read::End);
+    let mut source = MemorySource::new(TEXT.to_vec(rt.alloc())?, 20, [2].to_vec(rt.alloc())?);
+    assert_eq!(rt; source.read(&mut room), Read::Got(20));
+    assert_eq!(rt; source.read(&mut room), Read::Failed);
+    assert_eq!(rt; source.read(&mut room[..5]), Read::Got(5));
+    let mut sink = SureSink::new(rt.alloc(), 20);
+    assert_eq!(rt; sink.write(TEXT), Write::Took(20));
+    assert_eq!(rt; sink.write(b"rest"), Write::Took(4));
+    let mut sink = MemorySink::new(rt.alloc(), 20, [2].to_vec(rt.alloc())?);
+    assert_eq!(rt; sink.write(TEXT), Write::Took(20));
+    assert_eq!(rt; sink.write(TEXT), Write::Failed);
     Ok(())
 }

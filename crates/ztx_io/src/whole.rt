@@ -39,8 +39,8 @@ pub enum OutFault {
 
 /// Reads to the end of the source and gives all the bytes, at most `limit`.
 ///
-/// `TooLong` comes exactly where more than `limit` bytes came, `Read` only where the source's count of faults rose, and
-/// `Memory` for want of memory. After each of them the source has lost what came.
+/// `TooLong` comes exactly where more than `limit` bytes came, `Read` only where the source's count of faults
+/// rose, and `Memory` for want of memory. After each of them the source has lost what came.
 pub fn read_all<S: Source>(alloc: Global, source: &mut S, limit: usize) -> Result<Vec<u8>, InFault>
     ensures ok { IfOk result (λ bytes. ReadsWhole limit (S.left source.old) (S.left source.new) bytes.items) }
     ensures err { IfErr result (λ fault. GivesUp limit (S.left source.old) (S.left source.new) fault) }
@@ -67,8 +67,8 @@ pub fn read_all<S: Source>(alloc: Global, source: &mut S, limit: usize) -> Resul
 
 /// Writes all the bytes; each call of the sink is handed the whole rest.
 ///
-/// After an error a beginning of the bytes was appended. `Write` comes only where the sink's count of faults rose, and
-/// `Memory` for want of memory.
+/// After an error a beginning of the bytes was appended. `Write` comes only where the sink's count of faults
+/// rose, and `Memory` for want of memory.
 pub fn write_all<K: Sink>(sink: &mut K, bytes: &[u8]) -> Result<(), OutFault>
     ensures ok { OnOk result (Appends (K.held sink.old) (K.held sink.new) bytes.now) }
     ensures err { OnErr result (AppendsPrefix (K.held sink.old) (K.held sink.new) bytes.now) }

@@ -1,3 +1,4 @@
+//! Lists of bytes that overlap.
 use super::{byte_by_byte, combine_bytes, compare_bytes, order_in};
 use std::alloc::Global;
 use std::test::Fail;

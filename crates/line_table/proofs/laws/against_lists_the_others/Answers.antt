@@ -3,6 +3,8 @@ use Rattle.line_table.proofs.laws.against_lists_the_others.Goals as goal
 
 pub returns : goal.returns
 returns c = record {
-  members = λ cpus held cpu line wanted other. (from_against cpus held cpu line wanted other, in_against cpus held cpu line wanted other);
+  members =
+      λ cpus held cpu line wanted other.
+      (from_against cpus held cpu line wanted other, in_against cpus held cpu line wanted other);
   rising = against-rising;
 }

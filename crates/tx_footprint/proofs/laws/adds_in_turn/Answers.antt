@@ -9,14 +9,18 @@ use Rattle.tx_footprint.proofs.Marking.{or_assoc}
 use Rattle.tx_footprint.proofs.laws.adds_in_turn.Goals as goal
 
 -- of the tests of two lists in turn, and of one list of both
-in_turn : (test : Range → Bool) (was : Bool) (first second : List Range) → ((was || list_any test first) || list_any test second) ≡ (was || list_any test (first ++ second))
+in_turn : (test : Range → Bool) (was : Bool) (first second : List Range)
+    → ((was || list_any test first) || list_any test second) ≡ (was || list_any test (first ++ second))
 in_turn test was first second =
-    or_assoc was (list_any test first) (list_any test second) ∙ ap (λ b. was || b) (sym (list_any-append test first second))
+    or_assoc was (list_any test first) (list_any test second)
+    ∙ ap (λ b. was || b) (sym (list_any-append test first second))
 
 pub returns : goal.returns
 returns c = λ sets first second i.
     record {
-      fetched = λ line. in_turn (λ r. not r.store && has_place LINE_SIZE r line) (sets.fetched line) first second i;
+      fetched =
+          λ line. in_turn (λ r. not r.store && has_place LINE_SIZE r line) (sets.fetched line) first second i;
       stored = λ line. in_turn (λ r. r.store && has_place LINE_SIZE r line) (sets.stored line) first second i;
-      blocks = λ block. in_turn (λ r. r.store && has_place BLOCK_SIZE r block) (sets.blocks block) first second i;
+      blocks = λ block. in_turn (λ r. r.store && has_place BLOCK_SIZE r block) (sets.blocks block) first
+          second i;
     }

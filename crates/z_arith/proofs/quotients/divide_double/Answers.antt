@@ -8,5 +8,9 @@ use Rattle.z_arith.proofs.quotients.divide_double.Goals as goal
 pub returns-clause-division : goal.returns-clause-division
 unfolding divide_double_of
 returns-clause-division c =
-    let e : ◌≡◌ {A = Result (ℕ × ℕ) DivideFault} (Ok (c.doubleword.result, c.doubleword-2.result)) (divide_double_of c.args.dividend c.args.divisor) = search rules in
-    divides_double c.args.dividend c.args.divisor (c.doubleword.result, c.doubleword-2.result) (search rules) e
+    let e : ◌≡◌ {A = Result (ℕ × ℕ) DivideFault} (Ok (c.doubleword.result, c.doubleword-2.result))
+    (divide_double_of c.args.dividend c.args.divisor) = search rules in
+    divides_double c.args.dividend c.args.divisor (
+      c.doubleword.result,
+      c.doubleword-2.result,
+    ) (search rules) e

@@ -9,5 +9,6 @@ use Rattle.z_arith.proofs.quotients.divide_word.Goals as goal
 pub returns-clause-division : goal.returns-clause-division
 unfolding divide_word_of
 returns-clause-division c =
-    let e : ◌≡◌ {A = Result (ℕ × ℕ) DivideFault} (Ok (c.word.result, c.word-2.result)) (divide_word_of c.args.dividend c.args.divisor) = grind (arith, common_steps) in
+    let e : ◌≡◌ {A = Result (ℕ × ℕ) DivideFault} (Ok (c.word.result, c.word-2.result))
+    (divide_word_of c.args.dividend c.args.divisor) = grind (arith, common_steps) in
     divides_word c.args.dividend c.args.divisor (c.word.result, c.word-2.result) (search rules) e

@@ -8,14 +8,21 @@ use Rattle.z_decode.proofs.index.find_row.Goals as goal
 pub returns-clause-found : goal.returns-clause-found
 returns-clause-found c =
     IfSome_then c.search.result c.search.ensures.found
-    (λ op e. key_to_opcode op.number c.args.bytes.now op.known (λ i. omega (arith, c.type_inv.bytes i)) (e ∙ c.key_for.ensures))
+    (λ op e. key_to_opcode op.number c.args.bytes.now op.known (λ i. omega (arith, c.type_inv.bytes i)) (e ∙
+    c.key_for.ensures))
 
 pub returns-clause-length : goal.returns-clause-length
 returns-clause-length c =
     IfSome_then c.search.result (returns-clause-found c)
-    (λ op has. c.requires ∙ opcode_gives_length op.number c.args.bytes.now op.known (λ i. omega (arith, c.type_inv.bytes i)) has)
+    (λ op has. c.requires ∙ opcode_gives_length op.number c.args.bytes.now op.known (λ i. omega (
+      arith,
+      c.type_inv.bytes i,
+    )) has)
 
 pub returns-clause-none : goal.returns-clause-none
 returns-clause-none c =
     IfNone_then c.search.result c.search.ensures.none
-    (λ none n h has. none n h (opcode_to_key n c.args.bytes.now h (λ i. omega (arith, c.type_inv.bytes i)) has ∙ sym c.key_for.ensures))
+    (λ none n h has. none n h (opcode_to_key n c.args.bytes.now h (λ i. omega (
+      arith,
+      c.type_inv.bytes i,
+    )) has ∙ sym c.key_for.ensures))

@@ -7,7 +7,8 @@ use Rattle.z_general.proofs.run.execute.Goals as goal
 
 pub returns-clause-does : goal.returns-clause-does
 returns-clause-does g c depth =
-    executes depth c.length_in-n.result c.args.instr.now (General c.in-General.kind) _ _ _ _ _ c.args.instr.now.op.known
+    executes depth c.length_in-n.result c.args.instr.now
+    (General c.in-General.kind) _ _ _ _ _ c.args.instr.now.op.known
     (c.length_in-n.ensures ∙ ap (λ (e : Entry). format_length e.format) c.line.ensures.row)
     (sym c.in-General.ensures)
     refl

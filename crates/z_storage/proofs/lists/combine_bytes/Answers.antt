@@ -17,9 +17,12 @@ loop-k-preserved g c =
     let now = g.V.Bytes.bytes c.loop-k.view in
     let first = get_or now (c.args.target + c.loop-k.k) 0 in
     let second = get_or now (c.args.source + c.loop-k.k) 0 in
-    let byte = made_of c.args.combination c.get.result c.get-in-loop-k.result first second c.mix-byte.result c.mix-byte.ensures c.get.ensures c.get-in-loop-k.ensures in
+    let byte = made_of c.args.combination c.get.result c.get-in-loop-k.result first second c.mix-byte.result
+    c.mix-byte.ensures c.get.ensures c.get-in-loop-k.ensures in
     record {
-      so_far = stored_step c.args.combination s now _ c.args.target c.args.source c.loop-k.k c.args.count _ (omega arith) (omega arith) c.loop-k.invariant.so_far byte c.put.ensures;
-      zero = zero_step c.args.combination s now c.args.target c.args.source c.loop-k.k c.args.count _ _ (omega arith) (omega arith) c.loop-k.invariant.so_far byte c.loop-k.invariant.zero;
+      so_far = stored_step c.args.combination s now _ c.args.target c.args.source c.loop-k.k c.args.count _
+          (omega arith) (omega arith) c.loop-k.invariant.so_far byte c.put.ensures;
+      zero = zero_step c.args.combination s now c.args.target c.args.source c.loop-k.k c.args.count _ _
+          (omega arith) (omega arith) c.loop-k.invariant.so_far byte c.loop-k.invariant.zero;
       length = ap length c.put.ensures ∙ length-set now _ _ ∙ c.loop-k.invariant.length;
     }

@@ -7,4 +7,5 @@ use Rattle.z_storage.proofs.lists.order_in.Given as goal
 abbrev pub invariant-loop-k : goal.invariant-loop-k
 invariant-loop-k g l =
     let s = g.V.Bytes.bytes l.view in
-    order_of_bytes (range_at s l.first l.count) (range_at s l.second l.count) ≡ left s l.first l.second l.k l.count
+    order_of_bytes (range_at s l.first l.count) (range_at s l.second l.count) ≡
+    left s l.first l.second l.k l.count

@@ -7,4 +7,5 @@ use Rattle.z_storage.proofs.registers.load_registers.Given as goal
 
 abbrev pub invariant-loop-k : goal.invariant-loop-k
 invariant-loop-k g l =
-    cpu_of l.image ≡ with_items l.k l.w l.first (range_at (g.V.Bytes.bytes l.view) l.address (l.count * bytes_of (item l.w))) (cpu_of l.initial.image)
+    cpu_of l.image ≡ with_items l.k l.w l.first (range_at (g.V.Bytes.bytes l.view) l.address
+    (l.count * bytes_of (item l.w))) (cpu_of l.initial.image)

@@ -10,7 +10,8 @@ use Rattle.z_storage.proofs.registers.store_registers.Goals as goal
 pub loop-k-init : goal.loop-k-init
 loop-k-init g c =
     record {
-      so_far = none_stored c.args.w c.args.first (g.V.Bytes.bytes c.args.view.now) c.args.address (cpu_of c.args.image.now);
+      so_far = none_stored c.args.w c.args.first (g.V.Bytes.bytes c.args.view.now) c.args.address
+          (cpu_of c.args.image.now);
       size = c.requires.size;
     }
 
@@ -23,7 +24,8 @@ loop-k-preserved g c =
     let new : g.V.Bytes.bytes c.store.new.view ≡ written now at (stored (item w) value) = cc in
     record {
       so_far =
-          store_step c.loop-k.k w c.args.first (g.V.Bytes.bytes c.args.view.now) now (g.V.Bytes.bytes c.store.new.view) c.args.address (cpu_of c.args.image.now) (omega arith)
+          store_step c.loop-k.k w c.args.first (g.V.Bytes.bytes c.args.view.now) now
+          (g.V.Bytes.bytes c.store.new.view) c.args.address (cpu_of c.args.image.now) (omega arith)
           c.loop-k.invariant.so_far new;
       size = ap length new ∙ length-stored now at (item w) value (search rules) ∙ c.loop-k.invariant.size;
     }

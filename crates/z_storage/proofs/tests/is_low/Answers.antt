@@ -8,5 +8,8 @@ pub returns-then-first_address-lt-END : goal.returns-then-first_address-lt-END
 returns-then-first_address-lt-END c second s size =
     let i = c.args.instr.now in
     let image = c.args.image.now in
-    low_inside (entry_at i.op.number).operands i image.general image.condition s size (omega (arith, c.first_address.ensures)) (grind (arith, nat_tests, second, c.second_address.ensures))
+    low_inside (entry_at i.op.number).operands i image.general image.condition s size (omega (
+      arith,
+      c.first_address.ensures,
+    )) (grind (arith, nat_tests, second, c.second_address.ensures))
     (c.operands_are_small.ensures.size i image.general image.condition)

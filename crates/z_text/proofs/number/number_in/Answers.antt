@@ -3,4 +3,5 @@ use Rattle.z_text.proofs.Numbers.{number_ends}
 use Rattle.z_text.proofs.number.number_in.Goals as goal
 
 pub returns : goal.returns
-returns c = sym (number_ends c.args.base c.loop-b.number c.loop-b.b-index c.args.digits.now (omega arith) c.loop-b.invariant.fits) ∙ c.loop-b.invariant.same
+returns c = sym (number_ends c.args.base c.loop-b.number c.loop-b.b-index c.args.digits.now
+    (omega arith) c.loop-b.invariant.fits) ∙ c.loop-b.invariant.same

@@ -3,4 +3,8 @@ use Rattle.z_text.specs.Numbers.{number_behind}
 use Rattle.z_text.proofs.number.number_in.Given as goal
 
 abbrev pub invariant-loop-b : goal.invariant-loop-b
-invariant-loop-b l = record { same : number_behind l.base l.number (drop l.b-index l.digits) ≡ number_behind l.base 0 l.digits; fits : l.number < 2 ^ 64 }
+invariant-loop-b l = record {
+  same : number_behind l.base l.number (drop l.b-index l.digits) ≡
+      number_behind l.base 0 l.digits;
+  fits : l.number < 2 ^ 64;
+}

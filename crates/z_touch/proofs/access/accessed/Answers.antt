@@ -2,6 +2,7 @@ use Rattle.std.proofs.Common.{ap, sym, ◌∙◌, subst}
 use Rattle.std.specs.Prelude.{All}
 use Rattle.std.specs.FinSet.{items}
 use Rattle.z_instr.specs.Operands.{IsSmall}
+use Rattle.z_instr.specs.Access.{accessible_pages, text_pages}
 use Rattle.z_instr.specs.Table.{Entry}
 use Rattle.z_regs.specs.declared.ranges.Range.{Range}
 use Rattle.z_touch.specs.Refusals.{span_of}
@@ -20,7 +21,7 @@ pub returns-in-None : goal.returns-in-None
 returns-in-None c =
     let ranges = ranges_of_row c.args.instr.now c.args.image.now.general c.args.image.now.condition c.line-line.result.operands c.operands_in-operands.result
     (ap (λ (e : Entry). e.operands) c.line-line.ensures.row) c.operands_in-operands.ensures in
-    let denied = denied_is c.args.instr.now c.args.image.now.general c.args.image.now.condition c.args.depth (items c.args.guard.now) c.line-line.result.demand c.operands_in-operands.result
+    let denied = denied_is c.args.instr.now c.args.image.now.general c.args.image.now.condition c.args.depth (accessible_pages c.args.image.now.prefix) (text_pages c.args.image.now.prefix (items c.args.guard.now)) c.line-line.result.demand c.operands_in-operands.result
     (ap (λ (e : Entry). e.demand) c.line-line.ensures.row) ranges in
     answer_fits _ c.args.instr.now c.operands_in-operands.result _ (sym c.in-None.is ∙ c.denied.ensures ∙ denied) ranges
 
@@ -28,6 +29,6 @@ pub returns-in-Some : goal.returns-in-Some
 returns-in-Some c =
     let ranges = ranges_of_row c.args.instr.now c.args.image.now.general c.args.image.now.condition c.line-line.result.operands c.operands_in-operands.result
     (ap (λ (e : Entry). e.operands) c.line-line.ensures.row) c.operands_in-operands.ensures in
-    let denied = denied_is c.args.instr.now c.args.image.now.general c.args.image.now.condition c.args.depth (items c.args.guard.now) c.line-line.result.demand c.operands_in-operands.result
+    let denied = denied_is c.args.instr.now c.args.image.now.general c.args.image.now.condition c.args.depth (accessible_pages c.args.image.now.prefix) (text_pages c.args.image.now.prefix (items c.args.guard.now)) c.line-line.result.demand c.operands_in-operands.result
     (ap (λ (e : Entry). e.demand) c.line-line.ensures.row) ranges in
     answer_refused _ c.args.instr.now c.in-Some.code c.exception.result _ (sym c.in-Some.is ∙ c.denied.ensures ∙ denied) c.exception.ensures

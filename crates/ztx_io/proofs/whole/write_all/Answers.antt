@@ -9,6 +9,8 @@ loop-sent-preserved g c =
     let bytes = c.args.bytes.now in
     let next = rw (take_rest bytes c.loop-sent.sent) at c.in-Took.ensures.step.1 in record {
       within = search rules;
-      appended = rw (take-add c.loop-sent.sent c.in-Took.n bytes) (Appends-trans _ _ _ _ _ c.loop-sent.invariant.appended next);
+      appended =
+          rw (take-add c.loop-sent.sent c.in-Took.n bytes)
+          (Appends-trans _ _ _ _ _ c.loop-sent.invariant.appended next);
       count = search rules;
     }

@@ -12,9 +12,11 @@ index-requires c =
 pub returns : goal.returns
 returns c =
     let room = ap length c.self.view_is in
-    let within : c.args.at < 64 * length c.self.inside.words.items = omega (arith, length-bits_of c.self.inside.words.items) in
+    let within : c.args.at < 64 * length c.self.inside.words.items =
+    omega (arith, length-bits_of c.self.inside.words.items) in
     let word : c.args.at / 64 < length c.self.inside.words.items = omega arith in
     c.has_bit.ensures
-    ∙ ap (λ w. bit w (c.args.at % 64)) (get_or_read c.self.inside.words.items (c.args.at / 64) c.index.result.now word c.index.ensures 0)
+    ∙ ap (λ w. bit w (c.args.at % 64))
+    (get_or_read c.self.inside.words.items (c.args.at / 64) c.index.result.now word c.index.ensures 0)
     ∙ sym (get_or-bits_of c.self.inside.words.items c.args.at false within)
     ∙ ap (λ marks. get_or marks c.args.at false) c.self.view_is

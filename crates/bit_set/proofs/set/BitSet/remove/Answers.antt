@@ -12,8 +12,13 @@ index_mut-word-requires c =
 pub returns : goal.returns
 returns c =
     let room = ap length c.self.view_is in
-    let within : c.args.at < 64 * length c.self.inside.words.items = omega (arith, length-bits_of c.self.inside.words.items) in
+    let within : c.args.at < 64 * length c.self.inside.words.items =
+    omega (arith, length-bits_of c.self.inside.words.items) in
     let word : c.args.at / 64 < length c.self.inside.words.items = omega arith in
-    let was = get_or_read c.self.inside.words.items (c.args.at / 64) c.index_mut-word.result.now word c.index_mut-word.ensures.value 0 in
-    bits_of-set c.self.inside.words.items c.without_bit.result c.args.at false within c.without_bit.ensures.cleared (λ i lt ne. c.without_bit.ensures.others i lt ne ∙ ap (λ w. bit w i) was)
+    let was =
+    get_or_read c.self.inside.words.items (c.args.at / 64) c.index_mut-word.result.now word
+    c.index_mut-word.ensures.value 0 in
+    bits_of-set c.self.inside.words.items c.without_bit.result c.args.at false within
+    c.without_bit.ensures.cleared (λ i lt ne. c.without_bit.ensures.others i lt ne
+    ∙ ap (λ w. bit w i) was)
     ∙ ap (λ marks. set marks c.args.at false) c.self.view_is

@@ -8,5 +8,7 @@ pub returns : goal.returns
 returns c =
     let equal = bytes_decides c.self.inside.words.items c.other.inside.words.items in (
       λ yes. sym c.self.view_is ∙ ap bits_of (equal.0 (sym c.eq.ensures ∙ yes)) ∙ c.other.view_is,
-      λ same. c.eq.ensures ∙ equal.1 (same_words _ _ c.self.invariant c.other.invariant (c.self.view_is ∙ same ∙ sym c.other.view_is)),
+      λ same. c.eq.ensures
+          ∙ equal.1 (same_words _ _ c.self.invariant c.other.invariant (c.self.view_is ∙ same
+          ∙ sym c.other.view_is)),
     )

@@ -2,24 +2,38 @@ use Rattle.std.proofs.Common.{◌≡◌, ◌≤◌, ◌*◌, ◌+◌, ◌-◌, �
 use Rattle.line_table.specs.declared.table.TheConstants.{LINES}
 use Rattle.line_table.specs.Holders.{Holders, IsFirstHeld, mode_in}
 use Rattle.bit_set.specs.Bits.{IsNext, NoneMarked}
-use Rattle.line_table.proofs.Seen.{seen, now_seen}
+use Rattle.line_table.proofs.Seen.{now_seen}
+use Rattle.line_table.proofs.Seen.{seen}
 use Rattle.line_table.proofs.Calls.{first_holder, no_holder}
 use Rattle.line_table.proofs.table.LineTable.next_holder.Goals as goal
 
 pub returns-in-Some-clause-found : goal.returns-in-Some-clause-found
 returns-in-Some-clause-found c =
-    let size : length c.self.inside.held ≡ vec_len c.self.inside.counts * LINES = omega (arith, c.self.invariant.held_size) in
-    let now : mode_in c.args.self.now ≡ seen c.self.inside.held c.self.inside.exclusive = now_seen (vec_len c.self.inside.counts) c.self.inside.held c.self.inside.exclusive c.args.self.now size c.self.view_is in
-    let ends : c.args.line * c.self.inside.width + c.len.result ≡ c.args.line * c.self.inside.width + length c.self.inside.counts.items = omega arith in
-    let next = subst (λ end. IsNext c.self.inside.holders (c.args.line * c.self.inside.width + c.args.from) end c.in-Some.place) ends c.in-Some.ensures.found in
-    subst (λ (h : Holders). IsFirstHeld (λ cpu. h cpu c.args.line) c.args.from (c.in-Some.place - c.args.line * c.self.inside.width)) (sym now)
-    (first_holder c.self.inside.width c.self.inside.held c.self.inside.holders c.self.inside.exclusive c.self.inside.counts.items c.args.line c.args.from c.in-Some.place c.self.invariant c.requires next)
+    let size : length c.self.inside.held ≡ vec_len c.self.inside.counts * LINES =
+    omega (arith, c.self.invariant.held_size) in
+    let now : mode_in c.args.self.now ≡ seen c.self.inside.held c.self.inside.exclusive =
+    now_seen (vec_len c.self.inside.counts) c.self.inside.held c.self.inside.exclusive c.args.self.now size
+    c.self.view_is in
+    let ends : c.args.line * c.self.inside.width + c.len.result ≡ c.args.line * c.self.inside.width + length
+    c.self.inside.counts.items = omega arith in
+    let next =
+    subst (λ end. IsNext c.self.inside.holders (c.args.line * c.self.inside.width + c.args.from) end
+    c.in-Some.place) ends c.in-Some.ensures.found in
+    subst (λ (h : Holders). IsFirstHeld (λ cpu. h cpu c.args.line) c.args.from
+    (c.in-Some.place - c.args.line * c.self.inside.width)) (sym now)
+    (first_holder c.self.invariant c.args.line c.args.from c.in-Some.place c.requires next)
 
 pub returns-in-None-clause-none : goal.returns-in-None-clause-none
 returns-in-None-clause-none c =
-    let size : length c.self.inside.held ≡ vec_len c.self.inside.counts * LINES = omega (arith, c.self.invariant.held_size) in
-    let now : mode_in c.args.self.now ≡ seen c.self.inside.held c.self.inside.exclusive = now_seen (vec_len c.self.inside.counts) c.self.inside.held c.self.inside.exclusive c.args.self.now size c.self.view_is in
-    let ends : c.args.line * c.self.inside.width + c.len.result ≡ c.args.line * c.self.inside.width + length c.self.inside.counts.items = omega arith in
-    let none = subst (NoneMarked c.self.inside.holders (c.args.line * c.self.inside.width + c.args.from)) ends c.in-None.ensures.none in
+    let size : length c.self.inside.held ≡ vec_len c.self.inside.counts * LINES =
+    omega (arith, c.self.invariant.held_size) in
+    let now : mode_in c.args.self.now ≡ seen c.self.inside.held c.self.inside.exclusive =
+    now_seen (vec_len c.self.inside.counts) c.self.inside.held c.self.inside.exclusive c.args.self.now size
+    c.self.view_is in
+    let ends : c.args.line * c.self.inside.width + c.len.result ≡ c.args.line * c.self.inside.width + length
+    c.self.inside.counts.items = omega arith in
+    let none =
+    subst (NoneMarked c.self.inside.holders (c.args.line * c.self.inside.width + c.args.from)) ends
+    c.in-None.ensures.none in
     subst (λ (h : Holders). (cpu : ℕ) → c.args.from ≤ cpu → h cpu c.args.line ≡ None) (sym now)
-    (no_holder c.self.inside.width c.self.inside.held c.self.inside.holders c.self.inside.exclusive c.self.inside.counts.items c.args.line c.args.from c.self.invariant c.requires none)
+    (no_holder c.self.invariant c.args.line c.args.from c.requires none)

@@ -8,20 +8,29 @@ use Rattle.line_table.proofs.table.LineTable.open.Goals as goal
 
 pub invariant_of-result : goal.invariant_of-result
 invariant_of-result c =
-    let counts = ap length (c.in_ok-counts.ensures.items_if_clones_equal (λ y e. e)) ∙ length-replicate {A = ℕ} c.args.cpus 0 in
-    let held = ap length c.in_ok-held.ensures ∙ length-replicate {A = Bool} (64 * (LINES / 64 * c.args.cpus)) false in
-    let holders = ap length c.in_ok-holders.ensures ∙ length-replicate {A = Bool} (64 * (LINES * c.div_ceil-words.result)) false in
-    let exclusive = ap length c.in_ok-exclusive.ensures ∙ length-replicate {A = Bool} (64 * (LINES / 64)) false in
-    opened (c.div_ceil-words.result * 64) c.in_ok-held.held c.in_ok-holders.holders c.in_ok-exclusive.exclusive c.in_ok-counts.counts.items
+    let counts = ap length (c.in_ok-counts.ensures.items_if_clones_equal (λ y e. e))
+    ∙ length-replicate {A = ℕ} c.args.cpus 0 in
+    let held = ap length c.in_ok-held.ensures
+    ∙ length-replicate {A = Bool} (64 * (LINES / 64 * c.args.cpus)) false in
+    let holders = ap length c.in_ok-holders.ensures
+    ∙ length-replicate {A = Bool} (64 * (LINES * c.div_ceil-words.result)) false in
+    let exclusive = ap length c.in_ok-exclusive.ensures
+    ∙ length-replicate {A = Bool} (64 * (LINES / 64)) false in
+    opened (c.div_ceil-words.result * 64) c.in_ok-held.held c.in_ok-holders.holders
+    c.in_ok-exclusive.exclusive c.in_ok-counts.counts.items
     (omega arith) (omega arith) (omega arith) (omega arith) (omega arith) (omega arith)
     (λ k. ap (λ l. get_or l k false) c.in_ok-held.ensures ∙ clear_at _ k)
     (λ k. ap (λ l. get_or l k false) c.in_ok-holders.ensures ∙ clear_at _ k)
-    (λ k. ap (λ l. get_or l k 0) (c.in_ok-counts.ensures.items_if_clones_equal (λ y e. e)) ∙ zero_at c.args.cpus k)
+    (λ k. ap (λ l. get_or l k 0) (c.in_ok-counts.ensures.items_if_clones_equal (λ y e. e))
+    ∙ zero_at c.args.cpus k)
 
 pub returns-clause-empty : goal.returns-clause-empty
 returns-clause-empty c =
-    let counts = ap length (c.in_ok-counts.ensures.items_if_clones_equal (λ y e. e)) ∙ length-replicate {A = ℕ} c.args.cpus 0 in
-    let held = ap length c.in_ok-held.ensures ∙ length-replicate {A = Bool} (64 * (LINES / 64 * c.args.cpus)) false in
+    let counts = ap length (c.in_ok-counts.ensures.items_if_clones_equal (λ y e. e))
+    ∙ length-replicate {A = ℕ} c.args.cpus 0 in
+    let held = ap length c.in_ok-held.ensures
+    ∙ length-replicate {A = Bool} (64 * (LINES / 64 * c.args.cpus)) false in
     let size : length c.in_ok-held.held ≡ vec_len c.in_ok-counts.counts * LINES = omega arith in
     shown (vec_len c.in_ok-counts.counts) c.in_ok-held.held c.in_ok-exclusive.exclusive size
-    ∙ nobody_seen c.in_ok-held.held c.in_ok-exclusive.exclusive (λ k. ap (λ l. get_or l k false) c.in_ok-held.ensures ∙ clear_at _ k)
+    ∙ nobody_seen c.in_ok-held.held c.in_ok-exclusive.exclusive
+    (λ k. ap (λ l. get_or l k false) c.in_ok-held.ensures ∙ clear_at _ k)

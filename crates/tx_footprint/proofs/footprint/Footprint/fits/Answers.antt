@@ -1,56 +1,80 @@
-use Rattle.std.proofs.Common.{◌≡◌, ◌+◌, Ok, Err, refl, ap, sym, ◌∙◌, arith}
+use Rattle.std.proofs.Common.{◌≡◌, Ok, Err, refl, sym, arith}
 use Rattle.bit_set.proofs.Counts.{count_at_most}
 use Rattle.line_table.specs.declared.table.TheConstants.{LINES}
 use Rattle.tx_footprint.specs.declared.footprint.Overflow.TheVariants.{Fetch, Store}
 use Rattle.tx_footprint.specs.declared.places.TheConstants.{BLOCKS}
 use Rattle.tx_footprint.specs.declared.places.Kind.TheVariants.{Line, StoredBlock}
 use Rattle.tx_footprint.specs.Places.{marked_or_touched}
-use Rattle.tx_footprint.specs.Touched.{Sets, Touched, touching, line_count, block_count, sets_of}
+use Rattle.tx_footprint.specs.Touched.{Sets, touching, sets_of}
 use Rattle.tx_footprint.proofs.Limits.{lines_after, blocks_after, too_many_lines, too_many_blocks, all_fit}
 use Rattle.tx_footprint.proofs.footprint.Footprint.fits.Goals as goal
 
 pub overflow_add-self-inside : goal.overflow_add-self-inside
 overflow_add-self-inside c =
-    omega (arith, c.self.invariant.most_lines, c.added.ensures, count_at_most LINES (marked_or_touched c.self.inside.touched Line c.args.touches.now))
+    omega (
+      arith,
+      c.self.invariant.most_lines,
+      c.added.ensures,
+      count_at_most LINES
+          (marked_or_touched c.self.inside.touched Line c.args.touches.now),
+    )
 
-pub returns-then-self-added-gt-MOST_LINES-clause-exact : goal.returns-then-self-added-gt-MOST_LINES-clause-exact
+pub returns-then-self-added-gt-MOST_LINES-clause-exact :
+    goal.returns-then-self-added-gt-MOST_LINES-clause-exact
 returns-then-self-added-gt-MOST_LINES-clause-exact c =
     let after : Sets = touching (sets_of c.args.self.now) c.args.touches.now in
-    let lines : c.self.inside.line_count + c.added.result ≡ line_count after = lines_after c.self.inside.touched c.self.inside.fetched c.self.inside.stored c.self.inside.blocks c.self.inside.line_count c.self.inside.block_count c.added.result c.args.touches.now c.self.invariant c.added.ensures ∙ ap (λ (v : Touched). line_count (touching (sets_of v) c.args.touches.now)) c.self.view_is in
+    let lines =
+    lines_after c.self.invariant c.args.touches.now c.added.result c.self.view_is c.added.ensures in
     sym (too_many_lines after (omega arith))
 
-pub returns-then-self-added-gt-MOST_LINES-clause-fetch : goal.returns-then-self-added-gt-MOST_LINES-clause-fetch
+pub returns-then-self-added-gt-MOST_LINES-clause-fetch :
+    goal.returns-then-self-added-gt-MOST_LINES-clause-fetch
 returns-then-self-added-gt-MOST_LINES-clause-fetch c =
     let after : Sets = touching (sets_of c.args.self.now) c.args.touches.now in
-    let lines : c.self.inside.line_count + c.added.result ≡ line_count after = lines_after c.self.inside.touched c.self.inside.fetched c.self.inside.stored c.self.inside.blocks c.self.inside.line_count c.self.inside.block_count c.added.result c.args.touches.now c.self.invariant c.added.ensures ∙ ap (λ (v : Touched). line_count (touching (sets_of v) c.args.touches.now)) c.self.view_is in
+    let lines =
+    lines_after c.self.invariant c.args.touches.now c.added.result c.self.view_is c.added.ensures in
     (λ _. omega arith, λ _. refl)
 
 pub overflow_add-self-inside-2 : goal.overflow_add-self-inside-2
 overflow_add-self-inside-2 c =
-    omega (arith, c.self.invariant.most_blocks, c.added-2.ensures, count_at_most BLOCKS (marked_or_touched c.self.inside.blocks StoredBlock c.args.touches.now))
+    omega (
+      arith,
+      c.self.invariant.most_blocks,
+      c.added-2.ensures,
+      count_at_most BLOCKS
+          (marked_or_touched c.self.inside.blocks StoredBlock c.args.touches.now),
+    )
 
-pub returns-then-self-added-gt-MOST_BLOCKS-clause-exact : goal.returns-then-self-added-gt-MOST_BLOCKS-clause-exact
+pub returns-then-self-added-gt-MOST_BLOCKS-clause-exact :
+    goal.returns-then-self-added-gt-MOST_BLOCKS-clause-exact
 returns-then-self-added-gt-MOST_BLOCKS-clause-exact c =
     let after : Sets = touching (sets_of c.args.self.now) c.args.touches.now in
-    let lines : c.self.inside.line_count + c.added.result ≡ line_count after = lines_after c.self.inside.touched c.self.inside.fetched c.self.inside.stored c.self.inside.blocks c.self.inside.line_count c.self.inside.block_count c.added.result c.args.touches.now c.self.invariant c.added.ensures ∙ ap (λ (v : Touched). line_count (touching (sets_of v) c.args.touches.now)) c.self.view_is in
-    let blocks : c.self.inside.block_count + c.added-2.result ≡ block_count after = blocks_after c.self.inside.touched c.self.inside.fetched c.self.inside.stored c.self.inside.blocks c.self.inside.line_count c.self.inside.block_count c.added-2.result c.args.touches.now c.self.invariant c.added-2.ensures ∙ ap (λ (v : Touched). block_count (touching (sets_of v) c.args.touches.now)) c.self.view_is in
+    let lines =
+    lines_after c.self.invariant c.args.touches.now c.added.result c.self.view_is c.added.ensures in
+    let blocks =
+    blocks_after c.self.invariant c.args.touches.now c.added-2.result c.self.view_is c.added-2.ensures in
     sym (too_many_blocks after (omega arith) (omega arith))
 
-pub returns-then-self-added-gt-MOST_BLOCKS-clause-fetch : goal.returns-then-self-added-gt-MOST_BLOCKS-clause-fetch
+pub returns-then-self-added-gt-MOST_BLOCKS-clause-fetch :
+    goal.returns-then-self-added-gt-MOST_BLOCKS-clause-fetch
 returns-then-self-added-gt-MOST_BLOCKS-clause-fetch c =
     let after : Sets = touching (sets_of c.args.self.now) c.args.touches.now in
-    let lines : c.self.inside.line_count + c.added.result ≡ line_count after = lines_after c.self.inside.touched c.self.inside.fetched c.self.inside.stored c.self.inside.blocks c.self.inside.line_count c.self.inside.block_count c.added.result c.args.touches.now c.self.invariant c.added.ensures ∙ ap (λ (v : Touched). line_count (touching (sets_of v) c.args.touches.now)) c.self.view_is in
+    let lines =
+    lines_after c.self.invariant c.args.touches.now c.added.result c.self.view_is c.added.ensures in
     (λ e. let n : Err Store ≡ Err Fetch = e in cc, λ over. absurd (omega arith))
 
 pub returns-clause-exact : goal.returns-clause-exact
 returns-clause-exact c =
     let after : Sets = touching (sets_of c.args.self.now) c.args.touches.now in
-    let lines : c.self.inside.line_count + c.added.result ≡ line_count after = lines_after c.self.inside.touched c.self.inside.fetched c.self.inside.stored c.self.inside.blocks c.self.inside.line_count c.self.inside.block_count c.added.result c.args.touches.now c.self.invariant c.added.ensures ∙ ap (λ (v : Touched). line_count (touching (sets_of v) c.args.touches.now)) c.self.view_is in
-    let blocks : c.self.inside.block_count + c.added-2.result ≡ block_count after = blocks_after c.self.inside.touched c.self.inside.fetched c.self.inside.stored c.self.inside.blocks c.self.inside.line_count c.self.inside.block_count c.added-2.result c.args.touches.now c.self.invariant c.added-2.ensures ∙ ap (λ (v : Touched). block_count (touching (sets_of v) c.args.touches.now)) c.self.view_is in
+    let lines =
+    lines_after c.self.invariant c.args.touches.now c.added.result c.self.view_is c.added.ensures in
+    let blocks =
+    blocks_after c.self.invariant c.args.touches.now c.added-2.result c.self.view_is c.added-2.ensures in
     sym (all_fit after (omega arith) (omega arith))
 
 pub returns-clause-fetch : goal.returns-clause-fetch
 returns-clause-fetch c =
     let after : Sets = touching (sets_of c.args.self.now) c.args.touches.now in
-    let lines : c.self.inside.line_count + c.added.result ≡ line_count after = lines_after c.self.inside.touched c.self.inside.fetched c.self.inside.stored c.self.inside.blocks c.self.inside.line_count c.self.inside.block_count c.added.result c.args.touches.now c.self.invariant c.added.ensures ∙ ap (λ (v : Touched). line_count (touching (sets_of v) c.args.touches.now)) c.self.view_is in
+    let lines =
+    lines_after c.self.invariant c.args.touches.now c.added.result c.self.view_is c.added.ensures in
     (λ e. let n : Ok tt ≡ Err Fetch = e in cc, λ over. absurd (omega arith))

@@ -1,0 +1,2 @@
+-- Which answers come.
+pub mod Cases

@@ -1,0 +1,2 @@
+-- What a holder answers.
+pub mod Replies

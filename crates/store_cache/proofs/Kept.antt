@@ -1,0 +1,276 @@
+-- What a store cache shows of its entries, and its invariant after each change.
+use Rattle.std.proofs.Common.{◌≡◌, ◌≢◌, ℕ, ◌+◌, ◌*◌, ◌/◌, ◌%◌, ◌<◌, ◌≤◌, Bool, true, false, cond, eqb}
+use Rattle.std.proofs.Common.{ltb, List, [], ◌∷◌, ◌++◌, length, get_or, set, take, Some, None}
+use Rattle.std.proofs.Common.{is_some, refl, sym, ap, subst, ◌∙◌, arith}
+use Rattle.std.specs.Prelude.{◌||◌}
+use Rattle.std.proofs.lemmas.Bool.{cases_eq, cases_lt, cases_Bool, cond-true, cond-false, eq-eqb, ne_eqb}
+use Rattle.std.proofs.lemmas.Bool.{or_left, ltb-true}
+use Rattle.std.proofs.lemmas.List.{length-set, get_or-set_other, length_push, length-take-le}
+use Rattle.bit_set.specs.Counts.{count_below}
+use Rattle.bit_set.proofs.Counts.{count_agree}
+use Rattle.slot_index.specs.Slots.{Slots, slot_in, is_key}
+use Rattle.slot_index.proofs.Found.{cases, slot_in-has, slot_in-add, slot_in-none, slot_cases}
+use Rattle.store_cache.specs.declared.cache.TheConstants.{BLOCKS, BLOCK_SIZE, DOUBLEWORDS, MOST_BLOCKS}
+use Rattle.store_cache.specs.Overlay.{Overlay, with_one, with_bytes, has_block, block_count}
+use Rattle.store_cache.specs.Stores.{Stores, no_stores, has_room, IsSound}
+use Rattle.store_cache.specs.Entries.{Entries, items_of, stores_of, IsKept}
+use Rattle.store_cache.proofs.Overlays.{with_bytes-none, with_bytes-inside}
+use Rattle.store_cache.proofs.Blocks.{has_block-at, has_block-here, has_block-other, has_block-nothing}
+use Rattle.store_cache.proofs.Cells.{items_of-none, items_of-empty, items_of-add, items_of-store}
+
+-- ---- what entries show
+
+abbrev pub shown : List ℕ → List ℕ → List Bool → List ℕ → List Bool → Stores
+shown blocks bytes marks values value_marks =
+    record {
+      overlay = items_of BLOCK_SIZE blocks bytes marks;
+      lasting =
+          items_of DOUBLEWORDS blocks values value_marks;
+    }
+
+pub stores_of-is : (blocks bytes : List ℕ) (marks : List Bool) (values : List ℕ) (value_marks : List Bool)
+    → stores_of (record {
+      blocks = blocks;
+      bytes = bytes;
+      marks = marks;
+      values = values;
+      value_marks =
+          value_marks;
+    }) ≡ shown blocks bytes marks values value_marks
+unfolding stores_of
+stores_of-is blocks bytes marks values value_marks = refl
+
+pub stores_of-now : (v : Entries) (blocks bytes : List ℕ) (marks : List Bool) (values : List ℕ)
+    (value_marks : List Bool) → record {
+      blocks = blocks;
+      bytes = bytes;
+      marks = marks;
+      values = values;
+      value_marks = value_marks;
+    } ≡ v → stores_of v ≡ shown blocks bytes marks values value_marks
+stores_of-now v blocks bytes marks values value_marks e = ap stores_of (sym e)
+    ∙ stores_of-is blocks bytes marks values value_marks
+
+pub shown-empty : (bytes : List ℕ) (marks : List Bool) (values : List ℕ) (value_marks : List Bool)
+    → shown [] bytes marks values value_marks ≡ no_stores
+shown-empty bytes marks values value_marks i =
+    record {
+      overlay = items_of-empty BLOCK_SIZE bytes marks i;
+      lasting =
+          items_of-empty DOUBLEWORDS values value_marks i;
+    }
+
+-- ---- how many blocks are stored
+
+pub counted_blocks : (index : Slots) (bytes : List ℕ) (marks : List Bool) (values : List ℕ)
+    (value_marks : List Bool) → IsKept index bytes marks values value_marks
+    → count_below index.limit (is_key index.keys) ≡ block_count (items_of BLOCK_SIZE index.keys bytes marks)
+counted_blocks index bytes marks values value_marks kept =
+    ap (λ n. count_below n (is_key index.keys)) kept.limit
+    ∙ count_agree BLOCKS (is_key index.keys) (has_block (items_of BLOCK_SIZE index.keys bytes marks))
+    (λ block lt. sym (kept.stored block))
+
+pub sound : (index : Slots) (bytes : List ℕ) (marks : List Bool) (values : List ℕ) (value_marks : List Bool)
+    → IsKept index bytes marks values value_marks → count_below index.limit (is_key index.keys) ≤ index.most
+    → ((key : ℕ) → index.limit ≤ key → slot_in index.keys key ≡ None)
+    → IsSound (shown index.keys bytes marks values value_marks)
+sound index bytes marks values value_marks kept within below =
+    record {
+      few = omega (arith, within, kept.most, counted_blocks index bytes marks values value_marks kept);
+      in_storage = λ address past. items_of-none BLOCK_SIZE index.keys bytes marks address
+          (below (address / BLOCK_SIZE) (omega (arith, past, kept.limit)));
+    }
+
+-- a block that is no entry's has room only where there is room for one more entry
+pub room_left : (overlay : Overlay) (block : ℕ) → has_block overlay block ≡ false
+    → has_room overlay block ≡ true → block_count overlay < MOST_BLOCKS
+room_left overlay block new room =
+    ltb-true (block_count overlay) MOST_BLOCKS
+    (sym (ap (λ b. b || ltb (block_count overlay) MOST_BLOCKS) new) ∙ room)
+
+-- ---- no entries
+
+pub emptied : (index : Slots) (bytes : List ℕ) (marks : List Bool) (values : List ℕ)
+    (value_marks : List Bool) → index.limit ≡ BLOCKS → index.most ≡ MOST_BLOCKS
+    → length bytes ≡ MOST_BLOCKS * BLOCK_SIZE → length marks ≡ MOST_BLOCKS * BLOCK_SIZE
+    → length values ≡ MOST_BLOCKS * DOUBLEWORDS → length value_marks ≡ MOST_BLOCKS * DOUBLEWORDS
+    → index.keys ≡ [] → ((cell : ℕ) → get_or marks cell false ≡ false)
+    → ((cell : ℕ) → get_or value_marks cell false ≡ false) → IsKept index bytes marks values value_marks
+emptied index bytes marks values value_marks limit most byte_room mark_room value_room value_mark_room none
+    unmarked no_value =
+    record {
+      limit = limit;
+      most = most;
+      byte_room = byte_room;
+      mark_room = mark_room;
+      value_room = value_room;
+      value_mark_room = value_mark_room;
+      unmarked = λ cell le. unmarked cell;
+      no_value = λ cell le. no_value cell;
+      stored = λ block.
+          ap (λ keys. has_block (items_of BLOCK_SIZE keys bytes marks) block) none
+          ∙ ap (λ (o : Overlay). has_block o block) (items_of-empty BLOCK_SIZE bytes marks)
+          ∙ has_block-nothing block
+          ∙ sym (ap is_some (ap (λ keys. slot_in keys block) none
+          ∙ slot_in-none [] block (λ j lt. absurd (omega (arith, lt)))));
+    }
+
+-- ---- an entry for a block
+
+pub record Entered (old index : Slots) (bytes : List ℕ) (marks : List Bool) (values : List ℕ)
+    (value_marks : List Bool) (block : ℕ) : Type 0 where
+  pub limit : index.limit ≡ old.limit
+  pub most : index.most ≡ old.most
+  pub longer : length old.keys ≤ length index.keys
+  pub same_bytes : items_of BLOCK_SIZE index.keys bytes marks ≡ items_of BLOCK_SIZE old.keys bytes marks
+  pub same_values : items_of DOUBLEWORDS index.keys values value_marks ≡ items_of DOUBLEWORDS old.keys values
+      value_marks
+  pub here : is_key index.keys block ≡ true
+  pub others : (b : ℕ) → b ≢ block → is_key index.keys b ≡ is_key old.keys b
+
+pub entered : (old index : Slots) (bytes : List ℕ) (marks : List Bool) (values : List ℕ)
+    (value_marks : List Bool) (block : ℕ) → IsKept old bytes marks values value_marks
+    → index ≡ cond (is_key old.keys block) old
+    (record { limit = old.limit; most = old.most; keys = old.keys ++ block ∷ [] })
+    → Entered old index bytes marks values value_marks block
+entered old index bytes marks values value_marks block kept is =
+    cases (cases_Bool (is_key old.keys block))
+    (λ yes. subst (λ (now : Slots). Entered old now bytes marks values value_marks block)
+    (sym (is ∙ cond-true (is_key old.keys block) old longer_index yes))
+    (record {
+      limit = refl;
+      most = refl;
+      longer = omega arith;
+      same_bytes = refl;
+      same_values = refl;
+      here = yes;
+      others = λ b ne. refl;
+    }))
+    (λ no. subst (λ (now : Slots). Entered old now bytes marks values value_marks block)
+    (sym (is ∙ cond-false (is_key old.keys block) old longer_index no))
+    (record {
+      limit = refl;
+      most = refl;
+      longer = omega (arith, length_push old.keys block);
+      same_bytes = items_of-add BLOCK_SIZE old.keys bytes marks block (none no) kept.unmarked;
+      same_values = items_of-add DOUBLEWORDS old.keys values value_marks block (none no) kept.no_value;
+      here = ap is_some (slot_in-add old.keys block block (none no)
+          ∙ cond-true (eqb block block) (Some (length old.keys)) (slot_in old.keys block)
+          (eq-eqb block block refl));
+      others = λ b ne. ap is_some (slot_in-add old.keys block b (none no)
+          ∙ cond-false (eqb b block) (Some (length old.keys)) (slot_in old.keys b) (ne_eqb b block ne));
+    }))
+  where
+    longer_index : Slots
+    longer_index = record { limit = old.limit; most = old.most; keys = old.keys ++ block ∷ [] }
+
+    none : is_key old.keys block ≡ false → slot_in old.keys block ≡ None
+    none off =
+        cases (slot_cases old.keys block)
+        (λ found. let n : true ≡ false = sym (ap is_some found.1) ∙ off in cc)
+        (λ absent. absent)
+
+-- ---- a stored byte
+
+pub byte_shown : (old index : Slots) (bytes : List ℕ) (marks : List Bool) (values : List ℕ)
+    (value_marks : List Bool) (address slot cell byte : ℕ) → IsKept old bytes marks values value_marks
+    → Entered old index bytes marks values value_marks (address / BLOCK_SIZE)
+    → slot_in index.keys (address / BLOCK_SIZE) ≡ Some slot → cell ≡ slot * BLOCK_SIZE + address % BLOCK_SIZE
+    → slot < MOST_BLOCKS → items_of BLOCK_SIZE index.keys (set bytes cell byte)
+    (set marks cell true) ≡ with_one (items_of BLOCK_SIZE old.keys bytes marks) address byte
+byte_shown old index bytes marks values value_marks address slot cell byte kept in_entry found is within =
+    items_of-store BLOCK_SIZE (omega arith) index.keys bytes marks address slot cell byte found is
+    (omega (arith, is, within, kept.byte_room)) (omega (arith, is, within, kept.mark_room))
+    ∙ ap (λ (o : Overlay). with_one o address byte) in_entry.same_bytes
+
+pub byte_kept : (old index : Slots) (bytes : List ℕ) (marks : List Bool) (values : List ℕ)
+    (value_marks : List Bool) (address slot cell byte : ℕ) → IsKept old bytes marks values value_marks
+    → Entered old index bytes marks values value_marks (address / BLOCK_SIZE)
+    → slot_in index.keys (address / BLOCK_SIZE) ≡ Some slot → cell ≡ slot * BLOCK_SIZE + address % BLOCK_SIZE
+    → slot < MOST_BLOCKS → IsKept index (set bytes cell byte) (set marks cell true) values value_marks
+byte_kept old index bytes marks values value_marks address slot cell byte kept in_entry found is within =
+    record {
+      limit = in_entry.limit ∙ kept.limit;
+      most = in_entry.most ∙ kept.most;
+      byte_room = length-set bytes cell byte ∙ kept.byte_room;
+      mark_room = length-set marks cell true ∙ kept.mark_room;
+      value_room = kept.value_room;
+      value_mark_room = kept.value_mark_room;
+      unmarked = λ k le.
+          get_or-set_other marks cell k true false (λ e. absurd (omega (arith, e, le, is, used)))
+          ∙ kept.unmarked k (omega (arith, le, in_entry.longer));
+      no_value = λ k le. kept.no_value k (omega (arith, le, in_entry.longer));
+      stored = λ block.
+          ap (λ (o : Overlay). has_block o block)
+          (byte_shown old index bytes marks values value_marks address slot cell byte kept in_entry found
+          is within)
+          ∙ cases (cases_eq block (address / BLOCK_SIZE))
+          (λ e. has_block-here (items_of BLOCK_SIZE old.keys bytes marks) address byte block e
+          ∙ sym (ap (is_key index.keys) e ∙ in_entry.here))
+          (λ ne. has_block-other (items_of BLOCK_SIZE old.keys bytes marks) address byte block ne
+          ∙ kept.stored block ∙ sym (in_entry.others block ne));
+    }
+  where
+    used : slot < length index.keys
+    used = (slot_in-has index.keys (address / BLOCK_SIZE) slot found).within
+
+-- ---- a lasting value
+
+pub value_shown : (index : Slots) (bytes : List ℕ) (marks : List Bool) (values : List ℕ)
+    (value_marks : List Bool) (doubleword slot cell value : ℕ) → IsKept index bytes marks values value_marks
+    → slot_in index.keys (doubleword / DOUBLEWORDS) ≡ Some slot
+    → cell ≡ slot * DOUBLEWORDS + doubleword % DOUBLEWORDS → slot < MOST_BLOCKS
+    → items_of DOUBLEWORDS index.keys (set values cell value) (set value_marks cell true) ≡ with_one
+    (items_of DOUBLEWORDS index.keys values value_marks) doubleword value
+value_shown index bytes marks values value_marks doubleword slot cell value kept found is within =
+    items_of-store DOUBLEWORDS (omega arith) index.keys values value_marks doubleword slot cell value found
+    is (omega (arith, is, within, kept.value_room)) (omega (arith, is, within, kept.value_mark_room))
+
+pub value_kept : (index : Slots) (bytes : List ℕ) (marks : List Bool) (values : List ℕ)
+    (value_marks : List Bool) (doubleword slot cell value : ℕ) → IsKept index bytes marks values value_marks
+    → slot_in index.keys (doubleword / DOUBLEWORDS) ≡ Some slot
+    → cell ≡ slot * DOUBLEWORDS + doubleword % DOUBLEWORDS
+    → IsKept index bytes marks (set values cell value) (set value_marks cell true)
+value_kept index bytes marks values value_marks doubleword slot cell value kept found is =
+    record {
+      limit = kept.limit;
+      most = kept.most;
+      byte_room = kept.byte_room;
+      mark_room = kept.mark_room;
+      value_room = length-set values cell value ∙ kept.value_room;
+      value_mark_room = length-set value_marks cell true ∙ kept.value_mark_room;
+      unmarked = kept.unmarked;
+      no_value = λ k le.
+          get_or-set_other value_marks cell k true false (λ e. absurd (omega (arith, e, le, is, used)))
+          ∙ kept.no_value k le;
+      stored = kept.stored;
+    }
+  where
+    used : slot < length index.keys
+    used = (slot_in-has index.keys (doubleword / DOUBLEWORDS) slot found).within
+
+-- ---- bytes from an address on
+
+pub has_block-with_bytes : (overlay : Overlay) (address : ℕ) (bytes : List ℕ) → 0 < length bytes
+    → has_block (with_bytes overlay address bytes) (address / BLOCK_SIZE) ≡ true
+has_block-with_bytes overlay address bytes some =
+    let same : address / BLOCK_SIZE * BLOCK_SIZE + address % BLOCK_SIZE ≡ address = omega arith in
+    has_block-at (with_bytes overlay address bytes) (address / BLOCK_SIZE) (address % BLOCK_SIZE)
+    (omega arith)
+    (ap (λ n. is_some (with_bytes overlay address bytes n)) same
+    ∙ ap is_some (with_bytes-inside overlay address bytes address (omega arith) (omega (arith, some))))
+
+pub room_stays : (overlay : Overlay) (address n : ℕ) (bytes : List ℕ) → n ≤ length bytes
+    → has_room overlay (address / BLOCK_SIZE) ≡ true
+    → has_room (with_bytes overlay address (take n bytes)) (address / BLOCK_SIZE) ≡ true
+room_stays overlay address n bytes le room =
+    cases (cases_lt 0 n)
+    (λ some. or_left (has_block (with_bytes overlay address (take n bytes)) (address / BLOCK_SIZE))
+    (ltb (block_count (with_bytes overlay address (take n bytes))) MOST_BLOCKS)
+    (has_block-with_bytes overlay address (take n bytes)
+    (omega (arith, some, length-take-le n bytes le))))
+    (λ none.
+    let zero : n ≡ 0 = omega arith in
+    ap (λ k. has_room (with_bytes overlay address (take k bytes)) (address / BLOCK_SIZE)) zero
+    ∙ ap (λ (o : Overlay). has_room o (address / BLOCK_SIZE)) (with_bytes-none overlay address)
+    ∙ room)

@@ -1,0 +1,134 @@
+-- Marked items laid one after the other, by the marks below a place.
+use Rattle.std.proofs.Common.{◌≡◌, ◌≢◌, ℕ, ◌+◌, ◌*◌, ◌/◌, ◌%◌, ◌<◌, ◌≤◌, Bool, false, cond, ltb}
+use Rattle.std.proofs.Common.{List, length, get_or, set, take, Some, None, sym, ap}
+use Rattle.std.proofs.Common.{◌∙◌, arith}
+use Rattle.std.proofs.lemmas.Bool.{cases_eq, cases_lt, cond-true, cond-false, lt-ltb, le-ltb}
+use Rattle.std.proofs.lemmas.List.{get_or-take, get_or_past, length-take, get_or-set_same, get_or-set_other}
+use Rattle.std.proofs.lemmas.Nat.{mul-add-lt}
+use Rattle.std.proofs.Math.Nat.{mod-lt, mul_comm}
+use Rattle.bit_set.specs.Bits.{IsNext, NoneMarked}
+use Rattle.slot_index.specs.Slots.{slot_in}
+use Rattle.slot_index.proofs.Found.{cases, slot_in-has, slot_cases}
+use Rattle.store_cache.specs.Overlay.{nothing, with_one}
+use Rattle.store_cache.specs.Entries.{items_of}
+use Rattle.store_cache.proofs.Overlays.{with_one-is}
+use Rattle.store_cache.proofs.Cells.{cell_of, item_in, items_of-at, items_of-none, same_place}
+
+-- the marks below a place
+below : (marks : List Bool) (n cell : ℕ) → cell < n
+    → get_or (take n marks) cell false ≡ get_or marks cell false
+below marks n cell lt = get_or-take n marks cell false lt
+
+past : (marks : List Bool) (n cell : ℕ) → n ≤ cell → get_or (take n marks) cell false ≡ false
+past marks n cell le = get_or_past (take n marks) cell false (omega (arith, length-take n marks, le))
+
+pub none_below : (size : ℕ) (blocks items : List ℕ) (marks : List Bool)
+    → items_of size blocks items (take 0 marks) ≡ nothing
+none_below size blocks items marks i place = at_place i
+  where
+    at_place : items_of size blocks items (take 0 marks) place ≡ None
+    at_place =
+        cases (slot_cases blocks (place / size))
+        (λ at. items_of-at size blocks items (take 0 marks) place at.0 at.1)
+        (λ absent. items_of-none size blocks items (take 0 marks) place absent)
+
+-- the next marked item
+pub one_below : (size : ℕ) → 0 < size → (blocks items : List ℕ) (marks : List Bool)
+    (from end cell place slot : ℕ) → IsNext marks from end cell → slot_in blocks (place / size) ≡ Some slot
+    → cell_of size slot place ≡ cell → items_of size blocks items (take (cell + 1) marks) ≡ with_one
+    (items_of size blocks items (take from marks)) place (get_or items cell 0)
+one_below size pos blocks items marks from end cell place slot next found is =
+    with_one-is (items_of size blocks items (take (cell + 1) marks))
+    (items_of size blocks items (take from marks)) place (get_or items cell 0) here others
+  where
+    here : items_of size blocks items (take (cell + 1) marks) place ≡ Some (get_or items cell 0)
+    here =
+        items_of-at size blocks items (take (cell + 1) marks) place slot found
+        ∙ ap (item_in items (take (cell + 1) marks)) is
+        ∙ cond-true (get_or (take (cell + 1) marks) cell false) (Some (get_or items cell 0)) None
+        (below marks (cell + 1) cell (omega arith) ∙ next.marked)
+
+    marks_alike : (other : ℕ) → other ≢ cell
+        → get_or (take (cell + 1) marks) other false ≡ get_or (take from marks) other false
+    marks_alike other off =
+        cases (cases_lt other from)
+        (λ lt. below marks (cell + 1) other (omega (arith, lt, next.from_on))
+        ∙ sym (below marks from other lt))
+        (λ le. cases (cases_lt other cell)
+        (λ between. below marks (cell + 1) other (omega (arith, between)) ∙ next.first other le between
+        ∙ sym (past marks from other le))
+        (λ over. past marks (cell + 1) other (omega (arith, over, off)) ∙ sym (past marks from other le)))
+
+    others : (q : ℕ) → q ≢ place → items_of size blocks items (take (cell + 1) marks) q ≡ items_of size
+        blocks items (take from marks) q
+    others q ne =
+        cases (slot_cases blocks (q / size))
+        (λ at.
+        let off : cell_of size at.0 q ≢ cell = λ e. ne
+        (same_place size pos blocks place q slot at.0 found at.1 (e ∙ sym is)) in
+        items_of-at size blocks items (take (cell + 1) marks) q at.0 at.1
+        ∙ ap (λ m. cond m (Some (get_or items (cell_of size at.0 q) 0)) None)
+        (marks_alike (cell_of size at.0 q) off)
+        ∙ sym (items_of-at size blocks items (take from marks) q at.0 at.1))
+        (λ absent. items_of-none size blocks items (take (cell + 1) marks) q absent
+        ∙ sym (items_of-none size blocks items (take from marks) q absent))
+
+-- no marked item is left
+pub all_below : (size : ℕ) → 0 < size → (blocks items : List ℕ) (marks : List Bool) (from end : ℕ)
+    → end ≡ length blocks * size → NoneMarked marks from end
+    → items_of size blocks items (take from marks) ≡ items_of size blocks items marks
+all_below size pos blocks items marks from end is none i place = at_place i
+  where
+    marks_alike : (cell : ℕ) → cell < end → get_or (take from marks) cell false ≡ get_or marks cell false
+    marks_alike cell lt =
+        cases (cases_lt cell from)
+        (λ under. below marks from cell under)
+        (λ le. past marks from cell le ∙ sym (none cell le lt))
+
+    at_place : items_of size blocks items (take from marks) place ≡ items_of size blocks items marks place
+    at_place =
+        cases (slot_cases blocks (place / size))
+        (λ at.
+        let under : cell_of size at.0 place < size * length blocks = mul-add-lt at.0 size (place % size)
+        (length blocks) (slot_in-has blocks (place / size) at.0 at.1).within (mod-lt place pos) in
+        items_of-at size blocks items (take from marks) place at.0 at.1
+        ∙ ap (λ m. cond m (Some (get_or items (cell_of size at.0 place) 0)) None)
+        (marks_alike (cell_of size at.0 place) (omega (arith, under, is, mul_comm size (length blocks))))
+        ∙ sym (items_of-at size blocks items marks place at.0 at.1))
+        (λ absent. items_of-none size blocks items (take from marks) place absent
+        ∙ sym (items_of-none size blocks items marks place absent))
+
+-- ---- marks taken away
+
+-- the marks from a place on, the ones below it taken away
+pub unmarked_more : (marks now then : List Bool) (from end at : ℕ)
+    → ((k : ℕ) → get_or now k false ≡ cond (ltb k from) false (get_or marks k false))
+    → IsNext now from end at → then ≡ set now at false → at < length now → (k : ℕ)
+    → get_or then k false ≡ cond (ltb k (at + 1)) false (get_or marks k false)
+unmarked_more marks now then from end at so_far next is room k =
+    ap (λ l. get_or l k false) is
+    ∙ cases (cases_lt k (at + 1))
+    (λ lt. cases (cases_eq k at)
+    (λ e. ap (λ n. get_or (set now at false) n false) e ∙ get_or-set_same now at false false room ∙ gone lt)
+    (λ ne. get_or-set_other now at k false false ne ∙ cases (cases_lt k from)
+    (λ under. so_far k ∙ cond-true (ltb k from) false (get_or marks k false) (lt-ltb k from under) ∙ gone lt)
+    (λ le. next.first k le (omega (arith, lt, ne)) ∙ gone lt)))
+    (λ le. get_or-set_other now at k false false (λ e. absurd (omega (arith, e, le))) ∙ so_far k
+    ∙ cond-false (ltb k from) false (get_or marks k false) (le-ltb k from (omega (arith, le, next.from_on)))
+    ∙ sym (cond-false (ltb k (at + 1)) false (get_or marks k false) (le-ltb k (at + 1) le)))
+  where
+    gone : k < at + 1 → false ≡ cond (ltb k (at + 1)) false (get_or marks k false)
+    gone lt = sym (cond-true (ltb k (at + 1)) false (get_or marks k false) (lt-ltb k (at + 1) lt))
+
+pub unmarked_all : (marks now : List Bool) (from end : ℕ) → from ≤ end
+    → ((k : ℕ) → get_or now k false ≡ cond (ltb k from) false (get_or marks k false))
+    → NoneMarked now from end → (k : ℕ) → get_or now k false ≡ cond (ltb k end) false (get_or marks k false)
+unmarked_all marks now from end order so_far none k =
+    cases (cases_lt k end)
+    (λ lt. cases (cases_lt k from)
+    (λ under. so_far k ∙ cond-true (ltb k from) false (get_or marks k false) (lt-ltb k from under))
+    (λ le. none k le lt)
+    ∙ sym (cond-true (ltb k end) false (get_or marks k false) (lt-ltb k end lt)))
+    (λ le. so_far k
+    ∙ cond-false (ltb k from) false (get_or marks k false) (le-ltb k from (omega (arith, le, order)))
+    ∙ sym (cond-false (ltb k end) false (get_or marks k false) (le-ltb k end le)))

@@ -1,0 +1,5 @@
+pub mod Overlays
+pub mod Blocks
+pub mod Cells
+pub mod Laid
+pub mod Kept

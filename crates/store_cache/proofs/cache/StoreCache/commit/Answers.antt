@@ -1,0 +1,21 @@
+use Rattle.std.proofs.Common.{◌≡◌, ℕ}
+use Rattle.std.proofs.Common.{List}
+use Rattle.std.proofs.Common.{sym, ap, ◌∙◌}
+use Rattle.store_cache.specs.declared.cache.TheConstants.{BLOCK_SIZE}
+use Rattle.store_cache.specs.Overlay.{bytes_through}
+use Rattle.store_cache.specs.Stores.{Stores}
+use Rattle.store_cache.specs.Entries.{items_of, stores_of}
+use Rattle.store_cache.proofs.Kept.{shown, stores_of-now}
+use Rattle.store_cache.proofs.cache.StoreCache.commit.Goals as goal
+
+pub returns-clause-bytes : goal.returns-clause-bytes
+returns-clause-bytes g c =
+    let now : stores_of c.args.self.now ≡ shown c.self.inside.index.keys c.self.inside.bytes.items
+    c.self.inside.marks c.self.inside.values.items c.self.inside.value_marks =
+    stores_of-now c.args.self.now c.self.inside.index.keys c.self.inside.bytes.items c.self.inside.marks
+    c.self.inside.values.items c.self.inside.value_marks c.self.view_is in
+    c.lay_bytes.ensures
+    ∙ ap (λ (bytes : List ℕ). bytes_through
+    (items_of BLOCK_SIZE c.self.inside.index.keys bytes c.self.inside.marks)
+    (g.V.Bytes.bytes c.args.into.now)) c.deref.ensures.value
+    ∙ ap (λ (s : Stores). bytes_through s.overlay (g.V.Bytes.bytes c.args.into.now)) (sym now)

@@ -1,0 +1,81 @@
+use Rattle.std.proofs.Common.{◌≡◌, ◌+◌, ◌*◌, ◌/◌, ◌%◌, Bool, true}
+use Rattle.std.proofs.Common.{List, set}
+use Rattle.std.proofs.Common.{refl, sym, ap, subst, ◌∙◌, arith}
+use Rattle.store_cache.specs.declared.cache.TheConstants.{BLOCK_SIZE, DOUBLEWORDS}
+use Rattle.store_cache.specs.Overlay.{Overlay, with_one}
+use Rattle.store_cache.specs.Stores.{Stores, with_store, has_room}
+use Rattle.store_cache.specs.Entries.{items_of, stores_of, IsKept}
+use Rattle.store_cache.proofs.Kept.{shown, stores_of-is, stores_of-now, counted_blocks}
+use Rattle.store_cache.proofs.Kept.{room_left, entered, byte_shown, byte_kept}
+use Rattle.store_cache.proofs.cache.StoreCache.store.Goals as goal
+
+pub slot_for-slot-requires-clause-room : goal.slot_for-slot-requires-clause-room
+slot_for-slot-requires-clause-room c new =
+    let now : stores_of c.args.self.now ≡ shown c.self.inside.index.keys c.self.inside.bytes.items
+    c.self.inside.marks c.self.inside.values.items c.self.inside.value_marks =
+    stores_of-now c.args.self.now c.self.inside.index.keys c.self.inside.bytes.items c.self.inside.marks
+    c.self.inside.values.items c.self.inside.value_marks c.self.view_is in
+    let overlay : Overlay = items_of BLOCK_SIZE c.self.inside.index.keys c.self.inside.bytes.items
+    c.self.inside.marks in
+    let room : has_room overlay (c.args.address / BLOCK_SIZE) ≡ true = ap (λ (s : Stores). has_room s.overlay
+    (c.args.address / BLOCK_SIZE)) (sym now) ∙ c.requires.room in
+    let left = room_left overlay (c.args.address / BLOCK_SIZE)
+    (c.self.invariant.stored (c.args.address / BLOCK_SIZE) ∙ new) room in
+    omega (
+      arith,
+      left,
+      counted_blocks c.self.inside.index c.self.inside.bytes.items c.self.inside.marks
+          c.self.inside.values.items c.self.inside.value_marks c.self.invariant,
+      c.self.invariant.most,
+    )
+
+pub invariant_of-self : goal.invariant_of-self
+invariant_of-self c =
+    let in_entry = entered c.self.inside.index c.slot_for-slot.new.index c.self.inside.bytes.items
+    c.self.inside.marks c.self.inside.values.items c.self.inside.value_marks
+    (c.args.address / BLOCK_SIZE) c.self.invariant c.slot_for-slot.ensures.index in
+    let cell = c.slot_for-slot.result * BLOCK_SIZE + c.args.address % BLOCK_SIZE in
+    subst (λ (marks : List Bool). IsKept c.slot_for-slot.new.index
+    (set c.self.inside.bytes.items cell c.args.byte) marks c.self.inside.values.items
+    c.self.inside.value_marks) (sym c.insert.ensures)
+    (byte_kept c.self.inside.index c.slot_for-slot.new.index c.self.inside.bytes.items c.self.inside.marks
+    c.self.inside.values.items c.self.inside.value_marks c.args.address c.slot_for-slot.result cell
+    c.args.byte c.self.invariant in_entry c.slot_for-slot.ensures.slot refl
+    (omega (arith, c.slot_for-slot.ensures.within, c.self.invariant.most)))
+
+pub returns : goal.returns
+returns c =
+    let now : stores_of c.args.self.now ≡ shown c.self.inside.index.keys c.self.inside.bytes.items
+    c.self.inside.marks c.self.inside.values.items c.self.inside.value_marks =
+    stores_of-now c.args.self.now c.self.inside.index.keys c.self.inside.bytes.items c.self.inside.marks
+    c.self.inside.values.items c.self.inside.value_marks c.self.view_is in
+    let in_entry = entered c.self.inside.index c.slot_for-slot.new.index c.self.inside.bytes.items
+    c.self.inside.marks c.self.inside.values.items c.self.inside.value_marks
+    (c.args.address / BLOCK_SIZE) c.self.invariant c.slot_for-slot.ensures.index in
+    let cell = c.slot_for-slot.result * BLOCK_SIZE + c.args.address % BLOCK_SIZE in
+    let bytes : items_of BLOCK_SIZE c.slot_for-slot.new.index.keys
+    (set c.self.inside.bytes.items cell c.args.byte) (set c.self.inside.marks cell true) ≡ with_one
+    (items_of BLOCK_SIZE c.self.inside.index.keys c.self.inside.bytes.items c.self.inside.marks)
+    c.args.address c.args.byte =
+    byte_shown c.self.inside.index c.slot_for-slot.new.index c.self.inside.bytes.items c.self.inside.marks
+    c.self.inside.values.items c.self.inside.value_marks c.args.address c.slot_for-slot.result cell
+    c.args.byte c.self.invariant in_entry c.slot_for-slot.ensures.slot refl
+    (omega (arith, c.slot_for-slot.ensures.within, c.self.invariant.most)) in
+    stores_of-is c.slot_for-slot.new.index.keys (set c.self.inside.bytes.items cell c.args.byte)
+    c.insert.new.self c.self.inside.values.items c.self.inside.value_marks
+    ∙ ap (λ (marks : List Bool). shown c.slot_for-slot.new.index.keys
+    (set c.self.inside.bytes.items cell c.args.byte) marks c.self.inside.values.items
+    c.self.inside.value_marks) c.insert.ensures
+    ∙ ap (λ (o : Overlay). record {
+      overlay = o;
+      lasting =
+          items_of DOUBLEWORDS c.slot_for-slot.new.index.keys c.self.inside.values.items
+          c.self.inside.value_marks;
+    }) bytes
+    ∙ ap (λ (o : Overlay). record {
+      overlay =
+          with_one (items_of BLOCK_SIZE c.self.inside.index.keys c.self.inside.bytes.items c.self.inside.marks)
+          c.args.address c.args.byte;
+      lasting = o;
+    }) in_entry.same_values
+    ∙ ap (λ (s : Stores). with_store s c.args.address c.args.byte) (sym now)

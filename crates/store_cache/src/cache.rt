@@ -1,0 +1,219 @@
+//! The store cache.
+ghost use Rattle.std.specs.Prelude.{◌≡◌, ℕ, ◌+◌, ◌*◌, ◌/◌, ◌%◌, ◌<◌, ◌≤◌, true, is_some, Some, IfOk, length};
+ghost use Rattle.std.specs.Prelude.{false, if◌then◌else◌, ◌++◌, ◌∷◌, []};
+ghost use Rattle.bit_set.specs.Counts.{count_below};
+ghost use Rattle.slot_index.specs.Slots.{slot_in, is_key};
+ghost use Rattle.store_cache.specs.Overlay.{with_one, bytes_through, has_block, block_count};
+ghost use Rattle.store_cache.specs.Stores.{no_stores, with_store, with_ntstg, lasting_bytes, has_room};
+ghost use Rattle.store_cache.specs.Stores.{IsSound};
+ghost use Rattle.store_cache.specs.Entries.{stores_of};
+
+use crate::laying::{lay_bytes, lay_values, unmark};
+use bit_set::BitSet;
+use byteorder::{BigEndian, ByteOrder};
+use slot_index::SlotIndex;
+use std::alloc::{AllocError, Global};
+use std::marker::Model;
+use z_regs::{Bytes, STORAGE_SIZE};
+
+/// The bytes of a block.
+pub const BLOCK_SIZE: usize = 128;
+
+/// The doublewords of a block.
+pub const DOUBLEWORDS: usize = 16;
+
+/// The blocks of storage.
+pub const BLOCKS: usize = 8192;
+
+/// How many blocks may be stored.
+pub const MOST_BLOCKS: usize = 64;
+
+/// Want of memory.
+#[derive(Clone, Copy, Debug, PartialEq, Eq)]
+pub struct NoMemory;
+
+impl From<AllocError> for NoMemory {
+    fn from(_error: AllocError) -> NoMemory {
+        NoMemory
+    }
+}
+
+/// The stores of an attempt into at most `MOST_BLOCKS` blocks. Blocks are numbered as in storage, their
+/// address divided by 128.
+#[derive(Drop)]
+pub struct StoreCache {
+    index: SlotIndex,
+    bytes: Vec<u8>,
+    marks: BitSet,
+    values: Vec<u64>,
+    value_marks: BitSet,
+}
+
+impl Model for StoreCache {
+    ghost use Rattle.store_cache.specs.Entries.{Entries, IsKept};
+
+    ghost Value = { Entries };
+
+    ghost view = { λ s. record {
+      blocks = s.index.keys;
+      bytes = s.bytes.items;
+      marks = s.marks;
+      values = s.values.items;
+      value_marks = s.value_marks;
+    } };
+
+    ghost invariant = { λ s. IsKept s.index s.bytes.items s.marks s.values.items s.value_marks };
+}
+
+impl StoreCache {
+    /// No stores, with room for all that later calls need.
+    pub fn open(alloc: Global) -> Result<StoreCache, NoMemory>
+        ensures { IfOk result (λ cache. stores_of cache ≡ no_stores) }
+    {
+        let index = SlotIndex::open(alloc, BLOCKS, MOST_BLOCKS)?;
+        let bytes = vec![in alloc; 0; MOST_BLOCKS * BLOCK_SIZE]?;
+        let marks = BitSet::open(alloc, MOST_BLOCKS * BLOCK_SIZE / 64)?;
+        let values = vec![in alloc; 0; MOST_BLOCKS * DOUBLEWORDS]?;
+        let value_marks = BitSet::open(alloc, MOST_BLOCKS * DOUBLEWORDS / 64)?;
+        Ok(StoreCache {
+            index,
+            bytes,
+            marks,
+            values,
+            value_marks,
+        })
+    }
+
+    /// How many blocks are stored.
+    pub fn blocks(&self) -> u32
+        ensures value { result ≡ block_count (stores_of self.now).overlay }
+        ensures sound { IsSound (stores_of self.now) }
+    {
+        self.index.count() as u32
+    }
+
+    /// Whether a byte of the block may be stored: the block is stored already, or fewer than `MOST_BLOCKS`
+    /// are.
+    pub fn has_room(&self, block: u32) -> bool
+        ensures { result ≡ has_room (stores_of self.now).overlay block }
+    {
+        self.index.slot_of(block as usize).is_some() || self.index.count() < MOST_BLOCKS
+    }
+
+    /// The last byte stored at the address; None exactly where none was stored.
+    pub fn byte(&self, address: u64) -> Option<u8>
+        ensures { result ≡ (stores_of self.now).overlay address }
+    {
+        let address = address as usize;
+        let slot = self.index.slot_of(address / BLOCK_SIZE)?;
+        let cell = slot * BLOCK_SIZE + address % BLOCK_SIZE;
+        if !self.marks.has(cell) {
+            return None;
+        }
+        Some(self.bytes[cell])
+    }
+
+    /// Stores a byte. Its block must have room.
+    pub fn store(&mut self, address: u64, byte: u8)
+        requires within { address < STORAGE_SIZE }
+        requires room { has_room (stores_of self.old).overlay (address / BLOCK_SIZE) ≡ true }
+        ensures { stores_of self.new ≡ with_store (stores_of self.old) address byte }
+    {
+        let address = address as usize;
+        let slot = slot_for(&mut self.index, address / BLOCK_SIZE);
+        let cell = slot * BLOCK_SIZE + address % BLOCK_SIZE;
+        self.bytes[cell] = byte;
+        self.marks.insert(cell);
+    }
+
+    /// Stores a doubleword as NONTRANSACTIONAL STORE does. The address must be that of a doubleword, whose
+    /// block has room.
+    pub fn ntstg(&mut self, address: u64, value: u64)
+        requires within { address < STORAGE_SIZE }
+        requires boundary { address % 8 ≡ 0 }
+        requires room { has_room (stores_of self.old).overlay (address / BLOCK_SIZE) ≡ true }
+        ensures { stores_of self.new ≡ with_ntstg (stores_of self.old) address value }
+    {
+        let mut doubleword = [0u8; 8];
+        BigEndian::write_u64(&mut doubleword, value);
+        for (at, byte) in doubleword.iter().enumerate() {
+            self.store(address + at as u64, *byte);
+        }
+        self.keep(address as usize / 8, value);
+    }
+
+    /// Lays all stores over storage, and forgets them.
+    pub fn commit<V: Bytes>(&mut self, into: &mut V)
+        requires { length (V.bytes into.old) ≡ STORAGE_SIZE }
+        ensures bytes { V.bytes into.new ≡ bytes_through (stores_of self.old).overlay (V.bytes into.old) }
+        ensures empty { stores_of self.new ≡ no_stores }
+    {
+        lay_bytes(&self.index, &self.bytes, &self.marks, into);
+        self.empty();
+    }
+
+    /// Lays the last value of each doubleword that NONTRANSACTIONAL STORE stored over storage, and forgets
+    /// all stores.
+    pub fn abort<V: Bytes>(&mut self, into: &mut V)
+        requires { length (V.bytes into.old) ≡ STORAGE_SIZE }
+        ensures bytes { V.bytes into.new
+            ≡ bytes_through (lasting_bytes (stores_of self.old).lasting) (V.bytes into.old) }
+        ensures empty { stores_of self.new ≡ no_stores }
+    {
+        lay_values(&self.index, &self.values, &self.value_marks, into);
+        self.empty();
+    }
+
+    /// Makes this cache equal to the other.
+    pub fn copy_from(&mut self, other: &StoreCache)
+        ensures { stores_of self.new ≡ stores_of other.now }
+    {
+        self.index.copy_from(&other.index);
+        self.bytes.copy_from_slice(&other.bytes);
+        self.marks.copy_from(&other.marks);
+        self.values.copy_from_slice(&other.values);
+        self.value_marks.copy_from(&other.value_marks);
+    }
+
+    /// Keeps a value as the last one of a doubleword whose block is stored.
+    fn keep(&mut self, doubleword: usize, value: u64)
+        requires { has_block (stores_of self.old).overlay (doubleword / DOUBLEWORDS) ≡ true }
+        ensures { stores_of self.new
+            ≡ record (stores_of self.old) {
+              lasting = with_one (stores_of self.old).lasting doubleword value;
+            } }
+    {
+        let slot = self.index.slot_of(doubleword / DOUBLEWORDS).unwrap();
+        let cell = slot * DOUBLEWORDS + doubleword % DOUBLEWORDS;
+        self.values[cell] = value;
+        self.value_marks.insert(cell);
+    }
+
+    /// Forgets all stores.
+    fn empty(&mut self)
+        ensures { stores_of self.new ≡ no_stores }
+    {
+        let count = self.index.count();
+        unmark(&mut self.marks, count * BLOCK_SIZE);
+        unmark(&mut self.value_marks, count * DOUBLEWORDS);
+        self.index.clear();
+    }
+}
+
+/// The entry of a block, a new one where it has none.
+fn slot_for(index: &mut SlotIndex, block: usize) -> usize
+    requires block { block < index.old.limit }
+    requires room { is_key index.old.keys block ≡ false
+        → count_below index.old.limit (is_key index.old.keys) < index.old.most }
+    ensures slot { slot_in index.new.keys block ≡ Some result }
+    ensures within { result < index.old.most }
+    ensures index { index.new ≡ (if is_key index.old.keys block then index.old
+        else record index.old { keys = index.old.keys ++ block ∷ [] }) }
+{
+    if let Some(slot) = index.slot_of(block) {
+        return slot;
+    }
+    let slot = index.count();
+    index.add(block);
+    slot
+}

@@ -1,0 +1,77 @@
+-- Tests of lists, and lists of numbers one after the other.
+use Rattle.std.proofs.Common.{◌≡◌, ℕ, zero, suc, ◌+◌, ◌<◌, Bool, true, false, ◌||◌, eqb, List, [], ◌∷◌, ◌++◌, length, get_or, take, Some, refl, sym, ap, ◌∙◌, ⊎_elim, arith}
+use Rattle.std.specs.Prelude.{◌⊎◌, slice_get}
+use Rattle.std.specs.List.{list_any, list_all, range_with_len}
+use Rattle.std.proofs.lemmas.Bool.{cases_Bool, false_from_ne_true, and_parts, and_from, or_cases, or_left, or_right, eqb-true, eq-eqb}
+use Rattle.std.proofs.lemmas.List.Folds.{list_any_at, list_any_more}
+use Rattle.std.proofs.lemmas.Option.{get_or_from_slice_get, slice_get_cases}
+
+pub cases : {A B C : Type 0} → A ⊎ B → (A → C) → (B → C) → C
+cases s f g = ⊎_elim f g s
+
+-- two tests that hold together are equal
+pub same_tests : (a b : Bool) → (a ≡ true → b ≡ true) → (b ≡ true → a ≡ true) → a ≡ b
+same_tests a b to from = cases (cases_Bool b)
+    (λ yes. from yes ∙ sym yes)
+    (λ no. false_from_ne_true a (λ h. let e : false ≡ true = sym no ∙ to h in cc) ∙ sym no)
+
+abbrev pub among : List ℕ → ℕ → Bool
+among xs x = list_any (eqb x) xs
+
+-- one list has each member of another
+pub among_all : (xs ys : List ℕ) (x : ℕ) → list_all (among ys) xs ≡ true → among xs x ≡ true → among ys x ≡ true
+among_all [] ys x all there = let e : false ≡ true = there in cc
+among_all (z ∷ xs) ys x all there =
+    let parts = and_parts (among ys z) (list_all (among ys) xs) all in
+    cases (or_cases (eqb x z) (among xs x) there)
+    (λ here. ap (among ys) (eqb-true x z here) ∙ parts.0)
+    (λ later. among_all xs ys x parts.1 later)
+
+pub all_among : (xs ys : List ℕ) → ((x : ℕ) → among xs x ≡ true → among ys x ≡ true) → list_all (among ys) xs ≡ true
+all_among [] ys each = refl
+all_among (z ∷ xs) ys each =
+    and_from (among ys z) (list_all (among ys) xs)
+    (each z (or_left (eqb z z) (among xs z) (eq-eqb z z refl)))
+    (all_among xs ys (λ x there. each x (or_right (eqb x z) (among xs x) there)))
+
+-- ---- steps of a loop that tests the elements of a list in turn
+
+slice_get_inside : {X : Type 0} (xs : List X) (i : ℕ) (x : X) → slice_get xs i ≡ Some x → i < length xs
+slice_get_inside xs i x e = cases (slice_get_cases xs i).1
+    (λ there. there.1)
+    (λ past. absurd (let no = past.1 in cc))
+
+pub passes_at : {X : Type 0} (p : X → Bool) (xs : List X) (i : ℕ) (x : X) → slice_get xs i ≡ Some x → p x ≡ true → list_any p xs ≡ true
+passes_at p xs i x e passes =
+    list_any_at p xs i x (slice_get_inside xs i x e) (ap p (get_or_from_slice_get xs i x x e) ∙ passes)
+
+pub none_more : {X : Type 0} (p : X → Bool) (xs : List X) (i : ℕ) (x : X) → slice_get xs i ≡ Some x → list_any p (take i xs) ≡ false → p x ≡ false → list_any p (take (i + 1) xs) ≡ false
+none_more p xs i x e none fails =
+    list_any_more p xs i x (slice_get_inside xs i x e)
+    ∙ (λ j. none j || p (get_or_from_slice_get xs i x x e j)) ∙ fails
+
+pub element_of : {X : Type 0} (xs : List X) (i : ℕ) (x : X) → slice_get xs i ≡ Some x → get_or xs i x ≡ x
+element_of xs i x e = get_or_from_slice_get xs i x x e
+
+pub inside : {X : Type 0} (xs : List X) (i : ℕ) (x : X) → slice_get xs i ≡ Some x → i < length xs
+inside xs i x e = slice_get_inside xs i x e
+
+-- ---- numbers one after the other
+
+pub range-split : (first k m : ℕ) → range_with_len first (k + m) ≡ range_with_len first k ++ range_with_len (first + k) m
+range-split first zero m =
+    (λ i. range_with_len (e0 i) (e1 i))
+  where
+    e0 : first ≡ first + 0
+    e0 = omega arith
+
+    e1 : 0 + m ≡ m
+    e1 = omega arith
+range-split first (suc k) m =
+    ap (range_with_len first) e ∙ ap (λ xs. first ∷ xs) (range-split (first + 1) k m ∙ ap (λ n. range_with_len (first + 1) k ++ range_with_len n m) d)
+  where
+    e : suc k + m ≡ suc (k + m)
+    e = omega arith
+
+    d : first + 1 + k ≡ first + suc k
+    d = omega arith

@@ -1,0 +1,8 @@
+use Rattle.tx_constraint.proofs.Whole.{members, once}
+use Rattle.tx_constraint.proofs.laws.octowords_are_counted_once.Goals as goal
+
+pub returns-clause-members : goal.returns-clause-members
+returns-clause-members c = members
+
+pub returns-clause-once : goal.returns-clause-once
+returns-clause-once c = once

@@ -1,0 +1,3 @@
+-- Numbers, and what is drawn.
+pub mod Sums
+pub mod Rounds
