@@ -57,3 +57,13 @@ fn a_byte_of_one_copy_changes(rt: HostRuntime) -> Result<(), Fail> {
     assert_eq!(rt; byte(&l1, 144, 255), Some(3));
     Ok(())
 }
+
+/// Whether values of a type may move between threads and be shared by them.
+fn is_shared<T: Send + Sync>() -> bool {
+    true
+}
+
+#[test]
+fn copies_are_shared_by_threads(rt: HostRuntime) {
+    assert!(rt; is_shared::<L1>());
+}

@@ -220,3 +220,13 @@ fn has_laws() {
     crate::bytes_are_stored_in_turn();
     crate::the_last_value_lasts();
 }
+
+/// Whether values of a type may move between threads and be shared by them.
+fn is_shared<T: Send + Sync>() -> bool {
+    true
+}
+
+#[test]
+fn store_caches_are_shared_by_threads(rt: HostRuntime) {
+    assert!(rt; is_shared::<StoreCache>());
+}

@@ -1,5 +1,5 @@
-// Expected values follow from what the architecture says of the operations; where a line says so, they are those that QEMU and
-// Hercules answer.
+// Expected values follow from what the architecture says of the operations; where a line says so, they are
+// those that QEMU and Hercules answer.
 
 use crate::kind::{
     Branch, Combination, General, Kind, Logic, Operation, Order, Part, Place, Source, Storage,
@@ -224,10 +224,11 @@ fn transaction_steps(rt: HostRuntime) -> Result<(), Fail> {
     let assist = Instr::new(assist, fields).ok_or("an assist")?;
     assert_eq!(rt; delay(&assist, &image), 64);
     transact(Transaction::ExtractDepth, &assist, &mut image, 4, 16);
-    assert_eq!(rt; image.general[1], 16);
+    let first = image.general[1];
+    assert_eq!(rt; first, 16);
     assert_eq!(rt; image.address, 0x4004);
-    let exception = exception(FIXED_POINT_OVERFLOW, 6);
-    interrupt(&mut image, exception);
+    let overflow = exception(FIXED_POINT_OVERFLOW, 6);
+    interrupt(&mut image, overflow);
     assert_eq!(rt; image.address, 0x400A);
     assert!(rt; image.state == RunState::Interrupted(FIXED_POINT_OVERFLOW));
     Ok(())

@@ -71,7 +71,6 @@ fn a_range_is_cut_at_an_edge(rt: HostRuntime) {
     });
     let moved = touches.absolute(Some(0xa000));
     assert_eq!(rt; moved.count(), 2);
-    assert_eq!(rt; touches.absolute(None).count(), 1);
 }
 
 #[test]

@@ -1,0 +1,10 @@
+pub mod Numbers
+pub mod Loops
+pub mod Pieces
+pub mod Atoms
+pub mod Bytes
+pub mod Says
+pub mod Forms
+pub mod Lists
+pub mod Rows
+pub mod Spelled

@@ -1,0 +1,23 @@
+-- What the code holds while it reads lines again, as plain data.
+use Rattle.std.specs.Prelude.{List, map}
+use Rattle.z_regs.specs.Cpu.{cpu_of}
+use Rattle.z_text.specs.Labels.{value_in}
+use Rattle.z_text.specs.declared.labels.Labels.{Labels}
+use Rattle.z_assemble.specs.Listing.{task_of}
+use Rattle.z_assemble.specs.Machine.{Machine, Known}
+use Rattle.z_assemble.specs.declared.draft.Work.{Work}
+use Rattle.z_assemble.specs.declared.setup.Setup.{Setup}
+
+abbrev pub machine_of : Setup → Machine
+machine_of s = record {
+  storage = s.storage.items;
+  cpus = map cpu_of s.cpus.items;
+  entered = s.entered;
+  shows = s.shows.items;
+  schedule = s.schedule.items;
+  scheduled = s.scheduled;
+  parms = s.parms;
+}
+
+abbrev pub known_of : Labels → List Work → Known
+known_of labels works = record { labels = value_in labels; tasks = map task_of works }

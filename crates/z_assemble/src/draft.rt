@@ -1,0 +1,50 @@
+//! What the first reading of the lines leaves.
+ghost use Rattle.std.specs.Prelude.{◌≡◌, ◌≤◌, length};
+ghost use Rattle.z_assemble.specs.Sizes.{IsPlaced, placed_prop};
+
+use crate::operation::Operation;
+use z_text::Labels;
+
+/// The bytes of storage.
+pub const SIZE: usize = 1_048_576;
+
+/// A line that is read again when all labels are known.
+#[derive(Clone, Copy, Debug)]
+pub struct Work<'a> {
+    /// The number of the line, from 1 on.
+    pub line: u32,
+    /// The location where it stands.
+    pub here: usize,
+    /// The line, in capitals and without its end.
+    pub text: &'a [u8],
+    /// The line's operation.
+    pub operation: Operation,
+    ghost within: { here ≤ 1048576 },
+    ghost room: { IsPlaced here operation } by { placed_prop here operation },
+}
+
+/// What the lines so far have made.
+#[derive(Drop)]
+pub struct Draft<'a> {
+    /// The location.
+    pub here: usize,
+    /// The labels and their values.
+    pub labels: Labels,
+    /// The bytes of storage.
+    pub storage: Vec<u8>,
+    /// Which bytes are placed.
+    pub taken: Vec<bool>,
+    /// Where instructions start.
+    pub begins: Vec<bool>,
+    /// Whether END was there.
+    pub ended: bool,
+    /// How many CPU lines there are.
+    pub cpus: u32,
+    /// The lines that are read again.
+    pub works: Vec<Work<'a>>,
+    ghost within: { here ≤ 1048576 },
+    ghost bytes: { length storage.items ≡ 1048576 },
+    ghost marks: { length taken.items ≡ 1048576 },
+    ghost starts: { length begins.items ≡ 1048576 },
+    ghost few: { cpus ≤ 16 },
+}

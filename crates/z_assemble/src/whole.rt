@@ -1,0 +1,321 @@
+//! Both readings of all lines, and the image.
+ghost use Rattle.std.specs.Prelude.{◌≡◌, ◌-◌, ◌≤◌, ◌<◌, ◌^◌, ◌+◌, ◌/◌, length, List, IfOk, OnOk, map, replicate, IfErr, drop, false, ℕ, All};
+ghost use Rattle.std.specs.FinSet.{empty};
+ghost use Rattle.z_instr.specs.Layout.{length_by};
+ghost use Rattle.z_regs.specs.Cpu.{cpu_of, started};
+ghost use Rattle.z_text.specs.Labels.{value_in};
+ghost use Rattle.tx_journal.specs.Content.{content};
+ghost use Rattle.tx_journal.specs.Image.{length_at};
+ghost use Rattle.z_assemble.specs.Listing.{plan_of, task_of};
+ghost use Rattle.z_assemble.specs.Setup.{machine_of, known_of};
+ghost use Rattle.z_assemble.specs.Steps.{Passes, on_line};
+ghost use Rattle.z_assemble.specs.Text.{lines_of, copies};
+ghost use Rattle.z_assemble.specs.Whole.{first_on, first_over, second_on, second_over, blank, no_label, places_from, with_place, with_page, with_pages, pages_with, image_of, finished, after_first, over_lines, assembled, Stands, HasFault, IsOutcome, fault_at, ready_for};
+
+use crate::draft::{Draft, SIZE, Work};
+use crate::fault::{AssembleFault, Kind, LineFault, ListingFault};
+use crate::first::read_first;
+use crate::lines::{pieces_by, without_end};
+use crate::parts::Parts;
+use crate::second::read_second;
+use crate::setup::Setup;
+use std::alloc::{AllocError, Global};
+use tx_ladder::Parms;
+use z_decode::length_of;
+use z_regs::{CpuImage, Guard};
+use z_text::Labels;
+
+/// The most bytes of a listing.
+pub const MOST_BYTES: usize = 16_777_216;
+
+/// The most lines of a listing.
+pub const MOST_LINES: usize = 262_144;
+
+fn on_line(line: u32, fault: LineFault) -> AssembleFault
+    ensures { result ≡ on_line line fault }
+{
+    match fault {
+        LineFault::Memory => AssembleFault::Memory,
+        LineFault::Failed(kind) => AssembleFault::Listing(ListingFault {
+            line,
+            kind: kind.number(),
+        }),
+    }
+}
+
+// ---- the first reading
+
+fn first_on<'a>(
+    alloc: Global,
+    draft: &mut Draft<'a>,
+    number: u32,
+    line: &'a [u8],
+) -> Result<(), AssembleFault>
+    ensures { Passes result (first_on number line.now (plan_of draft.old)) (plan_of draft.new) }
+{
+    match read_first(alloc, draft, number, without_end(line)) {
+        Ok(()) => Ok(()),
+        Err(fault) => Err(on_line(number, fault)),
+    }
+}
+
+fn first_over<'a>(
+    alloc: Global,
+    draft: &mut Draft<'a>,
+    lines: &[&'a [u8]],
+) -> Result<(), AssembleFault>
+    requires { length lines.now ≤ 262144 }
+    ensures { Passes result (first_over 1 (map (λ l. l.now) lines.now) (plan_of draft.old)) (plan_of draft.new) }
+{
+    let mut number = 1;
+    for line in lines {
+        first_on(alloc, draft, number, line)?;
+        number += 1;
+    }
+    Ok(())
+}
+
+#[tactic(auto, unfolding(crate::specs::Text::copies))]
+fn zeros(alloc: Global, count: usize) -> Result<Vec<u8>, AllocError>
+    ensures is { IfOk result (λ v. v.items ≡ copies count 0) }
+    ensures len { IfOk result (λ v. length v.items ≡ count) }
+{
+    vec![in alloc; 0; count]
+}
+
+#[tactic(auto, unfolding(crate::specs::Text::copies))]
+fn unmarked(alloc: Global, count: usize) -> Result<Vec<bool>, AllocError>
+    ensures is { IfOk result (λ v. v.items ≡ copies count false) }
+    ensures len { IfOk result (λ v. length v.items ≡ count) }
+{
+    vec![in alloc; false; count]
+}
+
+fn no_labels(alloc: Global) -> Labels
+    ensures { value_in result ≡ no_label }
+{
+    Labels::new(alloc)
+}
+
+#[tactic(auto, unfolding(crate::specs::Whole::blank))]
+fn blank<'a>(alloc: Global) -> Result<Draft<'a>, AllocError>
+    ensures is { IfOk result (λ d. plan_of d ≡ blank) }
+{
+    let storage = zeros(alloc, SIZE)?;
+    let taken = unmarked(alloc, SIZE)?;
+    let begins = unmarked(alloc, SIZE)?;
+    Ok(Draft {
+        here: 16384,
+        labels: no_labels(alloc),
+        storage,
+        taken,
+        begins,
+        ended: false,
+        cpus: 0,
+        works: Vec::new(alloc),
+    })
+}
+
+// ---- the second reading
+
+fn second_on(
+    alloc: Global,
+    setup: &mut Setup,
+    labels: &Labels,
+    works: &[Work],
+    work: Work,
+) -> Result<(), AssembleFault>
+    requires { setup.old.entered < 2 ^ 64 - 1 }
+    ensures passes { Passes result (second_on (known_of labels.now works.now) (task_of work.entry) (machine_of setup.old)) (machine_of setup.new) }
+    ensures entered { setup.new.entered ≤ setup.old.entered + 1 }
+{
+    match read_second(alloc, setup, labels, works, work) {
+        Ok(()) => Ok(()),
+        Err(fault) => Err(on_line(work.line, fault)),
+    }
+}
+
+fn second_over(
+    alloc: Global,
+    setup: &mut Setup,
+    labels: &Labels,
+    works: &[Work],
+) -> Result<(), AssembleFault>
+    requires { setup.old.entered ≡ 0 }
+    ensures { Passes result (second_over (known_of labels.now works.now) (map task_of works.now) (machine_of setup.old)) (machine_of setup.new) }
+{
+    for work in works {
+        second_on(alloc, setup, labels, works, *work)?;
+    }
+    Ok(())
+}
+
+fn entering(alloc: Global, count: u32) -> Result<Vec<CpuImage>, AllocError>
+    requires { count ≤ 16 }
+    ensures { IfOk result (λ v. map cpu_of v.items ≡ replicate count (started 0)) }
+{
+    let mut cpus = Vec::new(alloc);
+    for cpu in 0..count {
+        cpus.push(CpuImage::entering(0))?;
+    }
+    Ok(cpus)
+}
+
+// ---- the image
+
+fn push_marked(places: &mut Vec<u32>, place: u32, mark: bool) -> Result<(), AllocError>
+    ensures is { OnOk result (places.new.items ≡ with_place mark place places.old.items) }
+    ensures inside { (n : ℕ) → place < n → All (λ p. p < n) places.old.items → OnOk result (All (λ p. p < n) places.new.items) }
+{
+    if mark {
+        places.push(place)?;
+    }
+    Ok(())
+}
+
+/// The places of the marks, in rising order.
+fn places_of(alloc: Global, marks: &[bool]) -> Result<Vec<u32>, AllocError>
+    requires { length marks.now < 2 ^ 32 }
+    ensures is { IfOk result (λ v. v.items ≡ places_from 0 marks.now) }
+    ensures inside { IfOk result (λ v. All (λ place. place < length marks.now) v.items) }
+{
+    let mut places = Vec::new(alloc);
+    for (place, mark) in marks.iter().enumerate() {
+        push_marked(&mut places, place as u32, *mark)?;
+    }
+    Ok(places)
+}
+
+fn add_page(guard: &mut Guard, page: u32)
+    ensures { guard.new ≡ with_page page guard.old }
+{
+    if page < 256 {
+        guard.add(page);
+    }
+}
+
+/// Adds the pages of the first and the last byte of an instruction.
+fn add_pages(guard: &mut Guard, storage: &[u8], start: u32)
+    requires size { length storage.now ≡ 1048576 }
+    requires start { start < 1048576 }
+    ensures { guard.new ≡ with_pages storage.now start guard.old }
+{
+    let count = u32::from(length_of(storage[start as usize]));
+    add_page(guard, start / 4096);
+    add_page(guard, (start + count - 1) / 4096);
+}
+
+/// The pages that hold bytes of instructions.
+#[tactic(auto, using(crate::proofs::Lists::page_steps))]
+fn text_pages(storage: &[u8], starts: &[u32]) -> Guard
+    requires size { length storage.now ≡ 1048576 }
+    requires inside { All (λ start. start < 1048576) starts.now }
+    ensures { result ≡ pages_with storage.now starts.now empty }
+{
+    let mut guard = Guard::none();
+    for start in starts {
+        add_pages(&mut guard, storage, *start);
+    }
+    guard
+}
+
+#[tactic(auto, unfolding(crate::specs::Whole::ready_for))]
+fn ready(alloc: Global, storage: Vec<u8>, count: u32) -> Result<Setup, AllocError>
+    requires size { length storage.items ≡ 1048576 }
+    requires few { count ≤ 16 }
+    ensures is { IfOk result (λ s. machine_of s ≡ ready_for storage.items count) }
+    ensures entered { IfOk result (λ s. s.entered ≡ 0) }
+{
+    Ok(Setup {
+        storage,
+        cpus: entering(alloc, count)?,
+        entered: 0,
+        shows: Vec::new(alloc),
+        schedule: Vec::new(alloc),
+        scheduled: false,
+        parms: Parms::usual(),
+    })
+}
+
+/// The image of what both readings have made.
+#[tactic(auto, unfolding(crate::specs::Whole::image_of))]
+fn image(alloc: Global, begins: &[bool], setup: Setup) -> Result<Parts, AllocError>
+    requires { length begins.now ≡ 1048576 }
+    ensures { IfOk result (λ i. i ≡ image_of begins.now (machine_of setup)) }
+{
+    let Setup {
+        storage,
+        cpus,
+        shows,
+        schedule,
+        scheduled,
+        parms,
+        ..
+    } = setup;
+    let starts = places_of(alloc, begins)?;
+    let guard = text_pages(&storage, &starts);
+    Ok(Parts {
+        storage,
+        guard,
+        starts,
+        cpus,
+        shows,
+        schedule,
+        scheduled,
+        parms,
+    })
+}
+
+fn whole_fault(kind: Kind) -> AssembleFault
+    ensures { result ≡ AssembleFault.Listing (fault_at 0 kind) }
+{
+    AssembleFault::Listing(ListingFault {
+        line: 0,
+        kind: kind.number(),
+    })
+}
+
+/// The image that lines in capitals stand for, or the first fault.
+fn over_lines(alloc: Global, lines: &[&[u8]]) -> Result<Parts, AssembleFault>
+    ensures { IsOutcome result (over_lines (map (λ l. l.now) lines.now)) }
+{
+    if MOST_LINES < lines.len() {
+        return Err(whole_fault(Kind::TooManyLines));
+    }
+    let mut draft = blank(alloc)?;
+    first_over(alloc, &mut draft, lines)?;
+    let Draft {
+        labels,
+        storage,
+        begins,
+        cpus,
+        works,
+        ..
+    } = draft;
+    let mut setup = ready(alloc, storage, cpus)?;
+    second_over(alloc, &mut setup, &labels, &works)?;
+    if cpus == 0 {
+        return Err(whole_fault(Kind::NoCpu));
+    }
+    Ok(image(alloc, &begins, setup)?)
+}
+
+#[tactic(auto, unfolding(crate::specs::Whole::assembled, crate::specs::Text::lines_of))]
+fn assembled(alloc: Global, text: &[u8]) -> Result<Parts, AssembleFault>
+    ensures { IsOutcome result (assembled text.now) }
+{
+    if MOST_BYTES < text.len() {
+        return Err(whole_fault(Kind::ListingTooLong));
+    }
+    let capitals = text.to_ascii_uppercase(alloc)?;
+    let lines = pieces_by(alloc, b'\n', &capitals)?;
+    over_lines(alloc, &lines)
+}
+
+/// The image that the text of a listing stands for, or the first fault of the text, in the order of the tests.
+pub fn assemble(alloc: Global, text: &[u8]) -> Result<Parts, AssembleFault>
+    ensures image { IfOk result (λ image. Stands text.now image) }
+    ensures fault { IfErr result (λ e. HasFault text.now e) }
+{
+    assembled(alloc, text)
+}
