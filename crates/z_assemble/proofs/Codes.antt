@@ -1,11 +1,10 @@
 -- What the second reading writes: the code of each instruction, which later lines leave.
-use Rattle.std.proofs.Common.{◌≡◌, ◌≢◌, ℕ, zero, suc, ℤ, pos, negsuc, ◌+◌, ◌-◌, ◌<◌, ◌≤◌, Bool, true, false, not, List, [], ◌∷◌, ◌++◌, length, get_or, take, drop, Option, Some, None, Result, Ok, Err, refl, sym, ap, ◌∙◌, subst, arith, inl, inr}
+use Rattle.std.proofs.Common.{◌≡◌, ℕ, suc, ◌+◌, ◌<◌, Bool, true, not, List, [], ◌∷◌, length, get_or, drop, Option, Some, None, Ok, Err, refl, sym, ap, ◌∙◌, subst, arith}
 use Rattle.std.specs.Prelude.{All, AllPairs, if◌then◌else◌}
-use Rattle.std.specs.List.{list_any, Contains}
-use Rattle.std.proofs.lemmas.Bool.{cases_lt}
+use Rattle.std.specs.List.{list_any}
 use Rattle.std.proofs.lemmas.List.Elements.{All-cons, All-head, All-tail, All-nil}
 use Rattle.z_instr.proofs.Within.{below_sixteen}
-use Rattle.z_instr.specs.Layout.{format_length, length_by}
+use Rattle.z_instr.specs.Layout.{format_length}
 use Rattle.z_instr.specs.Ranges.{limits_of}
 use Rattle.z_instr.specs.Reading.{Reads}
 use Rattle.z_instr.specs.Table.{Entry, entry_at}
@@ -15,23 +14,21 @@ use Rattle.z_instr.specs.declared.instr.Fields.{Fields}
 use Rattle.z_instr.specs.declared.instr.Instr.{Instr}
 use Rattle.z_instr.specs.declared.table.TheConstants.{ROWS}
 use Rattle.z_text.specs.declared.token.Token.{Token}
-use Rattle.z_assemble.specs.Chain.{◌>>=◌}
 use Rattle.z_assemble.specs.Code.{code_in, code_of, code_for}
-use Rattle.z_assemble.specs.Listing.{Task, is_below, to_nat, operands_in, operation_in, field_behind, heads_in}
-use Rattle.z_assemble.specs.Machine.{Machine, Known, change_at, with_address, with_general, with_prefix, entry_line, register_line, show, shown, show_line, block_line, parameter_line, prefix_line, schedule_line, code_line, named_parameter, parameter_in, directive_line, read_again, task_gives, tokens_in, operands_for, end_of}
+use Rattle.z_assemble.specs.Listing.{Task, operands_in, operation_in, field_behind, heads_in}
+use Rattle.z_assemble.specs.Machine.{Machine, Known, entry_line, register_line, shown, show_line, block_line, parameter_line, prefix_line, schedule_line, code_line, named_parameter, parameter_in, directive_line, read_again, task_gives, tokens_in, operands_for, end_of}
 use Rattle.z_assemble.specs.Operands.{instruction_in, has_form, slots_for, lacks_value, allowed, are_allowed, fields_from, fields_for}
 use Rattle.z_assemble.specs.Operations.{size_of_row}
 use Rattle.z_assemble.specs.Schedule.{scheduled}
 use Rattle.z_assemble.specs.Text.{write_at}
 use Rattle.z_assemble.specs.Values.{one_in, two_in, three_in}
 use Rattle.z_assemble.specs.Whole.{Second}
-use Rattle.z_assemble.specs.declared.fault.Kind.{Kind}
 use Rattle.z_assemble.specs.declared.fault.Kind.TheVariants.{OutOfRange, BadDirective, WrongOperands, UnknownLabel}
 use Rattle.z_assemble.specs.declared.operand.Operand.{Operand}
 use Rattle.z_assemble.specs.declared.operation.Operation.{Operation}
 use Rattle.z_assemble.specs.declared.operation.Operation.TheVariants as operations
 use Rattle.z_assemble.specs.declared.parameter.Parameter.{Parameter}
-use Rattle.z_assemble.proofs.Over.{HasRoom, write_size, write_other, write_inside}
+use Rattle.z_assemble.proofs.Over.{write_size, write_other, write_inside}
 use Rattle.z_assemble.proofs.Passed.{then_ok, where_ok, unless_ok, same_ok, is_true}
 use Rattle.z_assemble.proofs.Plans.{Places, PlacesAt, AreApart, IsWithin, IsInTable, IsInRoom}
 use Rattle.z_assemble.proofs.Spelled.{plain_code}
@@ -71,8 +68,23 @@ is_code row f known a =
     let b = below_sixteen (limits_of e) e f.r1 f.r2 f.r3 f.x f.b f.d f.b2 f.d2 f.imm f.mask refl a in
     let i : Instr = record {
       op = record { number = row; known = known };
-      r1 = f.r1; r2 = f.r2; r3 = f.r3; x = f.x; b = f.b; d = f.d; b2 = f.b2; d2 = f.d2; imm = f.imm; mask = f.mask;
-      r1_in = b.r1_in; r2_in = b.r2_in; r3_in = b.r3_in; x_in = b.x_in; b_in = b.b_in; b2_in = b.b2_in; mask_in = b.mask_in;
+      r1 = f.r1;
+      r2 = f.r2;
+      r3 = f.r3;
+      x = f.x;
+      b = f.b;
+      d = f.d;
+      b2 = f.b2;
+      d2 = f.d2;
+      imm = f.imm;
+      mask = f.mask;
+      r1_in = b.r1_in;
+      r2_in = b.r2_in;
+      r3_in = b.r3_in;
+      x_in = b.x_in;
+      b_in = b.b_in;
+      b2_in = b.b2_in;
+      mask_in = b.mask_in;
       shaped = is_true _ a;
     } in
     record { instr = i; reads = sym (plain_code e.format e.opcode i); size = size_in e.format e.opcode f }
@@ -233,7 +245,7 @@ coded k (t ∷ ts) m q h w a s =
     let size = step_size t.here t.operation m h.0 inside.room writes s in
     let rest = All-tail IsWithin t ts w in
     let same : (x : ℕ) → Places t x → get_or q.storage x 0 ≡ get_or h.0.storage x 0 =
-        λ x p. stays k ts h.0 q h.2 rest size x (λ j d l u. a 0 (suc j) d (omega arith) (omega arith) x p u) in
+    λ x p. stays k ts h.0 q h.2 rest size x (λ j d l u. a 0 (suc j) d (omega arith) (omega arith) x p u) in
     All-cons (IsCoded q.storage) t ts
     (code_stays t.here t.operation h.0.storage q.storage same (step_codes t.here t.operation m h.0 inside.room writes s))
     (coded k ts h.0 q h.2 rest (λ i j d l g. a (suc i) (suc j) d (omega arith) (omega arith)) size)

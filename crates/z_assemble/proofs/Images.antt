@@ -1,27 +1,23 @@
 -- What a text stands for is an image.
-use Rattle.std.proofs.Common.{◌≡◌, ◌≢◌, ℕ, zero, suc, ◌+◌, ◌-◌, ◌*◌, ◌/◌, ◌%◌, ◌<◌, ◌≤◌, Bool, true, false, List, [], ◌∷◌, length, get_or, replicate, Option, Some, None, refl, sym, ap, ◌∙◌, subst, arith, inl, inr, ◌⊎◌, ◌==◌, lit≤, lit<, eq-eqb, lt-ltb}
-use Rattle.std.specs.Prelude.{All, AllPairs, IsTrue, ◌↔◌, slice_index}
-use Rattle.std.specs.FinSet.{FinSet, contains, empty}
-use Rattle.std.specs.List.{list_any}
-use Rattle.std.specs.Ordering.{nat_cmp}
-use Rattle.std.proofs.lemmas.Bool.{false≢true, and_parts, eqb-true, leb-true}
+use Rattle.std.proofs.Common.{◌≡◌, ◌≢◌, ℕ, ◌+◌, ◌/◌, ◌%◌, ◌<◌, ◌≤◌, Bool, true, false, List, length, get_or, replicate, Some, None, refl, sym, ap, ◌∙◌, subst, arith, inl, inr, ◌==◌, lit≤, lit<, eq-eqb}
+use Rattle.std.specs.Prelude.{All, IsTrue, ◌↔◌}
+use Rattle.std.specs.FinSet.{contains, empty}
+use Rattle.std.proofs.lemmas.Bool.{false≢true, and_parts, eqb-true}
 use Rattle.std.proofs.lemmas.List.{length-replicate}
 use Rattle.std.proofs.lemmas.List.Elements.{All-nil, All-replicate, All-from_get_or, All-weaker}
 use Rattle.z_regs.specs.Cpu.{Cpu, started}
 use Rattle.z_regs.specs.Prefix.{is_prefix}
 use Rattle.tx_journal.specs.Content.{Content}
-use Rattle.tx_journal.specs.Image.{IsImage, IsStarting, AreApart, IsShown, HasReading, HoldsText, HasFreeArea, IsInArea, length_at}
+use Rattle.tx_journal.specs.Image.{IsImage, IsStarting, AreApart, IsShown, HasReading, HoldsText, HasFreeArea, length_at, cpu_of_event}
 use Rattle.tx_ladder.specs.Parameters.{IsAllowed, usual}
 use Rattle.z_assemble.specs.Listing.{Plan, Task}
-use Rattle.z_assemble.specs.Machine.{Machine, Known, task_places_in}
-use Rattle.z_assemble.specs.Operations.{size_of_row}
+use Rattle.z_assemble.specs.Machine.{Machine}
 use Rattle.z_assemble.specs.Text.{lines_of}
-use Rattle.z_assemble.specs.Whole.{Stands, ready, ready_for, known_in, image_of, places_from, pages_with, blank, Second}
+use Rattle.z_assemble.specs.Whole.{Stands, ready, ready_for, known_in, image_of, places_from, pages_with, Second}
 use Rattle.z_assemble.specs.declared.operation.Operation.{Operation}
 use Rattle.z_assemble.specs.declared.operation.Operation.TheVariants as operations
 use Rattle.z_assemble.proofs.Codes.{IsCoded, coded, stays, keeps_size}
-use Rattle.z_assemble.proofs.Machines.{IsMachine, AreSound, AreShown, AreEvents, IsClear, all_keep}
-use Rattle.z_assemble.proofs.Plans as plans
+use Rattle.z_assemble.proofs.Machines.{IsMachine, IsClear, all_keep}
 use Rattle.z_assemble.proofs.Plans.{IsPlan, IsWithin, IsInRoom, Places, PlacesAt, first_fits}
 use Rattle.z_assemble.proofs.Texts.{IsText, begun_text, starts_rise, start_marked, page_there, page_from, none_empty}
 
@@ -104,9 +100,10 @@ text_of p m r i h = begun_text m.storage p.tasks (get_or (places_from 0 p.begins
 held : (p : Plan) (m : Machine) → AreRead p m → (page : ℕ) →
     IsTrue (contains (pages_with m.storage (places_from 0 p.begins) empty) page) ↔ HoldsText m.storage (places_from 0 p.begins) page
 held p m r page =
-    let starts = places_from 0 p.begins in
-    (λ h. elim (page_from m.storage starts empty page h) [ inl e ↦ absurd (none_empty page e) | inr t ↦ t ],
-    λ t. page_there m.storage starts empty page (λ i l. (text_of p m r i l).high) t.index t.within t.byte)
+    let starts = places_from 0 p.begins in (
+      λ h. elim (page_from m.storage starts empty page h) [ inl e ↦ absurd (none_empty page e) | inr t ↦ t ],
+      λ t. page_there m.storage starts empty page (λ i l. (text_of p m r i l).high) t.index t.within t.byte,
+    )
 
 -- ---- areas
 
@@ -159,7 +156,7 @@ image_holds p m some r =
       few_shows = r.machine.shows.count;
       few_shown = r.machine.shows.bytes;
       few_events = r.machine.events.few;
-      known = λ i d l. subst (λ n. Rattle.tx_journal.specs.Image.cpu_of_event (get_or m.schedule i d) < n) (sym count) (r.machine.events.known i d l);
+      known = λ i d l. subst (λ n. cpu_of_event (get_or m.schedule i d) < n) (sym count) (r.machine.events.known i d l);
       allowed = r.machine.allowed;
     }
 

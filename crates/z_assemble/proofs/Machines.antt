@@ -1,30 +1,26 @@
 -- What each line of the second reading keeps of the machine: its CPUs, what is shown, its events and its numbers.
-use Rattle.std.proofs.Common.{◌≡◌, ◌≢◌, ℕ, zero, suc, ℤ, pos, negsuc, ◌+◌, ◌<◌, ◌≤◌, Bool, true, false, not, ◌&&◌, List, [], ◌∷◌, ◌++◌, length, get_or, replicate, Option, Some, None, Result, Ok, Err, refl, sym, ap, ◌∙◌, subst, arith, nat_lt, nat_le, ◌==◌}
-use Rattle.std.specs.Prelude.{All, AllPairs, IsTrue, sum_by, is_none}
+use Rattle.std.proofs.Common.{◌≡◌, ◌≢◌, ℕ, zero, suc, ℤ, pos, negsuc, ◌+◌, ◌<◌, ◌≤◌, Bool, true, false, List, [], ◌∷◌, ◌++◌, length, get_or, drop, replicate, Option, Some, None, Ok, refl, sym, ap, ◌∙◌, subst, arith, ◌==◌, eq-eqb}
+use Rattle.std.specs.Prelude.{All, AllPairs, sum_by}
 use Rattle.std.specs.List.{list_any}
 use Rattle.std.proofs.lemmas.Bool.{and_parts, ltb-true, leb-true, eqb-true, false≢true}
-use Rattle.std.proofs.lemmas.List.Elements.{All-cons, All-head, All-tail, All-nil, All-push, All-append, All-replicate}
+use Rattle.std.proofs.lemmas.List.Elements.{All-cons, All-head, All-tail, All-push, All-append, All-replicate}
 use Rattle.std.proofs.lemmas.List.Sums.{sum_by-append}
 use Rattle.std.proofs.lemmas.List.Folds.{list_any_at}
 use Rattle.std.proofs.lemmas.Grind.{common_steps}
-use Rattle.z_regs.specs.Cpu.{Cpu, started}
-use Rattle.z_regs.specs.Prefix.{is_prefix}
+use Rattle.z_regs.specs.Cpu.{Cpu}
 use Rattle.z_instr.specs.Reading.{modulo}
 use Rattle.tx_journal.specs.Image.{IsStarting, AreApart, IsShown, cpu_of_event}
 use Rattle.tx_journal.specs.declared.events.Event.{Event}
-use Rattle.tx_journal.specs.declared.events.Event.TheVariants.{Turn, External}
 use Rattle.tx_journal.specs.declared.image.Show.{Show}
 use Rattle.tx_ladder.specs.Parameters.{Parameters, IsAllowed}
-use Rattle.z_assemble.specs.Chain.{◌>>=◌}
 use Rattle.z_assemble.specs.Code.{code_for}
 use Rattle.z_instr.specs.Table.{entry_at}
-use Rattle.z_assemble.specs.Listing.{Task, is_below, is_doubleword, to_nat, field_behind, operation_in, operands_in, heads_in}
-use Rattle.z_assemble.specs.Machine.{Machine, Known, change_at, with_address, with_general, with_prefix, entry_line, register_line, is_register_value, size_of_show, is_accessible, has_room_for, show, shown, show_line, block_line, parameter_line, is_between, is_choice, with_parameter, is_area, has_prefix, is_free, task_places_in, is_prefix_for, prefix_line, schedule_line, code_line, named_parameter, parameter_in, directive_line, read_again, task_gives, tokens_in, operands_for, end_of}
+use Rattle.z_assemble.specs.Listing.{Task, is_below, to_nat, field_behind, operation_in, operands_in, heads_in}
+use Rattle.z_assemble.specs.Machine.{Machine, Known, change_at, with_address, with_general, with_prefix, entry_line, register_line, size_of_show, is_accessible, has_room_for, show, shown, show_line, block_line, parameter_line, is_between, is_choice, with_parameter, is_area, has_prefix, is_same_prefix, task_places_in, prefix_line, schedule_line, code_line, named_parameter, parameter_in, directive_line, read_again, task_gives, tokens_in, operands_for, end_of}
 use Rattle.z_assemble.specs.Schedule.{event_of, with_run, with_item, with_items, scheduled, run_of}
 use Rattle.z_assemble.specs.Text.{shortened, pieces_by}
 use Rattle.z_assemble.specs.Values.{one_in, two_in, three_in}
 use Rattle.z_assemble.specs.Whole.{Second}
-use Rattle.z_assemble.specs.declared.fault.Kind.{Kind}
 use Rattle.z_assemble.specs.declared.fault.Kind.TheVariants.{OutOfRange, BadDirective, WrongOperands, BadSchedule}
 use Rattle.z_assemble.specs.declared.operand.Operand.{Operand}
 use Rattle.z_assemble.specs.declared.operation.Operation.{Operation}
@@ -102,10 +98,7 @@ prefixed (pos a) c h s = record { address = s.address; runs = s.runs; code = s.c
 prefixed (negsuc a) c h s = absurd (cc)
 
 same_number : (n : ℕ) (o : Option ℕ) → o ≡ Some n → (c : Cpu) → c.prefix ≡ o → has_prefix n c ≡ true
-same_number n o e c h = subst (λ q. Rattle.z_assemble.specs.Machine.is_same_prefix n q ≡ true) (sym (h ∙ e)) (eqb-same n)
-  where
-    eqb-same : (n : ℕ) → (n == n) ≡ true
-    eqb-same n = Rattle.std.proofs.Common.eq-eqb n n refl
+same_number n o e c h = subst (λ q. is_same_prefix n q ≡ true) (sym (h ∙ e)) (eq-eqb n n refl)
 
 nobody_has : (n : ℕ) (cpus : List Cpu) (k : ℕ) (d : Cpu) → list_any (has_prefix n) cpus ≡ false → k < length cpus → (get_or cpus k d).prefix ≡ Some n → ⊥
 nobody_has n cpus k d h l e =
@@ -121,7 +114,7 @@ cases_at k i {C} same other = by (k == i) refl
   where
     by : (b : Bool) → (k == i) ≡ b → C
     by true e = same (eqb-true k i e)
-    by false e = other (λ s. false≢true (sym e ∙ Rattle.std.proofs.Common.eq-eqb k i s))
+    by false e = other (λ s. false≢true (sym e ∙ eq-eqb k i s))
 
 taken_prefix : (n i : ℕ) (cpus : List Cpu) → list_any (has_prefix n) cpus ≡ false → AllPairs AreApart cpus → AllPairs AreApart (change_at i (with_prefix n) cpus)
 taken_prefix n i cpus none apart a b d o l p x y =
@@ -130,14 +123,14 @@ taken_prefix n i cpus none apart a b d o l p x y =
     let la : a < length cpus = omega arith in
     cases_at a i
     (λ at. let nb : b ≢ i = omega arith in
-        let li : i < length cpus = subst (λ q. q < length cpus) at la in
-        let mine : Some n ≡ Some p = sym (ap (λ c. c.prefix) (ap (λ q. get_or (change_at i f cpus) q d) at ∙ change_same i f cpus d li)) ∙ x in
-        nobody_has n cpus b d none lb (sym (ap (λ c. c.prefix) (change_other i f cpus b d nb)) ∙ y ∙ sym mine))
+    let li : i < length cpus = subst (λ q. q < length cpus) at la in
+    let mine : Some n ≡ Some p = sym (ap (λ c. c.prefix) (ap (λ q. get_or (change_at i f cpus) q d) at ∙ change_same i f cpus d li)) ∙ x in
+    nobody_has n cpus b d none lb (sym (ap (λ c. c.prefix) (change_other i f cpus b d nb)) ∙ y ∙ sym mine))
     (λ na. cases_at b i
-        (λ at. let li : i < length cpus = subst (λ q. q < length cpus) at lb in
-            let other : Some n ≡ Some p = sym (ap (λ c. c.prefix) (ap (λ q. get_or (change_at i f cpus) q d) at ∙ change_same i f cpus d li)) ∙ y in
-            nobody_has n cpus a d none la (sym (ap (λ c. c.prefix) (change_other i f cpus a d na)) ∙ x ∙ sym other))
-        (λ nb. apart a b d o lb p (sym (ap (λ c. c.prefix) (change_other i f cpus a d na)) ∙ x) (sym (ap (λ c. c.prefix) (change_other i f cpus b d nb)) ∙ y)))
+    (λ at. let li : i < length cpus = subst (λ q. q < length cpus) at lb in
+    let other : Some n ≡ Some p = sym (ap (λ c. c.prefix) (ap (λ q. get_or (change_at i f cpus) q d) at ∙ change_same i f cpus d li)) ∙ y in
+    nobody_has n cpus a d none la (sym (ap (λ c. c.prefix) (change_other i f cpus a d na)) ∙ x ∙ sym other))
+    (λ nb. apart a b d o lb p (sym (ap (λ c. c.prefix) (change_other i f cpus a d na)) ∙ x) (sym (ap (λ c. c.prefix) (change_other i f cpus b d nb)) ∙ y)))
 
 with_area : (tasks : List Task) (n i : ℕ) (v : ℤ) (cpus : List Cpu) → is_area v ≡ true → list_any (has_prefix (to_nat v)) cpus ≡ false → list_any (task_places_in (to_nat v)) tasks ≡ false →
     AreSound tasks n cpus → AreSound tasks n (change_at i (with_prefix (to_nat v)) cpus)
@@ -311,7 +304,7 @@ unfolding schedule_line scheduled
 schedule_keeps tasks n field m r e i =
     let t = then_ok (scheduled (length m.cpus) field m.schedule) _ r e in
     let all : AreEvents n t.0 =
-        items_keep n (pieces_by 44 (field ++ 44 ∷ [])) m.schedule t.0 (ap (λ q. with_items q (pieces_by 44 (field ++ 44 ∷ [])) m.schedule) (sym i.cpus.count_is) ∙ t.1) i.events in
+    items_keep n (pieces_by 44 (field ++ 44 ∷ [])) m.schedule t.0 (ap (λ q. with_items q (pieces_by 44 (field ++ 44 ∷ [])) m.schedule) (sym i.cpus.count_is) ∙ t.1) i.events in
     subst (IsMachine tasks n) (same_ok _ r t.2) (record { cpus = i.cpus; shows = i.shows; events = all; allowed = i.allowed })
 
 code_keeps : (tasks : List Task) (n row : ℕ) (mask : Option ℕ) (here : ℕ) (os : List Operand) (m r : Machine) → code_line row mask here os m ≡ Ok r → IsMachine tasks n m → IsMachine tasks n r
@@ -339,7 +332,7 @@ unfolding read_again
 read_keeps (operations.Instruction row mask) k n t ts m r e i =
     let g = then_ok (operands_for WrongOperands k t (operands_in ts)) _ r e in code_keeps k.tasks n row mask t.here g.0 m r g.2 i
 read_keeps operations.Sched k n t ts m r e i = schedule_keeps k.tasks n (field_behind (end_of (operation_in ts)) t.text) m r e i
-read_keeps operations.Parm k n t ts m r e i = named_keeps (parameter_in t.text (operands_in ts)) k n t (Rattle.std.proofs.Common.drop (heads_in ts + 2) ts) m r e i
+read_keeps operations.Parm k n t ts m r e i = named_keeps (parameter_in t.text (operands_in ts)) k n t (drop (heads_in ts + 2) ts) m r e i
 read_keeps op k n t ts m r e i =
     let g = then_ok (operands_for BadDirective k t (operands_in ts)) _ r e in directive_keeps op k n g.0 m r g.2 i
 

@@ -1,7 +1,7 @@
 -- A list that is written over another, element by element.
-use Rattle.std.proofs.Common.{◌≡◌, ℕ, zero, suc, ◌+◌, ◌-◌, ◌<◌, ◌≤◌, List, [], ◌∷◌, ◌++◌, length, get_or, take, drop, replicate, refl, sym, ap, ◌∙◌, subst, arith, inl, inr}
+use Rattle.std.proofs.Common.{◌≡◌, ℕ, zero, suc, ◌+◌, ◌-◌, ◌<◌, ◌≤◌, List, [], ◌∷◌, ◌++◌, length, get_or, take, drop, replicate, refl, ap, ◌∙◌, arith, inl, inr}
 use Rattle.std.proofs.lemmas.List.{length-take-le, length-drop, length-append, get_or-take, get_or-drop, take-append-drop, length-replicate}
-use Rattle.std.proofs.lemmas.Grind.{common_steps}
+use Rattle.std.proofs.lemmas.Bool.{cases_lt}
 use Rattle.z_assemble.specs.Text.{write_at, copies}
 
 -- ---- elements of two lists together
@@ -64,11 +64,13 @@ pub write_other : {X : Type 0} (at : ℕ) (new old : List X) (k : ℕ) (d : X) �
 write_other at [] old k d h o = ap (λ q. get_or q k d) (written_none at old)
 write_other {X} at (x ∷ xs) old k d h o =
     let f : at + length (x ∷ xs) ≤ length old = h (omega arith) in
-    elim (Rattle.std.proofs.lemmas.Bool.cases_lt k at) [
-      inl l ↦ write_before at (x ∷ xs) old k d (omega arith) l
-    | inr g ↦ elim (Rattle.std.proofs.lemmas.Bool.cases_lt k (at + length (x ∷ xs))) [
-        inl l ↦ absurd (o g l)
-      | inr b ↦ write_behind at (x ∷ xs) old k d (omega arith) b ] ]
+    elim (cases_lt k at) [
+      | inl l ↦ write_before at (x ∷ xs) old k d (omega arith) l
+      | inr g ↦ elim (cases_lt k (at + length (x ∷ xs))) [
+        | inl l ↦ absurd (o g l)
+        | inr b ↦ write_behind at (x ∷ xs) old k d (omega arith) b
+      ]
+    ]
 
 -- ---- copies
 

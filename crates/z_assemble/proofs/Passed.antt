@@ -1,5 +1,5 @@
 -- What a test that was passed says.
-use Rattle.std.proofs.Common.{◌≡◌, ℕ, Bool, true, false, not, ◌&&◌, IsTrue, Result, Ok, Err, refl, sym, subst, cond}
+use Rattle.std.proofs.Common.{◌≡◌, Bool, true, false, not, IsTrue, Result, Ok, Err, refl}
 use Rattle.std.specs.Prelude.{if◌then◌else◌}
 use Rattle.z_assemble.specs.Chain.{◌>>=◌}
 use Rattle.z_assemble.specs.declared.fault.Kind.{Kind}

@@ -1,29 +1,28 @@
 -- What each line of the first reading keeps of the plan: instructions stand apart in accessible storage, and their places are marked.
-use Rattle.std.proofs.Common.{◌≡◌, ◌≢◌, ℕ, zero, suc, ℤ, pos, negsuc, ◌+◌, ◌-◌, ◌<◌, ◌≤◌, ◌%◌, Bool, true, false, not, ◌&&◌, ◌||◌, cond, List, [], ◌∷◌, ◌++◌, length, get_or, take, drop, Option, Some, None, Result, Ok, Err, refl, sym, ap, ◌∙◌, subst, arith, nat_lt, nat_le, ◌==◌, inl, inr, eq-eqb, le-ltb, lt-ltb}
+use Rattle.std.proofs.Common.{◌≡◌, ℕ, zero, suc, pos, ◌+◌, ◌-◌, ◌<◌, ◌≤◌, ◌%◌, Bool, true, false, not, ◌&&◌, List, [], ◌∷◌, length, get_or, drop, Option, Some, None, Result, Ok, Err, refl, sym, ap, ◌∙◌, subst, arith, nat_lt, nat_le, ◌==◌, inl, inr, lt-ltb, lit≤}
 use Rattle.std.specs.Prelude.{All, AllPairs, if◌then◌else◌, codes}
 use Rattle.std.proofs.Math.ListN.{set}
-use Rattle.std.specs.List.{list_any, Contains}
+use Rattle.std.specs.List.{Contains}
 use Rattle.std.specs.Str.{bytes_eq}
-use Rattle.std.proofs.lemmas.Bool.{and_parts, ltb-true, leb-true, eqb-true, false≢true, cases_Bool, cases_lt, cases_eq, or_cases}
+use Rattle.std.proofs.lemmas.Bool.{and_parts, ltb-true, leb-true, false≢true, cases_lt, cases_eq, or_cases}
 use Rattle.std.proofs.lemmas.List.{get_or-set_other, length-set, get_or-take, get_or-drop}
-use Rattle.std.proofs.lemmas.List.Elements.{All-cons, All-head, All-tail, All-nil, All-push, All-weaker, Contains-append_left, Contains-push}
+use Rattle.std.proofs.lemmas.List.Elements.{All-nil, All-push, All-weaker, Contains-append_left, Contains-push}
 use Rattle.std.proofs.lemmas.List.Quantifiers.{all_pairs_push}
 use Rattle.std.proofs.lemmas.List.Folds.{list_any_at}
-use Rattle.std.proofs.lemmas.Grind.{common_steps}
 use Rattle.z_instr.proofs.TableFacts.{same_table}
 use Rattle.z_instr.specs.Layout.{format_length}
 use Rattle.z_instr.specs.Table.{Entry, table, entry_at}
 use Rattle.z_instr.specs.declared.format.Format.{Format}
-use Rattle.z_instr.specs.declared.format.Format.TheVariants.{RR, I, RX, RRE, RRFa, RRFc, RXY, RI, RIL, RS, RSY, SI, SIY, SIL, S, SS, RIEb, RIEc}
+use Rattle.z_instr.specs.declared.format.Format.TheVariants.{RR, I}
 use Rattle.z_instr.specs.declared.table.TheConstants.{ROWS}
 use Rattle.z_assemble.specs.Chain.{◌>>=◌}
 use Rattle.z_assemble.specs.Data.{data_of}
-use Rattle.z_assemble.specs.Listing.{Plan, Task, labelled, has_room, is_taken, placed, tasked, value_on, org_line, equ_line, ds_line, written, dc_line, started, instruction_line, cpu_line, end_line, operation_line, known_line, named_line, said_line, line_gives, is_below, is_doubleword, to_nat, by_kind, operation_in, is_bad_label, is_defined, is_nil, label_in, operands_in, field_behind}
+use Rattle.z_assemble.specs.Listing.{Plan, Task, labelled, has_room, is_taken, placed, tasked, value_on, org_line, equ_line, ds_line, written, dc_line, started, instruction_line, cpu_line, end_line, operation_line, named_line, said_line, line_gives, is_below, to_nat, by_kind, operation_in, is_bad_label, is_defined, label_in, operands_in, field_behind}
 use Rattle.z_assemble.specs.Operations.{operation_named, directive_named, branch_mask, row_named, row_from, instruction, extended, or_else, size_of_row}
 use Rattle.z_assemble.specs.Text.{write_at, cut, copies, without_end}
 use Rattle.z_assemble.specs.Whole.{First, blank}
 use Rattle.z_assemble.specs.declared.fault.Kind.{Kind}
-use Rattle.z_assemble.specs.declared.fault.Kind.TheVariants.{OutOfRange, Overlap, BadDirective, DoubleLabel, UnknownMnemonic}
+use Rattle.z_assemble.specs.declared.fault.Kind.TheVariants.{OutOfRange, Overlap, BadDirective, DoubleLabel}
 use Rattle.z_assemble.specs.declared.operation.Operation.{Operation}
 use Rattle.z_assemble.specs.declared.operation.Operation.TheVariants.{Instruction, Org, Equ, Ds, Dc, Cpu, Reg, Show, Tdb, Sched, Parm, Prefix, End}
 use Rattle.z_text.specs.Line.{span}
@@ -102,8 +101,9 @@ pub record HasPlaced (n : ℕ) (p q : Plan) : Type 0 where
 room_of : (n here : ℕ) → has_room n here ≡ true → 0 < n → (8192 ≤ here) × (here + n ≤ 1048576)
 room_of n here h some =
     elim (or_cases (not (nat_lt 0 n)) (nat_le 8192 here && nat_le (here + n) 1048576) h) [
-      inl e ↦ absurd (false≢true (sym (not_true _ e) ∙ lt-ltb 0 n some))
-    | inr e ↦ let p = and_parts _ _ e in (leb-true _ _ p.0, leb-true _ _ p.1) ]
+      | inl e ↦ absurd (false≢true (sym (not_true _ e) ∙ lt-ltb 0 n some))
+      | inr e ↦ let p = and_parts _ _ e in (leb-true _ _ p.0, leb-true _ _ p.1)
+    ]
 
 in_list : (xs : List Bool) (j : ℕ) → get_or xs j false ≡ true → j < length xs
 in_list [] j e = absurd (false≢true e)
@@ -120,7 +120,7 @@ free_of from n taken e k l h =
     let m : ℕ = from + n - from in
     let s : from + j ≡ k = omega arith in
     let part : get_or (cut from (from + n) taken) j false ≡ get_or taken k false =
-        get_or-take m (drop from taken) j false (omega arith) ∙ get_or-drop from taken j false ∙ ap (λ q. get_or taken q false) s in
+    get_or-take m (drop from taken) j false (omega arith) ∙ get_or-drop from taken j false ∙ ap (λ q. get_or taken q false) s in
     not_marked (get_or taken k false) (λ t.
     let here : get_or (cut from (from + n) taken) j false ≡ true = part ∙ t in
     false≢true (sym e ∙ list_any_at (λ b. b) (cut from (from + n) taken) j false (in_list (cut from (from + n) taken) j here) here))
@@ -160,10 +160,12 @@ mark_stays : (here n : ℕ) (taken : List Bool) → HasRoom here (copies n true)
 mark_stays here n taken room k e =
     let s : length (copies n true) ≡ n = copies_size n true in
     elim (cases_lt k here) [
-      inl l ↦ write_other here (copies n true) taken k false room (λ a b. absurd (omega arith)) ∙ e
-    | inr g ↦ elim (cases_lt k (here + n)) [
-        inl l ↦ mark_sets here n taken room k g l
-      | inr b ↦ write_other here (copies n true) taken k false room (λ a c. absurd (omega arith)) ∙ e ] ]
+      | inl l ↦ write_other here (copies n true) taken k false room (λ a b. absurd (omega arith)) ∙ e
+      | inr g ↦ elim (cases_lt k (here + n)) [
+        | inl l ↦ mark_sets here n taken room k g l
+        | inr b ↦ write_other here (copies n true) taken k false room (λ a c. absurd (omega arith)) ∙ e
+      ]
+    ]
 
 -- ---- lines that place bytes
 
@@ -215,7 +217,7 @@ begin_fits n row mask line p q known h i =
     let some : 0 < size_of_row row = some_size (entry_at row).format in
     let room = mark_room p.here (size_of_row row) p.taken i.taken_size h.room in
     let mine : IsTaken q.taken t =
-        λ k at. subst (λ (x : Plan). get_or x.taken k false ≡ true) h.is (mark_sets p.here (size_of_row row) p.taken room k at.0 at.1) in
+    λ k at. subst (λ (x : Plan). get_or x.taken k false ≡ true) h.is (mark_sets p.here (size_of_row row) p.taken room k at.0 at.1) in
     let tasks : q.tasks ≡ p.tasks = sym (ap (λ (x : Plan). x.tasks) h.is) in
     record {
       size = j.size;
@@ -229,9 +231,10 @@ begin_fits n row mask line p q known h i =
           let was : get_or p.taken x false ≡ true = subst (λ ts. All (IsTaken p.taken) ts) (sym tasks) i.taken_all k d l x old in
           false≢true (sym (h.free x new.0 new.1) ∙ was));
       marks = λ k e. elim (cases_eq k p.here) [
-        inl s ↦ record { task = t; among = Contains-push q.tasks t; begins = sym s }
-      | inr o ↦ let b = j.marks k (sym (get_or-set_other q.begins p.here k true false o) ∙ e) in
-          record { task = b.task; among = Contains-append_left q.tasks (t ∷ []) b.task b.among; begins = b.begins } ];
+        | inl s ↦ record { task = t; among = Contains-push q.tasks t; begins = sym s }
+        | inr o ↦ let b = j.marks k (sym (get_or-set_other q.begins p.here k true false o) ∙ e) in
+            record { task = b.task; among = Contains-append_left q.tasks (t ∷ []) b.task b.among; begins = b.begins }
+      ];
     }
 
 instruction_fits : (n row : ℕ) (mask : Option ℕ) (label line : List ℕ) (p q : Plan) → row < ROWS → instruction_line n label line row mask p ≡ Ok q → IsPlan p → IsPlan q
@@ -240,7 +243,8 @@ instruction_fits n row mask label line p q known e i =
     let l = labelled label (pos p.here) p in
     let size = size_of_row row in
     let t = then_ok (started size l) (λ r. Ok (tasked n p.here line (Instruction row mask) r)) q e in
-    let u = unless_ok (p.here % 2 == 1) _ t.0 OutOfRange t.1 in
+    let rest : Result Plan Kind = placed size l >>= λ r. Ok (record r { begins = set r.begins p.here true }) in
+    let u = unless_ok (p.here % 2 == 1) rest t.0 OutOfRange t.1 in
     let v = then_ok (placed size l) (λ r. Ok (record r { begins = set r.begins p.here true })) t.0 u.1 in
     let h = place_holds size l v.0 v.1 in
     subst IsPlan (ap (tasked n p.here line (Instruction row mask)) (same_ok _ t.0 v.2) ∙ same_ok _ q t.2) (begin_fits n row mask line l v.0 known h i)
@@ -315,7 +319,7 @@ cpu_fits n line p q e i =
     let w = where_ok _ _ q OutOfRange e in
     let few : p.cpus < 16 = ltb-true _ _ w.0 in
     let more : IsPlan (record p { cpus = p.cpus + 1 }) =
-        record { size = i.size; taken_size = i.taken_size; begins_size = i.begins_size; low = i.low; cpus_few = omega arith; within = i.within; taken_all = i.taken_all; apart = i.apart; marks = i.marks } in
+    record { size = i.size; taken_size = i.taken_size; begins_size = i.begins_size; low = i.low; cpus_few = omega arith; within = i.within; taken_all = i.taken_all; apart = i.apart; marks = i.marks } in
     subst IsPlan w.1 (task_fits n line Cpu p.here (record p { cpus = p.cpus + 1 }) tt more)
 
 end_fits : (ts : List Token) (p q : Plan) → end_line ts p ≡ Ok q → IsPlan p → IsPlan q
@@ -451,7 +455,7 @@ blank_fits = record {
   taken_size = copies_size 1048576 false;
   begins_size = copies_size 1048576 false;
   low = λ k h. copies_at 1048576 0 k;
-  cpus_few = Rattle.std.proofs.Common.lit≤ tt;
+  cpus_few = lit≤ tt;
   within = All-nil IsWithin;
   taken_all = All-nil (IsTaken (copies 1048576 false));
   apart = λ a b d l h. absurd (omega arith);

@@ -1,15 +1,14 @@
 -- The addresses of instructions, and the pages that hold their bytes.
-use Rattle.std.proofs.Common.{◌≡◌, ◌≢◌, ℕ, zero, suc, ◌+◌, ◌-◌, ◌/◌, ◌%◌, ◌<◌, ◌≤◌, Bool, true, false, ◌||◌, cond, List, [], ◌∷◌, ◌++◌, length, get_or, take, drop, Option, Some, None, refl, sym, ap, ◌∙◌, subst, arith, inl, inr, ◌⊎◌, nat_lt, lt-ltb}
-use Rattle.std.specs.Prelude.{All, AllPairs, if◌then◌else◌, slice_index, IsTrue}
-use Rattle.std.specs.FinSet.{FinSet, contains, insert, empty, contains-empty, contains-insert}
+use Rattle.std.proofs.Common.{◌≡◌, ℕ, zero, suc, ◌+◌, ◌-◌, ◌/◌, ◌<◌, ◌≤◌, Bool, true, false, ◌||◌, List, [], ◌∷◌, length, get_or, take, drop, Option, refl, sym, ap, ◌∙◌, subst, arith, inl, inr, ◌⊎◌, nat_lt, lt-ltb, eq-eqb}
+use Rattle.std.specs.Prelude.{All, if◌then◌else◌, slice_index}
+use Rattle.std.specs.FinSet.{contains, insert, empty, contains-empty, contains-insert}
 use Rattle.std.specs.Ordering.{nat_cmp, eq_by_cmp}
 use Rattle.std.specs.Cmp.{nat_cmp_total, unsigned_tied}
-use Rattle.std.specs.List.{list_any, Contains}
-use Rattle.std.proofs.lemmas.Bool.{or_cases, false≢true, cases_lt, cases_eq}
-use Rattle.std.proofs.lemmas.Bool.Decides.{nat_tests}
+use Rattle.std.specs.List.{list_any}
+use Rattle.std.proofs.lemmas.Bool.{or_cases, and_from, eqb-true, false≢true, cases_eq}
 use Rattle.std.proofs.lemmas.Grind.{same_number_lists}
 use Rattle.std.proofs.lemmas.List.{length-take-le, length-drop, get_or-take, get_or-drop}
-use Rattle.std.proofs.lemmas.List.Elements.{All-cons, All-head, All-tail, All-nil, All-contains}
+use Rattle.std.proofs.lemmas.List.Elements.{All-contains}
 use Rattle.std.proofs.lemmas.List.Folds.{list_any_at}
 use Rattle.z_instr.proofs.Bytes.{reads_bytes}
 use Rattle.z_instr.proofs.Distinct.{opcode_gives_length}
@@ -19,14 +18,14 @@ use Rattle.z_instr.specs.Operands.{HoldsByteOf}
 use Rattle.z_instr.specs.Reading.{Reads}
 use Rattle.z_instr.specs.Table.{entry_at}
 use Rattle.z_instr.specs.declared.instr.Instr.{Instr}
-use Rattle.tx_journal.specs.Image.{length_at, instruction_at, HasReading, HoldsText, IsRising, page_size}
+use Rattle.tx_journal.specs.Image.{length_at, instruction_at, HasReading, HoldsText, IsRising}
 use Rattle.z_assemble.specs.Listing.{Task}
 use Rattle.z_assemble.specs.Machine.{places_in, task_places_in}
 use Rattle.z_assemble.specs.Operations.{size_of_row}
 use Rattle.z_assemble.specs.Whole.{places_from, pages_with, with_pages, with_page, Pages}
 use Rattle.z_assemble.specs.declared.operation.Operation.{Operation}
 use Rattle.z_assemble.specs.declared.operation.Operation.TheVariants as operations
-use Rattle.z_assemble.proofs.Codes.{HasCode, HasCodeAt, IsCode, IsCoded}
+use Rattle.z_assemble.proofs.Codes.{HasCode, HasCodeAt, IsCoded}
 use Rattle.z_assemble.proofs.Plans.{BeginsAt, IsInRoom, IsWithin, IsBegun, some_size}
 
 -- ---- the places of marks rise, and each is marked
@@ -110,13 +109,13 @@ instruction_text storage tasks here row mask c room some size among =
     let code = c.code.size in
     let long : length_at storage here ≡ length c.bytes = code_size storage here row c some in
     let out : take (length_at storage here) (drop here storage) ≡ c.bytes =
-        ap (λ n. take n (drop here storage)) long ∙ taken_out storage here row c (omega (arith, code)) in
+    ap (λ n. take n (drop here storage)) long ∙ taken_out storage here row c (omega (arith, code)) in
     record {
       reading = record { instr = c.code.instr; reads = out ∙ c.code.reads };
       high = omega (arith, code);
       clear = λ area none low high.
           let p : places_in area here (operations.Instruction row mask) ≡ true =
-              Rattle.std.proofs.lemmas.Bool.and_from _ _ (lt-ltb here (area + 8192) low) (lt-ltb area (here + size_of_row row) (omega (arith, code))) in
+          and_from _ _ (lt-ltb here (area + 8192) low) (lt-ltb area (here + size_of_row row) (omega (arith, code))) in
           false≢true (sym none ∙ among area p);
     }
 
@@ -137,13 +136,14 @@ begun_text storage tasks k within coded size b =
 -- ---- pages
 
 same_page : (q : ℕ) → eq_by_cmp nat_cmp q q ≡ true
-same_page q = unsigned_tied q q ∙ Rattle.std.proofs.Common.eq-eqb q q refl
+same_page q = unsigned_tied q q ∙ eq-eqb q q refl
 
 one_more : (b : Bool) (p q : ℕ) (pages : Pages) → contains (if b then insert pages p else pages) q ≡ true → (q ≡ p) ⊎ (contains pages q ≡ true)
 one_more true p q pages h =
     elim (or_cases (eq_by_cmp nat_cmp q p) (contains pages q) (sym (contains-insert nat_cmp_total pages p q) ∙ h)) [
-      inl e ↦ inl (Rattle.std.proofs.lemmas.Bool.eqb-true q p (sym (unsigned_tied q p) ∙ e))
-    | inr e ↦ inr e ]
+      | inl e ↦ inl (eqb-true q p (sym (unsigned_tied q p) ∙ e))
+      | inr e ↦ inr e
+    ]
 one_more false p q pages h = inr h
 
 kept_page : (b : Bool) (p q : ℕ) (pages : Pages) → contains pages q ≡ true → contains (if b then insert pages p else pages) q ≡ true
@@ -163,8 +163,9 @@ new_page p pages h =
 first_or_last : (start count k page : ℕ) → k < count → count ≤ 6 → (start + k) / 4096 ≡ page → (start / 4096 ≡ page) ⊎ ((start + count - 1) / 4096 ≡ page)
 first_or_last start count k page l few e =
     elim (cases_eq (start / 4096) page) [
-      inl same ↦ inl same
-    | inr other ↦ inr (omega arith) ]
+      | inl same ↦ inl same
+      | inr other ↦ inr (omega arith)
+    ]
 
 pub pages_keep : (storage starts : List ℕ) (pages : Pages) (q : ℕ) → contains pages q ≡ true → contains (pages_with storage starts pages) q ≡ true
 unfolding pages_with
@@ -190,8 +191,9 @@ page_there storage (s ∷ ss) pages q high zero h b =
     let top : s + count ≤ 1048576 = high 0 (omega arith) in
     pages_keep storage ss (with_pages storage s pages) q
     (elim (first_or_last s count b.0 q b.1 few b.2) [
-      inl e ↦ subst (λ p. contains (with_pages storage s pages) p ≡ true) e (kept_page (nat_lt last 256) last first (with_page first pages) (new_page first pages (omega arith)))
-    | inr e ↦ subst (λ p. contains (with_pages storage s pages) p ≡ true) e (new_page last (with_page first pages) (omega arith)) ])
+      | inl e ↦ subst (λ p. contains (with_pages storage s pages) p ≡ true) e (kept_page (nat_lt last 256) last first (with_page first pages) (new_page first pages (omega arith)))
+      | inr e ↦ subst (λ p. contains (with_pages storage s pages) p ≡ true) e (new_page last (with_page first pages) (omega arith))
+    ])
 
 pub page_from : (storage starts : List ℕ) (pages : Pages) (q : ℕ) → contains (pages_with storage starts pages) q ≡ true → (contains pages q ≡ true) ⊎ HoldsText storage starts q
 unfolding pages_with
@@ -202,12 +204,15 @@ page_from storage (s ∷ ss) pages q h =
     let last = (s + count - 1) / 4096 in
     let some : 0 < count = length_some storage s in
     elim (page_from storage ss (with_pages storage s pages) q h) [
-      inr t ↦ inr (record { index = suc t.index; within = omega (arith, t.within); byte = t.byte })
-    | inl c ↦ elim (one_more (nat_lt last 256) last q (with_page first pages) c) [
-        inl e ↦ inr (record { index = 0; within = omega arith; byte = (count - 1, omega arith, let same : s + (count - 1) ≡ s + count - 1 = omega arith in ap (λ n. n / 4096) same ∙ sym e) })
-      | inr d ↦ elim (one_more (nat_lt first 256) first q pages d) [
-          inl e ↦ inr (record { index = 0; within = omega arith; byte = (0, some, let same : s + 0 ≡ s = omega arith in ap (λ n. n / 4096) same ∙ sym e) })
-        | inr o ↦ inl o ] ] ]
+      | inr t ↦ inr (record { index = suc t.index; within = omega (arith, t.within); byte = t.byte })
+      | inl c ↦ elim (one_more (nat_lt last 256) last q (with_page first pages) c) [
+        | inl e ↦ inr (record { index = 0; within = omega arith; byte = (count - 1, omega arith, let same : s + (count - 1) ≡ s + count - 1 = omega arith in ap (λ n. n / 4096) same ∙ sym e) })
+        | inr d ↦ elim (one_more (nat_lt first 256) first q pages d) [
+          | inl e ↦ inr (record { index = 0; within = omega arith; byte = (0, some, let same : s + 0 ≡ s = omega arith in ap (λ n. n / 4096) same ∙ sym e) })
+          | inr o ↦ inl o
+        ]
+      ]
+    ]
 
 pub none_empty : (q : ℕ) → contains (empty {R = nat_cmp}) q ≡ true → ⊥
 none_empty q h = false≢true (sym (contains-empty nat_cmp q) ∙ h)
