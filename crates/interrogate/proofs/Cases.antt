@@ -22,12 +22,15 @@ never_rejects true true why e = λ r. cc
 never_rejects true false why e = λ r. cc
 never_rejects false firm why e = λ r. cc
 
-pub not_the_head : (standing : Standing) (asker : Asker) → asker.head ≡ true → may_hold_out standing asker ≡ false
+pub not_the_head : (standing : Standing) (asker : Asker) → asker.head ≡ true →
+    may_hold_out standing asker ≡ false
 not_the_head standing asker head =
     and_right (may_reject standing) (not asker.head && not (asker.late && not standing.constrained))
     (and_left (not asker.head) (not (asker.late && not standing.constrained)) (ap not head))
 
-pub not_a_late_one : (standing : Standing) (asker : Asker) → asker.late ≡ true → standing.constrained ≡ false → may_hold_out standing asker ≡ false
+pub not_a_late_one : (standing : Standing) (asker : Asker) → asker.late ≡ true →
+    standing.constrained ≡ false → may_hold_out standing asker ≡ false
 not_a_late_one standing asker late unconstrained =
     and_right (may_reject standing) (not asker.head && not (asker.late && not standing.constrained))
-    (and_right (not asker.head) (not (asker.late && not standing.constrained)) (λ i. not (late i && not (unconstrained i))))
+    (and_right (not asker.head) (not (asker.late && not standing.constrained))
+    (λ i. not (late i && not (unconstrained i))))

@@ -13,14 +13,16 @@ use Rattle.interrogate.specs.declared.kinds.Asker.{Asker}
 abbrev pub Lines : Type 0
 Lines = ℕ → Bool
 
--- a request conflicts with a live attempt that has stored the line, and for an exclusive one also with an attempt that
+-- a request conflicts with a live attempt that has stored the line, and for an exclusive one also with an
+-- attempt that
 -- has fetched it
 abbrev pub conflicts : Bool → Lines → Lines → ℕ → Mode → Bool
 conflicts false fetched stored line mode = false
 conflicts true fetched stored line Exclusive = fetched line || stored line
 conflicts true fetched stored line Shared = stored line
 
--- a holder may reject as long as its ladder says so, but never the head of the stop queue, and no late attempt unless its
+-- a holder may reject as long as its ladder says so, but never the head of the stop queue, and no late
+-- attempt unless its
 -- own one is constrained too
 abbrev pub may_hold_out : Standing → Asker → Bool
 may_hold_out standing asker =

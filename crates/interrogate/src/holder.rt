@@ -13,7 +13,8 @@ use tx_ladder::Ladder;
 /// Whether a request for the line conflicts with the holder's attempt.
 fn is_conflict(live: bool, footprint: &Footprint, line: u32, mode: Mode) -> bool
     requires { line < LINES }
-    ensures { result ≡ conflicts live (sets_of footprint.now).fetched (sets_of footprint.now).stored line mode }
+    ensures { result ≡
+        conflicts live (sets_of footprint.now).fetched (sets_of footprint.now).stored line mode }
 {
     if !live {
         return false;
@@ -43,12 +44,13 @@ fn cause_of(footprint: &Footprint, line: u32) -> Why
     }
 }
 
-/// What a holder of the line answers to a request for it in this mode. `live` says whether the holder has a live
-/// attempt; footprint and ladder are the holder's.
+/// What a holder of the line answers to a request for it in this mode. `live` says whether the holder has a
+/// live attempt; footprint and ladder are the holder's.
 ///
-/// Without a conflict it yields. With one it rejects as long as its ladder allows that, but never the head of the stop
-/// queue, and a late asker only with a constrained attempt of its own. Else its attempt is aborted: as a store conflict
-/// where it has stored the line, else as a fetch conflict. A reject is counted in the ladder, which else stays as it is.
+/// Without a conflict it yields. With one it rejects as long as its ladder allows that, but never the head of
+/// the stop queue, and a late asker only with a constrained attempt of its own. Else its attempt is aborted:
+/// as a store conflict where it has stored the line, else as a fetch conflict. A reject is counted in the
+/// ladder, which else stays as it is.
 #[tactic(auto, unfolding(crate::specs::Replies::reply))]
 pub fn answer(
     live: bool,
@@ -59,7 +61,8 @@ pub fn answer(
     asker: Asker,
 ) -> Answer
     requires { line < LINES }
-    ensures value { result ≡ reply live (sets_of footprint.now).fetched (sets_of footprint.now).stored ladder.old line mode asker }
+    ensures value { result ≡
+        reply live (sets_of footprint.now).fetched (sets_of footprint.now).stored ladder.old line mode asker }
     ensures counted { ladder.new ≡ after result ladder.old }
 {
     if !is_conflict(live, footprint, line, mode) {

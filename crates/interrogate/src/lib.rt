@@ -1,7 +1,7 @@
-//! What a CPU answers when another one asks it for a line that it holds: it yields the line, it rejects the request, or
-//! its transaction is aborted and then it yields. After the cross-interrogates and their rejects in Jacobi, Slegel and
-//! Greiner, "Transactional Memory Architecture and Implementation for IBM System z", MICRO 2012; the limits of rejects
-//! are this project's.
+//! What a CPU answers when another one asks it for a line that it holds: it yields the line, it rejects the
+//! request, or its transaction is aborted and then it yields. After the cross-interrogates and their rejects
+//! in Jacobi, Slegel and Greiner, "Transactional Memory Architecture and Implementation for IBM System z",
+//! MICRO 2012; the limits of rejects are this project's.
 #![tactic(auto)]
 
 mod holder;

@@ -35,7 +35,8 @@ fn touch(footprint: &mut Footprint, store: bool) -> Result<(), Overflow> {
     Ok(())
 }
 
-/// The ladder of a live attempt after some conflict aborts of its CPU, which has given some rejects as far as it may.
+/// The ladder of a live attempt after some conflict aborts of its CPU, which has given some rejects as far as
+/// it may.
 fn ladder_of(constrained: bool, conflicts: u32, rejects: u32) -> Ladder {
     let mut ladder = Ladder::new(Parms::usual());
     ladder.begin(true);
@@ -53,7 +54,8 @@ fn ladder_of(constrained: bool, conflicts: u32, rejects: u32) -> Ladder {
     ladder
 }
 
-/// Y: it yields; R: it rejects; F and S: it is aborted by a fetch conflict, a store conflict; ?: it names another cause.
+/// Y: it yields; R: it rejects; F and S: it is aborted by a fetch conflict, a store conflict; ?: it names
+/// another cause.
 fn letter(answer: Answer) -> u8 {
     match answer {
         Answer::Yields => b'Y',
@@ -64,9 +66,10 @@ fn letter(answer: Answer) -> u8 {
     }
 }
 
-/// Whether the attempt has fetched the line, whether it has stored it, how the line is asked for, and the answers: by
-/// whether the attempt is live, whether it is constrained, whether it has given all the rejects that it may, whether the
-/// asker is late, and whether it is the head of the queue, the last changing fastest.
+/// Whether the attempt has fetched the line, whether it has stored it, how the line is asked for, and the
+/// answers: by whether the attempt is live, whether it is constrained, whether it has given all the rejects
+/// that it may, whether the asker is late, and whether it is the head of the queue, the last changing
+/// fastest.
 const ANSWERS: [(bool, bool, Mode, &[u8; 32]); 8] = [
     (
         false,

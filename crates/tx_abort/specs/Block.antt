@@ -8,7 +8,8 @@ use Rattle.tx_control.specs.declared.exceptions.Exception.{Exception}
 use Rattle.tx_control.specs.declared.causes.Why.{Why}
 use Rattle.tx_abort.specs.Causes.{cause_of}
 
--- a field: the position of its first byte, how many bytes it has, and the number that stands there, its leftmost
+-- a field: the position of its first byte, how many bytes it has, and the number that stands there, its
+-- leftmost
 -- byte first
 pub record Field : Type 0 where
   pub first : ℕ
@@ -37,8 +38,10 @@ register_field general r = field (128 + 8 * r) 8 (get_or general r 0)
 unfoldable pub register_fields : List ℕ → List Field
 register_fields general = map (register_field general) (range_with_len 0 16)
 
--- the format; the flags; the nesting depth; the abort code; the conflict token, the line's first address; the address of the
--- aborted program; the length of the instruction and the code of its exception; the registers as they are before any is
+-- the format; the flags; the nesting depth; the abort code; the conflict token, the line's first address; the
+-- address of the
+-- aborted program; the length of the instruction and the code of its exception; the registers as they are
+-- before any is
 -- brought back
 unfoldable pub fields : Why → List Begin → List ℕ → ℕ → List Field
 fields why nest general at =

@@ -5,7 +5,8 @@ use Rattle.tx_control.specs.declared.exceptions.Exception.{Exception}
 use Rattle.tx_control.specs.declared.causes.Why.{Why}
 use Rattle.tx_control.specs.declared.causes.Why.TheVariants.{External, Program, FetchConflict, StoreConflict, FetchOverflow, StoreOverflow, Restricted, Filtered, Depth, Starved, Tabort}
 
--- The abort code, the condition code that the abort sets, and the detail that is told of it: for a conflict the first
+-- The abort code, the condition code that the abort sets, and the detail that is told of it: for a conflict
+-- the first
 -- address of the line, for an exception its code and its length; of any other cause there is none.
 pub record Cause : Type 0 where
   pub code : ℕ
@@ -25,7 +26,8 @@ abbrev pub exception : ℕ → ℕ → Exception → Cause
 exception code condition e =
     record { code = code; condition = condition; conflict = None; exception = Some e }
 
--- condition code 2 where another attempt may well go through, 3 where it would probably end in the same way; TABORT
+-- condition code 2 where another attempt may well go through, 3 where it would probably end in the same way;
+-- TABORT
 -- has the last bit of its abort code choose
 abbrev pub cause_of : Why → Cause
 cause_of External = plain (code_number External) 2

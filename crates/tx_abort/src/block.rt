@@ -60,9 +60,9 @@ fn put_registers(block: &mut [u8; BLOCK_SIZE], general: &[u64; 16])
     }
 }
 
-/// The diagnostic block of an abort, made of the CPU as it is before any register is brought back. `nest` has the
-/// open begins, at least one, and `at` is the address that the block tells: that of the instruction which caused the
-/// abort, or of the next one where the cause came from outside.
+/// The diagnostic block of an abort, made of the CPU as it is before any register is brought back. `nest` has
+/// the open begins, at least one, and `at` is the address that the block tells: that of the instruction which
+/// caused the abort, or of the next one where the cause came from outside.
 ///
 /// An abort that interrupts the program leaves the same bytes as the block of its interruption.
 pub fn block_of(why: Why, nest: &Nest, image: &CpuImage, at: u64) -> [u8; BLOCK_SIZE]

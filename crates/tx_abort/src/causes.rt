@@ -7,15 +7,16 @@ use tx_control::{Exception, Why};
 /// The bytes of a line of storage.
 const LINE_SIZE: u64 = 256;
 
-/// The abort code of a cause: 2 to 13 and 255 for what the machine finds, and for TABORT the code that it gives.
+/// The abort code of a cause: 2 to 13 and 255 for what the machine finds, and for TABORT the code that it
+/// gives.
 pub fn code_of(why: Why) -> u64
     ensures { result ≡ (cause_of why).code }
 {
     why.code()
 }
 
-/// The condition code that an abort of this cause sets: 2 where another attempt may well go through, 3 where it
-/// would probably end in the same way. TABORT chooses by the last bit of its abort code.
+/// The condition code that an abort of this cause sets: 2 where another attempt may well go through, 3 where
+/// it would probably end in the same way. TABORT chooses by the last bit of its abort code.
 pub fn condition_of(why: Why) -> u8
     ensures { result ≡ (cause_of why).condition }
 {
@@ -34,7 +35,8 @@ pub fn condition_of(why: Why) -> u8
     }
 }
 
-/// The first address of the line that another CPU wanted, an absolute one; None where the cause is no conflict.
+/// The first address of the line that another CPU wanted, an absolute one; None where the cause is no
+/// conflict.
 pub fn conflict_of(why: Why) -> Option<u64>
     ensures { result ≡ (cause_of why).conflict }
 {

@@ -1,7 +1,7 @@
-//! What an abort leaves behind: its abort code and condition code, the diagnostic block, and the general registers
-//! that it brings back. Codes and the block's layout are those of the transactional-execution facility
-//! (z/Architecture Principles of Operation, SA22-7832); which condition code a cause sets, and some of the block's
-//! fields, are this machine's.
+//! What an abort leaves behind: its abort code and condition code, the diagnostic block, and the general
+//! registers that it brings back. Codes and the block's layout are those of the transactional-execution
+//! facility (z/Architecture Principles of Operation, SA22-7832); which condition code a cause sets, and some
+//! of the block's fields, are this machine's.
 #![tactic(auto)]
 
 mod block;

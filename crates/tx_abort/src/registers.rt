@@ -25,8 +25,8 @@ fn bring_back(general: &mut [u64; 16], saved: &[u64; 16], mask: u8)
     }
 }
 
-/// Gives the registers of each pair that the mask selects their saved values. Everything else of the CPU stays as it
-/// is.
+/// Gives the registers of each pair that the mask selects their saved values. Everything else of the CPU
+/// stays as it is.
 pub fn restore(image: &mut CpuImage, saved: &[u64; 16], mask: u8)
     ensures { cpu_of image.new ≡ with_restored saved.now mask (cpu_of image.old) }
 {

@@ -1,5 +1,5 @@
-//! Expected blocks are those of an independent model of the machine, as doublewords: bytes 0 to 39, and the registers
-//! from byte 128 on. All between is zero.
+//! Expected blocks are those of an independent model of the machine, as doublewords: bytes 0 to 39, and the
+//! registers from byte 128 on. All between is zero.
 
 use crate::{BLOCK_SIZE, block_of, code_of, condition_of, restore};
 use byteorder::{BigEndian, ByteOrder};
@@ -53,9 +53,9 @@ const SPECIFICATION: Exception = Exception {
 /// An address whose bytes all differ.
 const FAR: u64 = 0xFEDCBA9876543210;
 
-/// Abort codes and blocks: the cause of an abort, the nesting depth and the kind of the outermost begin, the registers,
-/// the address that is told, and the block's doublewords from its first byte on. The last four are blocks that programs
-/// of the model have left.
+/// Abort codes and blocks: the cause of an abort, the nesting depth and the kind of the outermost begin, the
+/// registers, the address that is told, and the block's doublewords from its first byte on. The last four are
+/// blocks that programs of the model have left.
 const BLOCKS: [(Why, u8, bool, [u64; 16], u64, [u64; 5]); 15] = [
     (
         Why::External,

@@ -48,7 +48,9 @@ no_operand_breach a e =
 
 -- ---- what is kept
 
-kept_parts : (begin n m : ℕ) (xs ys : List ℕ) → n ≡ m → xs ≡ ys → (let k : Kept = record { begin = begin; count = n; octowords = xs } in k) ≡ record { begin = begin; count = m; octowords = ys }
+kept_parts : (begin n m : ℕ) (xs ys : List ℕ) → n ≡ m → xs ≡ ys →
+    (let k : Kept = record { begin = begin; count = n; octowords = xs } in k) ≡
+    record { begin = begin; count = m; octowords = ys }
 kept_parts begin n m xs ys e d = λ i. record { begin = begin; count = e i; octowords = d i }
 
 pub octowords_begun : (begin : ℕ) → kept (begun begin) ≡ kept_at begin
@@ -56,7 +58,8 @@ octowords_begun begin = kept_parts begin 0 0 _ [] refl (with_octowords-none [])
 
 octowords_step : (a : Attempt) (s : Step) → octowords (with_step a s) ≡ with_octowords (octowords a) s.ranges
 octowords_step a s =
-    ap (with_octowords []) (flat_map-append (λ (x : Step). x.ranges) a.steps (s ∷ []) ∙ ap (λ xs. flat_map (λ (x : Step). x.ranges) a.steps ++ xs) (append-nil s.ranges))
+    ap (with_octowords []) (flat_map-append (λ (x : Step). x.ranges) a.steps (s ∷ [])
+    ∙ ap (λ xs. flat_map (λ (x : Step). x.ranges) a.steps ++ xs) (append-nil s.ranges))
     ∙ with_octowords-append [] (flat_map (λ (x : Step). x.ranges) a.steps) s.ranges
 
 pub kept_step : (a : Attempt) (s : Step) → kept (with_step a s) ≡ added (kept a) s.ranges
@@ -64,8 +67,10 @@ kept_step a s = kept_parts a.begin _ _ _ _ (length_push a.steps s) (octowords_st
 
 -- ---- one more step of an attempt that goes on
 
-any_step : (p : Step → Bool) (steps : List Step) (s : Step) → list_any p steps ≡ false → list_any p (steps ++ s ∷ []) ≡ p s
-any_step p steps s none = list_any-append p steps (s ∷ []) ∙ ap (λ b. b || (p s || false)) none ∙ or_false (p s)
+any_step : (p : Step → Bool) (steps : List Step) (s : Step) → list_any p steps ≡ false →
+    list_any p (steps ++ s ∷ []) ≡ p s
+any_step p steps s none = list_any-append p steps (s ∷ []) ∙ ap (λ b. b || (p s || false)) none
+    ∙ or_false (p s)
   where
     or_false : (b : Bool) → (b || false) ≡ b
     or_false true = refl
@@ -75,7 +80,8 @@ abbrev no_end : Step → Bool
 no_end s = not (ends s.instruction)
 
 -- without an end all steps count
-all_count : (steps : List Step) → list_any (λ s. ends s.instruction) steps ≡ false → count_by no_end steps ≡ length steps
+all_count : (steps : List Step) → list_any (λ s. ends s.instruction) steps ≡ false →
+    count_by no_end steps ≡ length steps
 all_count [] none = refl
 all_count (s ∷ steps) none =
     let parts = or_parts (ends s.instruction) (list_any (λ x. ends x.instruction) steps) none in
@@ -83,9 +89,11 @@ all_count (s ∷ steps) none =
     let rest : count_by no_end steps ≡ length steps = all_count steps parts.1 in
     omega (arith, one, rest, sum_by-cons (λ x. cond {A = ℕ} (no_end x) 1 0) s steps)
 
-count_step : (steps : List Step) (s : Step) → count_by no_end (steps ++ s ∷ []) ≡ count_by no_end steps + cond {A = ℕ} (no_end s) 1 0
+count_step : (steps : List Step) (s : Step) →
+    count_by no_end (steps ++ s ∷ []) ≡ count_by no_end steps + cond {A = ℕ} (no_end s) 1 0
 count_step steps s =
-    let one : count_by no_end (s ∷ []) ≡ cond {A = ℕ} (no_end s) 1 0 = omega (arith, sum_by-cons (λ x. cond {A = ℕ} (no_end x) 1 0) s []) in
+    let one : count_by no_end (s ∷ []) ≡ cond {A = ℕ} (no_end s) 1 0 =
+    omega (arith, sum_by-cons (λ x. cond {A = ℕ} (no_end x) 1 0) s []) in
     omega (arith, one, sum_by-append (λ x. cond {A = ℕ} (no_end x) 1 0) steps (s ∷ []))
 
 pub few_steps : (a : Attempt) → GoesOn a → length a.steps ≤ 32
@@ -103,7 +111,8 @@ too_long n false few = le-ltb 32 (n + 0) (omega arith) ∙ sym (and_false (leb 3
     and_false true = refl
     and_false false = refl
 
-pub text_step : (a : Attempt) (s : Step) → GoesOn a → text_breach (with_step a s) ≡ next_text_breach (kept a) s.instruction s.at
+pub text_step : (a : Attempt) (s : Step) → GoesOn a →
+    text_breach (with_step a s) ≡ next_text_breach (kept a) s.instruction s.at
 unfolding text_breach next_text_breach
 text_step a s g =
     let no = no_text_breach a g.text in
@@ -115,7 +124,8 @@ text_step a s g =
     let barred = any_step (λ x. not (is_permitted x.instruction)) a.steps s no.barred in
     λ i. first_of (long i) 1 (first_of (leaves i) 2 (first_of (barred i) 3 None))
 
-pub operand_step : (a : Attempt) (s : Step) → GoesOn a → operand_breach (with_step a s) ≡ next_operand_breach (kept a) s.instruction s.ranges
+pub operand_step : (a : Attempt) (s : Step) → GoesOn a →
+    operand_breach (with_step a s) ≡ next_operand_breach (kept a) s.instruction s.ranges
 unfolding operand_breach next_operand_breach
 operand_step a s g =
     let no = no_operand_breach a g.operands in

@@ -42,7 +42,8 @@ end_near f n = cases (cases_eq n 0)
     let e : end_of f n ≡ f / 4096 = ap (λ b. cond b (f / 4096) ((f + n - 1) / 4096 + 1)) (eq-eqb n 0 none) in
     (omega arith, omega arith))
     (λ some.
-    let e : end_of f n ≡ (f + n - 1) / 4096 + 1 = ap (λ b. cond b (f / 4096) ((f + n - 1) / 4096 + 1)) (ne_eqb n 0 some) in
+    let e : end_of f n ≡ (f + n - 1) / 4096 + 1 =
+    ap (λ b. cond b (f / 4096) ((f + n - 1) / 4096 + 1)) (ne_eqb n 0 some) in
     (omega arith, omega arith))
 
 same_below : (k e x : ℕ) → x ≤ e → e ≤ x + 1 → k ≢ x → ltb k e ≡ ltb k (x + 1)
@@ -50,7 +51,9 @@ same_below k e x low high other = cases (cases_lt k e)
     (λ below. lt-ltb k e below ∙ sym (lt-ltb k (x + 1) (omega arith)))
     (λ above. le-ltb k e above ∙ sym (le-ltb k (x + 1) (omega arith)))
 
-between : (f k n : ℕ) → list_any (λ p. eqb p k) (map (λ a. a / 4096) (range_with_len f n)) ≡ (leb (f / 4096) k && ltb k (end_of f n))
+between : (f k n : ℕ) →
+    list_any (λ p. eqb p k) (map (λ a. a / 4096) (range_with_len f n)) ≡
+    (leb (f / 4096) k && ltb k (end_of f n))
 between f k zero = cases (cases_lt k (f / 4096))
     (λ below. sym (and_left (leb (f / 4096) k) (ltb k (f / 4096)) (lt-leb (f / 4096) k below)))
     (λ above. sym (and_right (leb (f / 4096) k) (ltb k (f / 4096)) (le-ltb k (f / 4096) above)))
@@ -61,13 +64,17 @@ between f k (suc n) =
     let before = map quotient (range_with_len f n) in
     let one_more : map quotient (range_with_len f (suc n)) ≡ before ++ quotient (f + n) ∷ [] =
     ap (λ m. map quotient (range_with_len f m)) e ∙ map-range_with_len_more quotient f n (f + n) refl in
-    let goal_side : (leb (f / 4096) k && ltb k (end_of f (suc n))) ≡ (leb (f / 4096) k && ltb k ((f + n) / 4096 + 1)) =
+    let goal_side : (leb (f / 4096) k && ltb k (end_of f (suc n))) ≡
+    (leb (f / 4096) k && ltb k ((f + n) / 4096 + 1)) =
     ap (λ end. leb (f / 4096) k && ltb k end) (ap (end_of f) e ∙ end_next f n) in
     ap (list_any test) one_more ∙ list_any-append test before (quotient (f + n) ∷ [])
     ∙ cases (cases_eq k ((f + n) / 4096))
     (λ here.
-    or_right (list_any test before) (test (quotient (f + n)) || false) (or_left (test (quotient (f + n))) false (eq-eqb _ _ (sym here)))
-    ∙ sym (goal_side ∙ and_from (leb (f / 4096) k) (ltb k ((f + n) / 4096 + 1)) (le-leb _ _ (omega arith)) (lt-ltb _ _ (omega arith))))
+    or_right (list_any test before) (test (quotient (f + n)) || false)
+    (or_left (test (quotient (f + n))) false (eq-eqb _ _ (sym here)))
+    ∙ sym (goal_side
+    ∙ and_from (leb (f / 4096) k) (ltb k ((f + n) / 4096 + 1)) (le-leb _ _ (omega arith))
+    (lt-ltb _ _ (omega arith))))
     (λ other.
     let no : test (quotient (f + n)) ≡ false = ne_eqb _ _ (λ e. other (sym e)) in
     let near = end_near f n in
@@ -81,7 +88,8 @@ between f k (suc n) =
 
 any_of_two : (p q : ℕ → Bool) (xs : List ℕ) → list_any (λ x. p x || q x) xs ≡ (list_any p xs || list_any q xs)
 any_of_two p q [] = refl
-any_of_two p q (x ∷ xs) = ap (λ b. (p x || q x) || b) (any_of_two p q xs) ∙ swap (p x) (q x) (list_any p xs) (list_any q xs)
+any_of_two p q (x ∷ xs) = ap (λ b. (p x || q x) || b) (any_of_two p q xs)
+    ∙ swap (p x) (q x) (list_any p xs) (list_any q xs)
   where
     swap : (a b c d : Bool) → ((a || b) || (c || d)) ≡ ((a || c) || (b || d))
     swap true b c d = refl
@@ -90,7 +98,10 @@ any_of_two p q (x ∷ xs) = ap (λ b. (p x || q x) || b) (any_of_two p q xs) ∙
     swap false false c d = refl
 
 -- an operand touches one of two pages exactly where one of them is among its pages
-pub near_is : (begin : ℕ) (r : Range) → touches_own_page begin r ≡ ((leb (first_piece 4096 r) (begin / 4096) && ltb (begin / 4096) (end_piece 4096 r)) || (leb (first_piece 4096 r) ((begin + 255) / 4096) && ltb ((begin + 255) / 4096) (end_piece 4096 r)))
+pub near_is : (begin : ℕ) (r : Range) →
+    touches_own_page begin r ≡
+    ((leb (first_piece 4096 r) (begin / 4096) && ltb (begin / 4096) (end_piece 4096 r)) ||
+    (leb (first_piece 4096 r) ((begin + 255) / 4096) && ltb ((begin + 255) / 4096) (end_piece 4096 r)))
 near_is begin r =
     any_of_two (λ p. eqb p (begin / 4096)) (λ p. eqb p ((begin + 255) / 4096)) (pieces 4096 r)
     ∙ (λ i. between r.first (begin / 4096) r.length i || between r.first ((begin + 255) / 4096) r.length i)

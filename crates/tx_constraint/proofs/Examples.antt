@@ -12,17 +12,21 @@ abbrev operand : ℕ → ℕ → Range
 operand first length = record { first = first; length = length; store = false }
 
 -- the operations on several registers
-multiple : map (λ (e : Entry). e.name) (filter (λ e. is_multiple e.operands) table) ≡ codes "STM" ∷ codes "LM" ∷ codes "LMG" ∷ codes "STMG" ∷ []
+multiple : map (λ (e : Entry). e.name) (filter (λ e. is_multiple e.operands) table) ≡ codes "STM" ∷
+    codes "LM" ∷ codes "LMG" ∷ codes "STMG" ∷ []
 unfolding table
 multiple = refl
 
 -- the branches with a target
-branches : map (λ (e : Entry). e.name) (filter is_relative_branch table) ≡ codes "BRC" ∷ codes "BRAS" ∷ codes "BRCT" ∷ codes "BRCTG" ∷ codes "BRCL" ∷ codes "BRASL" ∷ codes "CGRJ" ∷ codes "CLGRJ" ∷ codes "CRJ" ∷ codes "CGIJ" ∷ []
+branches : map (λ (e : Entry). e.name) (filter is_relative_branch table) ≡ codes "BRC" ∷ codes "BRAS" ∷
+    codes "BRCT" ∷ codes "BRCTG" ∷ codes "BRCL" ∷ codes "BRASL" ∷ codes "CGRJ" ∷ codes "CLGRJ" ∷
+    codes "CRJ" ∷ codes "CGIJ" ∷ []
 unfolding table
 branches = refl
 
 -- a doubleword on its boundary, and across the boundary of an octoword; the second octoword comes once
-octowords : with_octowords [] (operand 0x9000 8 ∷ operand 0x901C 8 ∷ operand 0x9020 32 ∷ []) ≡ 0x480 ∷ 0x481 ∷ []
+octowords : with_octowords [] (operand 0x9000 8 ∷ operand 0x901C 8 ∷ operand 0x9020 32 ∷ []) ≡ 0x480 ∷
+    0x481 ∷ []
 unfolding with_octowords
 octowords = refl
 

@@ -19,7 +19,8 @@ abbrev pub among : List ℕ → ℕ → Bool
 among xs x = list_any (eqb x) xs
 
 -- one list has each member of another
-pub among_all : (xs ys : List ℕ) (x : ℕ) → list_all (among ys) xs ≡ true → among xs x ≡ true → among ys x ≡ true
+pub among_all : (xs ys : List ℕ) (x : ℕ) → list_all (among ys) xs ≡ true → among xs x ≡ true →
+    among ys x ≡ true
 among_all [] ys x all there = let e : false ≡ true = there in cc
 among_all (z ∷ xs) ys x all there =
     let parts = and_parts (among ys z) (list_all (among ys) xs) all in
@@ -27,7 +28,8 @@ among_all (z ∷ xs) ys x all there =
     (λ here. ap (among ys) (eqb-true x z here) ∙ parts.0)
     (λ later. among_all xs ys x parts.1 later)
 
-pub all_among : (xs ys : List ℕ) → ((x : ℕ) → among xs x ≡ true → among ys x ≡ true) → list_all (among ys) xs ≡ true
+pub all_among : (xs ys : List ℕ) → ((x : ℕ) → among xs x ≡ true → among ys x ≡ true) →
+    list_all (among ys) xs ≡ true
 all_among [] ys each = refl
 all_among (z ∷ xs) ys each =
     and_from (among ys z) (list_all (among ys) xs)
@@ -41,11 +43,13 @@ slice_get_inside xs i x e = cases (slice_get_cases xs i).1
     (λ there. there.1)
     (λ past. absurd (let no = past.1 in cc))
 
-pub passes_at : {X : Type 0} (p : X → Bool) (xs : List X) (i : ℕ) (x : X) → slice_get xs i ≡ Some x → p x ≡ true → list_any p xs ≡ true
+pub passes_at : {X : Type 0} (p : X → Bool) (xs : List X) (i : ℕ) (x : X) → slice_get xs i ≡ Some x →
+    p x ≡ true → list_any p xs ≡ true
 passes_at p xs i x e passes =
     list_any_at p xs i x (slice_get_inside xs i x e) (ap p (get_or_from_slice_get xs i x x e) ∙ passes)
 
-pub none_more : {X : Type 0} (p : X → Bool) (xs : List X) (i : ℕ) (x : X) → slice_get xs i ≡ Some x → list_any p (take i xs) ≡ false → p x ≡ false → list_any p (take (i + 1) xs) ≡ false
+pub none_more : {X : Type 0} (p : X → Bool) (xs : List X) (i : ℕ) (x : X) → slice_get xs i ≡ Some x →
+    list_any p (take i xs) ≡ false → p x ≡ false → list_any p (take (i + 1) xs) ≡ false
 none_more p xs i x e none fails =
     list_any_more p xs i x (slice_get_inside xs i x e)
     ∙ (λ j. none j || p (get_or_from_slice_get xs i x x e j)) ∙ fails
@@ -58,7 +62,8 @@ inside xs i x e = slice_get_inside xs i x e
 
 -- ---- numbers one after the other
 
-pub range-split : (first k m : ℕ) → range_with_len first (k + m) ≡ range_with_len first k ++ range_with_len (first + k) m
+pub range-split : (first k m : ℕ) →
+    range_with_len first (k + m) ≡ range_with_len first k ++ range_with_len (first + k) m
 range-split first zero m =
     (λ i. range_with_len (e0 i) (e1 i))
   where
@@ -68,7 +73,9 @@ range-split first zero m =
     e1 : 0 + m ≡ m
     e1 = omega arith
 range-split first (suc k) m =
-    ap (range_with_len first) e ∙ ap (λ xs. first ∷ xs) (range-split (first + 1) k m ∙ ap (λ n. range_with_len (first + 1) k ++ range_with_len n m) d)
+    ap (range_with_len first) e
+    ∙ ap (λ xs. first ∷ xs) (range-split (first + 1) k m
+    ∙ ap (λ n. range_with_len (first + 1) k ++ range_with_len n m) d)
   where
     e : suc k + m ≡ suc (k + m)
     e = omega arith

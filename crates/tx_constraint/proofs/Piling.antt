@@ -17,8 +17,10 @@ use Rattle.tx_constraint.proofs.Lists.{cases, range-split, inside, element_of}
 
 grows_by_one : (found : List ℕ) (o : ℕ) → length found ≤ length (with_octoword found o)
 grows_by_one found o = cases (cases_Bool (list_any (eqb o) found))
-    (λ there. let e : with_octoword found o ≡ found = ap (λ b. cond b found (found ++ o ∷ [])) there in omega (arith, ap length e))
-    (λ new. let e : with_octoword found o ≡ found ++ o ∷ [] = ap (λ b. cond b found (found ++ o ∷ [])) new in omega (arith, ap length e, length_push found o))
+    (λ there. let e : with_octoword found o ≡ found = ap (λ b. cond b found (found ++ o ∷ [])) there in
+    omega (arith, ap length e))
+    (λ new. let e : with_octoword found o ≡ found ++ o ∷ [] = ap (λ b. cond b found (found ++ o ∷ [])) new in
+    omega (arith, ap length e, length_push found o))
 
 stays : (found : List ℕ) (o : ℕ) → list_any (eqb o) found ≡ true → with_octoword found o ≡ found
 stays found o there = ap (λ b. cond b found (found ++ o ∷ [])) there
@@ -35,16 +37,21 @@ is_there found o = cases (cases_Bool (list_any (eqb o) found))
 
 pub grows : (found os : List ℕ) → length found ≤ length (fold with_octoword found os)
 grows found [] = omega arith
-grows found (o ∷ os) = let one = grows_by_one found o in let rest = grows (with_octoword found o) os in omega arith
+grows found (o ∷ os) = let one = grows_by_one found o in let rest = grows (with_octoword found o) os in
+    omega arith
 
 -- the first that has no room leaves too many in the end
-pub stays_full : (found before after : List ℕ) (o : ℕ) → leb (length (with_octoword (fold with_octoword found before) o)) 4 ≡ false → leb (length (fold with_octoword found (before ++ o ∷ after))) 4 ≡ false
+pub stays_full : (found before after : List ℕ) (o : ℕ) →
+    leb (length (with_octoword (fold with_octoword found before) o)) 4 ≡ false →
+    leb (length (fold with_octoword found (before ++ o ∷ after))) 4 ≡ false
 stays_full found before after o full =
     let split = fold-append with_octoword found before (o ∷ after) in
     let rest = grows (with_octoword (fold with_octoword found before) o) after in
     lt-leb _ _ (omega (arith, leb-false _ _ full, ap length split))
 
-pub range_with : (first end o : ℕ) → first ≤ o → o < end → range_with_len first (end - first) ≡ range_with_len first (o - first) ++ o ∷ range_with_len (o + 1) (end - o - 1)
+pub range_with : (first end o : ℕ) → first ≤ o → o < end →
+    range_with_len first (end - first) ≡ range_with_len first (o - first) ++ o ∷
+    range_with_len (o + 1) (end - o - 1)
 range_with first end o low high =
     ap (range_with_len first) (e0 low high) ∙ range-split first (o - first) (suc (end - o - 1))
     ∙ ap (λ n. range_with_len first (o - first) ++ n ∷ range_with_len (n + 1) (end - o - 1)) (e1 low)
@@ -55,12 +62,16 @@ range_with first end o low high =
     e1 : first ≤ o → first + (o - first) ≡ o
     e1 l = omega arith
 
-pub pile_more : (found : List ℕ) (first o : ℕ) → first ≤ o → fold with_octoword found (range_with_len first (o + 1 - first)) ≡ with_octoword (fold with_octoword found (range_with_len first (o - first))) o
+pub pile_more : (found : List ℕ) (first o : ℕ) → first ≤ o →
+    fold with_octoword found (range_with_len first (o + 1 - first)) ≡
+    with_octoword (fold with_octoword found (range_with_len first (o - first))) o
 pile_more found first o low =
     let nothing : o + 1 - o - 1 ≡ 0 = omega arith in
     let both : range_with_len first (o + 1 - first) ≡ range_with_len first (o - first) ++ o ∷ [] =
-    range_with first (o + 1) o low (omega arith) ∙ ap (λ n. range_with_len first (o - first) ++ o ∷ range_with_len (o + 1) n) nothing in
-    ap (fold with_octoword found) both ∙ fold-append with_octoword found (range_with_len first (o - first)) (o ∷ [])
+    range_with first (o + 1) o low (omega arith)
+    ∙ ap (λ n. range_with_len first (o - first) ++ o ∷ range_with_len (o + 1) n) nothing in
+    ap (fold with_octoword found) both
+    ∙ fold-append with_octoword found (range_with_len first (o - first)) (o ∷ [])
 
 -- ---- octowords of the bytes, and octowords one after the other
 
@@ -70,7 +81,8 @@ by_bytes found f n = fold with_octoword found (map (λ a. a / 32) (range_with_le
 abbrev in_turn : List ℕ → ℕ → ℕ → List ℕ
 in_turn found first end = fold with_octoword found (range_with_len first (end - first))
 
-one_byte_more : (found : List ℕ) (f n : ℕ) → by_bytes found f (n + 1) ≡ with_octoword (by_bytes found f n) ((f + n) / 32)
+one_byte_more : (found : List ℕ) (f n : ℕ) →
+    by_bytes found f (n + 1) ≡ with_octoword (by_bytes found f n) ((f + n) / 32)
 one_byte_more found f n =
     ap (fold with_octoword found) (map-range_with_len_more (λ a. a / 32) f n (f + n) refl)
     ∙ fold-append with_octoword found (map (λ a. a / 32) (range_with_len f n)) ((f + n) / 32 ∷ [])
@@ -80,15 +92,19 @@ some_bytes found f zero =
     let low : f / 32 ≤ (f + 0) / 32 = omega arith in
     let gap : (f + 0) / 32 - f / 32 ≡ 0 = omega arith in
     one_byte_more found f 0
-    ∙ sym (pile_more found (f / 32) ((f + 0) / 32) low ∙ ap (λ m. with_octoword (fold with_octoword found (range_with_len (f / 32) m)) ((f + 0) / 32)) gap)
+    ∙ sym (pile_more found (f / 32) ((f + 0) / 32) low
+    ∙ ap (λ m. with_octoword (fold with_octoword found (range_with_len (f / 32) m)) ((f + 0) / 32)) gap)
 some_bytes found f (suc n) =
     let e : suc n ≡ n + 1 = omega arith in
-    one_byte_more found f (suc n) ∙ ap (λ xs. with_octoword xs ((f + suc n) / 32)) (ap (by_bytes found f) e ∙ some_bytes found f n)
+    one_byte_more found f (suc n)
+    ∙ ap (λ xs. with_octoword xs ((f + suc n) / 32)) (ap (by_bytes found f) e ∙ some_bytes found f n)
     ∙ cases (cases_eq ((f + suc n) / 32) ((f + n) / 32))
     (λ same.
     let low : f / 32 ≤ (f + n) / 32 = omega arith in
     let has : list_any (eqb ((f + n) / 32)) (in_turn found (f / 32) ((f + n) / 32 + 1)) ≡ true =
-    ap (list_any (eqb ((f + n) / 32))) (pile_more found (f / 32) ((f + n) / 32) low) ∙ is_there (fold with_octoword found (range_with_len (f / 32) ((f + n) / 32 - f / 32))) ((f + n) / 32) in
+    ap (list_any (eqb ((f + n) / 32))) (pile_more found (f / 32) ((f + n) / 32) low)
+    ∙ is_there (fold with_octoword found (range_with_len (f / 32) ((f + n) / 32 - f / 32)))
+    ((f + n) / 32) in
     ap (with_octoword (in_turn found (f / 32) ((f + n) / 32 + 1))) same
     ∙ stays (in_turn found (f / 32) ((f + n) / 32 + 1)) ((f + n) / 32) has
     ∙ ap (λ o. in_turn found (f / 32) (o + 1)) (sym same))
@@ -98,7 +114,8 @@ some_bytes found f (suc n) =
     ap (λ o. with_octoword (in_turn found (f / 32) o) ((f + suc n) / 32)) (sym next)
     ∙ sym (pile_more found (f / 32) ((f + suc n) / 32) low))
 
-by_length : (found : List ℕ) (f l : ℕ) → by_bytes found f l ≡ in_turn found (f / 32) (cond (eqb l 0) (f / 32) ((f + l - 1) / 32 + 1))
+by_length : (found : List ℕ) (f l : ℕ) →
+    by_bytes found f l ≡ in_turn found (f / 32) (cond (eqb l 0) (f / 32) ((f + l - 1) / 32 + 1))
 by_length found f zero =
     let nothing : 0 ≡ f / 32 - f / 32 = omega arith in
     ap (λ m. fold with_octoword found (range_with_len (f / 32) m)) nothing
@@ -107,24 +124,34 @@ by_length found f (suc n) =
     let last : f + suc n - 1 ≡ f + n = omega arith in
     let some : eqb (suc n) 0 ≡ false = ne_eqb (suc n) 0 (λ none. absurd (omega arith)) in
     ap (by_bytes found f) e ∙ some_bytes found f n
-    ∙ ap (in_turn found (f / 32)) (sym (ap (λ b. cond b (f / 32) ((f + suc n - 1) / 32 + 1)) some ∙ ap (λ m. m / 32 + 1) last))
+    ∙ ap (in_turn found (f / 32))
+    (sym (ap (λ b. cond b (f / 32) ((f + suc n - 1) / 32 + 1)) some ∙ ap (λ m. m / 32 + 1) last))
 
-pub octowords_of_range : (found : List ℕ) (r : Range) → fold with_octoword found (pieces 32 r) ≡ fold with_octoword found (range_with_len (first_piece 32 r) (end_piece 32 r - first_piece 32 r))
+pub octowords_of_range : (found : List ℕ) (r : Range) →
+    fold with_octoword found (pieces 32 r) ≡
+    fold with_octoword found (range_with_len (first_piece 32 r) (end_piece 32 r - first_piece 32 r))
 octowords_of_range found r = by_length found r.first r.length
 
 -- ---- operands in turn
 
-pub octowords_more : (found : List ℕ) (ranges : List Range) (i : ℕ) (r : Range) → slice_get ranges i ≡ Some r → with_octowords found (take (i + 1) ranges) ≡ fold with_octoword (with_octowords found (take i ranges)) (range_with_len (first_piece 32 r) (end_piece 32 r - first_piece 32 r))
+pub octowords_more : (found : List ℕ) (ranges : List Range) (i : ℕ) (r : Range) →
+    slice_get ranges i ≡ Some r →
+    with_octowords found (take (i + 1) ranges) ≡
+    fold with_octoword (with_octowords found (take i ranges))
+    (range_with_len (first_piece 32 r) (end_piece 32 r - first_piece 32 r))
 unfolding with_octowords
 octowords_more found ranges i r e =
     let more : take (i + 1) ranges ≡ take i ranges ++ r ∷ [] =
-    take_more ranges i r (inside ranges i r e) ∙ ap (λ x. take i ranges ++ x ∷ []) (element_of ranges i r e) in
+    take_more ranges i r (inside ranges i r e)
+    ∙ ap (λ x. take i ranges ++ x ∷ []) (element_of ranges i r e) in
     ap (λ rs. fold with_octoword found (flat_map (pieces 32) rs)) more
-    ∙ ap (fold with_octoword found) (flat_map-append (pieces 32) (take i ranges) (r ∷ []) ∙ ap (λ xs. flat_map (pieces 32) (take i ranges) ++ xs) (append-nil (pieces 32 r)))
+    ∙ ap (fold with_octoword found) (flat_map-append (pieces 32) (take i ranges) (r ∷ [])
+    ∙ ap (λ xs. flat_map (pieces 32) (take i ranges) ++ xs) (append-nil (pieces 32 r)))
     ∙ fold-append with_octoword found (flat_map (pieces 32) (take i ranges)) (pieces 32 r)
     ∙ octowords_of_range (fold with_octoword found (flat_map (pieces 32) (take i ranges))) r
 
-pub with_octowords-append : (found : List ℕ) (some more : List Range) → with_octowords found (some ++ more) ≡ with_octowords (with_octowords found some) more
+pub with_octowords-append : (found : List ℕ) (some more : List Range) →
+    with_octowords found (some ++ more) ≡ with_octowords (with_octowords found some) more
 unfolding with_octowords
 with_octowords-append found some more =
     ap (fold with_octoword found) (flat_map-append (pieces 32) some more)
@@ -134,7 +161,8 @@ pub with_octowords-none : (found : List ℕ) → with_octowords found [] ≡ fou
 unfolding with_octowords
 with_octowords-none found = refl
 
-pub with_octowords_grows : (found : List ℕ) (ranges : List Range) → length found ≤ length (with_octowords found ranges)
+pub with_octowords_grows : (found : List ℕ) (ranges : List Range) →
+    length found ≤ length (with_octowords found ranges)
 unfolding with_octowords
 with_octowords_grows found ranges = grows found (flat_map (pieces 32) ranges)
 
@@ -142,10 +170,16 @@ pub few_kept : (xs : List ℕ) (used : ℕ) → used ≤ 4 → length (take used
 few_kept xs used few = omega (arith, length-take used xs)
 
 -- an operand without room leaves too many in the end
-pub stays_full_after : (found : List ℕ) (ranges : List Range) (i : ℕ) (r : Range) → slice_get ranges i ≡ Some r → leb (length (fold with_octoword (with_octowords found (take i ranges)) (range_with_len (first_piece 32 r) (end_piece 32 r - first_piece 32 r)))) 4 ≡ false → leb (length (with_octowords found ranges)) 4 ≡ false
+pub stays_full_after : (found : List ℕ) (ranges : List Range) (i : ℕ) (r : Range) →
+    slice_get ranges i ≡ Some r →
+    leb (length (fold with_octoword (with_octowords found (take i ranges))
+    (range_with_len (first_piece 32 r) (end_piece 32 r - first_piece 32 r)))) 4 ≡ false →
+    leb (length (with_octowords found ranges)) 4 ≡ false
 stays_full_after found ranges i r e full =
     let so_far = octowords_more found ranges i r e in
-    let whole : with_octowords found ranges ≡ with_octowords (with_octowords found (take (i + 1) ranges)) (drop (i + 1) ranges) =
-    ap (with_octowords found) (sym (take-append-drop (i + 1) ranges)) ∙ with_octowords-append found (take (i + 1) ranges) (drop (i + 1) ranges) in
+    let whole : with_octowords found ranges ≡
+    with_octowords (with_octowords found (take (i + 1) ranges)) (drop (i + 1) ranges) =
+    ap (with_octowords found) (sym (take-append-drop (i + 1) ranges))
+    ∙ with_octowords-append found (take (i + 1) ranges) (drop (i + 1) ranges) in
     let more = with_octowords_grows (with_octowords found (take (i + 1) ranges)) (drop (i + 1) ranges) in
     lt-leb _ _ (omega (arith, leb-false _ _ full, ap length so_far, ap length whole, more))

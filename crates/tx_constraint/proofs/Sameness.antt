@@ -11,7 +11,8 @@ are_within k l = list_all (among l.octowords) k.octowords
 pub same_from : (k l : Kept) → k.begin ≡ l.begin → are_within k l ≡ true → are_within l k ≡ true → AreSame k l
 same_from k l begin to from = record {
   begin = begin;
-  octowords = λ o. same_tests (among k.octowords o) (among l.octowords o) (among_all k.octowords l.octowords o to) (among_all l.octowords k.octowords o from);
+  octowords = λ o. same_tests (among k.octowords o) (among l.octowords o)
+      (among_all k.octowords l.octowords o to) (among_all l.octowords k.octowords o from);
 }
 
 pub within_from : (k l : Kept) → AreSame k l → are_within k l ≡ true

@@ -13,22 +13,27 @@ use Rattle.tx_constraint.proofs.Lists.{cases, same_tests}
 
 -- ---- octowords
 
-member_one : (found : List ℕ) (o x : ℕ) → list_any (eqb x) (with_octoword found o) ≡ (list_any (eqb x) found || eqb x o)
+member_one : (found : List ℕ) (o x : ℕ) →
+    list_any (eqb x) (with_octoword found o) ≡ (list_any (eqb x) found || eqb x o)
 member_one found o x = cases (cases_Bool (list_any (eqb o) found))
     (λ there.
     ap (list_any (eqb x)) (ap (λ b. cond b found (found ++ o ∷ [])) there)
     ∙ cases (cases_eq x o)
-    (λ same. let h : list_any (eqb x) found ≡ true = ap (λ y. list_any (eqb y) found) same ∙ there in h ∙ sym (or_left (list_any (eqb x) found) (eqb x o) h))
-    (λ other. or_none (list_any (eqb x) found) ∙ ap (λ b. list_any (eqb x) found || b) (sym (ne_eqb x o other))))
+    (λ same. let h : list_any (eqb x) found ≡ true = ap (λ y. list_any (eqb y) found) same ∙ there in h
+    ∙ sym (or_left (list_any (eqb x) found) (eqb x o) h))
+    (λ other. or_none (list_any (eqb x) found)
+    ∙ ap (λ b. list_any (eqb x) found || b) (sym (ne_eqb x o other))))
     (λ new.
     ap (list_any (eqb x)) (ap (λ b. cond b found (found ++ o ∷ [])) new)
-    ∙ list_any-append (eqb x) found (o ∷ []) ∙ ap (λ b. list_any (eqb x) found || b) (sym (or_none (eqb x o))))
+    ∙ list_any-append (eqb x) found (o ∷ [])
+    ∙ ap (λ b. list_any (eqb x) found || b) (sym (or_none (eqb x o))))
   where
     or_none : (b : Bool) → b ≡ (b || false)
     or_none true = refl
     or_none false = refl
 
-member_all : (found os : List ℕ) (x : ℕ) → list_any (eqb x) (fold with_octoword found os) ≡ (list_any (eqb x) found || list_any (eqb x) os)
+member_all : (found os : List ℕ) (x : ℕ) →
+    list_any (eqb x) (fold with_octoword found os) ≡ (list_any (eqb x) found || list_any (eqb x) os)
 member_all found [] x = or_none (list_any (eqb x) found)
   where
     or_none : (b : Bool) → b ≡ (b || false)
@@ -42,7 +47,8 @@ member_all found (o ∷ os) x =
     assoc true b c = refl
     assoc false b c = refl
 
-pub members : (ranges : List Range) (x : ℕ) → list_any (eqb x) (with_octowords [] ranges) ≡ list_any (eqb x) (flat_map (pieces 32) ranges)
+pub members : (ranges : List Range) (x : ℕ) →
+    list_any (eqb x) (with_octowords [] ranges) ≡ list_any (eqb x) (flat_map (pieces 32) ranges)
 unfolding with_octowords
 members ranges x = member_all [] (flat_map (pieces 32) ranges) x
 
@@ -59,15 +65,18 @@ tally_none x (y ∷ ys) none =
 
 tally_push : (x : ℕ) (xs : List ℕ) (o : ℕ) → tally x (xs ++ o ∷ []) ≡ tally x xs + cond {A = ℕ} (eqb x o) 1 0
 tally_push x xs o =
-    let one : tally x (o ∷ []) ≡ cond {A = ℕ} (eqb x o) 1 0 = omega (arith, sum_by-cons (λ z. cond {A = ℕ} (eqb x z) 1 0) o []) in
+    let one : tally x (o ∷ []) ≡ cond {A = ℕ} (eqb x o) 1 0 =
+    omega (arith, sum_by-cons (λ z. cond {A = ℕ} (eqb x z) 1 0) o []) in
     omega (arith, one, sum_by-append (λ z. cond {A = ℕ} (eqb x z) 1 0) xs (o ∷ []))
 
 once_one : (found : List ℕ) (o x : ℕ) → tally x found ≤ 1 → tally x (with_octoword found o) ≤ 1
 once_one found o x once = cases (cases_Bool (list_any (eqb o) found))
-    (λ there. let e : with_octoword found o ≡ found = ap (λ b. cond b found (found ++ o ∷ [])) there in omega (arith, once, ap (tally x) e))
+    (λ there. let e : with_octoword found o ≡ found = ap (λ b. cond b found (found ++ o ∷ [])) there in
+    omega (arith, once, ap (tally x) e))
     (λ new.
     let e : with_octoword found o ≡ found ++ o ∷ [] = ap (λ b. cond b found (found ++ o ∷ [])) new in
-    let pushed : tally x (with_octoword found o) ≡ tally x found + cond {A = ℕ} (eqb x o) 1 0 = ap (tally x) e ∙ tally_push x found o in
+    let pushed : tally x (with_octoword found o) ≡ tally x found + cond {A = ℕ} (eqb x o) 1 0 =
+    ap (tally x) e ∙ tally_push x found o in
     cases (cases_eq x o)
     (λ same.
     let none : tally x found ≡ 0 = tally_none x found (ap (λ y. list_any (eqb y) found) same ∙ new) in
@@ -87,28 +96,37 @@ once ranges x = once_all [] (flat_map (pieces 32) ranges) x (omega arith)
 
 -- ---- pages
 
-pub own_pages : (begin page : ℕ) → is_own_page begin page ≡ list_any (λ a. eqb page (a / 4096)) (range_with_len begin 256)
+pub own_pages : (begin page : ℕ) →
+    is_own_page begin page ≡ list_any (λ a. eqb page (a / 4096)) (range_with_len begin 256)
 own_pages begin page = same_tests _ _
     (λ own. cases (cases_Bool (eqb page (begin / 4096)))
     (λ first.
-    let e : get_or (range_with_len begin 256) 0 0 ≡ begin = get_or-range_with_len begin 256 0 0 (omega arith) ∙ omega arith in
-    list_any_at (λ a. eqb page (a / 4096)) (range_with_len begin 256) 0 0 (omega (arith, length-range_with_len begin 256)) (ap (λ a. eqb page (a / 4096)) e ∙ first))
+    let e : get_or (range_with_len begin 256) 0 0 ≡ begin = get_or-range_with_len begin 256 0 0 (omega arith)
+    ∙ omega arith in
+    list_any_at (λ a. eqb page (a / 4096)) (range_with_len begin 256) 0 0
+    (omega (arith, length-range_with_len begin 256)) (ap (λ a. eqb page (a / 4096)) e ∙ first))
     (λ not_first.
-    let last : eqb page ((begin + 255) / 4096) ≡ true = sym (ap (λ b. b || eqb page ((begin + 255) / 4096)) not_first) ∙ own in
-    let e : get_or (range_with_len begin 256) 255 0 ≡ begin + 255 = get_or-range_with_len begin 256 255 0 (omega arith) in
-    list_any_at (λ a. eqb page (a / 4096)) (range_with_len begin 256) 255 0 (omega (arith, length-range_with_len begin 256)) (ap (λ a. eqb page (a / 4096)) e ∙ last)))
+    let last : eqb page ((begin + 255) / 4096) ≡ true =
+    sym (ap (λ b. b || eqb page ((begin + 255) / 4096)) not_first) ∙ own in
+    let e : get_or (range_with_len begin 256) 255 0 ≡ begin + 255 =
+    get_or-range_with_len begin 256 255 0 (omega arith) in
+    list_any_at (λ a. eqb page (a / 4096)) (range_with_len begin 256) 255 0
+    (omega (arith, length-range_with_len begin 256)) (ap (λ a. eqb page (a / 4096)) e ∙ last)))
     (λ some.
     let found = Any-from_list_any (λ a. eqb page (a / 4096)) (range_with_len begin 256) some in
     let within : found.0 < 256 = omega (arith, found.2, length-range_with_len begin 256) in
-    let here : found.1 ≡ begin + found.0 = sym found.3 ∙ get_or-range_with_len begin 256 found.0 found.1 within in
+    let here : found.1 ≡ begin + found.0 = sym found.3
+    ∙ get_or-range_with_len begin 256 found.0 found.1 within in
     let there : page ≡ found.1 / 4096 = eqb-true page (found.1 / 4096) found.4 in
     cases (cases_eq page (begin / 4096))
     (λ first. or_left (eqb page (begin / 4096)) (eqb page ((begin + 255) / 4096)) (eq-eqb _ _ first))
-    (λ other. or_right (eqb page (begin / 4096)) (eqb page ((begin + 255) / 4096)) (eq-eqb _ _ (omega (arith, here, there)))))
+    (λ other. or_right (eqb page (begin / 4096)) (eqb page ((begin + 255) / 4096))
+    (eq-eqb _ _ (omega (arith, here, there)))))
 
 -- ---- units
 
-pub in_doubleword : (r : Range) → 0 < r.length → (lies_in_one 8 r ≡ true) ↔ All (λ piece. piece ≡ r.first / 8) (pieces 8 r)
+pub in_doubleword : (r : Range) → 0 < r.length → (lies_in_one 8 r ≡ true) ↔
+    All (λ piece. piece ≡ r.first / 8) (pieces 8 r)
 in_doubleword r some = (
   λ one k d h.
       let fits : r.first % 8 + r.length ≤ 8 = leb-true _ _ one in
@@ -117,21 +135,27 @@ in_doubleword r some = (
   λ all.
       let size = length-map-range_with_len (λ a. a / 8) r.first r.length in
       let last = all (r.length - 1) 0 (omega (arith, size)) in
-      let at_last = get_or-map-range_with_len (λ a. a / 8) r.first r.length (r.length - 1) (r.first + (r.length - 1)) 0 (omega arith) refl in
+      let at_last =
+      get_or-map-range_with_len (λ a. a / 8) r.first r.length (r.length - 1) (r.first + (r.length - 1)) 0
+      (omega arith) refl in
       let same : (r.first + (r.length - 1)) / 8 ≡ r.first / 8 = sym at_last ∙ last in
       le-leb _ _ (omega arith),
 )
 
-pub in_octoword : (r : Range) → 0 < r.length → (lies_in_one 32 r ≡ true) ↔ All (λ piece. piece ≡ r.first / 32) (pieces 32 r)
+pub in_octoword : (r : Range) → 0 < r.length → (lies_in_one 32 r ≡ true) ↔
+    All (λ piece. piece ≡ r.first / 32) (pieces 32 r)
 in_octoword r some = (
   λ one k d h.
       let fits : r.first % 32 + r.length ≤ 32 = leb-true _ _ one in
-      let within : k < r.length = omega (arith, h, length-map-range_with_len (λ a. a / 32) r.first r.length) in
+      let within : k < r.length =
+      omega (arith, h, length-map-range_with_len (λ a. a / 32) r.first r.length) in
       get_or-map-range_with_len (λ a. a / 32) r.first r.length k (r.first + k) d within refl ∙ omega arith,
   λ all.
       let size = length-map-range_with_len (λ a. a / 32) r.first r.length in
       let last = all (r.length - 1) 0 (omega (arith, size)) in
-      let at_last = get_or-map-range_with_len (λ a. a / 32) r.first r.length (r.length - 1) (r.first + (r.length - 1)) 0 (omega arith) refl in
+      let at_last =
+      get_or-map-range_with_len (λ a. a / 32) r.first r.length (r.length - 1)
+      (r.first + (r.length - 1)) 0 (omega arith) refl in
       let same : (r.first + (r.length - 1)) / 32 ≡ r.first / 32 = sym at_last ∙ last in
       le-leb _ _ (omega arith),
 )

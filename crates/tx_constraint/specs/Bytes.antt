@@ -3,7 +3,8 @@ use Rattle.std.specs.Prelude.{ℕ, ◌+◌, ◌-◌, ◌/◌, ◌%◌, Bool, ◌
 use Rattle.std.specs.List.{list_any, range_with_len}
 use Rattle.z_regs.specs.declared.ranges.Range.{Range}
 
--- the numbers of the pieces of some size that hold the operand's bytes, one for each byte: its pages or its octowords
+-- the numbers of the pieces of some size that hold the operand's bytes, one for each byte: its pages or its
+-- octowords
 abbrev pub pieces : ℕ → Range → List ℕ
 pieces size r = map (λ address. address / size) (range_with_len r.first r.length)
 

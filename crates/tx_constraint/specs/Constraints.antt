@@ -69,7 +69,8 @@ unfoldable pub text_breach : Attempt → Option ℕ
 text_breach a =
     first_of (is_too_long a) 1 (first_of (leaves_its_bytes a) 2 (first_of (has_barred a) 3 None))
 
--- of constraints 4 to 7. Constraint 6, that no location is reached by two addresses, is never broken, since real addresses
+-- of constraints 4 to 7. Constraint 6, that no location is reached by two addresses, is never broken, since
+-- real addresses
 -- are one to one with absolute ones.
 unfoldable pub operand_breach : Attempt → Option ℕ
 operand_breach a =

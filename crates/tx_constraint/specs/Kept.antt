@@ -38,4 +38,5 @@ kept_at begin = record { begin = begin; count = 0; octowords = [] }
 -- one TBEGINC, and the same octowords
 pub record AreSame (k l : Kept) : Type 0 where
   pub begin : k.begin ≡ l.begin
-  pub octowords : (octoword : ℕ) → list_any (nat_eq octoword) k.octowords ≡ list_any (nat_eq octoword) l.octowords
+  pub octowords : (octoword : ℕ) →
+      list_any (nat_eq octoword) k.octowords ≡ list_any (nat_eq octoword) l.octowords

@@ -27,7 +27,8 @@ is_multiple (FetchedMany size) = true
 is_multiple (StoredMany size) = true
 is_multiple _ = false
 
--- where an operand has to lie: in an octoword for operations on several registers, in a doubleword for all others
+-- where an operand has to lie: in an octoword for operations on several registers, in a doubleword for all
+-- others
 abbrev pub unit_of : Instr → ℕ
 unit_of i = if is_multiple (entry_at i.op.number).operands then 32 else 8
 

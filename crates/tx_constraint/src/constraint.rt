@@ -18,8 +18,8 @@ pub const MOST_INSTRUCTIONS: u32 = 32;
 /// The bytes that begin with TBEGINC and hold all instructions.
 const MOST_BYTES: u64 = 256;
 
-/// What a constrained attempt has done since its TBEGINC: how many instructions it has run, and the octowords of
-/// their operands.
+/// What a constrained attempt has done since its TBEGINC: how many instructions it has run, and the octowords
+/// of their operands.
 #[derive(Drop)]
 pub struct Constraint {
     begin: u64,
@@ -57,9 +57,10 @@ impl Constraint {
         }
     }
 
-    /// Whether the attempt may have the instruction at `at` next, as far as constraints 1 to 3 say: there are at most 32
-    /// instructions, TEND not counted; the instruction lies in the 256 bytes that begin with TBEGINC; and it is
-    /// permitted, and does not branch back. An error is the lowest number of these that it would break.
+    /// Whether the attempt may have the instruction at `at` next, as far as constraints 1 to 3 say: there are
+    /// at most 32 instructions, TEND not counted; the instruction lies in the 256 bytes that begin with
+    /// TBEGINC; and it is permitted, and does not branch back. An error is the lowest number of these that it
+    /// would break.
     #[tactic(auto, unfolding(crate::specs::Kept::next_text_breach))]
     pub fn admit_text(&self, instr: &Instr, at: u64) -> Result<(), u8>
         ensures { result ≡ verdict (next_text_breach self.now instr.now at) }
@@ -76,10 +77,10 @@ impl Constraint {
         Ok(())
     }
 
-    /// Whether the attempt may have the instruction with these operands next, as far as constraints 4 to 7 say: all
-    /// operands lie in at most four octowords; none has a byte in a page of the 256 bytes that begin with TBEGINC; and
-    /// each lies in one doubleword, or for an operation on several registers in one octoword. An error is the lowest
-    /// number of these that it would break; it is never 6.
+    /// Whether the attempt may have the instruction with these operands next, as far as constraints 4 to 7
+    /// say: all operands lie in at most four octowords; none has a byte in a page of the 256 bytes that begin
+    /// with TBEGINC; and each lies in one doubleword, or for an operation on several registers in one
+    /// octoword. An error is the lowest number of these that it would break; it is never 6.
     #[tactic(auto, unfolding(crate::specs::Kept::next_operand_breach))]
     pub fn admit_operands(&self, instr: &Instr, touches: &Touches) -> Result<(), u8>
         ensures value { result ≡ verdict (next_operand_breach self.now instr.now touches.now) }

@@ -1,6 +1,7 @@
-//! The constraints of constrained transactions: how many instructions, where they stand and which they may be, and
-//! where their operands lie. The constraints are those of the constrained-transactional-execution facility
-//! (z/Architecture Principles of Operation, SA22-7832); which operations are permitted is this machine's choice.
+//! The constraints of constrained transactions: how many instructions, where they stand and which they may
+//! be, and where their operands lie. The constraints are those of the constrained-transactional-execution
+//! facility (z/Architecture Principles of Operation, SA22-7832); which operations are permitted is this
+//! machine's choice.
 #![tactic(auto)]
 
 mod constraint;

@@ -12,7 +12,8 @@ use z_regs::Touches;
 /// The most octowords that the operands of an attempt may lie in.
 const MOST: usize = 4;
 
-/// At most four octowords by their numbers, address divided by 32, none of them twice. Contracts see their list.
+/// At most four octowords by their numbers, address divided by 32, none of them twice. Contracts see their
+/// list.
 #[derive(Drop)]
 pub struct Octowords {
     numbers: [u64; MOST],
@@ -77,8 +78,12 @@ impl Octowords {
     /// Adds octowords up to the first for which there is no room; says whether there was room for all.
     fn add_pieces(&mut self, pieces: Pieces) -> bool
         requires { pieces.first ≤ pieces.end }
-        ensures room { result ≡ nat_le (length (fold with_octoword self.old (range_with_len pieces.first (pieces.end - pieces.first)))) 4 }
-        ensures added { OnTrue result (self.new ≡ fold with_octoword self.old (range_with_len pieces.first (pieces.end - pieces.first))) }
+        ensures room { result ≡
+            nat_le (length
+            (fold with_octoword self.old (range_with_len pieces.first (pieces.end - pieces.first)))) 4 }
+        ensures added { OnTrue result
+            (self.new ≡ fold with_octoword self.old
+            (range_with_len pieces.first (pieces.end - pieces.first))) }
     {
         let _ = &self.numbers;
         for octoword in pieces.first..pieces.end {
@@ -89,8 +94,8 @@ impl Octowords {
         true
     }
 
-    /// Adds the octowords of the operands, up to the first for which there is no room; says whether there was room for
-    /// all.
+    /// Adds the octowords of the operands, up to the first for which there is no room; says whether there was
+    /// room for all.
     pub fn add_all(&mut self, touches: &Touches) -> bool
         ensures room { result ≡ nat_le (length (with_octowords self.old touches.now)) 4 }
         ensures added { OnTrue result (self.new ≡ with_octowords self.old touches.now) }

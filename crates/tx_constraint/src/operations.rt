@@ -14,8 +14,8 @@ pub const OCTOWORD_SIZE: u64 = 32;
 /// The bytes of a doubleword.
 const DOUBLEWORD_SIZE: u64 = 8;
 
-/// Whether constrained transactions may have the instruction: the table permits its operation, and a branch with a
-/// target goes ahead.
+/// Whether constrained transactions may have the instruction: the table permits its operation, and a branch
+/// with a target goes ahead.
 pub fn is_permitted(instr: &Instr) -> bool
     ensures { result ≡ permits instr.now }
 {

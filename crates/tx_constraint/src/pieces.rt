@@ -44,7 +44,8 @@ pub fn pieces_of(range: Range, size: u64) -> Pieces
     }
 }
 
-/// Whether a byte of the operand lies in the page of the first or of the last of the 256 bytes that begin at `begin`.
+/// Whether a byte of the operand lies in the page of the first or of the last of the 256 bytes that begin at
+/// `begin`.
 fn is_near(begin: u64, range: Range) -> bool
     ensures { result ≡ touches_own_page begin range }
 {

@@ -21,17 +21,20 @@ use Rattle.z_effect.specs.After.{touched, with_stored}
 -- ---- operations
 
 -- the largest word and one more: overflow
-overflowing : combined operation.Add width.Word 0 0x7FFFFFFF 1 ≡ record { value = 0x80000000; condition = 3; overflow = true }
+overflowing : combined operation.Add width.Word 0 0x7FFFFFFF 1 ≡
+    record { value = 0x80000000; condition = 3; overflow = true }
 unfolding combined add_of
 overflowing = refl
 
 -- code 2 tells of a carry, which is added
-carrying : combined operation.AddWithCarry width.Double 2 5 6 ≡ record { value = 12; condition = 1; overflow = false }
+carrying : combined operation.AddWithCarry width.Double 2 5 6 ≡
+    record { value = 12; condition = 1; overflow = false }
 unfolding combined add_logical_of
 carrying = refl
 
 -- code 1 tells of a borrow, which is taken off
-borrowing : combined operation.SubtractWithBorrow width.Double 1 6 5 ≡ record { value = 0; condition = 2; overflow = false }
+borrowing : combined operation.SubtractWithBorrow width.Double 1 6 5 ≡
+    record { value = 0; condition = 2; overflow = false }
 unfolding combined subtract_logical_of
 borrowing = refl
 
@@ -46,7 +49,8 @@ negative_halfword = refl
 plain_halfword : extended width.Double (part.Plain size.Halfword) 0x8001 ≡ 0x8001
 plain_halfword = refl
 
-long_load : kind_named (codes "LY") ≡ kind.Storage (storage.Compute operation.Load width.Word (part.Plain size.Word))
+long_load : kind_named (codes "LY") ≡
+    kind.Storage (storage.Compute operation.Load width.Word (part.Plain size.Word))
 unfolding kind_named
 long_load = refl
 
@@ -55,7 +59,9 @@ long_load = refl
 halfword_put : put_low 16 0x123456789ABCDEF0 0x1111 ≡ 0x123456789ABC1111
 halfword_put = refl
 
-word_put : register (with_register width.Word 3 7 (with_register width.Double 3 0xAAAAAAAABBBBBBBB (started 0))) 3 ≡ 0xAAAAAAAA00000007
+word_put : register
+    (with_register width.Word 3 7 (with_register width.Double 3 0xAAAAAAAABBBBBBBB (started 0))) 3 ≡
+    0xAAAAAAAA00000007
 word_put = refl
 
 around_fifteen : register (with_pair width.Double 15 1 2 (started 0)) 0 ≡ 2
@@ -69,7 +75,8 @@ stored_around : items 2 width.Word 15 two ≡ 0xAA ∷ 0xBB ∷ 0xCC ∷ 0xDD �
 unfolding items two
 stored_around = refl
 
-loaded_around : register (with_items 2 width.Word 15 (1 ∷ 2 ∷ 3 ∷ 4 ∷ 5 ∷ 6 ∷ 7 ∷ 8 ∷ []) (started 0)) 0 ≡ 0x05060708
+loaded_around : register (with_items 2 width.Word 15 (1 ∷ 2 ∷ 3 ∷ 4 ∷ 5 ∷ 6 ∷ 7 ∷ 8 ∷ []) (started 0)) 0 ≡
+    0x05060708
 unfolding with_items
 loaded_around = refl
 
@@ -86,7 +93,8 @@ unfolding results
 shifted_left = refl
 
 -- a field with itself
-cleared : results 2 (combination.Logic logic.ExclusiveOr) (lead 2 100 100) (7 ∷ 8 ∷ []) (7 ∷ 8 ∷ []) ≡ 0 ∷ 0 ∷ []
+cleared : results 2 (combination.Logic logic.ExclusiveOr) (lead 2 100 100) (7 ∷ 8 ∷ []) (7 ∷ 8 ∷ []) ≡ 0 ∷
+    0 ∷ []
 unfolding results
 cleared = refl
 
@@ -96,9 +104,11 @@ low_at_once = refl
 
 -- ---- ranges
 
-both_operands : touched (span 1 2 true ∷ span 3 1 false ∷ []) (10 ∷ 11 ∷ 12 ∷ 13 ∷ 14 ∷ []) ≡ 11 ∷ 12 ∷ 13 ∷ []
+both_operands : touched (span 1 2 true ∷ span 3 1 false ∷ []) (10 ∷ 11 ∷ 12 ∷ 13 ∷ 14 ∷ []) ≡ 11 ∷ 12 ∷
+    13 ∷ []
 both_operands = refl
 
 -- the fetched operand is not written back
-first_alone : with_stored (span 1 2 true ∷ span 3 1 false ∷ []) (7 ∷ 8 ∷ []) (10 ∷ 11 ∷ 12 ∷ 13 ∷ 14 ∷ []) ≡ 10 ∷ 7 ∷ 8 ∷ 13 ∷ 14 ∷ []
+first_alone : with_stored (span 1 2 true ∷ span 3 1 false ∷ []) (7 ∷ 8 ∷ []) (10 ∷ 11 ∷ 12 ∷ 13 ∷ 14 ∷ []) ≡
+    10 ∷ 7 ∷ 8 ∷ 13 ∷ 14 ∷ []
 first_alone = refl

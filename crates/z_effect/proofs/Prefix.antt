@@ -44,23 +44,27 @@ either_way : (b : Bool) (o p : Outcome) (c : Cpu) → Keeps o c → Keeps p c �
 either_way true o p c h k = h
 either_way false o p c h k = k
 
-keeps_ended : (overflow : Bool) (new c : Cpu) (bytes : List ℕ) → new.prefix ≡ c.prefix → Keeps (ended overflow new bytes) c
+keeps_ended : (overflow : Bool) (new c : Cpu) (bytes : List ℕ) → new.prefix ≡ c.prefix →
+    Keeps (ended overflow new bytes) c
 keeps_ended overflow new c bytes h = either_way (overflow && nat_le 8 new.mask) _ _ c h h
 
 keeps_answered : (n : ℕ) (w : Width) (a : Answer) (i : Instr) (c : Cpu) → Keeps (answered n w a i c) c
 keeps_answered n w a i c =
-    keeps_ended a.overflow (advanced n (with_condition a.condition (with_register w i.r1 a.value c))) c [] refl
+    keeps_ended a.overflow
+    (advanced n (with_condition a.condition (with_register w i.r1 a.value c))) c [] refl
 
 one_of_two : (b : Bool) (x y c : Cpu) → x.prefix ≡ c.prefix → y.prefix ≡ c.prefix →
     (if b then x else y).prefix ≡ c.prefix
 one_of_two true x y c h k = h
 one_of_two false x y c h k = k
 
-keeps_divided : (n : ℕ) (w : Width) (i : Instr) (c : Cpu) (r : Result (ℕ × ℕ) DivideFault) → Keeps (divided n w i c r) c
+keeps_divided : (n : ℕ) (w : Width) (i : Instr) (c : Cpu) (r : Result (ℕ × ℕ) DivideFault) →
+    Keeps (divided n w i c r) c
 keeps_divided n w i c (Ok pair) = refl
 keeps_divided n w i c (Err fault) = refl
 
-keeps_items : (k : ℕ) (w : Width) (r : ℕ) (bytes : List ℕ) (c : Cpu) → (with_items k w r bytes c).prefix ≡ c.prefix
+keeps_items : (k : ℕ) (w : Width) (r : ℕ) (bytes : List ℕ) (c : Cpu) →
+    (with_items k w r bytes c).prefix ≡ c.prefix
 unfolding with_items
 keeps_items zero w r bytes c = refl
 keeps_items (suc k) w r bytes c = keeps_items k w r bytes c
@@ -92,12 +96,14 @@ keeps_general (general.Target) n i c = refl
 keeps_general (general.MultiplyWord) n i c = refl
 keeps_general (general.MultiplyLogical) n i c = refl
 keeps_general (general.DivideWord) n i c =
-    keeps_divided n Word i c (divide_word_of (operand_in Word c i.r1 * 2 ^ 32 + operand_in Word c (after i.r1))
+    keeps_divided n Word i c
+    (divide_word_of (operand_in Word c i.r1 * 2 ^ 32 + operand_in Word c (after i.r1))
     (operand_in Word c i.r2))
 keeps_general (general.DivideDouble) n i c =
     keeps_divided n Double i c (divide_double_of (register c (after i.r1)) (register c i.r2))
 keeps_general (general.DivideLogical) n i c =
-    keeps_divided n Double i c (divide_logical_of (register c i.r1) (register c (after i.r1)) (register c i.r2))
+    keeps_divided n Double i c
+    (divide_logical_of (register c i.r1) (register c (after i.r1)) (register c i.r2))
 keeps_general (general.FindLeftmostOne) n i c = refl
 keeps_general (general.LoadSelected) n i c =
     one_of_two (selects i.mask c.condition) (with_general i.r1 (register c i.r2) c) c c refl refl
@@ -106,7 +112,8 @@ keeps_general (general.SetProgramMask) n i c = refl
 keeps_general (general.ExtractAccess) n i c = refl
 keeps_general (general.SetAccess) n i c = refl
 
-keeps_storage : (k : Storage) (n : ℕ) (i : Instr) (c : Cpu) (bytes : List ℕ) → Keeps (storage_effect k n i c bytes) c
+keeps_storage : (k : Storage) (n : ℕ) (i : Instr) (c : Cpu) (bytes : List ℕ) →
+    Keeps (storage_effect k n i c bytes) c
 unfolding storage_effect
 keeps_storage (storage.Compute o w p) n i c bytes =
     keeps_answered n w (combined o w c.condition (operand_in w c i.r1) (piece w p bytes)) i c
@@ -146,17 +153,21 @@ unfolding branch_effect
 keeps_branch (branch.OnCondition p) n i c =
     keeps_going n (selects i.mask c.condition) (destination p i c) c c refl
 keeps_branch (branch.OnCount p w) n i c =
-    keeps_going n (not (nat_eq (counted w i c) 0)) (destination p i c) (with_register w i.r1 (counted w i c) c) c refl
+    keeps_going n (not (nat_eq (counted w i c) 0)) (destination p i c)
+    (with_register w i.r1 (counted w i c) c) c refl
 keeps_branch (branch.AndSave p) n i c =
     keeps_going n true (destination p i c) (with_general i.r1 (next_address n c) c) c refl
 keeps_branch (branch.OnCompare o w) n i c =
-    keeps_going n (selects i.mask (compared o w (operand_in w c i.r1) (operand_in w c i.r2))) (Some (target i c)) c c refl
+    keeps_going n (selects i.mask (compared o w (operand_in w c i.r1) (operand_in w c i.r2)))
+    (Some (target i c)) c c refl
 keeps_branch (branch.OnCompareImmediate) n i c =
-    keeps_going n (selects i.mask (compared Signed Double (register c i.r1) (modulo 64 i.d2))) (Some (target i c)) c c
+    keeps_going n (selects i.mask (compared Signed Double (register c i.r1) (modulo 64 i.d2)))
+    (Some (target i c)) c c
     refl
 keeps_branch (branch.ServiceCall) n i c = refl
 
-keeps_transaction : (k : Transaction) (n : ℕ) (i : Instr) (c : Cpu) (depth : ℕ) → Keeps (transaction_effect k n i c depth) c
+keeps_transaction : (k : Transaction) (n : ℕ) (i : Instr) (c : Cpu) (depth : ℕ) →
+    Keeps (transaction_effect k n i c depth) c
 unfolding transaction_effect
 keeps_transaction (transaction.Begin) n i c depth = refl
 keeps_transaction (transaction.BeginConstrained) n i c depth = refl
@@ -166,7 +177,8 @@ keeps_transaction (transaction.ExtractDepth) n i c depth = refl
 keeps_transaction (transaction.StoreLasting) n i c depth = refl
 keeps_transaction (transaction.Assist) n i c depth = refl
 
-keeps_effect : (k : Kind) (n : ℕ) (i : Instr) (c : Cpu) (depth : ℕ) (bytes : List ℕ) → Keeps (effect k n i c depth bytes) c
+keeps_effect : (k : Kind) (n : ℕ) (i : Instr) (c : Cpu) (depth : ℕ) (bytes : List ℕ) →
+    Keeps (effect k n i c depth bytes) c
 keeps_effect (kind.General g) n i c depth bytes = keeps_general g n i c
 keeps_effect (kind.Storage s) n i c depth bytes = keeps_storage s n i c bytes
 keeps_effect (kind.Branch b) n i c depth bytes = keeps_branch b n i c

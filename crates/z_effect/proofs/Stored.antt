@@ -8,52 +8,73 @@ short : (n : ℕ) (xs : List ℕ) → length (take n xs) ≤ n
 short n xs = omega (arith, length-take n xs)
 
 -- what stands before the part behind
-length-head : (s : List ℕ) (first : ℕ) (bytes : List ℕ) → first ≤ length s → length (take first s ++ bytes) ≡ first + length bytes
+length-head : (s : List ℕ) (first : ℕ) (bytes : List ℕ) → first ≤ length s →
+    length (take first s ++ bytes) ≡ first + length bytes
 length-head s first bytes h = grind (arith, length-append (take first s) bytes, length-take-le first s h)
 
-pub length-written : (s : List ℕ) (first : ℕ) (bytes : List ℕ) → first + length bytes ≤ length s → length (written s first bytes) ≡ length s
+pub length-written : (s : List ℕ) (first : ℕ) (bytes : List ℕ) → first + length bytes ≤ length s →
+    length (written s first bytes) ≡ length s
 length-written s first bytes h =
-    grind (arith, length-append (take first s ++ bytes) (drop (first + length bytes) s), length-head s first bytes (omega arith), length-drop (first + length bytes) s)
+    grind (
+      arith,
+      length-append (take first s ++ bytes) (drop (first + length bytes) s),
+      length-head s first bytes (omega arith),
+      length-drop (first + length bytes) s,
+    )
 
-pub below : (s : List ℕ) (first : ℕ) (bytes : List ℕ) (k : ℕ) → first ≤ length s → k < first → get_or (written s first bytes) k 0 ≡ get_or s k 0
+pub below : (s : List ℕ) (first : ℕ) (bytes : List ℕ) (k : ℕ) → first ≤ length s → k < first →
+    get_or (written s first bytes) k 0 ≡ get_or s k 0
 below s first bytes k h l =
-    get_or_append_left (take first s ++ bytes) (drop (first + length bytes) s) 0 k (omega (arith, length-head s first bytes h))
+    get_or_append_left (take first s ++ bytes) (drop (first + length bytes) s) 0 k
+    (omega (arith, length-head s first bytes h))
     ∙ get_or_append_left (take first s) bytes 0 k (omega (arith, length-take-le first s h))
     ∙ get_or-take first s k 0 l
 
-pub above : (s : List ℕ) (first : ℕ) (bytes : List ℕ) (k : ℕ) → first ≤ length s → first + length bytes ≤ k → get_or (written s first bytes) k 0 ≡ get_or s k 0
+pub above : (s : List ℕ) (first : ℕ) (bytes : List ℕ) (k : ℕ) → first ≤ length s → first + length bytes ≤ k →
+    get_or (written s first bytes) k 0 ≡ get_or s k 0
 above s first bytes k h l =
-    get_or-append_right (take first s ++ bytes) (drop (first + length bytes) s) (first + length bytes) k 0 (length-head s first bytes h) l
+    get_or-append_right (take first s ++ bytes) (drop (first + length bytes) s) (first + length bytes) k 0
+    (length-head s first bytes h) l
     ∙ get_or-drop (first + length bytes) s (k - (first + length bytes)) 0
     ∙ ap (λ j. get_or s j 0) (omega arith)
 
-at_write : (r : Span) (bytes s : List ℕ) (k : ℕ) → r.first + r.length ≤ length s → (k < r.first) ⊎ (r.first + r.length ≤ k) → get_or (written s r.first (take r.length bytes)) k 0 ≡ get_or s k 0
+at_write : (r : Span) (bytes s : List ℕ) (k : ℕ) → r.first + r.length ≤ length s →
+    (k < r.first) ⊎ (r.first + r.length ≤ k) →
+    get_or (written s r.first (take r.length bytes)) k 0 ≡ get_or s k 0
 at_write r bytes s k h (inl o) = below s r.first (take r.length bytes) k (omega arith) o
-at_write r bytes s k h (inr o) = above s r.first (take r.length bytes) k (omega arith) (omega (arith, short r.length bytes))
+at_write r bytes s k h (inr o) =
+    above s r.first (take r.length bytes) k (omega arith) (omega (arith, short r.length bytes))
 
 inside : (rs : List Span) (s t : List ℕ) → length t ≡ length s → AreInside rs s → AreInside rs t
 inside [] s t e h = tt
 inside (r ∷ rs) s t e h = (omega (arith, h.0), inside rs s t e h.1)
 
-write_size : (r : Span) (bytes s : List ℕ) → r.first + r.length ≤ length s → length (written s r.first (take r.length bytes)) ≡ length s
+write_size : (r : Span) (bytes s : List ℕ) → r.first + r.length ≤ length s →
+    length (written s r.first (take r.length bytes)) ≡ length s
 write_size r bytes s h = length-written s r.first (take r.length bytes) (omega (arith, short r.length bytes))
 
-pub same_size : (rs : List Span) (bytes s : List ℕ) → AreInside rs s → length (with_stored rs bytes s) ≡ length s
+pub same_size : (rs : List Span) (bytes s : List ℕ) → AreInside rs s →
+    length (with_stored rs bytes s) ≡ length s
 same_size [] bytes s h = refl
 same_size (r ∷ rs) bytes s h =
     let w = written s r.first (take r.length bytes) in
     let l = write_size r bytes s h.0 in
-    elim r.store as (λ b. length (cond b (with_stored rs (drop r.length bytes) w) (with_stored rs bytes s)) ≡ length s) [
+    elim r.store as
+    (λ b. length (cond b (with_stored rs (drop r.length bytes) w) (with_stored rs bytes s)) ≡ length s) [
       | true ↦ same_size rs (drop r.length bytes) w (inside rs s w l h.1) ∙ l
       | false ↦ same_size rs bytes s h.1
     ]
 
-pub same_elsewhere : (rs : List Span) (bytes s : List ℕ) (k : ℕ) → AreInside rs s → IsBeside k rs → get_or (with_stored rs bytes s) k 0 ≡ get_or s k 0
+pub same_elsewhere : (rs : List Span) (bytes s : List ℕ) (k : ℕ) → AreInside rs s → IsBeside k rs →
+    get_or (with_stored rs bytes s) k 0 ≡ get_or s k 0
 same_elsewhere [] bytes s k h o = refl
 same_elsewhere (r ∷ rs) bytes s k h o =
     let w = written s r.first (take r.length bytes) in
     let l = write_size r bytes s h.0 in
-    (elim r.store as (λ b. (b ≡ true → (k < r.first) ⊎ (r.first + r.length ≤ k)) → get_or (cond b (with_stored rs (drop r.length bytes) w) (with_stored rs bytes s)) k 0 ≡ get_or s k 0) [
-      | true ↦ λ at. same_elsewhere rs (drop r.length bytes) w k (inside rs s w l h.1) o.1 ∙ at_write r bytes s k h.0 (at refl)
+    (elim r.store as (λ b. (b ≡ true → (k < r.first) ⊎ (r.first + r.length ≤ k)) →
+    get_or (cond b (with_stored rs (drop r.length bytes) w) (with_stored rs bytes s)) k 0 ≡
+    get_or s k 0) [
+      | true ↦ λ at. same_elsewhere rs (drop r.length bytes) w k (inside rs s w l h.1) o.1
+          ∙ at_write r bytes s k h.0 (at refl)
       | false ↦ λ at. same_elsewhere rs bytes s k h.1 o.1
     ]) o.0

@@ -27,14 +27,19 @@ same_storage Divides s = refl
 same_storage (Aborts code) s = refl
 
 -- an outcome that is set, of a kind that has no operand in storage, is all that the instruction does
-pub executes : (depth n : ℕ) (i : Instr) (k : Kind) (o : Outcome) (old new : Cpu) (s : List ℕ) (r : Result (Unit {0}) Exception) → i.op.number < ROWS → n ≡ length_of i → kind_at i.op.number ≡ k → operands_of k ≡ Absent → ((bytes : List ℕ) → effect k n i old depth bytes ≡ o) → Sets o n old new r → Executes depth i old new s s r
+pub executes : (depth n : ℕ) (i : Instr) (k : Kind) (o : Outcome) (old new : Cpu) (s : List ℕ)
+    (r : Result (Unit {0}) Exception) → i.op.number < ROWS → n ≡ length_of i → kind_at i.op.number ≡ k →
+    operands_of k ≡ Absent → ((bytes : List ℕ) → effect k n i old depth bytes ≡ o) → Sets o n old new r →
+    Executes depth i old new s s r
 executes depth n i k o old new s r h l e a f sets =
     let bytes : List ℕ = touched (ranges_of i old) s in
     let none : ranges_of i old ≡ [] = no_ranges i old (operands_at i.op.number h ∙ ap operands_of e ∙ a) in
     let same : one i old depth bytes ≡ o =
-    ap (λ (q : Kind). effect q (length_of i) i old depth bytes) e ∙ ap (λ (m : ℕ). effect k m i old depth bytes) (sym l) ∙ f bytes in
+    ap (λ (q : Kind). effect q (length_of i) i old depth bytes) e
+    ∙ ap (λ (m : ℕ). effect k m i old depth bytes) (sym l) ∙ f bytes in
     record {
       answer = sets.answer ∙ ap (λ (m : ℕ). answer_of m o) l ∙ ap (answer_of (length_of i)) (sym same);
       image = sets.image ∙ ap (cpu_after old) (sym same);
-      view = sym (ap (λ (rs : List Span). storage_after rs s (one i old depth bytes)) none ∙ same_storage (one i old depth bytes) s);
+      view = sym (ap (λ (rs : List Span). storage_after rs s (one i old depth bytes)) none
+          ∙ same_storage (one i old depth bytes) s);
     }

@@ -27,14 +27,17 @@ in_table n h = h
 
 pub kind_is : (n : ℕ) (d : Kind) → n < ROWS → get_or KINDS n d ≡ kind_at n
 unfolding kind_at entry_at
-kind_is n d h = ap (λ (ks : List Kind). get_or ks n d) (sym same_kinds) ∙ get_or-map kind_of_entry table n no_entry d (in_table n h)
+kind_is n d h = ap (λ (ks : List Kind). get_or ks n d) (sym same_kinds)
+    ∙ get_or-map kind_of_entry table n no_entry d (in_table n h)
 
 -- which operands an operation touches
-pub same_operands : map (λ (e : Entry). operands_of (kind_named e.name)) table ≡ map (λ (e : Entry). e.operands) table
+pub same_operands : map (λ (e : Entry). operands_of (kind_named e.name)) table ≡
+    map (λ (e : Entry). e.operands) table
 unfolding table kind_named
 same_operands = refl
 
-at_row : {X : Type 0} (f g : Entry → X) → map f table ≡ map g table → (n : ℕ) → n < ROWS → f (entry_at n) ≡ g (entry_at n)
+at_row : {X : Type 0} (f g : Entry → X) → map f table ≡ map g table → (n : ℕ) → n < ROWS →
+    f (entry_at n) ≡ g (entry_at n)
 unfolding entry_at
 at_row f g e n h =
     sym (get_or-map f table n no_entry (f no_entry) (in_table n h))
@@ -43,7 +46,9 @@ at_row f g e n h =
 
 pub operands_at : (n : ℕ) → n < ROWS → (entry_at n).operands ≡ operands_of (kind_at n)
 unfolding kind_at
-operands_at n h = sym (at_row (λ (e : Entry). operands_of (kind_named e.name)) (λ (e : Entry). e.operands) same_operands n h)
+operands_at n h =
+    sym (at_row (λ (e : Entry). operands_of (kind_named e.name))
+    (λ (e : Entry). e.operands) same_operands n h)
 
 pub named_at : (n : ℕ) → n < ROWS → is_named_once doings (entry_at n) ≡ true
 unfolding entry_at

@@ -1,4 +1,5 @@
--- Worked values of the seven transaction instructions, from their bytes, and of interruptions outside transactions.
+-- Worked values of the seven transaction instructions, from their bytes, and of interruptions outside
+-- transactions.
 use Rattle.std.proofs.Common.{◌≡◌, ℕ, ◌+◌, ◌*◌, List, [], ◌∷◌, true, false, set, refl}
 use Rattle.std.specs.Prelude.{Option, Some, None}
 use Rattle.tx_control.specs.declared.begins.Begin.{Begin}
@@ -42,7 +43,8 @@ ends_nothing : done_at 0 (with_first 7) (0xB2 ∷ 0xF8 ∷ 0 ∷ 0 ∷ []) ≡
 unfolding reading_of row_number entry_at table kind_named kind_at transaction_effect
 ends_nothing = refl
 
-ends : done_at 1 (with_first 7) (0xB2 ∷ 0xF8 ∷ 0 ∷ 0 ∷ []) ≡ Some (Did (with_condition 0 (moved 4 (with_first 7))) [])
+ends : done_at 1 (with_first 7) (0xB2 ∷ 0xF8 ∷ 0 ∷ 0 ∷ []) ≡
+    Some (Did (with_condition 0 (moved 4 (with_first 7))) [])
 unfolding reading_of row_number entry_at table kind_named kind_at transaction_effect
 ends = refl
 
@@ -127,7 +129,8 @@ constrained = refl
 abbrev raised : ℕ → ℕ → Exception
 raised code length = record { code = code; fetch = false; length = length }
 
-refused : interrupted_by (raised 6 6) (with_first 7) ≡ record (moved 6 (with_first 7)) { state = Interrupted 6 }
+refused : interrupted_by (raised 6 6) (with_first 7) ≡
+    record (moved 6 (with_first 7)) { state = Interrupted 6 }
 refused = refl
 
 unfetched : interrupted_by (raised 5 0) (with_first 7) ≡ record (with_first 7) { state = Interrupted 5 }

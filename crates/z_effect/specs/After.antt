@@ -27,7 +27,8 @@ written s first bytes = take first s ++ bytes ++ drop (first + length bytes) s
 abbrev pub with_stored : List Span → List ℕ → List ℕ → List ℕ
 with_stored [] bytes s = s
 with_stored (r ∷ rs) bytes s =
-    cond r.store (with_stored rs (drop r.length bytes) (written s r.first (take r.length bytes))) (with_stored rs bytes s)
+    cond r.store (with_stored rs (drop r.length bytes) (written s r.first (take r.length bytes)))
+    (with_stored rs bytes s)
 
 -- the ranges lie in storage
 abbrev pub AreInside : List Span → List ℕ → Type 0
@@ -79,7 +80,8 @@ pub record Sets (o : Outcome) (n : ℕ) (old new : Cpu) (r : Result (Unit {0}) E
   pub image : new ≡ cpu_after old o
 
 -- and storage, by the ranges
-pub record Leaves (o : Outcome) (n : ℕ) (ranges : List Span) (old new : Cpu) (s t : List ℕ) (r : Result (Unit {0}) Exception) : Type 0 where
+pub record Leaves (o : Outcome) (n : ℕ) (ranges : List Span) (old new : Cpu) (s t : List ℕ)
+    (r : Result (Unit {0}) Exception) : Type 0 where
   pub answer : told r ≡ answer_of n o
   pub image : new ≡ cpu_after old o
   pub view : t ≡ storage_after ranges s o

@@ -36,10 +36,14 @@ counted w i c = modulo (bits w) (pos (operand_in w c i.r1) +ℤ negsuc 0)
 unfoldable pub branch_effect : Branch → ℕ → Instr → Cpu → Outcome
 branch_effect (OnCondition p) n i c = done (going n (selects i.mask c.condition) (destination p i c) c)
 branch_effect (OnCount p w) n i c =
-    done (going n (not (nat_eq (counted w i c) 0)) (destination p i c) (with_register w i.r1 (counted w i c) c))
-branch_effect (AndSave p) n i c = done (going n true (destination p i c) (with_general i.r1 (next_address n c) c))
+    done (going n (not (nat_eq (counted w i c) 0)) (destination p i c)
+    (with_register w i.r1 (counted w i c) c))
+branch_effect (AndSave p) n i c =
+    done (going n true (destination p i c) (with_general i.r1 (next_address n c) c))
 branch_effect (OnCompare o w) n i c =
-    done (going n (selects i.mask (compared o w (operand_in w c i.r1) (operand_in w c i.r2))) (Some (target i c)) c)
+    done (going n (selects i.mask (compared o w (operand_in w c i.r1) (operand_in w c i.r2)))
+    (Some (target i c)) c)
 branch_effect OnCompareImmediate n i c =
-    done (going n (selects i.mask (compared Signed Double (register c i.r1) (modulo 64 i.d2))) (Some (target i c)) c)
+    done (going n (selects i.mask (compared Signed Double (register c i.r1) (modulo 64 i.d2)))
+    (Some (target i c)) c)
 branch_effect ServiceCall n i c = done (record (advanced n c) { state = state.Halted })

@@ -43,7 +43,8 @@ amount i c = first_address i c.general % 64
 
 -- a value into R1, and its code
 abbrev pub answered : ℕ → Width → Answer → Instr → Cpu → Outcome
-answered n w a i c = ended a.overflow (advanced n (with_condition a.condition (with_register w i.r1 a.value c))) []
+answered n w a i c =
+    ended a.overflow (advanced n (with_condition a.condition (with_register w i.r1 a.value c))) []
 
 abbrev pub divided : ℕ → Width → Instr → Cpu → Result (ℕ × ℕ) DivideFault → Outcome
 divided n w i c (Ok pair) = done (advanced n (with_pair w i.r1 pair.0 pair.1 c))
@@ -55,19 +56,24 @@ with_halfword i value c = with_general i.r1 (put_low 16 (register c i.r1) value)
 -- bits 32 to 39: two zeros, the code, the mask
 abbrev pub with_program_mask : Instr → Cpu → Cpu
 with_program_mask i c =
-    let r = register c i.r1 in with_general i.r1 (put_low 32 r ((c.condition * 16 + c.mask) * 2 ^ 24 + r % 2 ^ 24)) c
+    let r = register c i.r1 in
+    with_general i.r1 (put_low 32 r ((c.condition * 16 + c.mask) * 2 ^ 24 + r % 2 ^ 24)) c
 
 unfoldable pub general_effect : General → ℕ → Instr → Cpu → Outcome
-general_effect (Compute o w s) n i c = answered n w (combined o w c.condition (first_operand s w i c) (second_operand s w i c)) i c
+general_effect (Compute o w s) n i c =
+    answered n w (combined o w c.condition (first_operand s w i c) (second_operand s w i c)) i c
 general_effect (Compare o w s) n i c =
     done (advanced n (with_condition (compared o w (first_operand s w i c) (second_operand s w i c)) c))
 general_effect (LowHalfword l) n i c =
     let value = logic_of l (halfword i c) (modulo 16 i.imm) in
     done (advanced n (with_condition (zero_code value) (with_halfword i value c)))
 general_effect InsertHalfword n i c = done (advanced n (with_halfword i (modulo 16 i.imm) c))
-general_effect TestHalfword n i c = done (advanced n (with_condition (test_halfword_of (halfword i c) (modulo 16 i.imm)) c))
-general_effect (ShiftFirst k) n i c = answered n Word (shifted k Word c.condition (operand_in Word c i.r1) (amount i c)) i c
-general_effect (ShiftThird k w) n i c = answered n w (shifted k w c.condition (operand_in w c i.r3) (amount i c)) i c
+general_effect TestHalfword n i c =
+    done (advanced n (with_condition (test_halfword_of (halfword i c) (modulo 16 i.imm)) c))
+general_effect (ShiftFirst k) n i c =
+    answered n Word (shifted k Word c.condition (operand_in Word c i.r1) (amount i c)) i c
+general_effect (ShiftThird k w) n i c =
+    answered n w (shifted k w c.condition (operand_in w c i.r3) (amount i c)) i c
 general_effect Address n i c = done (advanced n (with_general i.r1 (first_address i c.general) c))
 general_effect Target n i c = done (advanced n (with_general i.r1 (target i c) c))
 general_effect MultiplyWord n i c =
@@ -77,8 +83,11 @@ general_effect MultiplyLogical n i c =
     let product = multiply_logical_of (register c (after i.r1)) (register c i.r2) in
     done (advanced n (with_pair Double i.r1 product.0 product.1 c))
 general_effect DivideWord n i c =
-    divided n Word i c (divide_word_of (operand_in Word c i.r1 * 2 ^ 32 + operand_in Word c (after i.r1)) (operand_in Word c i.r2))
-general_effect DivideDouble n i c = divided n Double i c (divide_double_of (register c (after i.r1)) (register c i.r2))
+    divided n Word i c
+    (divide_word_of (operand_in Word c i.r1 * 2 ^ 32 + operand_in Word c (after i.r1))
+    (operand_in Word c i.r2))
+general_effect DivideDouble n i c =
+    divided n Double i c (divide_double_of (register c (after i.r1)) (register c i.r2))
 general_effect DivideLogical n i c =
     divided n Double i c (divide_logical_of (register c i.r1) (register c (after i.r1)) (register c i.r2))
 general_effect FindLeftmostOne n i c =
@@ -88,6 +97,7 @@ general_effect LoadSelected n i c =
     done (advanced n (if selects i.mask c.condition then with_general i.r1 (register c i.r2) c else c))
 general_effect InsertProgramMask n i c = done (advanced n (with_program_mask i c))
 general_effect SetProgramMask n i c =
-    let r = register c i.r1 in done (advanced n (with_condition (r / 2 ^ 28 % 4) (with_mask (r / 2 ^ 24 % 16) c)))
+    let r = register c i.r1 in
+    done (advanced n (with_condition (r / 2 ^ 28 % 4) (with_mask (r / 2 ^ 24 % 16) c)))
 general_effect ExtractAccess n i c = done (advanced n (with_register Word i.r1 (access_register c i.r2) c))
 general_effect SetAccess n i c = done (advanced n (with_access i.r1 (operand_in Word c i.r2) c))

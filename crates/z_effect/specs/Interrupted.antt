@@ -11,12 +11,14 @@ use Rattle.z_effect.specs.After.{exception}
 abbrev pub with_interruption : ℕ → Cpu → Cpu
 with_interruption code c = record c { state = Interrupted code }
 
--- an exception that comes before the instruction has changed anything: the address goes on by the length of the
+-- an exception that comes before the instruction has changed anything: the address goes on by the length of
+-- the
 -- instruction, which is 0 where it could not be fetched
 abbrev pub interrupted_by : Exception → Cpu → Cpu
 interrupted_by e c = with_interruption e.code (advanced e.length c)
 
--- after an instruction of n bytes outside transactions: an overflow comes when all is done, and a division that does
+-- after an instruction of n bytes outside transactions: an overflow comes when all is done, and a division
+-- that does
 -- not fit changes nothing; an abort can't come there
 abbrev pub cpu_outside : ℕ → Cpu → Outcome → Cpu
 cpu_outside n old (Did c bytes) = c

@@ -2,7 +2,8 @@
 use Rattle.std.specs.Prelude.{ℕ, Bool, ◌&&◌, nat_le, if◌then◌else◌, List, []}
 use Rattle.z_regs.specs.Cpu.{Cpu}
 
--- the new CPU and the new bytes of its stored operand, the same with a fixed-point overflow exception, a fixed-point divide
+-- the new CPU and the new bytes of its stored operand, the same with a fixed-point overflow exception, a
+-- fixed-point divide
 -- exception that changes nothing, or an abort with this code
 pub data Outcome : Type 0 where
   Did : Cpu → List ℕ → Outcome

@@ -50,7 +50,8 @@ items (suc k) w r c = items k w r c ++ stored (item w) (register c ((r + k) % 16
 unfoldable pub with_items : ℕ → Width → ℕ → List ℕ → Cpu → Cpu
 with_items zero w r bytes c = c
 with_items (suc k) w r bytes c =
-    with_register w ((r + k) % 16) (number (item w) (drop (k * bytes_of (item w)) bytes)) (with_items k w r bytes c)
+    with_register w ((r + k) % 16) (number (item w) (drop (k * bytes_of (item w)) bytes))
+    (with_items k w r bytes c)
 
 -- ---- bytes of two operands
 
@@ -58,7 +59,8 @@ abbrev pub mixed : Combination → ℕ → ℕ → ℕ
 mixed Move a b = b
 mixed (Logic l) a b = logic_of l a b
 
--- How far the first operand begins behind the second, both having n bytes: so far behind it a byte of the second is one that
+-- How far the first operand begins behind the second, both having n bytes: so far behind it a byte of the
+-- second is one that
 -- was already stored. n where no byte is.
 abbrev pub lead : ℕ → ℕ → ℕ → ℕ
 lead n first second = if nat_lt second first && nat_lt (first - second) n then first - second else n
@@ -68,7 +70,8 @@ unfoldable pub results : ℕ → Combination → ℕ → List ℕ → List ℕ �
 results zero m ahead a b = []
 results (suc k) m ahead a b =
     let before = results k m ahead a b in
-    before ++ mixed m (get_or a k 0) (if nat_lt k ahead then get_or b k 0 else get_or before (k - ahead) 0) ∷ []
+    before ++ mixed m (get_or a k 0)
+    (if nat_lt k ahead then get_or b k 0 else get_or before (k - ahead) 0) ∷ []
 
 abbrev pub with_code_of : Combination → List ℕ → Cpu → Cpu
 with_code_of Move bytes c = c
@@ -101,7 +104,8 @@ storage_effect (ByteLogic l) n i c bytes =
 storage_effect (AddImmediate w) n i c bytes =
     let a = add_of w (number (item w) bytes) (modulo (bits w) i.imm) in
     ended a.overflow (advanced n (with_condition a.condition c)) (stored (item w) a.value)
-storage_effect (LoadMany w) n i c bytes = done (advanced n (with_items (registers_between i.r1 i.r3) w i.r1 bytes c))
+storage_effect (LoadMany w) n i c bytes =
+    done (advanced n (with_items (registers_between i.r1 i.r3) w i.r1 bytes c))
 storage_effect (StoreMany w) n i c bytes = Did (advanced n c) (items (registers_between i.r1 i.r3) w i.r1 c)
 storage_effect (CompareAndSwap w) n i c bytes =
     if nat_eq (operand_in w c i.r1) (number (item w) bytes)
@@ -110,9 +114,11 @@ storage_effect (CompareAndSwap w) n i c bytes =
 storage_effect (LoadAnd o w) n i c bytes =
     let old = number (item w) bytes in
     let a = combined o w c.condition old (operand_in w c i.r3) in
-    ended a.overflow (advanced n (with_condition a.condition (with_register w i.r1 old c))) (stored (item w) a.value)
+    ended a.overflow (advanced n (with_condition a.condition (with_register w i.r1 old c)))
+    (stored (item w) a.value)
 storage_effect LoadSelected n i c bytes =
-    done (advanced n (if selects i.mask c.condition then with_general i.r1 (number Doubleword bytes) c else c))
+    done (advanced n
+    (if selects i.mask c.condition then with_general i.r1 (number Doubleword bytes) c else c))
 storage_effect StoreSelected n i c bytes =
     Did (advanced n c) (if selects i.mask c.condition then stored Doubleword (register c i.r1) else [])
 storage_effect (ByteByByte m) n i c bytes =

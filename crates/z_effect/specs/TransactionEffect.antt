@@ -1,4 +1,5 @@
--- What a transaction instruction of n bytes does at a nesting depth, apart from beginning and ending transactions.
+-- What a transaction instruction of n bytes does at a nesting depth, apart from beginning and ending
+-- transactions.
 use Rattle.std.specs.Prelude.{ℕ, ◌^◌, min, ◌&&◌, not, nat_eq, if◌then◌else◌}
 use Rattle.z_arith.specs.declared.Width.TheVariants as width
 use Rattle.z_instr.specs.declared.instr.Instr.{Instr}
@@ -11,7 +12,8 @@ use Rattle.z_effect.specs.Registers.{register, operand_in, with_register, with_c
 use Rattle.z_effect.specs.StorageEffect.{stored}
 use Rattle.z_effect.specs.Outcome.{Outcome, Did, Aborts, done}
 
--- how many delay turns an assist outside transactions gives: with 1 in M3 and a count in the word of R1, two to the power
+-- how many delay turns an assist outside transactions gives: with 1 in M3 and a count in the word of R1, two
+-- to the power
 -- of the count and at most 64, but none for 0; with another M3 none
 unfoldable pub delay_of : Instr → Cpu → ℕ
 delay_of i c =

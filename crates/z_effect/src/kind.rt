@@ -13,7 +13,8 @@ pub enum Logic {
     ExclusiveOr,
 }
 
-/// What becomes of the first and the second operand. Those that do not say otherwise leave the condition code.
+/// What becomes of the first and the second operand. Those that do not say otherwise leave the condition
+/// code.
 #[derive(Clone, Copy)]
 pub enum Operation {
     /// The sum of numbers with a sign, and the code of that sum.
@@ -80,7 +81,8 @@ pub enum General {
     Compute(Operation, Width, Source),
     /// Compares two operands and sets the code.
     Compare(Order, Width, Source),
-    /// Puts a result of bits 48 to 63 of R1 and the immediate into those bits; the code tells whether it is zero.
+    /// Puts a result of bits 48 to 63 of R1 and the immediate into those bits; the code tells whether it is
+    /// zero.
     LowHalfword(Logic),
     /// Puts the immediate into bits 48 to 63 of R1.
     InsertHalfword,
@@ -98,7 +100,8 @@ pub enum General {
     MultiplyWord,
     /// The product of R1 + 1 and R2 without a sign into R1 and R1 + 1.
     MultiplyLogical,
-    /// The words of R1 and R1 + 1, as one number, by the word in R2: the remainder into R1, the quotient into R1 + 1.
+    /// The words of R1 and R1 + 1, as one number, by the word in R2: the remainder into R1, the quotient into
+    /// R1 + 1.
     DivideWord,
     /// R1 + 1 by R2: the remainder into R1, the quotient into R1 + 1.
     DivideDouble,
@@ -151,7 +154,8 @@ pub enum Storage {
     LoadSelected,
     /// Stores R1 where the mask selects the code.
     StoreSelected,
-    /// Puts bytes into the first operand, from the left, each made of a byte of both operands as it is by then.
+    /// Puts bytes into the first operand, from the left, each made of a byte of both operands as it is by
+    /// then.
     ByteByByte(Combination),
     /// Compares the bytes of both operands from the left.
     CompareBytes,

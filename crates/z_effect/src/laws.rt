@@ -10,20 +10,24 @@ ghost use Rattle.z_effect.specs.One.{one};
 ghost use Rattle.z_effect.specs.Facts.{operands_of, is_named_once};
 ghost use Rattle.z_effect.specs.After.{cpu_after, AreInside, IsBeside, with_stored};
 
-/// Each operation is named in one place of the table of effects, and touches the operands that its row of the instruction
-/// table says.
+/// Each operation is named in one place of the table of effects, and touches the operands that its row of the
+/// instruction table says.
 pub fn kinds_are_sound()
     ensures named { (n : ℕ) → n < ROWS → is_named_once doings (entry_at n) ≡ true }
     ensures operands { (n : ℕ) → n < ROWS → (entry_at n).operands ≡ operands_of (kind_at n) }
 {}
 
-/// Whatever the new bytes are, storage keeps its size, and a byte that lies in no stored range keeps its value.
+/// Whatever the new bytes are, storage keeps its size, and a byte that lies in no stored range keeps its
+/// value.
 pub fn only_stored_bytes_change()
-    ensures size { (ranges : List Span) (bytes s : List ℕ) → AreInside ranges s → length (with_stored ranges bytes s) ≡ length s }
-    ensures others { (ranges : List Span) (bytes s : List ℕ) (k : ℕ) → AreInside ranges s → IsBeside k ranges → get_or (with_stored ranges bytes s) k 0 ≡ get_or s k 0 }
+    ensures size { (ranges : List Span) (bytes s : List ℕ) → AreInside ranges s →
+        length (with_stored ranges bytes s) ≡ length s }
+    ensures others { (ranges : List Span) (bytes s : List ℕ) (k : ℕ) → AreInside ranges s →
+        IsBeside k ranges → get_or (with_stored ranges bytes s) k 0 ≡ get_or s k 0 }
 {}
 
 /// No instruction changes the prefix.
 pub fn the_prefix_stays()
-    ensures { (i : Instr) (c : Cpu) (depth : ℕ) (bytes : List ℕ) → (cpu_after c (one i c depth bytes)).prefix ≡ c.prefix }
+    ensures { (i : Instr) (c : Cpu) (depth : ℕ) (bytes : List ℕ) →
+        (cpu_after c (one i c depth bytes)).prefix ≡ c.prefix }
 {}

@@ -66,8 +66,8 @@ fn logic_answer(kind: Logic, w: Width, a: u64, b: u64) -> Answer
     plain(value, zero_code(value))
 }
 
-/// The result of an operation on its two operands, where the condition code was `condition` before. Operands and result are
-/// patterns of the width.
+/// The result of an operation on its two operands, where the condition code was `condition` before. Operands
+/// and result are patterns of the width.
 #[tactic(auto, unfolding(crate::specs::Operations::combined))]
 pub fn combine(operation: Operation, w: Width, condition: u8, a: u64, b: u64) -> Answer
     requires a_in { a < 2 ^ bits w }

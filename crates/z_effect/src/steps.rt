@@ -86,11 +86,13 @@ pub fn advance(image: &mut CpuImage, n: u8)
     image.address = next_address(image, n);
 }
 
-/// Sets the condition code and goes on behind an instruction of `n` bytes. Where there is overflow and the leftmost bit of the
-/// program mask is one, the answer is a fixed-point overflow exception.
+/// Sets the condition code and goes on behind an instruction of `n` bytes. Where there is overflow and the
+/// leftmost bit of the program mask is one, the answer is a fixed-point overflow exception.
 pub fn conclude(image: &mut CpuImage, n: u8, condition: u8, overflow: bool) -> Result<(), Exception>
     requires { condition < 4 }
-    ensures { (bytes : List ℕ) → Sets (ended overflow (advanced n (with_condition condition (cpu_of image.old))) bytes) n (cpu_of image.old) (cpu_of image.new) result }
+    ensures { (bytes : List ℕ) →
+        Sets (ended overflow (advanced n (with_condition condition (cpu_of image.old))) bytes) n
+        (cpu_of image.old) (cpu_of image.new) result }
 {
     image.condition = condition;
     advance(image, n);
@@ -121,7 +123,8 @@ pub fn settle(
 ) -> Result<(), Exception>
     requires value_in { answer.value < 2 ^ bits w }
     requires condition_in { answer.condition < 4 }
-    ensures { Sets (answered n w answer instr.now (cpu_of image.old)) n (cpu_of image.old) (cpu_of image.new) result }
+    ensures { Sets (answered n w answer instr.now (cpu_of image.old)) n (cpu_of image.old)
+        (cpu_of image.new) result }
 {
     put(image, w, instr.r1, answer.value);
     conclude(image, n, answer.condition, answer.overflow)

@@ -26,12 +26,13 @@ use z_regs::{CpuImage, RunState};
 /// The most delay turns that an assist gives, as a power of two.
 const GREATEST_POWER: u64 = 6;
 
-/// What a transaction instruction of `n` bytes does to the CPU at a nesting depth, at most 16. An abort changes nothing;
-/// the store of NTSTG, the levels of the nest and the delay are the caller's.
+/// What a transaction instruction of `n` bytes does to the CPU at a nesting depth, at most 16. An abort
+/// changes nothing; the store of NTSTG, the levels of the nest and the delay are the caller's.
 #[tactic(auto, unfolding(crate::specs::TransactionEffect::transaction_effect))]
 pub fn transact(kind: Transaction, instr: &Instr, image: &mut CpuImage, n: u8, depth: u32)
     requires { depth ≤ 16 }
-    ensures { cpu_of image.new ≡ cpu_after (cpu_of image.old) (transaction_effect kind n instr.now (cpu_of image.old) depth) }
+    ensures { cpu_of image.new ≡
+        cpu_after (cpu_of image.old) (transaction_effect kind n instr.now (cpu_of image.old) depth) }
 {
     match kind {
         Transaction::Begin | Transaction::BeginConstrained => {
@@ -51,8 +52,8 @@ pub fn transact(kind: Transaction, instr: &Instr, image: &mut CpuImage, n: u8, d
     }
 }
 
-/// How many delay turns PPA gives outside transactions: with 1 in M3 and a count in the word of R1, two to the power of the
-/// count and at most 64, but none for 0; with another M3 none.
+/// How many delay turns PPA gives outside transactions: with 1 in M3 and a count in the word of R1, two to
+/// the power of the count and at most 64, but none for 0; with another M3 none.
 #[tactic(auto, unfolding(crate::specs::TransactionEffect::delay_of))]
 pub fn delay(instr: &Instr, image: &CpuImage) -> u32
     ensures { result ≡ delay_of instr.now (cpu_of image.now) }
@@ -89,7 +90,8 @@ pub fn opened(instr: &Instr, image: &CpuImage) -> Begin
     asked(instr, block, begins_constrained(instr.op))
 }
 
-/// A program interruption outside transactions by an exception that comes before the instruction has changed anything.
+/// A program interruption outside transactions by an exception that comes before the instruction has changed
+/// anything.
 pub fn interrupt(image: &mut CpuImage, exception: Exception)
     ensures { cpu_of image.new ≡ interrupted_by exception (cpu_of image.old) }
 {

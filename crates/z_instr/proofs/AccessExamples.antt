@@ -1,4 +1,5 @@
--- Worked values of the pages that a CPU may use, of fetches, and of the part that instructions have in transactions.
+-- Worked values of the pages that a CPU may use, of fetches, and of the part that instructions have in
+-- transactions.
 use Rattle.std.proofs.Common.{◌≡◌, ℕ, true, false, Bool, List, [], ◌∷◌, None, Some, refl}
 use Rattle.std.specs.Prelude.{nat_eq, codes, map, Option}
 use Rattle.std.specs.List.{list_any, filter}
@@ -53,7 +54,8 @@ out_of_text : fetch (4 ∷ []) 0x4ffe 4 ≡ Some 4
 unfolding unfetched accessible_pages
 out_of_text = refl
 
--- the first byte that fails decides: protection before it comes to the end of storage, and addressing after it
+-- the first byte that fails decides: protection before it comes to the end of storage, and addressing after
+-- it
 protected_before_the_end : fetch (4 ∷ []) 1048574 4 ≡ Some 4
 unfolding unfetched accessible_pages
 protected_before_the_end = refl

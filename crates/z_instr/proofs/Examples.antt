@@ -84,7 +84,8 @@ unfolding move_three entry_at table spans_in
 move_spans = refl
 
 -- the text page 2 is stored into, an operand that is not accessible comes first
-move_protected : inaccessible move_three (0 ∷ 8192 ∷ 16384 ∷ []) 0 0 (2 ∷ 3 ∷ 4 ∷ []) (2 ∷ []) ≡ Some protection
+move_protected : inaccessible move_three (0 ∷ 8192 ∷ 16384 ∷ []) 0 0 (2 ∷ 3 ∷ 4 ∷ []) (2 ∷ []) ≡
+    Some protection
 unfolding move_three entry_at table spans_in inaccessible_in
 move_protected = refl
 

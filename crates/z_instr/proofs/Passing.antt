@@ -10,7 +10,9 @@ pub and_right : (a b : Bool) → (a && b) ≡ true → b ≡ true
 and_right true b h = h
 and_right false b h = cc
 
-pub passes : {X : Type 0} (test : X → Bool) (xs : List X) (n : ℕ) (d : X) → list_all test xs ≡ true → n < length xs → test (get_or xs n d) ≡ true
+pub passes : {X : Type 0} (test : X → Bool) (xs : List X) (n : ℕ) (d : X) → list_all test xs ≡ true →
+    n < length xs → test (get_or xs n d) ≡ true
 passes test [] n d h l = absurd (omega arith)
 passes test (x ∷ xs) zero d h l = and_left (test x) (list_all test xs) h
-passes test (x ∷ xs) (suc n) d h l = passes test xs n d (and_right (test x) (list_all test xs) h) (omega arith)
+passes test (x ∷ xs) (suc n) d h l =
+    passes test xs n d (and_right (test x) (list_all test xs) h) (omega arith)

@@ -14,7 +14,8 @@ among_up p first zero h = absurd (cc)
 among_up p first (suc n) h =
     elim (nat_eq p first) as (λ b. nat_eq p first ≡ b → (first ≤ p) × (p < first + suc n)) [
       | true ↦ λ e. let f = eqb-true p first e in (omega arith, omega arith)
-      | false ↦ λ e. let rest = among_up p (suc first) n (grind arith) in (omega (arith, rest.0), omega (arith, rest.1))
+      | false ↦ λ e. let rest = among_up p (suc first) n (grind arith) in
+          (omega (arith, rest.0), omega (arith, rest.1))
     ] refl
 
 up_among : (p first n : ℕ) → first ≤ p → p < first + n → list_any (nat_eq p) (from_up first n) ≡ true
@@ -41,23 +42,38 @@ antisym : (m n : ℕ) → m ≤ n → n ≤ m → m ≡ n
 antisym m n h k = omega arith
 
 -- where a piece between the first and the last one has a byte of the range
-found : (size p first length : ℕ) → 0 < size → 0 < length → first / size ≤ p → p ≤ (first + length - 1) / size → (k : ℕ) × (k < length) × ((first + k) / size ≡ p)
+found : (size p first length : ℕ) → 0 < size → 0 < length → first / size ≤ p →
+    p ≤ (first + length - 1) / size → (k : ℕ) × (k < length) × ((first + k) / size ≡ p)
 found size p first length h l from to =
-    let inside : p * size ≤ first + length - 1 = le_trans (mul-le-mul_right size to) (div-mul-le_self (first + length - 1) size) in
+    let inside : p * size ≤ first + length - 1 =
+    le_trans (mul-le-mul_right size to) (div-mul-le_self (first + length - 1) size) in
     elim (cases_lt first (p * size)) [
-      | inl after ↦ (p * size - first, omega arith, ap (λ n. n / size) (behind first (p * size) after) ∙ start_of size p h)
-      | inr before ↦ (0, l, ap (λ n. n / size) (add-zero first) ∙ antisym (first / size) p from (le-div p first size h before))
+      | inl after ↦ (
+        p * size - first,
+        omega arith,
+        ap (λ n. n / size) (behind first (p * size) after)
+            ∙ start_of size p h,
+      )
+      | inr before ↦ (
+        0,
+        l,
+        ap (λ n. n / size) (add-zero first)
+            ∙ antisym (first / size) p from (le-div p first size h before),
+      )
     ]
 
 -- a piece is among those of a range exactly where it holds a byte of it
-pub holds_byte : (size : ℕ) (s : Span) (p : ℕ) → 0 < size → 0 < s.length → list_any (nat_eq p) (pieces size s) ≡ true → HoldsByteOf size s p
+pub holds_byte : (size : ℕ) (s : Span) (p : ℕ) → 0 < size → 0 < s.length →
+    list_any (nat_eq p) (pieces size s) ≡ true → HoldsByteOf size s p
 holds_byte size s p h l among =
     let bounds = among_up p (s.first / size) ((s.first + s.length - 1) / size + 1 - s.first / size) among in
     let order = rising size s.first (s.first + s.length - 1) h (omega arith) in
     found size p s.first s.length h l bounds.0 (omega (arith, bounds.1, order))
 
-pub is_among_pieces : (size : ℕ) (s : Span) (p : ℕ) → 0 < size → 0 < s.length → HoldsByteOf size s p → list_any (nat_eq p) (pieces size s) ≡ true
+pub is_among_pieces : (size : ℕ) (s : Span) (p : ℕ) → 0 < size → 0 < s.length → HoldsByteOf size s p →
+    list_any (nat_eq p) (pieces size s) ≡ true
 is_among_pieces size s p h l held =
     let low = rising size s.first (s.first + held.0) h (omega arith) in
     let high = rising size (s.first + held.0) (s.first + s.length - 1) h (omega (arith, held.1)) in
-    up_among p (s.first / size) ((s.first + s.length - 1) / size + 1 - s.first / size) (omega (arith, low, held.2)) (omega (arith, low, high, held.2))
+    up_among p (s.first / size) ((s.first + s.length - 1) / size + 1 - s.first / size)
+    (omega (arith, low, held.2)) (omega (arith, low, high, held.2))

@@ -18,26 +18,39 @@ implied : (a b : Bool) → (not a || b) ≡ true → a ≡ true → b ≡ true
 implied true b h e = h
 implied false b h e = cc
 
-plain : (k : ℕ) (e : Entry) (z : ℤ) → is_plain_below k e ≡ true → is_within (limits_of e).imm z ≡ true → is_within (bounds 0 k) z ≡ true
+plain : (k : ℕ) (e : Entry) (z : ℤ) → is_plain_below k e ≡ true → is_within (limits_of e).imm z ≡ true →
+    is_within (bounds 0 k) z ≡ true
 plain k e (pos n) h w =
-    let above : (limits_of e).imm.above ≤ k = leb-true (limits_of e).imm.above k (and_right (nat_eq (limits_of e).imm.below 0) (nat_le (limits_of e).imm.above k) h) in
+    let above : (limits_of e).imm.above ≤ k =
+    leb-true (limits_of e).imm.above k
+    (and_right (nat_eq (limits_of e).imm.below 0) (nat_le (limits_of e).imm.above k) h) in
     let inside : n < (limits_of e).imm.above = ltb-true n (limits_of e).imm.above w in
     lt-ltb n k (omega arith)
 plain k e (negsuc n) h w =
-    let below : (limits_of e).imm.below ≡ 0 = eqb-true (limits_of e).imm.below 0 (and_left (nat_eq (limits_of e).imm.below 0) (nat_le (limits_of e).imm.above k) h) in
+    let below : (limits_of e).imm.below ≡ 0 =
+    eqb-true (limits_of e).imm.below 0
+    (and_left (nat_eq (limits_of e).imm.below 0) (nat_le (limits_of e).imm.above k) h) in
     let inside : n < (limits_of e).imm.below = ltb-true n (limits_of e).imm.below w in
     absurd (omega arith)
 
 immediate : (i : Instr) → is_within (limits_of (entry_at i.op.number)).imm i.imm ≡ true
 immediate i = (numbers_of (limits_of (entry_at i.op.number)) i (instr_fits i)).imm_in
 
-pub lists : (i : Instr) → has_two_lists (entry_at i.op.number).operands ≡ true → is_within (bounds 0 256) i.imm ≡ true
-lists i h = plain 256 (entry_at i.op.number) i.imm (implied _ _ (and_left _ _ (fitting_immediate i.op.number i.op.known)) h) (immediate i)
+pub lists : (i : Instr) → has_two_lists (entry_at i.op.number).operands ≡ true →
+    is_within (bounds 0 256) i.imm ≡ true
+lists i h = plain 256 (entry_at i.op.number) i.imm
+    (implied _ _ (and_left _ _ (fitting_immediate i.op.number i.op.known)) h) (immediate i)
 
-pub services : (i : Instr) → is_service (entry_at i.op.number).demand ≡ true → is_within (bounds 0 256) i.imm ≡ true
+pub services : (i : Instr) → is_service (entry_at i.op.number).demand ≡ true →
+    is_within (bounds 0 256) i.imm ≡ true
 services i h =
-    plain 256 (entry_at i.op.number) i.imm (implied _ _ (and_left _ _ (and_right _ _ (fitting_immediate i.op.number i.op.known))) h) (immediate i)
+    plain 256 (entry_at i.op.number) i.imm
+    (implied _ _ (and_left _ _ (and_right _ _ (fitting_immediate i.op.number i.op.known))) h)
+    (immediate i)
 
-pub begins : (i : Instr) → is_begin (entry_at i.op.number).demand ≡ true → is_within (bounds 0 65536) i.imm ≡ true
+pub begins : (i : Instr) → is_begin (entry_at i.op.number).demand ≡ true →
+    is_within (bounds 0 65536) i.imm ≡ true
 begins i h =
-    plain 65536 (entry_at i.op.number) i.imm (implied _ _ (and_right _ _ (and_right _ _ (fitting_immediate i.op.number i.op.known))) h) (immediate i)
+    plain 65536 (entry_at i.op.number) i.imm
+    (implied _ _ (and_right _ _ (and_right _ _ (fitting_immediate i.op.number i.op.known))) h)
+    (immediate i)

@@ -16,8 +16,10 @@ agreed false false h = refl
 pub end_by_opcode : (n : ℕ) → n < ROWS → nat_eq (entry_at n).opcode 0xB2F8 ≡ is_end (entry_at n)
 end_by_opcode n h = agreed _ _ (passes_row (λ e. agree (nat_eq e.opcode 0xB2F8) (is_end e)) refl n h)
 
-pub access_by_opcode : (n : ℕ) → n < ROWS → nat_eq (entry_at n).opcode 0xB24E ≡ sets_access_register (entry_at n)
-access_by_opcode n h = agreed _ _ (passes_row (λ e. agree (nat_eq e.opcode 0xB24E) (sets_access_register e)) refl n h)
+pub access_by_opcode : (n : ℕ) → n < ROWS →
+    nat_eq (entry_at n).opcode 0xB24E ≡ sets_access_register (entry_at n)
+access_by_opcode n h =
+    agreed _ _ (passes_row (λ e. agree (nat_eq e.opcode 0xB24E) (sets_access_register e)) refl n h)
 
 pub address_by_opcode : (n : ℕ) → n < ROWS →
     nat_eq (entry_at n).opcode 0xC00 ≡ is_named (codes "LARL") (entry_at n)

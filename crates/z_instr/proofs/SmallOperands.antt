@@ -25,7 +25,8 @@ item Halfword = (lit< tt, lit≤ tt)
 item Word = (lit< tt, lit≤ tt)
 item Doubleword = (lit< tt, lit≤ tt)
 
-many : (size : Size) (r1 r3 : ℕ) → (0 < registers_between r1 r3 * bytes_of size) × (registers_between r1 r3 * bytes_of size ≤ 256)
+many : (size : Size) (r1 r3 : ℕ) →
+    (0 < registers_between r1 r3 * bytes_of size) × (registers_between r1 r3 * bytes_of size ≤ 256)
 many Byte r1 r3 = (omega arith, omega arith)
 many Halfword r1 r3 = (omega arith, omega arith)
 many Word r1 r3 = (omega arith, omega arith)

@@ -53,12 +53,14 @@ length_spelled RIEb o i = refl
 length_spelled RIEc o i = refl
 
 -- an address that is left out
-no_address : (b : ℕ) (d : ℤ) → b < 1 → is_within zero_alone d ≡ true → (nat_eq (halves b (modulo 12 d / 256)) 0 && nat_eq (modulo 12 d % 256) 0) ≡ true
+no_address : (b : ℕ) (d : ℤ) → b < 1 → is_within zero_alone d ≡ true →
+    (nat_eq (halves b (modulo 12 d / 256)) 0 && nat_eq (modulo 12 d % 256) 0) ≡ true
 no_address b (pos n) h k = grind arith
 no_address b (negsuc n) h k = grind arith
 
 -- the bits that no field uses are zero
-spare_spelled : (f : Format) (s m o : Bool) (c : ℕ) (i : Instr) → Fits (limits_in f s m o) i → is_spare_zero f o (spelled f c i) ≡ true
+spare_spelled : (f : Format) (s m o : Bool) (c : ℕ) (i : Instr) → Fits (limits_in f s m o) i →
+    is_spare_zero f o (spelled f c i) ≡ true
 spare_spelled RR s m true c i h =
     let w = registers_of (limits_in RR s m true) i h in
     let none : i.r2 < 1 = w.r2_in in
@@ -77,7 +79,8 @@ spare_spelled RS s m true c i h =
     eq-eqb _ _ (omega arith)
 spare_spelled RS s m false c i h = refl
 spare_spelled S s m true c i h =
-    no_address i.b i.d (registers_of (limits_in S s m true) i h).b_in (numbers_of (limits_in S s m true) i h).d_in
+    no_address i.b i.d (registers_of (limits_in S s m true) i h).b_in
+    (numbers_of (limits_in S s m true) i h).d_in
 spare_spelled S s m false c i h = refl
 spare_spelled RIEb s m o c i h = eq-eqb _ _ (omega arith)
 spare_spelled I s m o c i h = refl
@@ -98,12 +101,15 @@ reads_opcode bytes i r =
     let e = entry_at i.op.number in
     ap (opcode_at (place e.format)) r ∙ opcode_spelled e.format e.opcode i
 
-pub reads_length : (bytes : List ℕ) (i : Instr) → Reads bytes i → length bytes ≡ format_length (entry_at i.op.number).format
+pub reads_length : (bytes : List ℕ) (i : Instr) → Reads bytes i →
+    length bytes ≡ format_length (entry_at i.op.number).format
 reads_length bytes i r =
     let e = entry_at i.op.number in
     ap length r ∙ length_spelled e.format e.opcode i
 
-pub reads_spare : (bytes : List ℕ) (i : Instr) → Reads bytes i → is_spare_zero (entry_at i.op.number).format (entry_at i.op.number).single bytes ≡ true
+pub reads_spare : (bytes : List ℕ) (i : Instr) → Reads bytes i →
+    is_spare_zero (entry_at i.op.number).format (entry_at i.op.number).single bytes ≡ true
 reads_spare bytes i r =
     let e = entry_at i.op.number in
-    ap (is_spare_zero e.format e.single) r ∙ spare_spelled e.format e.signed e.masked e.single e.opcode i (instr_fits i)
+    ap (is_spare_zero e.format e.single) r
+    ∙ spare_spelled e.format e.signed e.masked e.single e.opcode i (instr_fits i)

@@ -26,10 +26,12 @@ pub count_is : (n : ℕ) (d : Line) → n < ROWS → (get_or TABLE n d).count �
 count_is n d h = leb-true _ _ (passes has_fitting_count TABLE n d refl h)
 
 -- what a computed test of the table says of each row
-pub passes_row : (test : Entry → Bool) → list_all test (map entry_of TABLE) ≡ true → (n : ℕ) → n < ROWS → test (entry_at n) ≡ true
+pub passes_row : (test : Entry → Bool) → list_all test (map entry_of TABLE) ≡ true → (n : ℕ) → n < ROWS →
+    test (entry_at n) ≡ true
 unfolding entry_at
 passes_row test e n h =
-    passes test table n no_entry (subst (λ t. list_all test t ≡ true) same_table e) (subst (λ (t : List Entry). n < length t) same_table h)
+    passes test table n no_entry (subst (λ t. list_all test t ≡ true) same_table e)
+    (subst (λ (t : List Entry). n < length t) same_table h)
 
 pub fitting_opcode : (n : ℕ) → n < ROWS → has_fitting_opcode (entry_at n) ≡ true
 fitting_opcode = passes_row has_fitting_opcode refl
@@ -37,7 +39,8 @@ fitting_opcode = passes_row has_fitting_opcode refl
 pub opcode_room : (n : ℕ) → n < ROWS → (entry_at n).opcode < room (place (entry_at n).format)
 opcode_room n h = ltb-true _ _ (and_left _ _ (fitting_opcode n h))
 
-pub opcode_length : (n : ℕ) → n < ROWS → length_by (lead (place (entry_at n).format) (entry_at n).opcode) ≡ format_length (entry_at n).format
+pub opcode_length : (n : ℕ) → n < ROWS →
+    length_by (lead (place (entry_at n).format) (entry_at n).opcode) ≡ format_length (entry_at n).format
 opcode_length n h = eqb-true _ _ (and_right _ _ (fitting_opcode n h))
 
 pub fitting_name : (n : ℕ) → n < ROWS → has_fitting_name (entry_at n) ≡ true

@@ -19,7 +19,8 @@ pub record RegistersWithin (l : Limits) (r1 r2 r3 x b b2 mask : ℕ) : Type 0 wh
   pub b2_in : b2 < l.b2
   pub mask_in : mask < l.mask
 
-pub registers_within : (l : Limits) (r1 r2 r3 x b b2 mask : ℕ) → are_registers_within l r1 r2 r3 x b b2 mask ≡ true → RegistersWithin l r1 r2 r3 x b b2 mask
+pub registers_within : (l : Limits) (r1 r2 r3 x b b2 mask : ℕ) →
+    are_registers_within l r1 r2 r3 x b b2 mask ≡ true → RegistersWithin l r1 r2 r3 x b b2 mask
 registers_within l r1 r2 r3 x b b2 mask h =
     let after_r1 = and_right _ _ h in
     let after_r2 = and_right _ _ after_r1 in
@@ -54,32 +55,67 @@ given_at_most : (there : Bool) → given there ≤ 16
 given_at_most true = lit≤ tt
 given_at_most false = lit≤ tt
 
-narrow : (l : Limits) → l.r1 ≤ 16 → l.r2 ≤ 16 → l.r3 ≤ 16 → l.x ≤ 16 → l.b ≤ 16 → l.b2 ≤ 16 → l.mask ≤ 16 → IsNarrow l
+narrow : (l : Limits) → l.r1 ≤ 16 → l.r2 ≤ 16 → l.r3 ≤ 16 → l.x ≤ 16 → l.b ≤ 16 → l.b2 ≤ 16 → l.mask ≤ 16 →
+    IsNarrow l
 narrow l r1 r2 r3 x b b2 mask =
-    record { r1_at_most = r1; r2_at_most = r2; r3_at_most = r3; x_at_most = x; b_at_most = b; b2_at_most = b2; mask_at_most = mask }
+    record {
+      r1_at_most = r1;
+      r2_at_most = r2;
+      r3_at_most = r3;
+      x_at_most = x;
+      b_at_most = b;
+      b2_at_most =
+          b2;
+      mask_at_most = mask;
+    }
 
 pub limits_are_narrow : (f : Format) (s m o : Bool) → IsNarrow (limits_in f s m o)
-limits_are_narrow RR s m o = narrow (limits_in RR s m o) (unless_at_most m) (unless_at_most o) (lit≤ tt) (lit≤ tt) (lit≤ tt) (lit≤ tt) (given_at_most m)
-limits_are_narrow I s m o = narrow (limits_in I s m o) (lit≤ tt) (lit≤ tt) (lit≤ tt) (lit≤ tt) (lit≤ tt) (lit≤ tt) (lit≤ tt)
-limits_are_narrow RX s m o = narrow (limits_in RX s m o) (unless_at_most m) (lit≤ tt) (lit≤ tt) (lit≤ tt) (lit≤ tt) (lit≤ tt) (given_at_most m)
-limits_are_narrow RRE s m o = narrow (limits_in RRE s m o) (lit≤ tt) (unless_at_most o) (lit≤ tt) (lit≤ tt) (lit≤ tt) (lit≤ tt) (lit≤ tt)
-limits_are_narrow RRFa s m o = narrow (limits_in RRFa s m o) (lit≤ tt) (lit≤ tt) (lit≤ tt) (lit≤ tt) (lit≤ tt) (lit≤ tt) (lit≤ tt)
-limits_are_narrow RRFc s m o = narrow (limits_in RRFc s m o) (lit≤ tt) (lit≤ tt) (lit≤ tt) (lit≤ tt) (lit≤ tt) (lit≤ tt) (lit≤ tt)
-limits_are_narrow RXY s m o = narrow (limits_in RXY s m o) (lit≤ tt) (lit≤ tt) (lit≤ tt) (lit≤ tt) (lit≤ tt) (lit≤ tt) (lit≤ tt)
-limits_are_narrow RI s m o = narrow (limits_in RI s m o) (unless_at_most m) (lit≤ tt) (lit≤ tt) (lit≤ tt) (lit≤ tt) (lit≤ tt) (given_at_most m)
-limits_are_narrow RIL s m o = narrow (limits_in RIL s m o) (unless_at_most m) (lit≤ tt) (lit≤ tt) (lit≤ tt) (lit≤ tt) (lit≤ tt) (given_at_most m)
-limits_are_narrow RS s m o = narrow (limits_in RS s m o) (lit≤ tt) (lit≤ tt) (unless_at_most o) (lit≤ tt) (lit≤ tt) (lit≤ tt) (lit≤ tt)
-limits_are_narrow RSY s m o = narrow (limits_in RSY s m o) (lit≤ tt) (lit≤ tt) (unless_at_most m) (lit≤ tt) (lit≤ tt) (lit≤ tt) (given_at_most m)
-limits_are_narrow SI s m o = narrow (limits_in SI s m o) (lit≤ tt) (lit≤ tt) (lit≤ tt) (lit≤ tt) (lit≤ tt) (lit≤ tt) (lit≤ tt)
-limits_are_narrow SIY s m o = narrow (limits_in SIY s m o) (lit≤ tt) (lit≤ tt) (lit≤ tt) (lit≤ tt) (lit≤ tt) (lit≤ tt) (lit≤ tt)
-limits_are_narrow SIL s m o = narrow (limits_in SIL s m o) (lit≤ tt) (lit≤ tt) (lit≤ tt) (lit≤ tt) (lit≤ tt) (lit≤ tt) (lit≤ tt)
-limits_are_narrow S s m o = narrow (limits_in S s m o) (lit≤ tt) (lit≤ tt) (lit≤ tt) (lit≤ tt) (unless_at_most o) (lit≤ tt) (lit≤ tt)
-limits_are_narrow SS s m o = narrow (limits_in SS s m o) (lit≤ tt) (lit≤ tt) (lit≤ tt) (lit≤ tt) (lit≤ tt) (lit≤ tt) (lit≤ tt)
-limits_are_narrow RIEb s m o = narrow (limits_in RIEb s m o) (lit≤ tt) (lit≤ tt) (lit≤ tt) (lit≤ tt) (lit≤ tt) (lit≤ tt) (lit≤ tt)
-limits_are_narrow RIEc s m o = narrow (limits_in RIEc s m o) (lit≤ tt) (lit≤ tt) (lit≤ tt) (lit≤ tt) (lit≤ tt) (lit≤ tt) (lit≤ tt)
+limits_are_narrow RR s m o =
+    narrow (limits_in RR s m o) (unless_at_most m) (unless_at_most o) (lit≤ tt) (lit≤ tt) (lit≤ tt) (lit≤ tt)
+    (given_at_most m)
+limits_are_narrow I s m o =
+    narrow (limits_in I s m o) (lit≤ tt) (lit≤ tt) (lit≤ tt) (lit≤ tt) (lit≤ tt) (lit≤ tt) (lit≤ tt)
+limits_are_narrow RX s m o =
+    narrow (limits_in RX s m o) (unless_at_most m) (lit≤ tt) (lit≤ tt) (lit≤ tt) (lit≤ tt) (lit≤ tt)
+    (given_at_most m)
+limits_are_narrow RRE s m o =
+    narrow (limits_in RRE s m o) (lit≤ tt) (unless_at_most o) (lit≤ tt) (lit≤ tt) (lit≤ tt) (lit≤ tt)
+    (lit≤ tt)
+limits_are_narrow RRFa s m o =
+    narrow (limits_in RRFa s m o) (lit≤ tt) (lit≤ tt) (lit≤ tt) (lit≤ tt) (lit≤ tt) (lit≤ tt) (lit≤ tt)
+limits_are_narrow RRFc s m o =
+    narrow (limits_in RRFc s m o) (lit≤ tt) (lit≤ tt) (lit≤ tt) (lit≤ tt) (lit≤ tt) (lit≤ tt) (lit≤ tt)
+limits_are_narrow RXY s m o =
+    narrow (limits_in RXY s m o) (lit≤ tt) (lit≤ tt) (lit≤ tt) (lit≤ tt) (lit≤ tt) (lit≤ tt) (lit≤ tt)
+limits_are_narrow RI s m o =
+    narrow (limits_in RI s m o) (unless_at_most m) (lit≤ tt) (lit≤ tt) (lit≤ tt) (lit≤ tt) (lit≤ tt)
+    (given_at_most m)
+limits_are_narrow RIL s m o =
+    narrow (limits_in RIL s m o) (unless_at_most m) (lit≤ tt) (lit≤ tt) (lit≤ tt) (lit≤ tt) (lit≤ tt)
+    (given_at_most m)
+limits_are_narrow RS s m o =
+    narrow (limits_in RS s m o) (lit≤ tt) (lit≤ tt) (unless_at_most o) (lit≤ tt) (lit≤ tt) (lit≤ tt) (lit≤ tt)
+limits_are_narrow RSY s m o =
+    narrow (limits_in RSY s m o) (lit≤ tt) (lit≤ tt) (unless_at_most m) (lit≤ tt) (lit≤ tt) (lit≤ tt)
+    (given_at_most m)
+limits_are_narrow SI s m o =
+    narrow (limits_in SI s m o) (lit≤ tt) (lit≤ tt) (lit≤ tt) (lit≤ tt) (lit≤ tt) (lit≤ tt) (lit≤ tt)
+limits_are_narrow SIY s m o =
+    narrow (limits_in SIY s m o) (lit≤ tt) (lit≤ tt) (lit≤ tt) (lit≤ tt) (lit≤ tt) (lit≤ tt) (lit≤ tt)
+limits_are_narrow SIL s m o =
+    narrow (limits_in SIL s m o) (lit≤ tt) (lit≤ tt) (lit≤ tt) (lit≤ tt) (lit≤ tt) (lit≤ tt) (lit≤ tt)
+limits_are_narrow S s m o =
+    narrow (limits_in S s m o) (lit≤ tt) (lit≤ tt) (lit≤ tt) (lit≤ tt) (unless_at_most o) (lit≤ tt) (lit≤ tt)
+limits_are_narrow SS s m o =
+    narrow (limits_in SS s m o) (lit≤ tt) (lit≤ tt) (lit≤ tt) (lit≤ tt) (lit≤ tt) (lit≤ tt) (lit≤ tt)
+limits_are_narrow RIEb s m o =
+    narrow (limits_in RIEb s m o) (lit≤ tt) (lit≤ tt) (lit≤ tt) (lit≤ tt) (lit≤ tt) (lit≤ tt) (lit≤ tt)
+limits_are_narrow RIEc s m o =
+    narrow (limits_in RIEc s m o) (lit≤ tt) (lit≤ tt) (lit≤ tt) (lit≤ tt) (lit≤ tt) (lit≤ tt) (lit≤ tt)
 
 -- so registers and masks are below 16
-pub below_sixteen : (l : Limits) (e : Entry) (r1 r2 r3 x b : ℕ) (d : ℤ) (b2 : ℕ) (d2 imm : ℤ) (mask : ℕ) → l ≡ limits_of e →
+pub below_sixteen : (l : Limits) (e : Entry) (r1 r2 r3 x b : ℕ) (d : ℤ) (b2 : ℕ) (d2 imm : ℤ) (mask : ℕ) →
+    l ≡ limits_of e →
     are_within l r1 r2 r3 x b d b2 d2 imm mask ≡ true → AreBelowSixteen r1 r2 r3 x b b2 mask
 below_sixteen l e r1 r2 r3 x b d b2 d2 imm mask same h =
     let w = registers_within l r1 r2 r3 x b b2 mask (and_left _ _ h) in
@@ -100,7 +136,8 @@ pub record NumbersWithin (l : Limits) (d d2 imm : ℤ) : Type 0 where
   pub d2_in : is_within l.d2 d2 ≡ true
   pub imm_in : is_within l.imm imm ≡ true
 
-pub numbers_within : (l : Limits) (d d2 imm : ℤ) → are_numbers_within l d d2 imm ≡ true → NumbersWithin l d d2 imm
+pub numbers_within : (l : Limits) (d d2 imm : ℤ) → are_numbers_within l d d2 imm ≡ true →
+    NumbersWithin l d d2 imm
 numbers_within l d d2 imm h =
     let after_d = and_right _ _ h in
     record { d_in = and_left _ _ h; d2_in = and_left _ _ after_d; imm_in = and_right _ _ after_d }

@@ -33,7 +33,8 @@ first_some [] = None
 first_some (None ∷ rest) = first_some rest
 first_some (Some code ∷ rest) = Some code
 
--- the code of the exception at the fetch of so many bytes from an address on: specification where it is odd, and then
+-- the code of the exception at the fetch of so many bytes from an address on: specification where it is odd,
+-- and then
 -- for each byte from the first addressing before protection
 unfoldable pub unfetched : List ℕ → List ℕ → ℕ → ℕ → Option ℕ
 unfetched accessible text address length =

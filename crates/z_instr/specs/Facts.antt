@@ -37,11 +37,13 @@ all_pairs test (e ∷ es) = list_all (test e) es && all_pairs test es
 -- the opcode fits its place, and its first byte gives the format's length
 abbrev pub has_fitting_opcode : Entry → Bool
 has_fitting_opcode e =
-    nat_lt e.opcode (room (place e.format)) && nat_eq (length_by (lead (place e.format) e.opcode)) (format_length e.format)
+    nat_lt e.opcode (room (place e.format)) &&
+    nat_eq (length_by (lead (place e.format) e.opcode)) (format_length e.format)
 
 -- the name has one to eight letters, each of them ASCII
 abbrev pub has_fitting_name : Entry → Bool
-has_fitting_name e = nat_lt 0 (length e.name) && (nat_le (length e.name) 8 && list_all (λ letter. nat_lt letter 128) e.name)
+has_fitting_name e = nat_lt 0 (length e.name) &&
+    (nat_le (length e.name) 8 && list_all (λ letter. nat_lt letter 128) e.name)
 
 -- what every transaction refuses, constrained ones refuse too
 abbrev pub is_refused_alike : Entry → Bool
@@ -73,7 +75,8 @@ is_plain_below k e = nat_eq (limits_of e).imm.below 0 && nat_le (limits_of e).im
 abbrev pub has_fitting_immediate : Entry → Bool
 has_fitting_immediate e =
     (not (has_two_lists e.operands) || is_plain_below 256 e)
-    && ((not (is_service e.demand) || is_plain_below 256 e) && (not (is_begin e.demand) || is_plain_below 65536 e))
+    && ((not (is_service e.demand) || is_plain_below 256 e) &&
+    (not (is_begin e.demand) || is_plain_below 65536 e))
 
 -- two tests answer alike
 abbrev pub agree : Bool → Bool → Bool

@@ -21,4 +21,10 @@ entry_of l =
     }
 
 abbrev pub row_of : Entry → Row
-row_of e = record { name = e.name; opcode = e.opcode; format = e.format; restricted = e.restricted; permitted = e.permitted }
+row_of e = record {
+  name = e.name;
+  opcode = e.opcode;
+  format = e.format;
+  restricted = e.restricted;
+  permitted = e.permitted;
+}

@@ -13,7 +13,8 @@ no_fields =
 
 -- each field is one that the row's format allows
 abbrev pub IsAllowed : Op → Fields → Type 0
-IsAllowed op f = IsTrue (are_within (limits_of (entry_at op.number)) f.r1 f.r2 f.r3 f.x f.b f.d f.b2 f.d2 f.imm f.mask)
+IsAllowed op f =
+    IsTrue (are_within (limits_of (entry_at op.number)) f.r1 f.r2 f.r3 f.x f.b f.d f.b2 f.d2 f.imm f.mask)
 
 -- the instruction has the operation and the fields
 pub record Has (o : Op) (f : Fields) (i : Instr) : Type 0 where

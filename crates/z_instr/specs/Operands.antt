@@ -85,14 +85,20 @@ unfoldable pub spans_in : Operands → Instr → List ℕ → ℕ → List Span
 spans_in Absent i general code = []
 spans_in (Fetched size) i general code = span (first_address i general) (bytes_of size) false ∷ []
 spans_in (Stored size) i general code = span (first_address i general) (bytes_of size) true ∷ []
-spans_in (FetchedMany size) i general code = span (first_address i general) (registers_between i.r1 i.r3 * bytes_of size) false ∷ []
-spans_in (StoredMany size) i general code = span (first_address i general) (registers_between i.r1 i.r3 * bytes_of size) true ∷ []
-spans_in FetchedSelected i general code = cond (selects i.mask code) (span (first_address i general) 8 false ∷ []) []
-spans_in StoredSelected i general code = cond (selects i.mask code) (span (first_address i general) 8 true ∷ []) []
+spans_in (FetchedMany size) i general code =
+    span (first_address i general) (registers_between i.r1 i.r3 * bytes_of size) false ∷ []
+spans_in (StoredMany size) i general code =
+    span (first_address i general) (registers_between i.r1 i.r3 * bytes_of size) true ∷ []
+spans_in FetchedSelected i general code =
+    cond (selects i.mask code) (span (first_address i general) 8 false ∷ []) []
+spans_in StoredSelected i general code =
+    cond (selects i.mask code) (span (first_address i general) 8 true ∷ []) []
 spans_in StoredAndFetched i general code =
-    span (first_address i general) (length_of i) true ∷ span (second_address i general) (length_of i) false ∷ []
+    span (first_address i general) (length_of i) true ∷
+    span (second_address i general) (length_of i) false ∷ []
 spans_in BothFetched i general code =
-    span (first_address i general) (length_of i) false ∷ span (second_address i general) (length_of i) false ∷ []
+    span (first_address i general) (length_of i) false ∷
+    span (second_address i general) (length_of i) false ∷ []
 
 abbrev pub spans : Instr → List ℕ → ℕ → List Span
 spans i general code = spans_in (entry_at i.op.number).operands i general code
@@ -128,11 +134,14 @@ boundary _ = 1
 unfoldable pub unspecified_in : Demand → Operands → Instr → List ℕ → ℕ → Option ℕ
 unspecified_in Nothing operands i general depth = None
 unspecified_in EvenPair operands i general depth = where_wrong (nat_eq (i.r1 % 2) 1) specification None
-unspecified_in Boundary operands i general depth = where_wrong (not (nat_eq (first_address i general % boundary operands) 0)) specification None
+unspecified_in Boundary operands i general depth =
+    where_wrong (not (nat_eq (first_address i general % boundary operands) 0)) specification None
 unspecified_in AbortCode operands i general depth =
-    where_wrong (nat_eq depth 0) special_operation (where_wrong (nat_lt (first_address i general) 256) specification None)
+    where_wrong (nat_eq depth 0) special_operation
+    (where_wrong (nat_lt (first_address i general) 256) specification None)
 unspecified_in Begin operands i general depth =
-    where_wrong (nat_eq (modulo 16 i.imm % 4) 3 || (not (nat_eq i.b 0) && not (nat_eq (first_address i general % 8) 0))) specification None
+    where_wrong (nat_eq (modulo 16 i.imm % 4) 3 ||
+    (not (nat_eq i.b 0) && not (nat_eq (first_address i general % 8) 0))) specification None
 unspecified_in BeginConstrained operands i general depth = where_wrong (not (nat_eq i.b 0)) specification None
 unspecified_in ServiceZero operands i general depth = None
 
@@ -160,7 +169,8 @@ abbrev pub is_refused_service : Demand → Instr → Bool
 is_refused_service ServiceZero i = not (nat_eq (modulo 8 i.imm) 0)
 is_refused_service _ i = false
 
--- the code of the exception, by the general registers, the condition code, the nesting depth, and the lists of
+-- the code of the exception, by the general registers, the condition code, the nesting depth, and the lists
+-- of
 -- accessible and of text pages by the instruction's own addresses
 unfoldable pub inaccessible_in : Entry → Instr → List ℕ → ℕ → ℕ → List ℕ → List ℕ → Option ℕ
 inaccessible_in e i general code depth accessible text =
@@ -170,4 +180,5 @@ inaccessible_in e i general code depth accessible text =
     (where_wrong (is_refused_service e.demand i) operation None))
 
 abbrev pub inaccessible : Instr → List ℕ → ℕ → ℕ → List ℕ → List ℕ → Option ℕ
-inaccessible i general code depth accessible text = inaccessible_in (entry_at i.op.number) i general code depth accessible text
+inaccessible i general code depth accessible text =
+    inaccessible_in (entry_at i.op.number) i general code depth accessible text

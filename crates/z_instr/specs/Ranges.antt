@@ -1,4 +1,5 @@
--- Which values the fields of an instruction may have: those of its format, and 0 where the format has no such field.
+-- Which values the fields of an instruction may have: those of its format, and 0 where the format has no such
+-- field.
 use Rattle.std.specs.Prelude.{ℕ, ◌<◌, ℤ, pos, negsuc, Bool, true, ◌&&◌, nat_lt, cond}
 use Rattle.z_instr.specs.declared.limits.Bounds.{Bounds}
 use Rattle.z_instr.specs.declared.limits.Limits.{Limits}
@@ -51,7 +52,8 @@ abbrev pub limit : ℕ → ℕ → ℕ → ℕ → ℕ → Bounds → ℕ → Bo
 limit r1 r2 r3 x b d b2 d2 imm mask =
     record { r1 = r1; r2 = r2; r3 = r3; x = x; b = b; d = d; b2 = b2; d2 = d2; imm = imm; mask = mask }
 
--- how many values each field has from 0 up, 1 where it is 0 alone, and the bounds of those that may have a sign:
+-- how many values each field has from 0 up, 1 where it is 0 alone, and the bounds of those that may have a
+-- sign:
 -- by the format, and by whether the row is signed, masked or single
 abbrev pub limits_in : Format → Bool → Bool → Bool → Limits
 limits_in RR s m o = limit (unless m) (unless o) 1 1 1 zero_alone 1 zero_alone zero_alone (given m)
@@ -79,7 +81,9 @@ limits_of e = limits_in e.format e.signed e.masked e.single
 -- the registers and the mask are among their values
 abbrev pub are_registers_within : Limits → ℕ → ℕ → ℕ → ℕ → ℕ → ℕ → ℕ → Bool
 are_registers_within l r1 r2 r3 x b b2 mask =
-    nat_lt r1 l.r1 && (nat_lt r2 l.r2 && (nat_lt r3 l.r3 && (nat_lt x l.x && (nat_lt b l.b && (nat_lt b2 l.b2 && nat_lt mask l.mask)))))
+    nat_lt r1 l.r1 &&
+    (nat_lt r2 l.r2 &&
+    (nat_lt r3 l.r3 && (nat_lt x l.x && (nat_lt b l.b && (nat_lt b2 l.b2 && nat_lt mask l.mask)))))
 
 -- the displacements and the immediate are among their values
 abbrev pub are_numbers_within : Limits → ℤ → ℤ → ℤ → Bool
@@ -87,7 +91,8 @@ are_numbers_within l d d2 imm = is_within l.d d && (is_within l.d2 d2 && is_with
 
 -- each field is among its values
 abbrev pub are_within : Limits → ℕ → ℕ → ℕ → ℕ → ℕ → ℤ → ℕ → ℤ → ℤ → ℕ → Bool
-are_within l r1 r2 r3 x b d b2 d2 imm mask = are_registers_within l r1 r2 r3 x b b2 mask && are_numbers_within l d d2 imm
+are_within l r1 r2 r3 x b d b2 d2 imm mask = are_registers_within l r1 r2 r3 x b b2 mask &&
+    are_numbers_within l d d2 imm
 
 -- registers and masks are below 16
 pub record AreBelowSixteen (r1 r2 r3 x b b2 mask : ℕ) : Type 0 where

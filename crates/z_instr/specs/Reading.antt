@@ -34,7 +34,8 @@ halfword z rest = modulo 16 z / 256 ∷ modulo 16 z % 256 ∷ rest
 abbrev pub word : ℤ → List ℕ
 word z = modulo 32 z / 2 ^ 24 ∷ modulo 32 z / 2 ^ 16 % 256 ∷ modulo 32 z / 256 % 256 ∷ modulo 32 z % 256 ∷ []
 
--- the bytes of an instruction of a format, by its opcode; of a register and a mask that stand in one place, one is 0
+-- the bytes of an instruction of a format, by its opcode; of a register and a mask that stand in one place,
+-- one is 0
 abbrev pub spelled : Format → ℕ → Instr → List ℕ
 spelled RR o i = o ∷ halves (i.r1 + i.mask) i.r2 ∷ []
 spelled I o i = o ∷ modulo 8 i.imm ∷ []

@@ -19,7 +19,8 @@ is_end e = is_named (codes "TEND") e
 abbrev pub sets_access_register : Entry → Bool
 sets_access_register e = is_named (codes "SAR") e
 
--- it branches to a target that stands in it: what has a target does, but for the instruction that only loads its address
+-- it branches to a target that stands in it: what has a target does, but for the instruction that only loads
+-- its address
 abbrev pub is_relative_branch : Entry → Bool
 is_relative_branch e = e.relative && not (is_named (codes "LARL") e)
 
@@ -34,4 +35,5 @@ may_name_block _ = false
 -- the address of the diagnostic block that a begin names, where it names one
 abbrev pub block_named : Instr → List ℕ → Option ℕ
 block_named i general =
-    cond (may_name_block (entry_at i.op.number).demand && not (nat_eq i.b 0)) (Some (first_address i general)) None
+    cond (may_name_block (entry_at i.op.number).demand && not (nat_eq i.b 0))
+    (Some (first_address i general)) None

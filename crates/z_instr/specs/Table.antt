@@ -1,4 +1,5 @@
--- The instruction table: the opcodes format by format, and the lists of names that further columns are made of.
+-- The instruction table: the opcodes format by format, and the lists of names that further columns are made
+-- of.
 use Rattle.std.specs.Prelude.{ℕ, Bool, not, ◌||◌, cond, List, [], ◌∷◌, ◌++◌, map, get_or, codes}
 use Rattle.std.specs.List.{list_any}
 use Rattle.std.specs.Str.{bytes_eq}
@@ -10,9 +11,12 @@ use Rattle.z_instr.specs.declared.operand.Operands.TheVariants.{Absent, Fetched,
 use Rattle.z_instr.specs.declared.operand.Demand.{Demand}
 use Rattle.z_instr.specs.declared.operand.Demand.TheVariants.{Nothing, EvenPair, Boundary, AbortCode, Begin, BeginConstrained, ServiceZero}
 
--- A row: the letters of its name, its opcode, its format, whether every transaction refuses it and whether constrained
--- ones may have it, whether its immediate has a sign and is the distance of a target, whether a mask stands in place of a
--- register, whether its last register or its address is left out, which operands in storage it touches, and what it
+-- A row: the letters of its name, its opcode, its format, whether every transaction refuses it and whether
+-- constrained
+-- ones may have it, whether its immediate has a sign and is the distance of a target, whether a mask stands
+-- in place of a
+-- register, whether its last register or its address is left out, which operands in storage it touches, and
+-- what it
 -- demands of its fields.
 pub record Entry : Type 0 where
   pub name : List ℕ
@@ -43,24 +47,28 @@ restricted_names =
 -- not permitted in a constrained transaction
 abbrev pub barred_names : Names
 barred_names =
-    codes "SPM" ∷ codes "BCTR" ∷ codes "BCR" ∷ codes "BASR" ∷ codes "SVC" ∷ codes "MR" ∷ codes "DR" ∷ codes "BCT" ∷
+    codes "SPM" ∷ codes "BCTR" ∷ codes "BCR" ∷ codes "BASR" ∷ codes "SVC" ∷ codes "MR" ∷ codes "DR" ∷
+    codes "BCT" ∷
     codes "BC" ∷ codes "MS" ∷ codes "MSR" ∷ codes "MSGR" ∷ codes "MSG" ∷ codes "DSGR" ∷ codes "MLGR" ∷
     codes "DLGR" ∷ codes "FLOGR" ∷ codes "BCTGR" ∷ codes "MHI" ∷ codes "MGHI" ∷ codes "SAR" ∷ codes "BRAS" ∷
     codes "BRASL" ∷ codes "CS" ∷ codes "CSG" ∷ codes "LAA" ∷ codes "LAAG" ∷ codes "LANG" ∷ codes "LAOG" ∷
-    codes "LAXG" ∷ codes "ASI" ∷ codes "AGSI" ∷ codes "MVC" ∷ codes "NC" ∷ codes "CLC" ∷ codes "OC" ∷ codes "XC" ∷
+    codes "LAXG" ∷ codes "ASI" ∷ codes "AGSI" ∷ codes "MVC" ∷ codes "NC" ∷ codes "CLC" ∷ codes "OC" ∷
+    codes "XC" ∷
     codes "TABORT" ∷ codes "ETND" ∷ codes "NTSTG" ∷ codes "PPA" ∷ codes "TBEGIN" ∷ codes "TBEGINC" ∷ []
 
 -- with a signed immediate of 16 or of 32 bits
 abbrev pub signed_names : Names
 signed_names =
     codes "LHI" ∷ codes "LGHI" ∷ codes "AHI" ∷ codes "AGHI" ∷ codes "MHI" ∷ codes "MGHI" ∷ codes "CHI" ∷
-    codes "CGHI" ∷ codes "MVHHI" ∷ codes "MVHI" ∷ codes "MVGHI" ∷ codes "CHSI" ∷ codes "CGHSI" ∷ codes "LGFI" ∷
+    codes "CGHI" ∷ codes "MVHHI" ∷ codes "MVHI" ∷ codes "MVGHI" ∷ codes "CHSI" ∷ codes "CGHSI" ∷
+    codes "LGFI" ∷
     codes "AFI" ∷ codes "AGFI" ∷ codes "CFI" ∷ codes "CGFI" ∷ []
 
 -- with a target: how far it is from the instruction, in halfwords, which has a sign too
 abbrev pub relative_names : Names
 relative_names =
-    codes "BRAS" ∷ codes "BRC" ∷ codes "BRCT" ∷ codes "BRCTG" ∷ codes "LARL" ∷ codes "BRASL" ∷ codes "BRCL" ∷ codes "CGRJ" ∷
+    codes "BRAS" ∷ codes "BRC" ∷ codes "BRCT" ∷ codes "BRCTG" ∷ codes "LARL" ∷ codes "BRASL" ∷ codes "BRCL" ∷
+    codes "CGRJ" ∷
     codes "CLGRJ" ∷ codes "CRJ" ∷ codes "CGIJ" ∷ []
 
 -- with a mask in the place of a register
@@ -86,19 +94,22 @@ touching o n = record { operands = o; names = n }
 abbrev pub operand_groups : List Touching
 operand_groups =
     touching (Fetched Byte) (codes "IC" ∷ codes "LLGC" ∷ codes "TM" ∷ codes "CLI" ∷ []) ∷
-    touching (Fetched Halfword) (codes "LH" ∷ codes "CH" ∷ codes "AH" ∷ codes "SH" ∷ codes "LGH" ∷ codes "LLGH" ∷ []) ∷
+    touching (Fetched Halfword)
+    (codes "LH" ∷ codes "CH" ∷ codes "AH" ∷ codes "SH" ∷ codes "LGH" ∷ codes "LLGH" ∷ []) ∷
     touching (Fetched Word) (
     codes "N" ∷ codes "CL" ∷ codes "O" ∷ codes "X" ∷ codes "L" ∷ codes "C" ∷ codes "A" ∷ codes "S" ∷
     codes "AL" ∷ codes "SL" ∷ codes "MS" ∷ codes "LGF" ∷ codes "LLGF" ∷ codes "AGF" ∷ codes "LY" ∷
     codes "CHSI" ∷ []
     ) ∷
     touching (Fetched Doubleword) (
-    codes "LTG" ∷ codes "LG" ∷ codes "AG" ∷ codes "SG" ∷ codes "ALG" ∷ codes "SLG" ∷ codes "MSG" ∷ codes "CG" ∷
+    codes "LTG" ∷ codes "LG" ∷ codes "AG" ∷ codes "SG" ∷ codes "ALG" ∷ codes "SLG" ∷ codes "MSG" ∷
+    codes "CG" ∷
     codes "CLG" ∷ codes "NG" ∷ codes "OG" ∷ codes "XG" ∷ codes "CGHSI" ∷ []
     ) ∷
     touching (Stored Byte) (codes "STC" ∷ codes "MVI" ∷ codes "NI" ∷ codes "OI" ∷ codes "XI" ∷ []) ∷
     touching (Stored Halfword) (codes "STH" ∷ codes "MVHHI" ∷ []) ∷
-    touching (Stored Word) (codes "ST" ∷ codes "STY" ∷ codes "MVHI" ∷ codes "CS" ∷ codes "LAA" ∷ codes "ASI" ∷ []) ∷
+    touching (Stored Word)
+    (codes "ST" ∷ codes "STY" ∷ codes "MVHI" ∷ codes "CS" ∷ codes "LAA" ∷ codes "ASI" ∷ []) ∷
     touching (Stored Doubleword) (
     codes "STG" ∷ codes "NTSTG" ∷ codes "MVGHI" ∷ codes "CSG" ∷ codes "LAAG" ∷ codes "LANG" ∷ codes "LAOG" ∷
     codes "LAXG" ∷ codes "AGSI" ∷ []
@@ -128,8 +139,10 @@ demanding d n = record { demand = d; names = n }
 
 abbrev pub demand_groups : List Demanding
 demand_groups =
-    demanding EvenPair (codes "MR" ∷ codes "DR" ∷ codes "MLGR" ∷ codes "DSGR" ∷ codes "DLGR" ∷ codes "FLOGR" ∷ []) ∷
-    demanding Boundary (codes "CS" ∷ codes "LAA" ∷ codes "CSG" ∷ codes "LAAG" ∷ codes "LANG" ∷ codes "LAOG" ∷ codes "LAXG" ∷
+    demanding EvenPair
+    (codes "MR" ∷ codes "DR" ∷ codes "MLGR" ∷ codes "DSGR" ∷ codes "DLGR" ∷ codes "FLOGR" ∷ []) ∷
+    demanding Boundary
+    (codes "CS" ∷ codes "LAA" ∷ codes "CSG" ∷ codes "LAAG" ∷ codes "LANG" ∷ codes "LAOG" ∷ codes "LAXG" ∷
     codes "NTSTG" ∷ []) ∷
     demanding AbortCode (codes "TABORT" ∷ []) ∷
     demanding Begin (codes "TBEGIN" ∷ []) ∷
@@ -172,7 +185,8 @@ rr_codes =
     code (codes "NR") 0x14 ∷ code (codes "CLR") 0x15 ∷ code (codes "OR") 0x16 ∷ code (codes "XR") 0x17 ∷
     code (codes "LR") 0x18 ∷ code (codes "CR") 0x19 ∷ code (codes "AR") 0x1A ∷ code (codes "SR") 0x1B ∷
     code (codes "MR") 0x1C ∷ code (codes "DR") 0x1D ∷ code (codes "ALR") 0x1E ∷ code (codes "SLR") 0x1F ∷
-    code (codes "SPM") 0x04 ∷ code (codes "BCTR") 0x06 ∷ code (codes "BCR") 0x07 ∷ code (codes "BASR") 0x0D ∷ []
+    code (codes "SPM") 0x04 ∷ code (codes "BCTR") 0x06 ∷ code (codes "BCR") 0x07 ∷
+    code (codes "BASR") 0x0D ∷ []
 
 abbrev pub i_codes : List Code
 i_codes =
@@ -214,26 +228,35 @@ rrfc_codes =
 
 abbrev pub rxy_codes : List Code
 rxy_codes =
-    code (codes "LTG") 0xE302 ∷ code (codes "LG") 0xE304 ∷ code (codes "AG") 0xE308 ∷ code (codes "SG") 0xE309 ∷
-    code (codes "ALG") 0xE30A ∷ code (codes "SLG") 0xE30B ∷ code (codes "MSG") 0xE30C ∷ code (codes "LGF") 0xE314 ∷
-    code (codes "LGH") 0xE315 ∷ code (codes "LLGF") 0xE316 ∷ code (codes "AGF") 0xE318 ∷ code (codes "CG") 0xE320 ∷
+    code (codes "LTG") 0xE302 ∷ code (codes "LG") 0xE304 ∷ code (codes "AG") 0xE308 ∷
+    code (codes "SG") 0xE309 ∷
+    code (codes "ALG") 0xE30A ∷ code (codes "SLG") 0xE30B ∷ code (codes "MSG") 0xE30C ∷
+    code (codes "LGF") 0xE314 ∷
+    code (codes "LGH") 0xE315 ∷ code (codes "LLGF") 0xE316 ∷ code (codes "AGF") 0xE318 ∷
+    code (codes "CG") 0xE320 ∷
     code (codes "CLG") 0xE321 ∷ code (codes "STG") 0xE324 ∷ code (codes "NTSTG") 0xE325 ∷
-    code (codes "STY") 0xE350 ∷ code (codes "LY") 0xE358 ∷ code (codes "LAY") 0xE371 ∷ code (codes "NG") 0xE380 ∷
-    code (codes "OG") 0xE381 ∷ code (codes "XG") 0xE382 ∷ code (codes "LLGC") 0xE390 ∷ code (codes "LLGH") 0xE391 ∷ []
+    code (codes "STY") 0xE350 ∷ code (codes "LY") 0xE358 ∷ code (codes "LAY") 0xE371 ∷
+    code (codes "NG") 0xE380 ∷
+    code (codes "OG") 0xE381 ∷ code (codes "XG") 0xE382 ∷ code (codes "LLGC") 0xE390 ∷
+    code (codes "LLGH") 0xE391 ∷ []
 
 abbrev pub ri_codes : List Code
 ri_codes =
     code (codes "IILL") 0xA53 ∷ code (codes "NILL") 0xA57 ∷ code (codes "OILL") 0xA5B ∷
-    code (codes "LLILL") 0xA5F ∷ code (codes "TMLL") 0xA71 ∷ code (codes "BRC") 0xA74 ∷ code (codes "BRAS") 0xA75 ∷
-    code (codes "BRCT") 0xA76 ∷ code (codes "BRCTG") 0xA77 ∷ code (codes "LHI") 0xA78 ∷ code (codes "LGHI") 0xA79 ∷
-    code (codes "AHI") 0xA7A ∷ code (codes "AGHI") 0xA7B ∷ code (codes "MHI") 0xA7C ∷ code (codes "MGHI") 0xA7D ∷
+    code (codes "LLILL") 0xA5F ∷ code (codes "TMLL") 0xA71 ∷ code (codes "BRC") 0xA74 ∷
+    code (codes "BRAS") 0xA75 ∷
+    code (codes "BRCT") 0xA76 ∷ code (codes "BRCTG") 0xA77 ∷ code (codes "LHI") 0xA78 ∷
+    code (codes "LGHI") 0xA79 ∷
+    code (codes "AHI") 0xA7A ∷ code (codes "AGHI") 0xA7B ∷ code (codes "MHI") 0xA7C ∷
+    code (codes "MGHI") 0xA7D ∷
     code (codes "CHI") 0xA7E ∷ code (codes "CGHI") 0xA7F ∷ []
 
 abbrev pub ril_codes : List Code
 ril_codes =
     code (codes "LARL") 0xC00 ∷ code (codes "LGFI") 0xC01 ∷ code (codes "BRCL") 0xC04 ∷
     code (codes "BRASL") 0xC05 ∷ code (codes "XILF") 0xC07 ∷ code (codes "NILF") 0xC0B ∷
-    code (codes "OILF") 0xC0D ∷ code (codes "LLILF") 0xC0F ∷ code (codes "AGFI") 0xC28 ∷ code (codes "AFI") 0xC29 ∷
+    code (codes "OILF") 0xC0D ∷ code (codes "LLILF") 0xC0F ∷ code (codes "AGFI") 0xC28 ∷
+    code (codes "AFI") 0xC29 ∷
     code (codes "CGFI") 0xC2C ∷ code (codes "CFI") 0xC2D ∷ code (codes "CLGFI") 0xC2E ∷ []
 
 abbrev pub rs_codes : List Code

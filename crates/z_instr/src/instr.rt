@@ -73,7 +73,8 @@ impl Fields {
     }
 
     fn are_registers_in(self, limits: Limits) -> bool
-        ensures { result ≡ are_registers_within limits self.r1 self.r2 self.r3 self.x self.b self.b2 self.mask }
+        ensures { result ≡
+            are_registers_within limits self.r1 self.r2 self.r3 self.x self.b self.b2 self.mask }
     {
         self.r1 < limits.r1
             && (self.r2 < limits.r2
@@ -90,7 +91,8 @@ impl Fields {
     }
 
     fn are_in(self, limits: Limits) -> bool
-        ensures { result ≡ are_within limits self.r1 self.r2 self.r3 self.x self.b self.d self.b2 self.d2 self.imm self.mask }
+        ensures { result ≡
+            are_within limits self.r1 self.r2 self.r3 self.x self.b self.d self.b2 self.d2 self.imm self.mask }
     {
         self.are_registers_in(limits) && self.are_numbers_in(limits)
     }
@@ -98,8 +100,11 @@ impl Fields {
 
 /// Whether the operation's format allows each of the fields.
 fn are_allowed(op: Op, fields: Fields) -> bool
-    ensures exact { result ≡ are_within (limits_of (entry_at op.number)) fields.r1 fields.r2 fields.r3 fields.x fields.b fields.d fields.b2 fields.d2 fields.imm fields.mask }
-    ensures small { result ≡ true → AreBelowSixteen fields.r1 fields.r2 fields.r3 fields.x fields.b fields.b2 fields.mask }
+    ensures exact { result ≡
+        are_within (limits_of
+        (entry_at op.number)) fields.r1 fields.r2 fields.r3 fields.x fields.b fields.d fields.b2 fields.d2 fields.imm fields.mask }
+    ensures small { result ≡ true →
+        AreBelowSixteen fields.r1 fields.r2 fields.r3 fields.x fields.b fields.b2 fields.mask }
 {
     fields.are_in(field_limits(op))
 }

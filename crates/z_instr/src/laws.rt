@@ -17,11 +17,12 @@ ghost use Rattle.z_instr.specs.declared.table.TheConstants.{ROWS};
 /// No two rows have one name, and no bytes have the opcodes of two rows in their places.
 pub fn rows_are_distinct()
     ensures names { (m n : ℕ) → m < ROWS → n < ROWS → (entry_at m).name ≡ (entry_at n).name → m ≡ n }
-    ensures opcodes { (m n : ℕ) (bytes : List ℕ) → m < ROWS → n < ROWS → AreBytes bytes → HasOpcode (entry_at m) bytes → HasOpcode (entry_at n) bytes → m ≡ n }
+    ensures opcodes { (m n : ℕ) (bytes : List ℕ) → m < ROWS → n < ROWS → AreBytes bytes →
+        HasOpcode (entry_at m) bytes → HasOpcode (entry_at n) bytes → m ≡ n }
 {}
 
-/// Each name has one to eight ASCII letters, each opcode fits its place, and what every transaction refuses is
-/// not permitted in constrained ones.
+/// Each name has one to eight ASCII letters, each opcode fits its place, and what every transaction refuses
+/// is not permitted in constrained ones.
 pub fn rows_are_sound()
     ensures names { (n : ℕ) → n < ROWS → has_fitting_name (entry_at n) ≡ true }
     ensures opcodes { (n : ℕ) → n < ROWS → (entry_at n).opcode < room (place (entry_at n).format) }
@@ -34,21 +35,27 @@ pub fn readings_are_unique()
     ensures instruction { (bytes : List ℕ) (i j : Instr) → Reads bytes i → Reads bytes j → AreSame i j }
     ensures bytes { (some others : List ℕ) (i : Instr) → Reads some i → Reads others i → some ≡ others }
     ensures list { (bytes : List ℕ) (i : Instr) → Reads bytes i → AreBytes bytes }
-    ensures length { (bytes : List ℕ) (i : Instr) → Reads bytes i → length bytes ≡ length_by (get_or bytes 0 0) }
+    ensures length { (bytes : List ℕ) (i : Instr) → Reads bytes i →
+        length bytes ≡ length_by (get_or bytes 0 0) }
 {}
 
 /// The pages, lines, blocks or octowords of a range are exactly those that hold a byte of it.
 pub fn pieces_hold_bytes()
-    ensures held { (size : ℕ) (s : Span) (piece : ℕ) → 0 < size → 0 < s.length → list_any (nat_eq piece) (pieces size s) ≡ true → HoldsByteOf size s piece }
-    ensures all { (size : ℕ) (s : Span) (piece : ℕ) → 0 < size → 0 < s.length → HoldsByteOf size s piece → list_any (nat_eq piece) (pieces size s) ≡ true }
+    ensures held { (size : ℕ) (s : Span) (piece : ℕ) → 0 < size → 0 < s.length →
+        list_any (nat_eq piece) (pieces size s) ≡ true → HoldsByteOf size s piece }
+    ensures all { (size : ℕ) (s : Span) (piece : ℕ) → 0 < size → 0 < s.length → HoldsByteOf size s piece →
+        list_any (nat_eq piece) (pieces size s) ≡ true }
 {}
 
 /// The immediate of an instruction on two lists of bytes, and of a service call, is from 0 to 255; that of a
 /// begin is from 0 to 65535.
 pub fn immediates_are_plain()
-    ensures lists { (i : Instr) → has_two_lists (entry_at i.op.number).operands ≡ true → is_within (bounds 0 256) i.imm ≡ true }
-    ensures services { (i : Instr) → is_service (entry_at i.op.number).demand ≡ true → is_within (bounds 0 256) i.imm ≡ true }
-    ensures begins { (i : Instr) → is_begin (entry_at i.op.number).demand ≡ true → is_within (bounds 0 65536) i.imm ≡ true }
+    ensures lists { (i : Instr) → has_two_lists (entry_at i.op.number).operands ≡ true →
+        is_within (bounds 0 256) i.imm ≡ true }
+    ensures services { (i : Instr) → is_service (entry_at i.op.number).demand ≡ true →
+        is_within (bounds 0 256) i.imm ≡ true }
+    ensures begins { (i : Instr) → is_begin (entry_at i.op.number).demand ≡ true →
+        is_within (bounds 0 65536) i.imm ≡ true }
 {}
 
 /// An instruction has at most two operands in storage, each of 1 to 256 bytes.

@@ -30,7 +30,8 @@ pub fn sets_access_register(op: Op) -> bool
     line(op).opcode == SET_ACCESS
 }
 
-/// Whether the operation branches to a target that stands in the instruction: all that have a target, but for LARL.
+/// Whether the operation branches to a target that stands in the instruction: all that have a target, but for
+/// LARL.
 pub fn is_relative_branch(op: Op) -> bool
     ensures { result ≡ branches (entry_at op.number) }
 {
@@ -45,7 +46,8 @@ pub fn begins(op: Op) -> bool
     matches!(line(op).demand, Demand::Begin | Demand::BeginConstrained)
 }
 
-/// The address of the diagnostic block that an instruction names: only a TBEGIN with a base register names one.
+/// The address of the diagnostic block that an instruction names: only a TBEGIN with a base register names
+/// one.
 pub fn block_named(instr: &Instr, general: &[u64; 16]) -> Option<u64>
     ensures { result ≡ named instr.now general.now }
 {

@@ -78,7 +78,8 @@ fn fields_are_held_to_their_ranges(rt: HostRuntime) -> Result<(), Fail> {
     Ok(())
 }
 
-// An address takes base, index and displacement; register number 0 adds nothing, and the sum goes on from 2^64 at 0.
+// An address takes base, index and displacement; register number 0 adds nothing, and the sum goes on from
+// 2^64 at 0.
 #[test]
 fn addresses_of_operands(rt: HostRuntime) -> Result<(), Fail> {
     let load = find(b"LG").ok_or("LG")?;

@@ -108,11 +108,13 @@ last_pair = refl
 abbrev standing : ℕ → ℕ → ℕ → Cpu
 standing condition mask address = record (started address) { condition = condition; mask = mask }
 
-after_division : psw_of (standing 0 0 0x4002) ≡ 0 ∷ 0 ∷ 0 ∷ 1 ∷ 0x80 ∷ 0 ∷ 0 ∷ 0 ∷ 0 ∷ 0 ∷ 0 ∷ 0 ∷ 0 ∷ 0 ∷ 0x40 ∷ 2 ∷ []
+after_division : psw_of (standing 0 0 0x4002) ≡ 0 ∷ 0 ∷ 0 ∷ 1 ∷ 0x80 ∷ 0 ∷ 0 ∷ 0 ∷ 0 ∷ 0 ∷ 0 ∷ 0 ∷ 0 ∷ 0 ∷
+    0x40 ∷ 2 ∷ []
 unfolding psw_of
 after_division = refl
 
-after_abort : psw_of (standing 3 0 0x4000) ≡ 0 ∷ 0 ∷ 0x30 ∷ 1 ∷ 0x80 ∷ 0 ∷ 0 ∷ 0 ∷ 0 ∷ 0 ∷ 0 ∷ 0 ∷ 0 ∷ 0 ∷ 0x40 ∷ 0 ∷ []
+after_abort : psw_of (standing 3 0 0x4000) ≡ 0 ∷ 0 ∷ 0x30 ∷ 1 ∷ 0x80 ∷ 0 ∷ 0 ∷ 0 ∷ 0 ∷ 0 ∷ 0 ∷ 0 ∷ 0 ∷ 0 ∷
+    0x40 ∷ 0 ∷ []
 unfolding psw_of
 after_abort = refl
 
@@ -123,6 +125,7 @@ unfolding loaded psw_of with_fields
 taken = refl
 
 -- the wait bit halts
-waits : (loaded (0 ∷ 2 ∷ 0 ∷ 1 ∷ 0x80 ∷ 0 ∷ 0 ∷ 0 ∷ 0 ∷ 0 ∷ 0 ∷ 0 ∷ 0 ∷ 0 ∷ 0x50 ∷ 0 ∷ []) (started 0)).state ≡ Halted
+waits : (loaded (0 ∷ 2 ∷ 0 ∷ 1 ∷ 0x80 ∷ 0 ∷ 0 ∷ 0 ∷ 0 ∷ 0 ∷ 0 ∷ 0 ∷ 0 ∷ 0 ∷ 0x50 ∷ 0 ∷ [])
+    (started 0)).state ≡ Halted
 unfolding loaded psw_of with_fields
 waits = refl

@@ -15,7 +15,12 @@ pub record IsArea (p : ℕ) : Type 0 where
   pub high : p ≤ 1040384
 
 pub area : (p : ℕ) → is_prefix (Some p) ≡ true → IsArea p
-area p h = record { aligned = grind (arith, nat_tests); low = grind (arith, nat_tests); high = grind (arith, nat_tests) }
+area p h = record {
+  aligned = grind (arith, nat_tests);
+  low = grind (arith, nat_tests);
+  high =
+      grind (arith, nat_tests);
+}
 
 -- where an address goes
 pub record Moves (p a b : ℕ) : Type 0 where
@@ -35,7 +40,8 @@ moves p a low = record {
 pub absolute_within : (prefix : Option ℕ) (a : ℕ) → is_prefix prefix ≡ true → a < storage_size →
     absolute_of prefix a < storage_size
 absolute_within None a h k = k
-absolute_within (Some p) a h k = let r = area p h in let m = moves p a r.low in grind (arith, r, m, cases_lt a 8192, cases_lt a p, cases_lt a (p + 8192))
+absolute_within (Some p) a h k = let r = area p h in let m = moves p a r.low in
+    grind (arith, r, m, cases_lt a 8192, cases_lt a p, cases_lt a (p + 8192))
 
 -- the exchange is its own inverse
 pub absolute_twice : (prefix : Option ℕ) (a : ℕ) → is_prefix prefix ≡ true →
@@ -123,7 +129,8 @@ seen_at (Some p) s a h size k =
               ∙ get_or-take 8192 s (a - p) 0 (omega arith) ∙ to_place s (a - p) _ (omega arith)
           | inr beyond ↦
               in_fourth xs ys zs ws (p + 8192) a (omega arith) beyond
-              ∙ get_or-drop (p + 8192) s (a - (p + 8192)) 0 ∙ to_place s (p + 8192 + (a - (p + 8192))) _ (omega arith)
+              ∙ get_or-drop (p + 8192) s (a - (p + 8192)) 0
+              ∙ to_place s (p + 8192 + (a - (p + 8192))) _ (omega arith)
         ]
       ]
     ]
@@ -146,14 +153,16 @@ one_or_other i a = elim (cases_lt i a) [
 ]
 
 -- a byte changed at its absolute address is that byte changed as it is seen
-pub seen_set : (prefix : Option ℕ) (s : List ℕ) (a b : ℕ) → is_prefix prefix ≡ true → length s ≡ storage_size →
+pub seen_set : (prefix : Option ℕ) (s : List ℕ) (a b : ℕ) → is_prefix prefix ≡ true →
+    length s ≡ storage_size →
     a < storage_size → seen_by prefix (set s (absolute_of prefix a) b) ≡ set (seen_by prefix s) a b
 seen_set prefix s a b h size within =
     let at : absolute_of prefix a < storage_size = absolute_within prefix a h within in
     let changed : length (set s (absolute_of prefix a) b) ≡ storage_size = length-set s _ b ∙ size in
     let seen = length-seen prefix s h size in
     let left = length-seen prefix (set s (absolute_of prefix a) b) h changed in
-    let right : length (set (seen_by prefix s) a b) ≡ storage_size = length-set (seen_by prefix s) a b ∙ seen in
+    let right : length (set (seen_by prefix s) a b) ≡ storage_size = length-set (seen_by prefix s) a b
+    ∙ seen in
     ext_get_or 0 _ _ (left ∙ sym right) (λ i k.
     seen_at prefix (set s (absolute_of prefix a) b) i h changed (omega arith)
     ∙ elim (one_or_other i a) [
@@ -161,7 +170,9 @@ seen_set prefix s a b h size within =
           get_or-set_at s _ _ b 0 (ap (absolute_of prefix) same) (omega arith)
           ∙ sym (get_or-set_at (seen_by prefix s) a i b 0 same (omega arith))
       | inr other ↦
-          get_or-set_other s _ _ b 0 (λ e. other (sym (absolute_twice prefix i h) ∙ ap (absolute_of prefix) e ∙ absolute_twice prefix a h))
+          get_or-set_other s _ _ b 0
+          (λ e. other (sym (absolute_twice prefix i h) ∙ ap (absolute_of prefix) e
+          ∙ absolute_twice prefix a h))
           ∙ sym (seen_at prefix s i h size (omega arith))
           ∙ sym (get_or-set_other (seen_by prefix s) a i b 0 other)
     ])

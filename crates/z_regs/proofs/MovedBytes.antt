@@ -12,7 +12,8 @@ use Rattle.z_regs.proofs.Exchange.{IsArea, area, moves}
 
 -- ---- within one area absolute addresses go on as real ones do
 
-along : (p a i : ℕ) → IsArea p → a % 8192 + i < 8192 → absolute_of (Some p) (a + i) ≡ absolute_of (Some p) a + i
+along : (p a i : ℕ) → IsArea p → a % 8192 + i < 8192 →
+    absolute_of (Some p) (a + i) ≡ absolute_of (Some p) a + i
 along p a i r h =
     let m = moves p a r.low in
     let n = moves p (a + i) r.low in
@@ -21,7 +22,8 @@ along p a i r h =
 within_area : (p first n : ℕ) → IsArea p → n ≤ to_edge first →
     range_with_len (absolute_of (Some p) first) n ≡ map (absolute_of (Some p)) (range_with_len first n)
 within_area p first n r h =
-    ext_get_or 0 _ _ (length-range_with_len _ n ∙ sym (length-map-range_with_len (absolute_of (Some p)) first n)) (λ i k.
+    ext_get_or 0 _ _ (length-range_with_len _ n
+    ∙ sym (length-map-range_with_len (absolute_of (Some p)) first n)) (λ i k.
     let below : i < n = omega (arith, length-range_with_len (absolute_of (Some p) first) n) in
     get_or-range_with_len _ n i 0 below
     ∙ sym (along p first i r (omega arith))
@@ -29,12 +31,17 @@ within_area p first n r h =
 
 numbers-split : (first m n k : ℕ) → k ≡ m + n →
     range_with_len first k ≡ range_with_len first m ++ range_with_len (first + m) n
-numbers-split first zero n k e = cc (ap (range_with_len first) (let f : k ≡ n = omega arith in f), ap (λ a. range_with_len a n) (let g : first + 0 ≡ first = omega arith in g))
+numbers-split first zero n k e =
+    cc (
+      ap (range_with_len first) (let f : k ≡ n = omega arith in f),
+      ap (λ a. range_with_len a n) (let g : first + 0 ≡ first = omega arith in g),
+    )
 numbers-split first (suc m) n k e =
     let more : k ≡ suc (m + n) = omega arith in
     ap (range_with_len first) more
     ∙ ap (λ l. first ∷ l) (numbers-split (first + 1) m n (m + n) refl
-    ∙ ap (λ a. range_with_len (first + 1) m ++ range_with_len a n) (let g : first + 1 + m ≡ first + suc m = omega arith in g))
+    ∙ ap (λ a. range_with_len (first + 1) m ++ range_with_len a n)
+    (let g : first + 1 + m ≡ first + suc m = omega arith in g))
 
 -- one range up to the end of an area, and two across it
 pub one_area : (p : ℕ) (r : Range) → r.length ≤ to_edge r.first → absolute_range (Some p) r ≡
@@ -45,18 +52,30 @@ one_area p r h =
     ap (λ b. cond b
     (record { first = absolute_of (Some p) r.first; length = r.length; store = r.store } ∷ [])
     (record { first = absolute_of (Some p) r.first; length = to_edge r.first; store = r.store } ∷
-    record { first = absolute_of (Some p) (r.first + to_edge r.first); length = r.length - to_edge r.first; store = r.store } ∷ [])) fits
+    record {
+      first = absolute_of (Some p) (r.first + to_edge r.first);
+      length = r.length - to_edge r.first;
+      store = r.store;
+    } ∷ [])) fits
 
 pub two_areas : (p : ℕ) (r : Range) → to_edge r.first < r.length → absolute_range (Some p) r ≡
     record { first = absolute_of (Some p) r.first; length = to_edge r.first; store = r.store } ∷
-    record { first = absolute_of (Some p) (r.first + to_edge r.first); length = r.length - to_edge r.first; store = r.store } ∷ []
+    record {
+      first = absolute_of (Some p) (r.first + to_edge r.first);
+      length = r.length - to_edge r.first;
+      store = r.store;
+    } ∷ []
 unfolding absolute_range
 two_areas p r h =
     let over : nat_le r.length (to_edge r.first) ≡ false = grind (arith, nat_tests) in
     ap (λ b. cond b
     (record { first = absolute_of (Some p) r.first; length = r.length; store = r.store } ∷ [])
     (record { first = absolute_of (Some p) r.first; length = to_edge r.first; store = r.store } ∷
-    record { first = absolute_of (Some p) (r.first + to_edge r.first); length = r.length - to_edge r.first; store = r.store } ∷ [])) over
+    record {
+      first = absolute_of (Some p) (r.first + to_edge r.first);
+      length = r.length - to_edge r.first;
+      store = r.store;
+    } ∷ [])) over
 
 -- the absolute ranges of a range have its bytes, in order
 pub same_bytes : (prefix : Option ℕ) (r : Range) → is_prefix prefix ≡ true → r.length ≤ area_size →
@@ -71,9 +90,12 @@ same_bytes (Some p) r h small =
           ap (flat_map addresses_of) (two_areas p r across)
           ∙ ap (λ l. range_with_len (absolute_of (Some p) r.first) here ++ l) (append-nil _)
           ∙ (λ i. within_area p r.first here a (let e : here ≤ here = omega arith in e) i
-          ++ within_area p (r.first + here) (r.length - here) a (let e : r.length - here ≤ to_edge (r.first + here) = omega arith in e) i)
-          ∙ sym (map-append (absolute_of (Some p)) (range_with_len r.first here) (range_with_len (r.first + here) (r.length - here)))
-          ∙ ap (map (absolute_of (Some p))) (sym (numbers-split r.first here (r.length - here) r.length (omega arith)))
+          ++ within_area p (r.first + here) (r.length - here) a
+          (let e : r.length - here ≤ to_edge (r.first + here) = omega arith in e) i)
+          ∙ sym (map-append (absolute_of (Some p)) (range_with_len r.first here)
+          (range_with_len (r.first + here) (r.length - here)))
+          ∙ ap (map (absolute_of (Some p)))
+          (sym (numbers-split r.first here (r.length - here) r.length (omega arith)))
       | inr one ↦
           ap (flat_map addresses_of) (one_area p r one)
           ∙ append-nil _ ∙ within_area p r.first r.length a one
@@ -81,20 +103,70 @@ same_bytes (Some p) r h small =
 
 -- ---- pieces whose size divides that of an area
 
-octowords : (p a b : ℕ) → IsArea p → (absolute_of (Some p) a / 32 ≡ absolute_of (Some p) b / 32) ↔ (a / 32 ≡ b / 32)
+octowords : (p a b : ℕ) → IsArea p → (absolute_of (Some p) a / 32 ≡ absolute_of (Some p) b / 32) ↔
+    (a / 32 ≡ b / 32)
 octowords p a b r =
     let m = moves p a r.low in
     let n = moves p b r.low in (
-      λ h. grind (arith, h, r, m, n, cases_lt a 8192, cases_lt a p, cases_lt a (p + 8192), cases_lt b 8192, cases_lt b p, cases_lt b (p + 8192)),
-      λ h. grind (arith, h, r, m, n, cases_lt a 8192, cases_lt a p, cases_lt a (p + 8192), cases_lt b 8192, cases_lt b p, cases_lt b (p + 8192)),
+      λ h. grind (
+        arith,
+        h,
+        r,
+        m,
+        n,
+        cases_lt a 8192,
+        cases_lt a p,
+        cases_lt a (p + 8192),
+        cases_lt b 8192,
+        cases_lt b p,
+        cases_lt b (p + 8192),
+      ),
+      λ h. grind (
+        arith,
+        h,
+        r,
+        m,
+        n,
+        cases_lt a 8192,
+        cases_lt a p,
+        cases_lt a (p + 8192),
+        cases_lt b 8192,
+        cases_lt b p,
+        cases_lt b (p + 8192),
+      ),
     )
 
-pages : (p a b : ℕ) → IsArea p → (absolute_of (Some p) a / 4096 ≡ absolute_of (Some p) b / 4096) ↔ (a / 4096 ≡ b / 4096)
+pages : (p a b : ℕ) → IsArea p → (absolute_of (Some p) a / 4096 ≡ absolute_of (Some p) b / 4096) ↔
+    (a / 4096 ≡ b / 4096)
 pages p a b r =
     let m = moves p a r.low in
     let n = moves p b r.low in (
-      λ h. grind (arith, h, r, m, n, cases_lt a 8192, cases_lt a p, cases_lt a (p + 8192), cases_lt b 8192, cases_lt b p, cases_lt b (p + 8192)),
-      λ h. grind (arith, h, r, m, n, cases_lt a 8192, cases_lt a p, cases_lt a (p + 8192), cases_lt b 8192, cases_lt b p, cases_lt b (p + 8192)),
+      λ h. grind (
+        arith,
+        h,
+        r,
+        m,
+        n,
+        cases_lt a 8192,
+        cases_lt a p,
+        cases_lt a (p + 8192),
+        cases_lt b 8192,
+        cases_lt b p,
+        cases_lt b (p + 8192),
+      ),
+      λ h. grind (
+        arith,
+        h,
+        r,
+        m,
+        n,
+        cases_lt a 8192,
+        cases_lt a p,
+        cases_lt a (p + 8192),
+        cases_lt b 8192,
+        cases_lt b p,
+        cases_lt b (p + 8192),
+      ),
     )
 
 pub same_octowords : (prefix : Option ℕ) (a b : ℕ) → is_prefix prefix ≡ true →
@@ -123,7 +195,13 @@ doubleword_whole (Some p) r aligned small = ap length (one_area p r (omega arith
 
 -- ---- the ranges of an instruction, one after the other
 
-pub few_ranges : (prefix : Option ℕ) (ranges : List Range) → length (absolute_ranges prefix ranges) ≤ 2 * length ranges
+pub few_ranges : (prefix : Option ℕ) (ranges : List Range) →
+    length (absolute_ranges prefix ranges) ≤ 2 * length ranges
 few_ranges prefix [] = lit≤ tt
 few_ranges prefix (r ∷ ranges) =
-    omega (arith, length-append (absolute_range prefix r) (absolute_ranges prefix ranges), at_most_two prefix r, few_ranges prefix ranges)
+    omega (
+      arith,
+      length-append (absolute_range prefix r) (absolute_ranges prefix ranges),
+      at_most_two prefix r,
+      few_ranges prefix ranges,
+    )

@@ -19,12 +19,14 @@ fields_back c d h =
     λ i. record c { condition = code i; mask = mask i; address = address i }
 
 -- the word of a CPU with other fields is that of these fields
-own_word : (c d : Cpu) → psw_of (record c { condition = d.condition; mask = d.mask; address = d.address }) ≡ psw_of d
+own_word : (c d : Cpu) →
+    psw_of (record c { condition = d.condition; mask = d.mask; address = d.address }) ≡ psw_of d
 unfolding psw_of
 own_word c d = refl
 
 pub loaded_back : (c d : Cpu) → HasFields d →
-    loaded (psw_of d) c ≡ record c { condition = d.condition; mask = d.mask; address = d.address; state = Running }
+    loaded (psw_of d) c ≡
+    record c { condition = d.condition; mask = d.mask; address = d.address; state = Running }
 unfolding loaded
 loaded_back c d h =
     let fields = fields_back c d h in

@@ -4,7 +4,8 @@ use Rattle.std.specs.List.{range_with_len, flat_map}
 use Rattle.z_regs.specs.declared.ranges.Range.{Range}
 use Rattle.z_regs.specs.Prefix.{area_size, storage_size, absolute_of, is_accessible}
 
--- the bytes that one operand of an instruction may have on a CPU with this prefix: at most 256, all accessible
+-- the bytes that one operand of an instruction may have on a CPU with this prefix: at most 256, all
+-- accessible
 pub record IsAccessible (prefix : Option ℕ) (r : Range) : Type 0 where
   pub first : IsTrue (is_accessible prefix r.first)
   pub end : r.first + r.length ≤ storage_size
@@ -18,7 +19,8 @@ part_of r first length = record { first = first; length = length; store = r.stor
 abbrev pub to_edge : ℕ → ℕ
 to_edge a = area_size - a % area_size
 
--- the bytes of a range that begins at a real address, by absolute addresses: a CPU with a prefix may see two areas
+-- the bytes of a range that begins at a real address, by absolute addresses: a CPU with a prefix may see two
+-- areas
 -- side by side that lie apart
 unfoldable pub absolute_range : Option ℕ → Range → List Range
 absolute_range None r = r ∷ []

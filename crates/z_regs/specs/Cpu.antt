@@ -4,7 +4,8 @@ use Rattle.z_regs.specs.declared.image.RunState.{RunState}
 use Rattle.z_regs.specs.declared.image.RunState.TheVariants as state
 use Rattle.z_regs.specs.declared.image.CpuImage.{CpuImage}
 
--- the sixteen general and sixteen access registers, the address of the next instruction, the condition code, the
+-- the sixteen general and sixteen access registers, the address of the next instruction, the condition code,
+-- the
 -- program mask, the state, and the prefix where there is one
 pub record Cpu : Type 0 where
   pub general : List ℕ

@@ -14,7 +14,8 @@ abbrev pub is_prefix : Option ℕ → Bool
 is_prefix None = true
 is_prefix (Some p) = nat_eq (p % area_size) 0 && (nat_le area_size p && nat_le p (storage_size - area_size))
 
--- the absolute address of a real one: the prefix exchanges the first area of storage and the one that it names
+-- the absolute address of a real one: the prefix exchanges the first area of storage and the one that it
+-- names
 abbrev pub absolute_of : Option ℕ → ℕ → ℕ
 absolute_of None a = a
 absolute_of (Some p) a =

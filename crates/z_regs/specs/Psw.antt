@@ -6,7 +6,8 @@ use Rattle.z_regs.specs.declared.image.RunState.{RunState}
 use Rattle.z_regs.specs.declared.image.RunState.TheVariants.{Running, Halted}
 use Rattle.z_regs.specs.Cpu.{Cpu}
 
--- byte 2 has the condition code in bits 2 and 3 and the program mask in bits 4 to 7; bytes 3 and 4 say that addresses
+-- byte 2 has the condition code in bits 2 and 3 and the program mask in bits 4 to 7; bytes 3 and 4 say that
+-- addresses
 -- have 64 bits; the address stands in the last eight bytes; all other bits are zero
 unfoldable pub psw_of : Cpu → List ℕ
 psw_of c =
@@ -29,7 +30,8 @@ with_fields psw c = record c {
 abbrev pub running_where : Bool → RunState
 running_where runs = cond runs Running Halted
 
--- a CPU that loads a program status word: it runs where that is its own from then on, and else halts, since some other
+-- a CPU that loads a program status word: it runs where that is its own from then on, and else halts, since
+-- some other
 -- bit asks for what no CPU does here
 unfoldable pub loaded : List ℕ → Cpu → Cpu
 loaded psw c = let new = with_fields psw c in record new { state = running_where (bytes_eq (psw_of new) psw) }

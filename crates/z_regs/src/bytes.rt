@@ -3,7 +3,8 @@ ghost use Rattle.std.specs.Prelude.{◌≡◌, ◌<◌, ℕ, List, length, slice
 
 /// Bytes by their addresses: shared storage, or what one CPU sees of it.
 ///
-/// Contracts see the whole as a list of bytes. Every call requires that the address is below the length of that list.
+/// Contracts see the whole as a list of bytes. Every call requires that the address is below the length of
+/// that list.
 pub trait Bytes {
     /// All the bytes, from address 0 on.
     ghost bytes: { Self → List ℕ };

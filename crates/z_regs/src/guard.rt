@@ -7,8 +7,8 @@ use std::marker::Model;
 /// The number of pages in storage, each of 4,096 bytes.
 pub const PAGES: usize = 256;
 
-/// The set of text pages, those that hold a byte of an assembled instruction. Contracts see the set of their numbers,
-/// address divided by 4,096.
+/// The set of text pages, those that hold a byte of an assembled instruction. Contracts see the set of their
+/// numbers, address divided by 4,096.
 #[derive(Drop)]
 pub struct Guard {
     is_text: [bool; PAGES],

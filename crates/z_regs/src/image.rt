@@ -30,8 +30,8 @@ pub struct CpuImage {
     pub mask: u8,
     /// Whether the CPU runs.
     pub state: RunState,
-    /// Where the CPU's own area of storage begins, or None for a CPU without a prefix: a multiple of 8,192 from 8,192
-    /// to 1,040,384. No instruction changes it.
+    /// Where the CPU's own area of storage begins, or None for a CPU without a prefix: a multiple of 8,192
+    /// from 8,192 to 1,040,384. No instruction changes it.
     pub prefix: Option<u32>,
     ghost condition_in: { condition < 4 },
     ghost mask_in: { mask < 16 },
@@ -42,8 +42,8 @@ impl CpuImage {
     ghost use Rattle.std.specs.Prelude.{◌≡◌};
     ghost use Rattle.z_regs.specs.Cpu.{cpu_of, started};
 
-    /// A running CPU without a prefix at its entry address, with zeros in all registers, the condition code and the
-    /// mask.
+    /// A running CPU without a prefix at its entry address, with zeros in all registers, the condition code
+    /// and the mask.
     pub fn entering(address: u64) -> CpuImage
         ensures { cpu_of result ≡ started address }
     {

@@ -1,4 +1,5 @@
-//! What a CPU holds between instructions, storage as a list of bytes, and the ranges that an instruction touches there.
+//! What a CPU holds between instructions, storage as a list of bytes, and the ranges that an instruction
+//! touches there.
 #![tactic(auto)]
 
 mod bytes;

@@ -29,9 +29,9 @@ pub fn place_of(prefix: Option<u32>, address: u64) -> u64
 
 /// The absolute address of a real one, for a CPU with this prefix, or without one.
 ///
-/// A prefix exchanges two areas of 8,192 bytes: the first one of storage and the one that begins at the prefix. Requires a
-/// prefix that a CPU may have, and an address that the CPU may use: below 1,048,576, and from 8,192 on where it has no
-/// prefix.
+/// A prefix exchanges two areas of 8,192 bytes: the first one of storage and the one that begins at the
+/// prefix. Requires a prefix that a CPU may have, and an address that the CPU may use: below 1,048,576, and
+/// from 8,192 on where it has no prefix.
 pub fn absolute(prefix: Option<u32>, address: u64) -> u64
     requires prefix_in { IsTrue (is_prefix prefix) }
     requires accessible { IsTrue (is_accessible prefix address) }

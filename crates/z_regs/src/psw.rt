@@ -6,8 +6,8 @@ ghost use Rattle.z_regs.specs.Psw.{psw_of as psw_for, with_fields, running_where
 use crate::{CpuImage, RunState};
 use byteorder::{BigEndian, ByteOrder};
 
-/// The program status word of a CPU: the condition code in bits 2 and 3 and the program mask in bits 4 to 7 of byte 2, 1 in
-/// byte 3, 80 hex in byte 4, the address in bytes 8 to 15, and zeros elsewhere.
+/// The program status word of a CPU: the condition code in bits 2 and 3 and the program mask in bits 4 to 7
+/// of byte 2, 1 in byte 3, 80 hex in byte 4, the address in bytes 8 to 15, and zeros elsewhere.
 #[tactic(auto, unfolding(crate::specs::Psw::psw_of))]
 pub fn psw_of(image: &CpuImage) -> [u8; 16]
     ensures { result ≡ psw_for (cpu_of image.now) }
@@ -40,8 +40,8 @@ fn state_where(runs: bool) -> RunState
     }
 }
 
-/// Loads a program status word: condition code, program mask and address. The CPU runs then where every other bit is as in
-/// `psw_of`, and else it is halted, so that the wait bit halts it.
+/// Loads a program status word: condition code, program mask and address. The CPU runs then where every other
+/// bit is as in `psw_of`, and else it is halted, so that the wait bit halts it.
 pub fn load_psw(image: &mut CpuImage, psw: &[u8; 16])
     ensures { cpu_of image.new ≡ loaded psw.now (cpu_of image.old) }
 {

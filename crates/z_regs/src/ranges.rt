@@ -4,8 +4,8 @@ ghost use Rattle.std.specs.Prelude.{◌≡◌, ◌<◌, ◌≤◌, List, [], ◌
 use crate::prefix::{AREA_SIZE, absolute};
 use std::marker::Model;
 
-/// The most ranges that a list of them has: an instruction touches at most two, and by absolute addresses each may fall into
-/// two.
+/// The most ranges that a list of them has: an instruction touches at most two, and by absolute addresses
+/// each may fall into two.
 const MOST: usize = 4;
 
 /// Bytes that an instruction touches: `length` of them from the address `first` on.
@@ -19,7 +19,8 @@ pub struct Range {
     pub store: bool,
 }
 
-/// The ranges that an instruction touches, in the order of its operands, at most four. Contracts see their list.
+/// The ranges that an instruction touches, in the order of its operands, at most four. Contracts see their
+/// list.
 #[derive(Drop)]
 pub struct Touches {
     ranges: [Range; MOST],
@@ -83,8 +84,8 @@ impl Touches {
 
     /// The same bytes by absolute addresses, for a CPU with this prefix.
     ///
-    /// A range that goes on from one area of 8,192 bytes into the next one becomes two. Requires at most two ranges,
-    /// each of at most 256 bytes that are all accessible.
+    /// A range that goes on from one area of 8,192 bytes into the next one becomes two. Requires at most two
+    /// ranges, each of at most 256 bytes that are all accessible.
     pub fn absolute(&self, prefix: Option<u32>) -> Touches
         requires prefix_in { IsTrue (is_prefix prefix) }
         requires few { length self.now ≤ 2 }

@@ -6,10 +6,11 @@ ghost use Rattle.z_regs.specs.Seen.{seen_by};
 use crate::Bytes;
 use crate::prefix::place_of;
 
-/// Storage as a CPU with this prefix, or without one, addresses it: what lies below, with two areas exchanged.
+/// Storage as a CPU with this prefix, or without one, addresses it: what lies below, with two areas
+/// exchanged.
 ///
-/// Contracts see it as the list of bytes by real addresses, which has all of storage also where the CPU may not use all of
-/// it.
+/// Contracts see it as the list of bytes by real addresses, which has all of storage also where the CPU may
+/// not use all of it.
 #[derive(Drop)]
 pub struct RealView<V: Bytes> {
     below: V,

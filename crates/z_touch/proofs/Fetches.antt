@@ -13,7 +13,8 @@ or_later (Some c) xs ys code before later = absurd (cc)
 
 -- the first byte that is refused decides
 pub first_refused : (f : ℕ → Option ℕ) (a k n code : ℕ) → k < n →
-    first_some (map f (from_up a k)) ≡ None → f (a + k) ≡ Some code → first_some (map f (from_up a n)) ≡ Some code
+    first_some (map f (from_up a k)) ≡ None → f (a + k) ≡ Some code →
+    first_some (map f (from_up a n)) ≡ Some code
 first_refused f a k zero code h before here = absurd (omega arith)
 first_refused f a zero (suc n) code h before here =
     ap (λ o. first_some (o ∷ map f (from_up (suc a) n))) (ap f (let e : a ≡ a + 0 = omega arith in e) ∙ here)
@@ -37,10 +38,12 @@ one_more f a zero (suc n) e before here =
     ∙ ap (λ o. first_some (o ∷ [])) (ap f (let e : a ≡ a + 0 = omega arith in e) ∙ here)
 one_more f a (suc k) (suc n) e before here =
     and_then (f a) (map f (from_up (suc a) k)) (map f (from_up (suc a) n)) before
-    (λ b. one_more f (suc a) k n (omega arith) b (ap f (let e : suc a + k ≡ a + suc k = omega arith in e) ∙ here))
+    (λ b. one_more f (suc a) k n (omega arith) b (ap f (let e : suc a + k ≡ a + suc k = omega arith in e)
+    ∙ here))
 
 -- nothing is fetched from beyond storage
-closed : (prefix : Option ℕ) (page : ℕ) → 256 ≤ page → list_any (nat_eq page) (accessible_pages prefix) ≡ false
+closed : (prefix : Option ℕ) (page : ℕ) → 256 ≤ page →
+    list_any (nat_eq page) (accessible_pages prefix) ≡ false
 closed None page h = any-without page ∙ grind (arith, nat_tests)
 closed (Some p) page h = any-with p page ∙ grind (arith, nat_tests)
 
@@ -48,6 +51,7 @@ pub beyond_storage : (prefix : Option ℕ) (text : List ℕ) (a n : ℕ) → 104
     first_some (map (byte_unfetched (accessible_pages prefix) text) (from_up a n)) ≡ Some addressing
 beyond_storage prefix text a zero h some = absurd (omega arith)
 beyond_storage prefix text a (suc n) h some =
-    let shut : list_any (nat_eq (a / 4096)) (accessible_pages prefix) ≡ false = closed prefix (a / 4096) (omega arith) in
+    let shut : list_any (nat_eq (a / 4096)) (accessible_pages prefix) ≡ false =
+    closed prefix (a / 4096) (omega arith) in
     ap (λ b. first_some (where_wrong (not b) addressing (where_wrong (not (lies_in text a)) protection None) ∷
     map (byte_unfetched (accessible_pages prefix) text) (from_up (suc a) n))) shut

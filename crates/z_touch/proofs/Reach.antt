@@ -13,7 +13,8 @@ use Rattle.z_instr.specs.Operands.{Span, IsSmall, spans, spans_in, inaccessible,
 use Rattle.z_regs.specs.declared.ranges.Range.{Range}
 use Rattle.z_touch.specs.Refusals.{range_of, span_of, unreachable, denial, answer, refused}
 
-list_any-map : (p : Span → Bool) (ranges : List Range) → list_any p (map span_of ranges) ≡ list_any (λ r. p (span_of r)) ranges
+list_any-map : (p : Span → Bool) (ranges : List Range) →
+    list_any p (map span_of ranges) ≡ list_any (λ r. p (span_of r)) ranges
 list_any-map p [] = refl
 list_any-map p (r ∷ ranges) = ap (λ b. p (span_of r) || b) (list_any-map p ranges)
 
@@ -23,7 +24,8 @@ pub beyond : (ranges : List Range) (accessible text : List ℕ) (after : Option 
     list_all (λ r. is_inside accessible (span_of r)) ranges ≡ false →
     unreachable (map span_of ranges) accessible text after ≡ Some addressing
 beyond ranges accessible text after e =
-    ap (λ b. where_wrong (not b) addressing (where_wrong (list_any (is_stored_into text) (map span_of ranges)) protection after))
+    ap (λ b. where_wrong (not b) addressing
+    (where_wrong (list_any (is_stored_into text) (map span_of ranges)) protection after))
     (list_all-map (is_inside accessible) span_of ranges ∙ e)
 
 pub inside : (ranges : List Range) (accessible text : List ℕ) (after : Option ℕ) (b : Bool) →
@@ -31,7 +33,8 @@ pub inside : (ranges : List Range) (accessible text : List ℕ) (after : Option 
     list_any (λ r. is_stored_into text (span_of r)) ranges ≡ b →
     unreachable (map span_of ranges) accessible text after ≡ where_wrong b protection after
 inside ranges accessible text after b e f =
-    ap (λ a. where_wrong (not a) addressing (where_wrong (list_any (is_stored_into text) (map span_of ranges)) protection after))
+    ap (λ a. where_wrong (not a) addressing
+    (where_wrong (list_any (is_stored_into text) (map span_of ranges)) protection after))
     (list_all-map (is_inside accessible) span_of ranges ∙ e)
     ∙ ap (λ a. where_wrong a protection after) (list_any-map (is_stored_into text) ranges ∙ f)
 
@@ -50,7 +53,8 @@ pub denial_is : (i : Instr) (general : List ℕ) (condition depth : ℕ) (access
 unfolding inaccessible_in
 denial_is i general condition depth accessible text = refl
 
-pub denied_is : (i : Instr) (general : List ℕ) (condition depth : ℕ) (accessible text : List ℕ) (demand : Demand)
+pub denied_is : (i : Instr) (general : List ℕ) (condition depth : ℕ) (accessible text : List ℕ)
+    (demand : Demand)
     (ranges : List Range) → demand ≡ (entry_at i.op.number).demand →
     ranges ≡ map range_of (spans i general condition) →
     denial demand (map span_of ranges) i general depth accessible text ≡
@@ -62,7 +66,8 @@ denied_is i general condition depth accessible text demand ranges e f =
     ∙ denial_is i general condition depth accessible text
 
 pub ranges_of_row : (i : Instr) (general : List ℕ) (condition : ℕ) (o : Operands) (ranges : List Range)
-    → o ≡ (entry_at i.op.number).operands → ranges ≡ map range_of (spans_in o i general condition) → ranges ≡ map range_of (spans i general condition)
+    → o ≡ (entry_at i.op.number).operands → ranges ≡ map range_of (spans_in o i general condition) →
+    ranges ≡ map range_of (spans i general condition)
 ranges_of_row i general condition o ranges e f = f ∙ ap (λ p. map range_of (spans_in p i general condition)) e
 
 -- ---- answers
@@ -70,5 +75,6 @@ ranges_of_row i general condition o ranges e f = f ∙ ap (λ p. map range_of (s
 pub answer_fits : (o : Option ℕ) (i : Instr) (x y : List Range) → None ≡ o → x ≡ y → Ok x ≡ answer o i y
 answer_fits o i x y e f = ap Ok f ∙ ap (λ p. answer p i y) e
 
-pub answer_refused : (o : Option ℕ) (i : Instr) (code : ℕ) (x : Exception) (y : List Range) → Some code ≡ o → x ≡ refused i code → Err x ≡ answer o i y
+pub answer_refused : (o : Option ℕ) (i : Instr) (code : ℕ) (x : Exception) (y : List Range) → Some code ≡ o →
+    x ≡ refused i code → Err x ≡ answer o i y
 answer_refused o i code x y e f = ap Err f ∙ ap (λ p. answer p i y) e

@@ -47,7 +47,8 @@ same p first n test h =
     let b : leb (suc first) p ≡ false = grind (arith, nat_tests) in
     let c : leb first p ≡ true = grind (arith, nat_tests) in
     let d : ltb p (first + suc n) ≡ true = grind (arith, nat_tests) in
-    (λ k. (a k && e k) || ((b k && ltb p (suc first + n)) && test p)) ∙ or_false (test p) ∙ sym (λ k. (c k && d k) && test p)
+    (λ k. (a k && e k) || ((b k && ltb p (suc first + n)) && test p)) ∙ or_false (test p)
+    ∙ sym (λ k. (c k && d k) && test p)
 
 more : (p first n : ℕ) (test : ℕ → Bool) → first < p →
     ((nat_eq p first && test first) || ((leb (suc first) p && ltb p (suc first + n)) && test p)) ≡
@@ -75,7 +76,8 @@ any-filter p first (suc n) test =
 
 -- the text pages as a CPU sees them
 pub any-text_pages : (prefix : Option ℕ) (text : List ℕ) (p : ℕ) →
-    list_any (nat_eq p) (text_pages prefix text) ≡ (ltb p 256 && list_any (nat_eq (absolute_page prefix p)) text)
+    list_any (nat_eq p) (text_pages prefix text) ≡
+    (ltb p 256 && list_any (nat_eq (absolute_page prefix p)) text)
 unfolding text_pages
 any-text_pages prefix text p =
     any-filter p 0 256 (λ page. list_any (nat_eq (absolute_page prefix page)) text) ∙ grind (arith, nat_tests)
@@ -86,7 +88,8 @@ any-items pages p = sym (contains-items pages p ∙ (λ i. list_any (λ k. unsig
 
 -- ---- the one or two pages of a small range
 
-page_after : (first n : ℕ) → 0 < n → n ≤ 256 → ((first + n - 1) / 4096 ≡ first / 4096) ⊎ ((first + n - 1) / 4096 ≡ suc (first / 4096))
+page_after : (first n : ℕ) → 0 < n → n ≤ 256 →
+    ((first + n - 1) / 4096 ≡ first / 4096) ⊎ ((first + n - 1) / 4096 ≡ suc (first / 4096))
 page_after first n some most =
     elim (cases_lt ((first + n - 1) / 4096) (suc (first / 4096))) [
       | inl same ↦ inl (omega arith)
@@ -102,7 +105,8 @@ and_true true true = refl
 and_true true false = refl
 and_true false c = refl
 
-all_of_two : (t : ℕ → Bool) (f l n : ℕ) → n ≡ l + 1 - f → (l ≡ f) ⊎ (l ≡ suc f) → list_all t (from_up f n) ≡ (t f && t l)
+all_of_two : (t : ℕ → Bool) (f l n : ℕ) → n ≡ l + 1 - f → (l ≡ f) ⊎ (l ≡ suc f) →
+    list_all t (from_up f n) ≡ (t f && t l)
 all_of_two t f l n e (inl same) =
     let one : n ≡ 1 = omega arith in
     ap (λ m. list_all t (from_up f m)) one ∙ and_twice (t f) ∙ ap (λ m. t f && t m) (sym same)
@@ -110,33 +114,40 @@ all_of_two t f l n e (inr next) =
     let two : n ≡ 2 = omega arith in
     ap (λ m. list_all t (from_up f m)) two ∙ and_true (t f) (t (suc f)) ∙ ap (λ m. t f && t m) (sym next)
 
-pub all-pieces : (t : ℕ → Bool) (s : Span) → IsSmall s → list_all t (pieces 4096 s) ≡ (t (s.first / 4096) && t ((s.first + s.length - 1) / 4096))
+pub all-pieces : (t : ℕ → Bool) (s : Span) → IsSmall s →
+    list_all t (pieces 4096 s) ≡ (t (s.first / 4096) && t ((s.first + s.length - 1) / 4096))
 all-pieces t s small = all_of_two t _ _ _ refl (page_after s.first s.length small.some small.most)
 
 -- ---- one range after the other
 
 module _ {X : Type 0} (p : X → Bool) where
-  pub list_all_failed : (xs : List X) (i : ℕ) (x : X) → slice_get xs i ≡ Some x → p x ≡ false → list_all p xs ≡ false
+  pub list_all_failed : (xs : List X) (i : ℕ) (x : X) → slice_get xs i ≡ Some x → p x ≡ false →
+      list_all p xs ≡ false
   list_all_failed xs i x at fails =
       list_all_at p xs i x (slice_get_within xs i x at) (ap p (get_or_from_slice_get xs i x x at) ∙ fails)
 
-  pub list_all_longer : (xs : List X) (i : ℕ) (x : X) → slice_get xs i ≡ Some x → list_all p (take i xs) ≡ true → p x ≡ true → list_all p (take (i + 1) xs) ≡ true
+  pub list_all_longer : (xs : List X) (i : ℕ) (x : X) → slice_get xs i ≡ Some x →
+      list_all p (take i xs) ≡ true → p x ≡ true → list_all p (take (i + 1) xs) ≡ true
   list_all_longer xs i x at before passes =
       list_all_more p xs i x (slice_get_within xs i x at)
       ∙ (λ k. before k && (ap p (get_or_from_slice_get xs i x x at) ∙ passes) k)
 
-  pub list_any_passed : (xs : List X) (i : ℕ) (x : X) → slice_get xs i ≡ Some x → p x ≡ true → list_any p xs ≡ true
+  pub list_any_passed : (xs : List X) (i : ℕ) (x : X) → slice_get xs i ≡ Some x → p x ≡ true →
+      list_any p xs ≡ true
   list_any_passed xs i x at passes =
       list_any_at p xs i x (slice_get_within xs i x at) (ap p (get_or_from_slice_get xs i x x at) ∙ passes)
 
-  pub list_any_longer : (xs : List X) (i : ℕ) (x : X) → slice_get xs i ≡ Some x → list_any p (take i xs) ≡ false → p x ≡ false → list_any p (take (i + 1) xs) ≡ false
+  pub list_any_longer : (xs : List X) (i : ℕ) (x : X) → slice_get xs i ≡ Some x →
+      list_any p (take i xs) ≡ false → p x ≡ false → list_any p (take (i + 1) xs) ≡ false
   list_any_longer xs i x at before fails =
       list_any_more p xs i x (slice_get_within xs i x at)
       ∙ (λ k. before k || (ap p (get_or_from_slice_get xs i x x at) ∙ fails) k)
 
 -- ---- a range is inside exactly where its first and its last byte are
 
-from_pages : (first n : ℕ) → 0 < n → ((leb 2 (first / 4096) && ltb (first / 4096) 256) && (leb 2 ((first + n - 1) / 4096) && ltb ((first + n - 1) / 4096) 256)) ≡ true
+from_pages : (first n : ℕ) → 0 < n →
+    ((leb 2 (first / 4096) && ltb (first / 4096) 256) &&
+    (leb 2 ((first + n - 1) / 4096) && ltb ((first + n - 1) / 4096) 256)) ≡ true
     → (8192 ≤ first) × (first + n ≤ 1048576)
 from_pages first n some h =
     let low : 2 ≤ first / 4096 = grind (arith, nat_tests) in
@@ -144,7 +155,8 @@ from_pages first n some h =
     (omega arith, omega arith)
 
 to_pages : (first n : ℕ) → 0 < n → (8192 ≤ first) × (first + n ≤ 1048576)
-    → ((leb 2 (first / 4096) && ltb (first / 4096) 256) && (leb 2 ((first + n - 1) / 4096) && ltb ((first + n - 1) / 4096) 256)) ≡ true
+    → ((leb 2 (first / 4096) && ltb (first / 4096) 256) &&
+    (leb 2 ((first + n - 1) / 4096) && ltb ((first + n - 1) / 4096) 256)) ≡ true
 to_pages first n some h =
     let low : 2 ≤ first / 4096 = omega arith in
     let low_end : first / 4096 < 256 = omega arith in

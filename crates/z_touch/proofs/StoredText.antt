@@ -27,7 +27,8 @@ first_or_later : (t : ℕ → Bool) (x : ℕ) (xs : List ℕ) (b : Bool) → t x
     (list_any t xs ≡ true → Passing t xs) → Passing t (x ∷ xs)
 first_or_later t x xs true e h later = record {
   number = x;
-  there = ap (λ c. c || list_any (nat_eq x) xs) (let same : nat_eq x x ≡ true = grind (arith, nat_tests) in same);
+  there = ap (λ c. c || list_any (nat_eq x) xs) (let same : nat_eq x x ≡ true = grind (arith, nat_tests) in
+      same);
   passes = e;
 }
 first_or_later t x xs false e h later =
@@ -39,14 +40,16 @@ passing t [] h = absurd (cc)
 passing t (x ∷ xs) h = first_or_later t x xs (t x) refl h (passing t xs)
 
 here_or_later : (t : ℕ → Bool) (x q : ℕ) (xs : List ℕ) (b : Bool) → nat_eq q x ≡ b →
-    (b || list_any (nat_eq q) xs) ≡ true → t q ≡ true → (list_any (nat_eq q) xs ≡ true → list_any t xs ≡ true) →
+    (b || list_any (nat_eq q) xs) ≡ true → t q ≡ true →
+    (list_any (nat_eq q) xs ≡ true → list_any t xs ≡ true) →
     list_any t (x ∷ xs) ≡ true
 here_or_later t x q xs true e h k later =
     let same : q ≡ x = grind (arith, nat_tests) in
     ap (λ c. c || list_any t xs) (ap t (sym same) ∙ k)
 here_or_later t x q xs false e h k later = or_right _ _ (later h)
 
-passed : (t : ℕ → Bool) (xs : List ℕ) (q : ℕ) → list_any (nat_eq q) xs ≡ true → t q ≡ true → list_any t xs ≡ true
+passed : (t : ℕ → Bool) (xs : List ℕ) (q : ℕ) → list_any (nat_eq q) xs ≡ true → t q ≡ true →
+    list_any t xs ≡ true
 passed t [] q h k = absurd (cc)
 passed t (x ∷ xs) q h k = here_or_later t x q xs (nat_eq q x) refl h k (λ there. passed t xs q there k)
 
@@ -64,7 +67,8 @@ text_byte prefix text a q h e there =
     sym (any-text_pages prefix text q) ∙ there in
     let low : q < 256 = ltb-true q 256 (and_left _ _ b) in (
       omega arith,
-      ap (λ p. list_any (nat_eq p) text) (byte_page prefix a h ∙ ap (absolute_page prefix) e) ∙ and_right _ _ b,
+      ap (λ p. list_any (nat_eq p) text) (byte_page prefix a h ∙ ap (absolute_page prefix) e)
+          ∙ and_right _ _ b,
     )
 
 byte_text : (prefix : Option ℕ) (text : List ℕ) (a : ℕ) → is_prefix prefix ≡ true → IsText prefix text a →
@@ -80,8 +84,10 @@ pub stored_text : (prefix : Option ℕ) (text : List ℕ) (s : Span) → is_pref
 stored_text prefix text s h small = (
   λ refused.
       let found = passing _ (pieces 4096 s) (and_right s.store _ refused) in
-      let held = holds_byte 4096 s found.number (lit< tt) small.some found.there in
-      (and_left s.store _ refused, (held.0, held.1, text_byte prefix text (s.first + held.0) found.number h held.2 found.passes)),
+      let held = holds_byte 4096 s found.number (lit< tt) small.some found.there in (
+        and_left s.store _ refused,
+        (held.0, held.1, text_byte prefix text (s.first + held.0) found.number h held.2 found.passes),
+      ),
   λ reaches.
       let k = reaches.1.0 in
       let page = (s.first + k) / 4096 in

@@ -27,14 +27,16 @@ abbrev pub answer : {A : Type 0} → Option ℕ → Instr → A → Result A Exc
 answer None i value = Ok value
 answer (Some code) i value = Err (refused i code)
 
--- addressing where a range is not wholly accessible, protection where a text page would be stored into, and else what
+-- addressing where a range is not wholly accessible, protection where a text page would be stored into, and
+-- else what
 -- comes after
 abbrev pub unreachable : List Span → List ℕ → List ℕ → Option ℕ → Option ℕ
 unreachable spans accessible text after =
     where_wrong (not (list_all (is_inside accessible) spans)) addressing
     (where_wrong (list_any (is_stored_into text) spans) protection after)
 
--- addressing, protection, or operation for a service call: the tests on the operands, or on the block that the
+-- addressing, protection, or operation for a service call: the tests on the operands, or on the block that
+-- the
 -- outermost begin names
 abbrev pub denial : Demand → List Span → Instr → List ℕ → ℕ → List ℕ → List ℕ → Option ℕ
 denial demand operands i general depth accessible text =

@@ -33,7 +33,9 @@ fn denied(
 ) -> Option<u16>
     requires small { All (λ r. IsSmall (span_of r)) operands.now }
     requires services { is_service demand ≡ true → is_within (bounds 0 256) instr.now.imm ≡ true }
-    ensures { result ≡ denial demand (map span_of operands.now) instr.now image.now.general depth (accessible_pages image.now.prefix) (text_pages image.now.prefix (items guard.now)) }
+    ensures { result ≡
+        denial demand (map span_of operands.now) instr.now image.now.general depth
+        (accessible_pages image.now.prefix) (text_pages image.now.prefix (items guard.now)) }
 {
     match demand {
         Demand::Begin if depth == 0 && instr.b != 0 => {
@@ -50,14 +52,18 @@ fn denied(
     }
 }
 
-/// The ranges of an instruction that is specified, or the first exception among addressing, protection and operation.
+/// The ranges of an instruction that is specified, or the first exception among addressing, protection and
+/// operation.
 fn accessed(
     instr: &Instr,
     image: &CpuImage,
     guard: &Guard,
     depth: u32,
 ) -> Result<Touches, Exception>
-    ensures { result ≡ answer (inaccessible instr.now image.now.general image.now.condition depth (accessible_pages image.now.prefix) (text_pages image.now.prefix (items guard.now))) instr.now (map range_of (spans instr.now image.now.general image.now.condition)) }
+    ensures { result ≡
+        answer (inaccessible instr.now image.now.general image.now.condition depth
+        (accessible_pages image.now.prefix) (text_pages image.now.prefix (items guard.now))) instr.now
+        (map range_of (spans instr.now image.now.general image.now.condition)) }
 {
     immediates_are_plain();
     operands_are_small();
@@ -69,19 +75,21 @@ fn accessed(
     }
 }
 
-/// The ranges that an instruction touches, in the order of its operands, or the first exception that it meets before it is
-/// executed: special operation, specification, addressing for each operand, protection for each stored one, or
-/// operation for a service call with a number other than 0.
+/// The ranges that an instruction touches, in the order of its operands, or the first exception that it meets
+/// before it is executed: special operation, specification, addressing for each operand, protection for each
+/// stored one, or operation for a service call with a number other than 0.
 ///
-/// Ranges are by real addresses. `guard` has the text pages of storage, and `depth` is the number of open transactions. The exception does not come at the fetch,
-/// and has the length of the instruction.
+/// Ranges are by real addresses. `guard` has the text pages of storage, and `depth` is the number of open
+/// transactions. The exception does not come at the fetch, and has the length of the instruction.
 pub fn touches(
     instr: &Instr,
     image: &CpuImage,
     guard: &Guard,
     depth: u32,
 ) -> Result<Touches, Exception>
-    ensures { result ≡ answer (refusal instr.now (cpu_of image.now) depth (items guard.now)) instr.now (map range_of (spans instr.now image.now.general image.now.condition)) }
+    ensures { result ≡
+        answer (refusal instr.now (cpu_of image.now) depth (items guard.now)) instr.now
+        (map range_of (spans instr.now image.now.general image.now.condition)) }
 {
     specified(instr, image, depth)?;
     accessed(instr, image, guard, depth)

@@ -70,8 +70,8 @@ fn unmet(
     }
 }
 
-/// The exception among special operation and specification that the instruction meets at this nesting depth, if any;
-/// special operation comes first.
+/// The exception among special operation and specification that the instruction meets at this nesting depth,
+/// if any; special operation comes first.
 pub fn specified(instr: &Instr, image: &CpuImage, depth: u32) -> Result<(), Exception>
     ensures { result ≡ answer (unspecified instr.now image.now.general depth) instr.now tt }
 {

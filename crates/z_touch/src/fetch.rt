@@ -12,7 +12,9 @@ use z_regs::{CpuImage, Guard, STORAGE_SIZE};
 
 /// The code of the exception at the fetch of one byte.
 fn byte_refused(address: u64, image: &CpuImage, guard: &Guard) -> Option<u16>
-    ensures { result ≡ byte_unfetched (accessible_pages image.now.prefix) (text_pages image.now.prefix (items guard.now)) address }
+    ensures { result ≡
+        byte_unfetched (accessible_pages image.now.prefix)
+        (text_pages image.now.prefix (items guard.now)) address }
 {
     let page = address / PAGE;
     if !is_accessible(page, image.prefix) {
@@ -27,7 +29,10 @@ fn byte_refused(address: u64, image: &CpuImage, guard: &Guard) -> Option<u16>
 /// The code of the exception at the fetch of so many bytes, one byte after the other.
 fn bytes_refused(image: &CpuImage, guard: &Guard, length: u8) -> Option<u16>
     requires { 0 < length }
-    ensures { result ≡ first_some (map (byte_unfetched (accessible_pages image.now.prefix) (text_pages image.now.prefix (items guard.now))) (from_up image.now.address length)) }
+    ensures { result ≡
+        first_some (map
+        (byte_unfetched (accessible_pages image.now.prefix) (text_pages image.now.prefix (items guard.now)))
+        (from_up image.now.address length)) }
 {
     if image.address >= STORAGE_SIZE {
         return Some(ADDRESSING);
@@ -44,7 +49,9 @@ fn bytes_refused(image: &CpuImage, guard: &Guard, length: u8) -> Option<u16>
 #[tactic(auto, unfolding(z_instr::specs::Access::unfetched))]
 fn refused(image: &CpuImage, guard: &Guard, length: u8) -> Option<u16>
     requires { 0 < length }
-    ensures { result ≡ unfetched (accessible_pages image.now.prefix) (text_pages image.now.prefix (items guard.now)) image.now.address length }
+    ensures { result ≡
+        unfetched (accessible_pages image.now.prefix)
+        (text_pages image.now.prefix (items guard.now)) image.now.address length }
 {
     if image.address % 2 == 1 {
         return Some(SPECIFICATION);
@@ -52,14 +59,18 @@ fn refused(image: &CpuImage, guard: &Guard, length: u8) -> Option<u16>
     bytes_refused(image, guard, length)
 }
 
-/// Whether an instruction of so many bytes, 2, 4 or 6, can be fetched at the CPU's address, and else the exception, which comes
-/// at the fetch and has no length: specification at an odd address; then, for each byte from the first, addressing where
-/// the CPU may not use it, and protection where it lies in no text page.
+/// Whether an instruction of so many bytes, 2, 4 or 6, can be fetched at the CPU's address, and else the
+/// exception, which comes at the fetch and has no length: specification at an odd address; then, for each
+/// byte from the first, addressing where the CPU may not use it, and protection where it lies in no text
+/// page.
 ///
 /// `guard` has the text pages of storage.
 pub fn fetchable(image: &CpuImage, guard: &Guard, length: u8) -> Result<(), Exception>
     requires { 0 < length }
-    ensures { result ≡ fetch_answer (unfetched (accessible_pages image.now.prefix) (text_pages image.now.prefix (items guard.now)) image.now.address length) }
+    ensures { result ≡
+        fetch_answer
+        (unfetched (accessible_pages image.now.prefix)
+        (text_pages image.now.prefix (items guard.now)) image.now.address length) }
 {
     match refused(image, guard, length) {
         None => Ok(()),

@@ -26,7 +26,8 @@ pub fn single(first: u64, length: u32, store: bool) -> Touches
 /// The ranges at both addresses, as long as the length code says and one.
 fn two_lists(instr: &Instr, image: &CpuImage, store: bool) -> Touches
     requires { is_within (bounds 0 256) instr.now.imm ≡ true }
-    ensures { result ≡ range_of (span (first_of instr.now image.now.general) (length_of instr.now) store) ∷ range_of (span (second_of instr.now image.now.general) (length_of instr.now) false) ∷ [] }
+    ensures { result ≡ range_of (span (first_of instr.now image.now.general) (length_of instr.now) store) ∷
+        range_of (span (second_of instr.now image.now.general) (length_of instr.now) false) ∷ [] }
 {
     let length = instr.imm as u32 + 1;
     let mut touches = single(first_address(instr, &image.general), length, store);

@@ -72,7 +72,8 @@ fn are_inside(ranges: &Touches, prefix: Option<u32>) -> bool
 fn is_one_protected(ranges: &Touches, prefix: Option<u32>, guard: &Guard) -> bool
     requires small { All (λ r. IsSmall (span_of r)) ranges.now }
     requires prefix_in { IsTrue (is_prefix prefix) }
-    ensures { result ≡ list_any (λ r. is_stored_into (text_pages prefix (items guard.now)) (span_of r)) ranges.now }
+    ensures { result ≡
+        list_any (λ r. is_stored_into (text_pages prefix (items guard.now)) (span_of r)) ranges.now }
 {
     for i in 0..ranges.count() {
         if is_range_protected(ranges.at(i), prefix, guard) {
@@ -82,8 +83,8 @@ fn is_one_protected(ranges: &Touches, prefix: Option<u32>, guard: &Guard) -> boo
     false
 }
 
-/// The code of the exception that ranges meet on a CPU with this prefix: addressing for all of them comes before protection
-/// for any, and both before what comes after.
+/// The code of the exception that ranges meet on a CPU with this prefix: addressing for all of them comes
+/// before protection for any, and both before what comes after.
 pub fn forbidden(
     ranges: &Touches,
     prefix: Option<u32>,
@@ -92,7 +93,9 @@ pub fn forbidden(
 ) -> Option<u16>
     requires small { All (λ r. IsSmall (span_of r)) ranges.now }
     requires prefix_in { IsTrue (is_prefix prefix) }
-    ensures { result ≡ unreachable (map span_of ranges.now) (accessible_pages prefix) (text_pages prefix (items guard.now)) after }
+    ensures { result ≡
+        unreachable (map span_of ranges.now) (accessible_pages prefix)
+        (text_pages prefix (items guard.now)) after }
 {
     if !are_inside(ranges, prefix) {
         Some(ADDRESSING)

@@ -7,6 +7,8 @@ use Rattle.tx_abort.proofs.block.block_of.Goals as goal
 pub returns : goal.returns
 unfolding fields
 returns c =
-    let whole : c.put_registers.new.block ≡ with_fields (fields c.args.why c.args.nest.now c.args.image.now.general c.args.at) (replicate 256 0) =
+    let whole : c.put_registers.new.block ≡
+    with_fields (fields c.args.why c.args.nest.now c.args.image.now.general c.args.at) (replicate 256 0) =
     c.put_registers.ensures ∙ ap (with_fields (register_fields c.args.image.now.general)) (cc) in
-    whole ∙ block_is c.args.why c.args.nest.now c.args.image.now.general c.args.at (replicate 256 0) refl (all_zero 256)
+    whole ∙ block_is c.args.why c.args.nest.now c.args.image.now.general c.args.at (replicate 256 0) refl
+    (all_zero 256)

@@ -13,10 +13,15 @@ loop-r-preserved c =
     let r = c.loop-r.r in
     let at : c.behind.result.first ≡ 128 + 8 * r = omega arith in
     let one : c.put.new.block ≡ with_field (f r) c.loop-r.block =
-    c.put.ensures ∙ (λ i. with_field (field (at i) (c.behind.ensures.length i) (get_or c.args.general.now r 0)) c.loop-r.block) in
+    c.put.ensures
+    ∙ (λ i. with_field
+    (field (at i) (c.behind.ensures.length i) (get_or c.args.general.now r 0)) c.loop-r.block) in
     one ∙ ap (with_field (f r)) c.loop-r.invariant
-    ∙ sym (ap (λ fs. with_fields fs start) (map-range_with_len_more f 0 r r (omega arith)) ∙ with_fields_more (map f (range_with_len 0 r)) (f r) start)
+    ∙ sym (ap (λ fs. with_fields fs start) (map-range_with_len_more f 0 r r (omega arith))
+    ∙ with_fields_more (map f (range_with_len 0 r)) (f r) start)
 
 pub returns : goal.returns
 returns c =
-    c.loop-r.invariant ∙ ap (λ fs. with_fields fs c.args.block.now) (all_registers c.args.general.now c.loop-r.r (omega arith))
+    c.loop-r.invariant
+    ∙ ap (λ fs. with_fields fs c.args.block.now)
+    (all_registers c.args.general.now c.loop-r.r (omega arith))

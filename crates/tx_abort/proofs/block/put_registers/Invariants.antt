@@ -6,4 +6,5 @@ use Rattle.tx_abort.proofs.block.put_registers.Given as goal
 
 -- the registers so far are written
 abbrev pub invariant-loop-r : goal.invariant-loop-r
-invariant-loop-r l = l.block ≡ with_fields (map (register_field l.general) (range_with_len 0 l.r)) l.initial.block
+invariant-loop-r l = l.block ≡
+    with_fields (map (register_field l.general) (range_with_len 0 l.r)) l.initial.block

@@ -6,4 +6,6 @@ use Rattle.tx_abort.proofs.registers.bring_back.Given as goal
 abbrev pub invariant-loop-r : goal.invariant-loop-r
 invariant-loop-r l =
     (length l.general ≡ 16)
-    × ((k : ℕ) → get_or l.general k 0 ≡ cond (ltb k l.r && saves_pair l.mask (k / 2)) (get_or l.saved k 0) (get_or l.initial.general k 0))
+    × ((k : ℕ) →
+    get_or l.general k 0 ≡
+    cond (ltb k l.r && saves_pair l.mask (k / 2)) (get_or l.saved k 0) (get_or l.initial.general k 0))

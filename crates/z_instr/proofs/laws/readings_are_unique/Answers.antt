@@ -16,4 +16,6 @@ returns-clause-list c = reads_bytes
 
 pub returns-clause-length : goal.returns-clause-length
 returns-clause-length c bytes i r =
-    reads_length bytes i r ∙ sym (opcode_gives_length i.op.number bytes i.op.known (reads_bytes bytes i r) (reads_opcode bytes i r))
+    reads_length bytes i r
+    ∙ sym (opcode_gives_length i.op.number bytes i.op.known (reads_bytes bytes i r)
+    (reads_opcode bytes i r))

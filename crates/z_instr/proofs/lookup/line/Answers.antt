@@ -13,8 +13,10 @@ returns-clause-count c = count_is c.args.op.number _ c.args.op.known
 
 pub returns-clause-room : goal.returns-clause-room
 returns-clause-room c =
-    subst (λ (e : Entry). e.opcode < room (place e.format)) (sym (line_is c.args.op.number _ c.args.op.known)) (opcode_room c.args.op.number c.args.op.known)
+    subst (λ (e : Entry). e.opcode < room (place e.format))
+    (sym (line_is c.args.op.number _ c.args.op.known)) (opcode_room c.args.op.number c.args.op.known)
 
 pub returns-clause-ascii : goal.returns-clause-ascii
 returns-clause-ascii c =
-    subst (λ (e : Entry). IsAscii e.name) (sym (line_is c.args.op.number _ c.args.op.known)) (name_ascii c.args.op.number c.args.op.known)
+    subst (λ (e : Entry). IsAscii e.name) (sym (line_is c.args.op.number _ c.args.op.known))
+    (name_ascii c.args.op.number c.args.op.known)

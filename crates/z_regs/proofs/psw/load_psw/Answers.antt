@@ -9,5 +9,6 @@ unfolding loaded
 returns c =
     let fields = c.take_fields.ensures in
     let own = c.psw_of.ensures ∙ ap psw_of fields in
-    let runs = c.state_where-image.ensures ∙ ap running_where (c.eq.ensures ∙ ap (λ l. bytes_eq l c.args.psw.now) own) in
+    let runs = c.state_where-image.ensures
+    ∙ ap running_where (c.eq.ensures ∙ ap (λ l. bytes_eq l c.args.psw.now) own) in
     λ i. record (fields i) { state = runs i }

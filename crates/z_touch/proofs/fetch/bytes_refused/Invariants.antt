@@ -7,5 +7,6 @@ use Rattle.z_touch.proofs.fetch.bytes_refused.Given as goal
 
 abbrev pub invariant-loop-k : goal.invariant-loop-k
 invariant-loop-k l =
-    first_some (map (byte_unfetched (accessible_pages l.image.prefix) (text_pages l.image.prefix (items l.guard)))
+    first_some (map
+    (byte_unfetched (accessible_pages l.image.prefix) (text_pages l.image.prefix (items l.guard)))
     (from_up l.image.address l.k)) ≡ None

@@ -6,4 +6,5 @@ use Rattle.z_touch.specs.Refusals.{span_of}
 use Rattle.z_touch.proofs.pages.are_inside.Given as goal
 
 abbrev pub invariant-loop-i : goal.invariant-loop-i
-invariant-loop-i l = list_all (λ r. is_inside (accessible_pages l.prefix) (span_of r)) (take l.i l.ranges) ≡ true
+invariant-loop-i l = list_all (λ r. is_inside (accessible_pages l.prefix) (span_of r)) (take l.i l.ranges) ≡
+    true

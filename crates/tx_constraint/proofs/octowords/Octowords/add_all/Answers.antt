@@ -20,13 +20,19 @@ pub returns-then-not-add_pieces-clause-room : goal.returns-then-not-add_pieces-c
 returns-then-not-add_pieces-clause-room c =
     let full = sym ((c.if-not-add_pieces.ensures).room) in
     sym (stays_full_after c.args.self.now c.args.touches.now c.loop-i.i c.at.result c.at.ensures
-    ((λ i. leb (length (in_turn (sym c.loop-i.invariant.0 i) (sym c.pieces_of.ensures.first i) (sym c.pieces_of.ensures.end i))) 4) ∙ full))
+    ((λ i. leb (length
+    (in_turn (sym c.loop-i.invariant.0 i) (sym c.pieces_of.ensures.first i)
+    (sym c.pieces_of.ensures.end i))) 4) ∙ full))
 
 pub loop-i-preserved : goal.loop-i-preserved
 loop-i-preserved c =
-    let added : c.add_pieces.new.self ≡ in_turn c.loop-i.self c.pieces_of.result.first c.pieces_of.result.end = (c.if-not-add_pieces.ensures).added in
-    let few : length (in_turn c.loop-i.self c.pieces_of.result.first c.pieces_of.result.end) ≤ 4 = leb-true _ _ (sym ((c.if-not-add_pieces.ensures).room)) in (
-      added ∙ (λ i. in_turn (c.loop-i.invariant.0 i) (c.pieces_of.ensures.first i) (c.pieces_of.ensures.end i))
+    let added : c.add_pieces.new.self ≡
+    in_turn c.loop-i.self c.pieces_of.result.first c.pieces_of.result.end =
+    (c.if-not-add_pieces.ensures).added in
+    let few : length (in_turn c.loop-i.self c.pieces_of.result.first c.pieces_of.result.end) ≤ 4 =
+    leb-true _ _ (sym ((c.if-not-add_pieces.ensures).room)) in (
+      added ∙ (λ i. in_turn (c.loop-i.invariant.0 i) (c.pieces_of.ensures.first i)
+          (c.pieces_of.ensures.end i))
           ∙ sym (octowords_more c.args.self.now c.args.touches.now c.loop-i.i c.at.result c.at.ensures),
       omega (arith, ap length added, few),
     )

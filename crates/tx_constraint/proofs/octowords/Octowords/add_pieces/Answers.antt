@@ -21,9 +21,12 @@ returns-then-not-add-clause-room c =
     let first = c.args.pieces.first in
     let end = c.args.pieces.end in
     let o = c.loop-octoword.octoword in
-    let full : leb (length (with_octoword (fold with_octoword found (range_with_len first (o - first))) o)) 4 ≡ false =
-    ap (λ xs. leb (length (with_octoword xs o)) 4) (sym c.loop-octoword.invariant.0) ∙ sym ((c.if-not-add.ensures).room) in
-    sym (ap (λ xs. leb (length (fold with_octoword found xs)) 4) (range_with first end o c.loop-octoword.invariant.2 c.loop-octoword-test.true)
+    let full : leb
+    (length (with_octoword (fold with_octoword found (range_with_len first (o - first))) o)) 4 ≡ false =
+    ap (λ xs. leb (length (with_octoword xs o)) 4) (sym c.loop-octoword.invariant.0)
+    ∙ sym ((c.if-not-add.ensures).room) in
+    sym (ap (λ xs. leb (length (fold with_octoword found xs)) 4)
+    (range_with first end o c.loop-octoword.invariant.2 c.loop-octoword-test.true)
     ∙ stays_full found (range_with_len first (o - first)) (range_with_len (o + 1) (end - o - 1)) o full)
 
 pub loop-octoword-preserved : goal.loop-octoword-preserved
@@ -32,8 +35,10 @@ loop-octoword-preserved c =
     let first = c.args.pieces.first in
     let o = c.loop-octoword.octoword in
     let one : c.add.new.self ≡ with_octoword c.loop-octoword.self o = (c.if-not-add.ensures).added in
-    let few : length (with_octoword c.loop-octoword.self o) ≤ 4 = leb-true _ _ (sym ((c.if-not-add.ensures).room)) in (
-      one ∙ ap (λ xs. with_octoword xs o) c.loop-octoword.invariant.0 ∙ sym (pile_more found first o c.loop-octoword.invariant.2),
+    let few : length (with_octoword c.loop-octoword.self o) ≤ 4 =
+    leb-true _ _ (sym ((c.if-not-add.ensures).room)) in (
+      one ∙ ap (λ xs. with_octoword xs o) c.loop-octoword.invariant.0
+          ∙ sym (pile_more found first o c.loop-octoword.invariant.2),
       omega (arith, ap length one, few),
       omega (arith, c.loop-octoword.invariant.2),
     )
@@ -41,12 +46,15 @@ loop-octoword-preserved c =
 pub returns-clause-room : goal.returns-clause-room
 returns-clause-room c =
     let first = c.args.pieces.first in
-    let at_end : c.loop-octoword.octoword - first ≡ c.args.pieces.end - first = omega (arith, c.loop-octoword.auto.octoword-end) in
-    let all = c.loop-octoword.invariant.0 ∙ ap (λ n. fold with_octoword c.args.self.now (range_with_len first n)) at_end in
+    let at_end : c.loop-octoword.octoword - first ≡ c.args.pieces.end - first =
+    omega (arith, c.loop-octoword.auto.octoword-end) in
+    let all = c.loop-octoword.invariant.0
+    ∙ ap (λ n. fold with_octoword c.args.self.now (range_with_len first n)) at_end in
     sym (le-leb _ _ (omega (arith, ap length all, c.loop-octoword.invariant.1)))
 
 pub returns-clause-added : goal.returns-clause-added
 returns-clause-added c =
     let first = c.args.pieces.first in
-    let at_end : c.loop-octoword.octoword - first ≡ c.args.pieces.end - first = omega (arith, c.loop-octoword.auto.octoword-end) in
+    let at_end : c.loop-octoword.octoword - first ≡ c.args.pieces.end - first =
+    omega (arith, c.loop-octoword.auto.octoword-end) in
     c.loop-octoword.invariant.0 ∙ ap (λ n. fold with_octoword c.args.self.now (range_with_len first n)) at_end

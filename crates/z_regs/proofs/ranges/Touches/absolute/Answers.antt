@@ -17,6 +17,7 @@ add_absolute-requires-clause-room c =
 pub add_absolute-requires-clause-accessible : goal.add_absolute-requires-clause-accessible
 add_absolute-requires-clause-accessible c =
     let xs = c.args.self.now in
-    subst (IsAccessible c.args.prefix) (get_or_from_slice_get xs c.loop-i.i c.at.result c.at.result c.at.ensures)
+    subst (IsAccessible c.args.prefix)
+    (get_or_from_slice_get xs c.loop-i.i c.at.result c.at.result c.at.ensures)
     (All-get_or (IsAccessible c.args.prefix) xs c.loop-i.i c.at.result
     (slice_get_within xs c.loop-i.i c.at.result c.at.ensures) c.requires.accessible)

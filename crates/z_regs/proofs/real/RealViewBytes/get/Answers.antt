@@ -12,13 +12,16 @@ place_of-requires-clause-inside g c =
 pub get-requires : goal.get-requires
 get-requires g c =
     let view = c.args.self.now in
-    let inside = subst (λ n. c.args.address < n) (length-seen view.prefix _ view.prefix_in view.sized) c.requires in
+    let inside =
+    subst (λ n. c.args.address < n) (length-seen view.prefix _ view.prefix_in view.sized) c.requires in
     let within = absolute_within view.prefix c.args.address view.prefix_in inside in
-    subst (λ n. c.place_of.result < n) (sym view.sized) (subst (λ a. a < storage_size) (sym c.place_of.ensures) within)
+    subst (λ n. c.place_of.result < n) (sym view.sized)
+    (subst (λ a. a < storage_size) (sym c.place_of.ensures) within)
 
 pub returns : goal.returns
 returns g c =
     let view = c.args.self.now in
-    let inside = subst (λ n. c.args.address < n) (length-seen view.prefix _ view.prefix_in view.sized) c.requires in
+    let inside =
+    subst (λ n. c.args.address < n) (length-seen view.prefix _ view.prefix_in view.sized) c.requires in
     c.get.ensures ∙ to_place _ _ _ c.place_of.ensures
     ∙ sym (seen_at view.prefix _ c.args.address view.prefix_in view.sized inside)

@@ -13,14 +13,17 @@ place_of-requires-clause-inside g c =
 pub put-requires : goal.put-requires
 put-requires g c =
     let view = c.args.self.now in
-    let inside = subst (λ n. c.args.address < n) (length-seen view.prefix _ view.prefix_in view.sized) c.requires in
+    let inside =
+    subst (λ n. c.args.address < n) (length-seen view.prefix _ view.prefix_in view.sized) c.requires in
     let within = absolute_within view.prefix c.args.address view.prefix_in inside in
-    subst (λ n. c.place_of.result < n) (sym view.sized) (subst (λ a. a < storage_size) (sym c.place_of.ensures) within)
+    subst (λ n. c.place_of.result < n) (sym view.sized)
+    (subst (λ a. a < storage_size) (sym c.place_of.ensures) within)
 
 pub returns : goal.returns
 returns g c =
     let view = c.args.self.now in
     let below = g.V.Bytes.bytes view.below in
-    let inside = subst (λ n. c.args.address < n) (length-seen view.prefix _ view.prefix_in view.sized) c.requires in
+    let inside =
+    subst (λ n. c.args.address < n) (length-seen view.prefix _ view.prefix_in view.sized) c.requires in
     ap (seen_by view.prefix) (c.put.ensures ∙ ap (λ a. set below a c.args.byte) c.place_of.ensures)
     ∙ seen_set view.prefix below c.args.address c.args.byte view.prefix_in view.sized inside
