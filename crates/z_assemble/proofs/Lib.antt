@@ -8,3 +8,10 @@ pub mod Forms
 pub mod Lists
 pub mod Rows
 pub mod Spelled
+pub mod Passed
+pub mod Machines
+pub mod Over
+pub mod Plans
+pub mod Codes
+pub mod Texts
+pub mod Images

@@ -32,7 +32,7 @@ plain_is o f i h =
     ∙ (ap (λ v. fields f.r1 f.r2 f.r3 f.x f.b f.d f.b2 f.d2 v i.mask) h.imm
     ∙ ap (λ v. fields f.r1 f.r2 f.r3 f.x f.b f.d f.b2 f.d2 f.imm v) h.mask))))))))
 
-plain_code : (format : Format) (o : ℕ) (i : Instr) → spelled format o i ≡ code_in format o (plain i)
+pub plain_code : (format : Format) (o : ℕ) (i : Instr) → spelled format o i ≡ code_in format o (plain i)
 plain_code RR o i = refl
 plain_code I o i = refl
 plain_code RX o i = refl

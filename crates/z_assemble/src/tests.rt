@@ -1,9 +1,9 @@
 //! Listings with their images or first faults, by values from outside.
-use crate::{AssembleFault, MOST_BYTES, MOST_LINES, Parts, SIZE, assemble};
+use crate::{AssembleFault, MOST_BYTES, MOST_LINES, SIZE, assemble};
 use std::alloc::{AllocError, Global};
 use std::fmt::Write;
 use std::test::Fail;
-use tx_journal::{Event, Show};
+use tx_journal::{Event, Image, Show};
 use z_regs::CpuImage;
 
 fn add_starts(text: &mut String, starts: &[u32]) -> Result<(), AllocError> {
@@ -13,7 +13,7 @@ fn add_starts(text: &mut String, starts: &[u32]) -> Result<(), AllocError> {
     Ok(())
 }
 
-fn add_pages(text: &mut String, image: &Parts) -> Result<(), AllocError> {
+fn add_pages(text: &mut String, image: &Image) -> Result<(), AllocError> {
     for page in 0..256 {
         if image.guard.has(page) {
             write!(text, " {page:x}")?;
@@ -78,7 +78,7 @@ fn add_bytes(text: &mut String, storage: &[u8], first: usize) -> Result<(), Allo
     Ok(())
 }
 
-fn described(alloc: Global, image: &Parts) -> Result<String, AllocError> {
+fn described(alloc: Global, image: &Image) -> Result<String, AllocError> {
     let mut text = String::from_str(alloc, "starts")?;
     add_starts(&mut text, &image.starts)?;
     text.push_str("; pages")?;

@@ -20,6 +20,7 @@ use crate::parts::Parts;
 use crate::second::read_second;
 use crate::setup::Setup;
 use std::alloc::{AllocError, Global};
+use tx_journal::Image;
 use tx_ladder::Parms;
 use z_decode::length_of;
 use z_regs::{CpuImage, Guard};
@@ -313,9 +314,12 @@ fn assembled(alloc: Global, text: &[u8]) -> Result<Parts, AssembleFault>
 }
 
 /// The image that the text of a listing stands for, or the first fault of the text, in the order of the tests.
-pub fn assemble(alloc: Global, text: &[u8]) -> Result<Parts, AssembleFault>
+pub fn assemble(alloc: Global, text: &[u8]) -> Result<Image, AssembleFault>
     ensures image { IfOk result (λ image. Stands text.now image) }
     ensures fault { IfErr result (λ e. HasFault text.now e) }
 {
-    assembled(alloc, text)
+    match assembled(alloc, text) {
+        Ok(parts) => Ok(parts.into_image()),
+        Err(fault) => Err(fault),
+    }
 }
