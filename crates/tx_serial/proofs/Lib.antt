@@ -6,3 +6,9 @@ pub mod Entries
 pub mod SameCauses
 pub mod Listed
 pub mod Passing
+pub mod FreeOperands
+pub mod TextStays
+pub mod TextKept
+pub mod StoredBytes
+pub mod StoredPlaces
+pub mod Starting

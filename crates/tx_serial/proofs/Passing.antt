@@ -1,13 +1,16 @@
 -- An instruction goes exactly where no test refuses it.
-use Rattle.std.proofs.Common.{◌≡◌, ℕ, Bool, true, false, List, [], ◌∷◌, Option, Some, None, refl, sym, ap, subst, ◌∙◌}
+use Rattle.std.proofs.Common.{◌≡◌, ℕ, Bool, true, false, List, [], ◌∷◌, Option, Some, None, refl, sym, ap}
+use Rattle.std.proofs.Common.{subst, ◌∙◌}
 use Rattle.std.proofs.lemmas.Bool.{true≢false}
 use Rattle.z_regs.specs.declared.ranges.Range.{Range}
 use Rattle.z_instr.specs.declared.instr.Instr.{Instr}
 use Rattle.tx_control.specs.declared.begins.Begin.{Begin}
 use Rattle.tx_serial.specs.Attempt.{Run}
-use Rattle.tx_serial.specs.Fate.{Fate, Goes, Ends, Stops, Refusal, Excepts, Because, fate, fate_by, fate_by_tests, fate_after}
+use Rattle.tx_serial.specs.Fate.{Fate, Goes, Ends, Stops, Refusal, Excepts, Because, fate, fate_by}
+use Rattle.tx_serial.specs.Fate.{fate_by_tests, fate_after}
 use Rattle.z_touch.specs.Refusals.{at_fetch}
-use Rattle.tx_serial.specs.Fate.{unreadable, fetch_refusal, instruction_at, first_refusal, tests, operands, Passes}
+use Rattle.tx_serial.specs.Fate.{unreadable, fetch_refusal, instruction_at, first_refusal, tests, operands}
+use Rattle.tx_serial.specs.Fate.{Passes}
 
 goes : Fate → Bool
 goes (Goes i ranges) = true

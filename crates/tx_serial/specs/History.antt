@@ -1,6 +1,6 @@
 -- Histories: entries that are applied one after the other.
 use Rattle.std.specs.Prelude.{◌≡◌, ℕ, zero, suc, List, [], ◌∷◌, Option, Some, None, get_or}
-use Rattle.std.specs.FinMap.{keys}
+use Rattle.std.specs.FinSet.{items}
 use Rattle.z_regs.specs.Cpu.{Cpu, started}
 use Rattle.z_regs.specs.declared.image.RunState.TheVariants.{Halted}
 use Rattle.tx_journal.specs.Content.{Content}
@@ -23,7 +23,7 @@ cpu_at (c ∷ cs) (suc i) = cpu_at cs i
 unfoldable pub start_of : Content → FlatState
 start_of image = record {
   storage = λ address. get_or image.storage address 0;
-  text = keys image.guard;
+  text = items image.guard;
   cpus = cpu_at image.cpus;
   pending = λ i. None;
   waiting = λ i. None;

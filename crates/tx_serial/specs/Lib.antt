@@ -9,3 +9,5 @@ pub mod Apply
 pub mod History
 pub mod Alike
 pub mod Changes
+pub mod Text
+pub mod Stored
