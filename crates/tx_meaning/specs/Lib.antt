@@ -1,0 +1,12 @@
+-- The machine of several CPUs, as what its events mean.
+pub mod Limits
+pub mod Hits
+pub mod State
+pub mod Needs
+pub mod Changes
+pub mod Asking
+pub mod Idle
+pub mod Turn
+pub mod Meaning
+pub mod Schedules
+pub mod Stretches
