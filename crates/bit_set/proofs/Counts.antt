@@ -1,13 +1,11 @@
 -- Counting the numbers below a bound that pass a test.
 use Rattle.std.proofs.Common.{◌≡◌, ◌≢◌, ℕ, zero, suc, ◌+◌, ◌<◌, ◌≤◌, Bool, true, false, eqb, List, [], ◌∷◌}
-use Rattle.std.proofs.Common.{length, ⊎_elim, refl, sym, ap, ◌∙◌, arith, inl, inr}
+use Rattle.std.proofs.Common.{length, refl, sym, ap, ◌∙◌, arith, inl, inr}
 use Rattle.std.specs.Prelude.{◌⊎◌, ◌||◌, ◌&&◌, not}
 use Rattle.std.specs.List.{list_any}
 use Rattle.std.proofs.lemmas.Bool.{cases_eq, cases_Bool, eq-eqb, ne_eqb, cond-true, cond-false}
+use borrow.Enum.Arm.{by_way}
 use Rattle.bit_set.specs.Counts.{one_if, count_below, but_at}
-
-cases : {A B C : Type 0} → A ⊎ B → (A → C) → (B → C) → C
-cases s f g = ⊎_elim f g s
 
 -- tests that agree below n count alike
 pub count_agree : (n : ℕ) (f g : ℕ → Bool) → ((k : ℕ) → k < n → f k ≡ g k) → count_below n f ≡ count_below n g
@@ -30,7 +28,7 @@ pub count_but_at : (n : ℕ) (f : ℕ → Bool) (at : ℕ) (value : Bool) → at
 unfolding count_below
 count_but_at zero f at value lt = absurd (omega arith)
 count_but_at (suc n) f at value lt =
-    cases (cases_eq at n)
+    by_way (cases_eq at n)
     (λ e.
     let before =
     count_agree n (but_at f at value) f
@@ -79,7 +77,7 @@ count_one : (n x : ℕ) → count_below n (λ k. eqb x k) ≤ 1
 unfolding count_below
 count_one zero x = omega arith
 count_one (suc n) x =
-    cases (cases_eq x n)
+    by_way (cases_eq x n)
     (λ e.
     let before =
     count_none n (λ k. eqb x k) (λ k lt. ne_eqb x k (λ same. absurd (omega (arith, e, same, lt)))) in
@@ -106,11 +104,11 @@ pub search_below : (n : ℕ) (f : ℕ → Bool)
     → ((k : ℕ) × (k < n) × (f k ≡ true)) ⊎ ((k : ℕ) → k < n → f k ≡ false)
 search_below zero f = inr (λ k lt. absurd (omega arith))
 search_below (suc n) f =
-    cases (search_below n f)
+    by_way (search_below n f)
     (λ found. let lt : found.0 < suc n = omega (arith, found.1) in inl (found.0, lt, found.2))
-    (λ none. cases (cases_Bool (f n))
+    (λ none. by_way (cases_Bool (f n))
     (λ yes. let lt : n < suc n = omega arith in inl (n, lt, yes))
-    (λ off. inr (λ k lt. cases (cases_eq k n) (λ e. ap f e ∙ off) (λ ne. none k (omega arith)))))
+    (λ off. inr (λ k lt. by_way (cases_eq k n) (λ e. ap f e ∙ off) (λ ne. none k (omega arith)))))
 
 inside_from_not : (a b : Bool) → (a && not b) ≡ false → a ≡ true → b ≡ true
 inside_from_not true true h e = refl
@@ -121,7 +119,7 @@ inside_from_not false b h e = let n : false ≡ true = e in cc
 pub one_outside : (n : ℕ) (f g : ℕ → Bool) → count_below n g < count_below n f
     → (k : ℕ) × (k < n) × ((f k && not (g k)) ≡ true)
 one_outside n f g more =
-    cases (search_below n (λ k. f k && not (g k)))
+    by_way (search_below n (λ k. f k && not (g k)))
     (λ found. found)
     (λ none. absurd
     (omega (arith, more, count_le n f g (λ k lt e. inside_from_not (f k) (g k) (none k lt) e))))

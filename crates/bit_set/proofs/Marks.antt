@@ -1,18 +1,16 @@
 -- The marks that words of 64 bits stand for.
 use Rattle.std.proofs.Common.{◌≡◌, ◌≢◌, ℕ, ◌+◌, ◌-◌, ◌*◌, ◌/◌, ◌%◌, ◌^◌, ◌<◌, ◌≤◌, Bool, true, false, cond}
 use Rattle.std.proofs.Common.{ltb, List, length, get_or, set, replicate, Option, Some, None, IfSome, IfNone}
-use Rattle.std.proofs.Common.{⊎_elim, sym, ap, subst, ◌∙◌, arith}
-use Rattle.std.specs.Prelude.{◌⊎◌, All}
+use Rattle.std.proofs.Common.{sym, ap, subst, ◌∙◌, arith}
+use Rattle.std.specs.Prelude.{All}
 use Rattle.std.proofs.lemmas.Bool.{cases_lt, cases_eq, cond-true, cond-false, lt-ltb, le-ltb}
 use Rattle.std.proofs.lemmas.List.{get_or_past, length-set, length-replicate, get_or-set_same}
 use Rattle.std.proofs.lemmas.List.{get_or-set_other, get_or-replicate, ext_get_or}
 use Rattle.std.proofs.lemmas.List.FromFn.{length-map-range_with_len, get_or-map-range_with_len}
 use Rattle.std.proofs.lemmas.Nat.Bits.{bit_at-zero}
+use borrow.Enum.Arm.{by_way}
 use Rattle.bit_set.specs.Bits.{bit, bits_of, IsLowestBit, IsNext, NoneMarked}
 use Rattle.bit_set.proofs.Words.{bit_of_zero, same_word}
-
-cases : {A B C : Type 0} → A ⊎ B → (A → C) → (B → C) → C
-cases s f g = ⊎_elim f g s
 
 abbrev bit_in : List ℕ → ℕ → Bool
 bit_in words k = bit (get_or words (k / 64) 0) (k % 64)
@@ -62,13 +60,13 @@ bits_of-set words word at mark lt here others =
     at_place : (k : ℕ) → k < 64 * length words
         → get_or (bits_of (set words (at / 64) word)) k false ≡ get_or (set (bits_of words) at mark) k false
     at_place k under =
-        cases (cases_eq k at)
+        by_way (cases_eq k at)
         (λ e. in_set k under ∙ ap (λ w. bit w (k % 64)) (read_here k (ap (λ n. n / 64) e))
         ∙ ap (λ n. bit word (n % 64)) e ∙ here
         ∙ sym (ap (λ n. get_or (set (bits_of words) at mark) n false) e
         ∙ get_or-set_same (bits_of words) at mark false (omega (arith, lt, length-bits_of words))))
         (λ ne. in_set k under
-        ∙ cases (cases_eq (k / 64) (at / 64))
+        ∙ by_way (cases_eq (k / 64) (at / 64))
         (λ e. ap (λ w. bit w (k % 64)) (read_here k e)
         ∙ others (k % 64) (omega arith) (λ same. ne (omega (arith, e, same)))
         ∙ ap (λ w. bit (get_or words w 0) (k % 64)) (sym e))
@@ -133,7 +131,7 @@ none_up_to : (words : List ℕ) (from w s b : ℕ) → w < length words → b �
     → ((i : ℕ) → s ≤ i → i < b → bit (get_or words w 0) i ≡ false)
     → NoneMarked (bits_of words) from (w * 64 + b)
 none_up_to words from w s b lt most below_it in_it = λ k le under.
-    cases (cases_lt k (w * 64 + s))
+    by_way (cases_lt k (w * 64 + s))
     (λ low. below_it k le low)
     (λ high.
     let rest : k % 64 ≡ k - w * 64 = omega arith in
@@ -156,7 +154,7 @@ pub next_found : (words : List ℕ) (from w s b end : ℕ) → w < length words 
     → NoneMarked (bits_of words) from (w * 64 + s) → IsLowestBit (get_or words w 0) s b
     → IfSome (found_at (w * 64 + b) end) (λ at. IsNext (bits_of words) from end at)
 next_found words from w s b end lt le below_it lowest =
-    cases (cases_lt (w * 64 + b) end)
+    by_way (cases_lt (w * 64 + b) end)
     (λ yes. subst (λ o. IfSome o (λ at. IsNext (bits_of words) from end at))
     (sym (cond-true (ltb (w * 64 + b) end) (Some (w * 64 + b)) None (lt-ltb _ _ yes)))
     (record {
@@ -180,7 +178,7 @@ pub next_none : (words : List ℕ) (from w s b end : ℕ) → w < length words
     → NoneMarked (bits_of words) from (w * 64 + s) → IsLowestBit (get_or words w 0) s b
     → IfNone (found_at (w * 64 + b) end) (NoneMarked (bits_of words) from end)
 next_none words from w s b end lt below_it lowest =
-    cases (cases_lt (w * 64 + b) end)
+    by_way (cases_lt (w * 64 + b) end)
     (λ yes. subst (λ o. IfNone o (NoneMarked (bits_of words) from end))
     (sym (cond-true (ltb (w * 64 + b) end) (Some (w * 64 + b)) None (lt-ltb _ _ yes))) tt)
     (λ over. subst (λ o. IfNone o (NoneMarked (bits_of words) from end))
@@ -191,7 +189,7 @@ next_none words from w s b end lt below_it lowest =
 -- an empty set has no member
 pub clear_at : (n k : ℕ) → get_or (replicate n false) k false ≡ false
 clear_at n k =
-    cases (cases_lt k n)
+    by_way (cases_lt k n)
     (λ low. get_or-replicate n k false false low)
     (λ high. get_or_past (replicate n false) k false
     (omega (arith, length-replicate {A = Bool} n false, high)))

@@ -1,17 +1,15 @@
 -- One word: its bits as tests, and what is read from them.
 use Rattle.std.proofs.Common.{◌≡◌, ◌≢◌, ℕ, ◌-◌, ◌*◌, ◌%◌, ◌^◌, ◌<◌, ◌≤◌, min, Bool, true, false, cond, eqb}
-use Rattle.std.proofs.Common.{⊎_elim, refl, sym, ap, ◌∙◌, arith, w64, bit_and}
-use Rattle.std.specs.Prelude.{◌⊎◌, not}
+use Rattle.std.proofs.Common.{refl, sym, ap, ◌∙◌, arith, w64, bit_and}
+use Rattle.std.specs.Prelude.{not}
 use Rattle.std.specs.Int.{bit_at, trailing_zeros}
 use Rattle.std.proofs.lemmas.Bool.{cases_lt, cases_eq, eq-eqb, ne_eqb, eqb-true, eqb-false}
 use Rattle.std.proofs.lemmas.Nat.Bits.{bit_at-lt, bit_at_and, bit_at_mask_inside, bit_at_mask_below}
 use Rattle.std.proofs.lemmas.Nat.Bits.{bit_at-trailing_zeros, bit_at-zero, ones_shl, and_pow}
 use Rattle.std.proofs.lemmas.Nat.Bits.{same_from_bits_below}
 use Rattle.std.proofs.lemmas.Nat.{one_shl, pow_pos, and_le_l}
+use borrow.Enum.Arm.{by_way}
 use Rattle.bit_set.specs.Bits.{bit, IsLowestBit}
-
-cases : {A B C : Type 0} → A ⊎ B → (A → C) → (B → C) → C
-cases s f g = ⊎_elim f g s
 
 pub bit_of_one : (word i : ℕ) → bit_at word i ≡ 1 → bit word i ≡ true
 unfolding bit
@@ -85,12 +83,12 @@ lowest_high word from lt fits some =
   where
     cases_from : (word from at : ℕ) → from < 64 → bit_at (high_of word from) at ≡ 1 → from ≤ at
     cases_from word from at lt one =
-        cases (cases_lt at from) (λ under. absurd (omega (arith, high_below word from at lt under, one)))
+        by_way (cases_lt at from) (λ under. absurd (omega (arith, high_below word from at lt under, one)))
         (λ up. up)
 
 product_test : (b n : ℕ) → b < 2 → 0 < n → not (eqb (b * n) 0) ≡ eqb b 1
 product_test b n small some =
-    cases (cases_eq b 1)
+    by_way (cases_eq b 1)
     (λ one. let up : (b * n) ≢ 0 = λ e. absurd (omega (arith, ap (λ x. x * n) one, e, some)) in
     ap not (ne_eqb (b * n) 0 up) ∙ sym (eq-eqb b 1 one))
     (λ other. let zero : b ≡ 0 = omega arith in ap not (eq-eqb (b * n) 0 (ap (λ x. x * n) zero ∙ omega arith))

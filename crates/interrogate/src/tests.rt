@@ -175,13 +175,6 @@ fn a_late_holder_is_firm(rt: HostRuntime) -> Result<(), Fail> {
     Ok(())
 }
 
-#[test]
-fn laws_hold() {
-    crate::every_conflict_ends();
-    crate::who_is_never_rejected();
-    crate::only_rejects_are_counted();
-}
-
 /// Whether values of a type may move between threads and be shared by them.
 fn is_shared<T: Send + Sync>() -> bool {
     true

@@ -1,3 +1,5 @@
+//! Copies of lines: which are there, what they hold, and when there is no room.
+
 use crate::{L1, LINE_SIZE, LINES, MOST_COPIES};
 use std::test::Fail;
 

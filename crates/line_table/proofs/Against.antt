@@ -9,12 +9,12 @@ use Rattle.std.proofs.lemmas.Bool.{and_from, cond-true, cond-false, not-true, no
 use Rattle.std.proofs.lemmas.List.FromFn.{length-range_with_len, get_or-range_with_len}
 use Rattle.std.proofs.lemmas.List.Folds.{Any-from_list_any, list_any_at}
 use Rattle.std.proofs.lemmas.List.Kept.{IsStrictlyIncreasing-filter}
+use borrow.Enum.Arm.{by_way}
 use Rattle.bit_set.specs.Counts.{one_if, count_below, but_at}
 use Rattle.bit_set.proofs.Counts.{count_but_at, but_at-other, one_outside}
 use Rattle.line_table.specs.declared.table.Mode.{Mode}
 use Rattle.line_table.specs.declared.table.TheConstants.{LINES, MOST_HELD}
 use Rattle.line_table.specs.Holders.{Holders, against, is_against, lines_held, IsOutside}
-use Rattle.line_table.proofs.Seen.{cases}
 
 abbrev is_in : List ℕ → ℕ → Bool
 is_in xs other = list_any (λ x. eqb x other) xs
@@ -34,8 +34,8 @@ is_in-filter : (test : ℕ → Bool) (xs : List ℕ) (other : ℕ)
     → is_in (filter test xs) other ≡ (is_in xs other && test other)
 is_in-filter test [] other = refl
 is_in-filter test (x ∷ xs) other =
-    cases (cases_eq x other)
-    (λ e. cases (cases_Bool (test x))
+    by_way (cases_eq x other)
+    (λ e. by_way (cases_Bool (test x))
     (λ pass. ap (λ l. is_in l other) (cond-true (test x) (x ∷ filter test xs) (filter test xs) pass)
     ∙ ap (λ b. b || is_in (filter test xs) other) (eq-eqb x other e)
     ∙ sym (ap (λ b. (b || is_in xs other) && test other) (eq-eqb x other e) ∙ ap test (sym e) ∙ pass))
@@ -43,7 +43,7 @@ is_in-filter test (x ∷ xs) other =
     ∙ is_in-filter test xs other
     ∙ and_false (is_in xs other) (test other) (ap test (sym e) ∙ fail)
     ∙ sym (and_false (eqb x other || is_in xs other) (test other) (ap test (sym e) ∙ fail))))
-    (λ ne. cases (cases_Bool (test x))
+    (λ ne. by_way (cases_Bool (test x))
     (λ pass. ap (λ l. is_in l other) (cond-true (test x) (x ∷ filter test xs) (filter test xs) pass)
     ∙ ap (λ b. b || is_in (filter test xs) other) (ne_eqb x other ne)
     ∙ is_in-filter test xs other
@@ -117,7 +117,7 @@ pub none_against : (cpus : ℕ) (held : Holders) (cpu line : ℕ) (wanted : Mode
     → against cpus held cpu line wanted ≡ [] → (other : ℕ) → other < cpus → other ≢ cpu
     → is_against wanted (held other line) ≡ false
 none_against cpus held cpu line wanted none = λ other lt ne.
-    cases (cases_Bool (is_against wanted (held other line)))
+    by_way (cases_Bool (is_against wanted (held other line)))
     (λ stands.
     let there =
     is_in_from (against cpus held cpu line wanted) other
@@ -155,7 +155,7 @@ holds_outside_for_one_more held cpu wanted kept full few lt needed free =
     let fewer : count_below LINES (but_at kept wanted false) < lines_held held cpu =
     omega (arith, count_but_at LINES kept wanted false lt, ap one_if needed, full, few) in
     outside_from held cpu kept (but_at kept wanted false)
-    (λ k holds off. cases (cases_eq k wanted)
+    (λ k holds off. by_way (cases_eq k wanted)
     (λ e. let n : false ≡ true = sym (ap is_some (ap (held cpu) e ∙ free)) ∙ holds in cc)
     (λ ne. sym (but_at-other kept wanted false k ne) ∙ off))
     (one_outside LINES (λ line. is_some (held cpu line)) (but_at kept wanted false) fewer)

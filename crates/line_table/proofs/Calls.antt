@@ -5,6 +5,7 @@ use Rattle.std.specs.Prelude.{not}
 use Rattle.std.specs.Int.{from_bool}
 use Rattle.std.proofs.lemmas.Bool.{cases_lt, cases_Bool}
 use Rattle.std.proofs.lemmas.List.{get_or-replicate, get_or_past, length-replicate}
+use borrow.Enum.Arm.{by_way}
 use Rattle.bit_set.specs.Bits.{IsNext, NoneMarked}
 use Rattle.bit_set.specs.Counts.{one_if}
 use Rattle.bit_set.proofs.Counts.{count_none, count_but_at}
@@ -14,7 +15,7 @@ use Rattle.line_table.specs.declared.table.TheConstants.{LINES, MOST_HELD}
 use Rattle.line_table.specs.Holders.{Holders, Holdings, mode_in, against, is_against, IsFirstHeld, lines_held}
 use Rattle.line_table.specs.Holders.{nobody}
 use Rattle.line_table.specs.Rows.{mode_from, IsKept}
-use Rattle.line_table.proofs.Seen.{cases, seen, seen_within, seen_past, is_some-mode_from, OthersShare}
+use Rattle.line_table.proofs.Seen.{seen, seen_within, seen_past, is_some-mode_from, OthersShare}
 use Rattle.line_table.proofs.Kept.{held_count}
 use Rattle.line_table.proofs.Against.{none_against}
 
@@ -22,14 +23,14 @@ use Rattle.line_table.proofs.Against.{none_against}
 pub unmarked : (held exclusive : List Bool) (cpu line : ℕ) → get_or held (cpu * LINES + line) false ≡ false
     → seen held exclusive cpu line ≡ None
 unmarked held exclusive cpu line off =
-    cases (cases_lt line LINES)
+    by_way (cases_lt line LINES)
     (λ low. seen_within held exclusive cpu line low ∙ ap (λ h. mode_from h (get_or exclusive line false)) off)
     (λ high. seen_past held exclusive cpu line high)
 
 pub held_mark : (held exclusive : List Bool) (cpu line : ℕ) → seen held exclusive cpu line ≢ None
     → get_or held (cpu * LINES + line) false ≡ true
 held_mark held exclusive cpu line some =
-    cases (cases_Bool (get_or held (cpu * LINES + line) false))
+    by_way (cases_Bool (get_or held (cpu * LINES + line) false))
     (λ set. set)
     (λ off. absurd (some (unmarked held exclusive cpu line off)))
 
@@ -65,7 +66,7 @@ pub no_line : (held exclusive : List Bool) (cpu from : ℕ)
     → NoneMarked held (cpu * LINES + from) (cpu * LINES + LINES) → (line : ℕ) → from ≤ line
     → seen held exclusive cpu line ≡ None
 no_line held exclusive cpu from none = λ line le.
-    cases (cases_lt line LINES)
+    by_way (cases_lt line LINES)
     (λ low. unmarked held exclusive cpu line
     (none (cpu * LINES + line) (omega (arith, le)) (omega (arith, low))))
     (λ high. seen_past held exclusive cpu line high)
@@ -84,7 +85,7 @@ stays_shared Exclusive mark true e off = let n : true ≡ false = off in cc
 
 pub zero_at : (n k : ℕ) → get_or {A = ℕ} (replicate n 0) k 0 ≡ 0
 zero_at n k =
-    cases (cases_lt k n)
+    by_way (cases_lt k n)
     (λ low. get_or-replicate n k 0 0 low)
     (λ high. get_or_past (replicate n 0) k 0 (omega (arith, length-replicate {A = ℕ} n 0, high)))
 
@@ -144,7 +145,7 @@ module _ {width : ℕ} {held holders exclusive : List Bool} {counts : List ℕ}
       → seen held exclusive cpu line ≡ None
   no_holder line from line_in none = λ cpu le.
       unmarked held exclusive cpu line
-      (cases (cases_lt cpu (length counts))
+      (by_way (cases_lt cpu (length counts))
       (λ low. sym (kept.both cpu line low line_in)
       ∙ none (line * width + cpu) (omega (arith, le)) (omega (arith, low)))
       (λ high. get_or_past held (cpu * LINES + line) false (omega (arith, kept.held_size, high))))
@@ -153,7 +154,7 @@ module _ {width : ℕ} {held holders exclusive : List Bool} {counts : List ℕ}
       → against cpus (seen held exclusive) cpu line mode ≡ [] → mode_from true mark ≡ Some mode
       → OthersShare held exclusive cpu line mark
   free_share cpus cpu line mode mark size line_in free says = λ other ne set.
-      let other_in : other < cpus = cases (cases_lt other cpus)
+      let other_in : other < cpus = by_way (cases_lt other cpus)
       (λ low. low)
       (λ high. let n : false ≡ true =
       sym (get_or_past held (other * LINES + line) false (omega (arith, kept.held_size, high, size)))
@@ -166,7 +167,7 @@ module _ {width : ℕ} {held holders exclusive : List Bool} {counts : List ℕ}
   pub held_share : (cpu line : ℕ) → line < LINES → get_or held (cpu * LINES + line) false ≡ true
       → OthersShare held exclusive cpu line false
   held_share cpu line line_in mine = λ other ne set. (
-    cases (cases_Bool (get_or exclusive line false))
+    by_way (cases_Bool (get_or exclusive line false))
         (λ marks. absurd (ne (kept.alone cpu other line line_in marks mine set)))
         (λ off. off),
     refl,
@@ -186,7 +187,7 @@ module _ {width : ℕ} {held holders exclusive : List Bool} {counts : List ℕ}
       (get_or held (cpu * LINES + line) false) ≡ get_or counts cpu 0 + 1)
       × (get_or counts cpu 0 + from_bool (not (get_or held (cpu * LINES + line) false)) ≤ MOST_HELD)
   counted_more cpu line cpu_in room =
-      cases (cases_Bool (get_or held (cpu * LINES + line) false))
+      by_way (cases_Bool (get_or held (cpu * LINES + line) false))
       (λ set.
       let none = ap (λ h. from_bool (not h)) set in
       let one = ap one_if set in

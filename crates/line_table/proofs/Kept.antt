@@ -5,13 +5,14 @@ use Rattle.std.proofs.Common.{set, Some, None, is_some, refl, sym, ap, ◌∙◌
 use Rattle.std.proofs.lemmas.Bool.{cases_eq, cases_lt, cases_Bool}
 use Rattle.std.proofs.lemmas.List.{length-set, get_or-set_same, get_or-set_other, get_or_past}
 use Rattle.std.proofs.lemmas.Nat.{mul-add-lt, div-mul-add}
+use borrow.Enum.Arm.{by_way}
 use Rattle.bit_set.specs.Counts.{one_if, count_below, but_at}
 use Rattle.bit_set.proofs.Counts.{count_agree, count_but_at, count_none, but_at-same, but_at-other}
 use Rattle.line_table.specs.declared.table.Mode.TheVariants.{Shared, Exclusive}
 use Rattle.line_table.specs.declared.table.TheConstants.{LINES, MOST_HELD}
 use Rattle.line_table.specs.Holders.{lines_held, IsSound}
 use Rattle.line_table.specs.Rows.{mode_from, IsKept}
-use Rattle.line_table.proofs.Seen.{cases, seen, seen_within, seen_past, is_some-mode_from, OthersShare}
+use Rattle.line_table.proofs.Seen.{seen, seen_within, seen_past, is_some-mode_from, OthersShare}
 
 -- places in rows of one width are the same in the same row and column alone
 pub same_place : (width row column row' column' : ℕ) → column < width → column' < width
@@ -33,7 +34,7 @@ row_written held cpu line mine place_in lt =
     let alike =
     count_agree LINES (λ l. get_or (set held (cpu * LINES + line) mine) (cpu * LINES + l) false)
     (but_at row line mine)
-    (λ l low. cases (cases_eq l line)
+    (λ l low. by_way (cases_eq l line)
     (λ e. ap (λ k. get_or (set held (cpu * LINES + line) mine) (cpu * LINES + k) false) e
     ∙ get_or-set_same held (cpu * LINES + line) mine false place_in
     ∙ sym (ap (but_at row line mine) e ∙ but_at-same row line mine))
@@ -98,7 +99,7 @@ module _ {width : ℕ} {held holders exclusive : List Bool} {counts : List ℕ}
       both_at : (c l : ℕ) → c < length counts → l < LINES
           → get_or holders' (l * width + c) false ≡ get_or held' (c * LINES + l) false
       both_at c l c_in l_in =
-          cases (cases_eq (c * LINES + l) (cpu * LINES + line))
+          by_way (cases_eq (c * LINES + l) (cpu * LINES + line))
           (λ e.
           let column : l ≡ line = omega (arith, e, l_in, line_in) in
           let row : c ≡ cpu = omega (arith, e, l_in, line_in) in
@@ -120,7 +121,7 @@ module _ {width : ℕ} {held holders exclusive : List Bool} {counts : List ℕ}
       -- a holder of the line, if its new mark says exclusive, is the CPU itself
       only : (c : ℕ) → mark ≡ true → get_or held' (c * LINES + line) false ≡ true → c ≡ cpu
       only c marks holds =
-          cases (cases_eq c cpu)
+          by_way (cases_eq c cpu)
           (λ e. e)
           (λ ne.
           let apart : c * LINES + line ≢ cpu * LINES + line = λ e. ne (omega (arith, e)) in
@@ -131,7 +132,7 @@ module _ {width : ℕ} {held holders exclusive : List Bool} {counts : List ℕ}
       alone_at : (c d l : ℕ) → l < LINES → get_or exclusive' l false ≡ true
           → get_or held' (c * LINES + l) false ≡ true → get_or held' (d * LINES + l) false ≡ true → d ≡ c
       alone_at c d l l_in excl first second =
-          cases (cases_eq l line)
+          by_way (cases_eq l line)
           (λ e.
           let yes : mark ≡ true =
           sym (get_or-set_same exclusive line mark false (omega (arith, kept.exclusive_size, line_in)))
@@ -152,7 +153,7 @@ module _ {width : ℕ} {held holders exclusive : List Bool} {counts : List ℕ}
       counted_at : (c : ℕ) → c < length counts
           → get_or counts' c 0 ≡ count_below LINES (λ l. get_or held' (c * LINES + l) false)
       counted_at c c_in =
-          cases (cases_eq c cpu)
+          by_way (cases_eq c cpu)
           (λ e.
           let own : count ≡ count_below LINES (λ l. get_or held' (cpu * LINES + l) false) =
           omega (arith, changed, kept.counted cpu cpu_in, row_written held cpu line mine place_in line_in) in
@@ -168,7 +169,7 @@ module _ {width : ℕ} {held holders exclusive : List Bool} {counts : List ℕ}
 
       within_at : (c : ℕ) → c < length counts → get_or counts' c 0 ≤ MOST_HELD
       within_at c c_in =
-          cases (cases_eq c cpu)
+          by_way (cases_eq c cpu)
           (λ e. omega (arith, ap (λ n. get_or counts' n 0) e, own_count, most))
           (λ ne. omega (arith, get_or-set_other counts cpu c count 0 ne, kept.within c c_in))
 
@@ -193,17 +194,17 @@ module _ {width : ℕ} {held holders exclusive : List Bool} {counts : List ℕ}
   pub sound : IsSound (seen held exclusive)
   sound =
       record {
-        alone = λ cpu other line e ne. cases (cases_lt line LINES)
+        alone = λ cpu other line e ne. by_way (cases_lt line LINES)
             (λ low.
             let marks =
             both_marked (get_or held (cpu * LINES + line) false) (get_or exclusive line false)
             (sym (seen_within held exclusive cpu line low) ∙ e) in
             seen_within held exclusive other line low
-            ∙ cases (cases_Bool (get_or held (other * LINES + line) false))
+            ∙ by_way (cases_Bool (get_or held (other * LINES + line) false))
             (λ yes. absurd (ne (kept.alone cpu other line low marks.1 marks.0 yes)))
             (λ off. ap (λ h. mode_from h (get_or exclusive line false)) off))
             (λ high. seen_past held exclusive other line high);
-        within = λ cpu. cases (cases_lt cpu (length counts))
+        within = λ cpu. by_way (cases_lt cpu (length counts))
             (λ low. omega (arith, held_count cpu low, kept.within cpu low))
             (λ high. omega (
               arith,

@@ -1,18 +1,16 @@
 -- What a table is seen as, read from its rows of marks, and what a write of one place does to it.
 use Rattle.std.proofs.Common.{◌≡◌, ◌≢◌, ℕ, ◌+◌, ◌*◌, ◌%◌, ◌<◌, ◌≤◌, Bool, true, false, cond, eqb, ltb, List}
-use Rattle.std.proofs.Common.{length, get_or, set, Option, None, is_some, ⊎_elim, refl, sym, ap, ◌∙◌, arith}
-use Rattle.std.specs.Prelude.{◌⊎◌, ◌&&◌}
+use Rattle.std.proofs.Common.{length, get_or, set, Option, None, is_some, refl, sym, ap, ◌∙◌, arith}
+use Rattle.std.specs.Prelude.{◌&&◌}
 use Rattle.std.proofs.lemmas.Bool.{cases_eq, cases_lt, cond-true, cond-false, lt-ltb, le-ltb, eq-eqb, ne_eqb}
 use Rattle.std.proofs.lemmas.Bool.{and_left, and_right}
 use Rattle.std.proofs.lemmas.List.{get_or-set_same, get_or-set_other, get_or_past}
 use Rattle.std.proofs.lemmas.List.FromFn.{length-map-range_with_len, get_or-map-range_with_len}
+use borrow.Enum.Arm.{by_way}
 use Rattle.line_table.specs.declared.table.Mode.{Mode}
 use Rattle.line_table.specs.declared.table.TheConstants.{LINES}
 use Rattle.line_table.specs.Holders.{Holders, Holdings, holding, mode_in}
 use Rattle.line_table.specs.Rows.{mode_from, modes_of}
-
-pub cases : {A B C : Type 0} → A ⊎ B → (A → C) → (B → C) → C
-cases s f g = ⊎_elim f g s
 
 -- the mode of a line by the marks
 abbrev pub marked : List Bool → List Bool → ℕ → ℕ → Option Mode
@@ -40,7 +38,7 @@ shown_place : (cpus : ℕ) (held exclusive : List Bool) → length held ≡ cpus
     → get_or (modes_of cpus held exclusive) (cpu * LINES + line) None ≡ marked held exclusive cpu line
 unfolding modes_of
 shown_place cpus held exclusive size cpu line lt =
-    cases (cases_lt (cpu * LINES + line) (cpus * LINES))
+    by_way (cases_lt (cpu * LINES + line) (cpus * LINES))
     (λ low.
     let rest : (cpu * LINES + line) % LINES ≡ line = omega arith in
     get_or-map-range_with_len (at_index held exclusive) 0 (cpus * LINES) (cpu * LINES + line)
@@ -60,7 +58,7 @@ shown cpus held exclusive size =
     let at : (cpu line : ℕ)
     → mode_in (record { cpus = cpus; modes = modes_of cpus held exclusive }) cpu line ≡ seen held
     exclusive cpu line = λ cpu line.
-    cases (cases_lt line LINES)
+    by_way (cases_lt line LINES)
     (λ lt. cond-true (ltb line LINES) _ None (lt-ltb line LINES lt)
     ∙ shown_place cpus held exclusive size cpu line lt ∙ sym (seen_within held exclusive cpu line lt))
     (λ le. cond-false (ltb line LINES) _ None (le-ltb line LINES le)
@@ -104,9 +102,9 @@ seen_written held exclusive cpu line mine mark place_in line_in lt share =
     let at : (c l : ℕ)
     → seen (set held (cpu * LINES + line) mine) (set exclusive line mark) c l ≡ holding
     (seen held exclusive) cpu line (mode_from mine mark) c l = λ c l.
-    cases (cases_lt l LINES)
-    (λ low. cases (cases_eq l line)
-    (λ same_line. cases (cases_eq c cpu) (λ same_cpu. here c l same_cpu same_line)
+    by_way (cases_lt l LINES)
+    (λ low. by_way (cases_eq l line)
+    (λ same_line. by_way (cases_eq c cpu) (λ same_cpu. here c l same_cpu same_line)
     (λ other. beside c l other same_line))
     (λ other. elsewhere c l low other))
     (λ high.

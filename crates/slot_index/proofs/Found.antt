@@ -1,6 +1,6 @@
 -- The slot of a key, found and after a change of the keys.
 use Rattle.std.proofs.Common.{◌≡◌, ◌≢◌, ℕ, ◌<◌, ◌≤◌, cond, eqb, List, [], ◌∷◌, ◌++◌, length, get_or, take}
-use Rattle.std.proofs.Common.{Option, Some, None, ⊎_elim, inl, inr, refl, sym, ap, ◌∙◌, arith}
+use Rattle.std.proofs.Common.{Option, Some, None, inl, inr, refl, sym, ap, ◌∙◌, arith}
 use Rattle.std.specs.Prelude.{◌⊎◌}
 use Rattle.std.specs.List.{position_or_len}
 use Rattle.std.proofs.lemmas.Bool.{cases_lt, cases_eq, cond-true, cond-false, lt-ltb, le-ltb, eq-eqb, ne_eqb}
@@ -9,10 +9,8 @@ use Rattle.std.proofs.lemmas.Option.{none-some}
 use Rattle.std.proofs.lemmas.List.{length_push, get_or_push, get_or_append_left, get_or-take, length-take-le}
 use Rattle.std.proofs.lemmas.List.Quantifiers.{position-Some}
 use Rattle.std.proofs.lemmas.List.Sums.{position_or_len_is, fails_before_first}
+use borrow.Enum.Arm.{by_way}
 use Rattle.slot_index.specs.Slots.{slot_in}
-
-pub cases : {A B C : Type 0} → A ⊎ B → (A → C) → (B → C) → C
-cases s f g = ⊎_elim f g s
 
 -- the first slot that has the key
 pub record Has (keys : List ℕ) (key slot : ℕ) : Type 0 where
@@ -60,7 +58,7 @@ pub slot_in-absent : (keys : List ℕ) (key : ℕ) → slot_in keys key ≡ None
     → get_or keys j 0 ≢ key
 unfolding slot_in
 slot_in-absent keys key none j lt =
-    cases (cases_lt (position_or_len (λ k. eqb k key) keys) (length keys))
+    by_way (cases_lt (position_or_len (λ k. eqb k key) keys) (length keys))
     (λ under. absurd (none-some _ (sym none
     ∙ cond-true _ (Some (position_or_len (λ k. eqb k key) keys)) None (lt-ltb _ _ under))))
     (λ past. eqb-false (get_or keys j 0) key
@@ -85,7 +83,7 @@ slot_in-one keys one slot lt =
 pub slot_in-add : (keys : List ℕ) (key q : ℕ) → slot_in keys key ≡ None
     → slot_in (keys ++ key ∷ []) q ≡ cond (eqb q key) (Some (length keys)) (slot_in keys q)
 slot_in-add keys key q none =
-    cases (cases_eq q key)
+    by_way (cases_eq q key)
     (λ e. slot_in-at (keys ++ key ∷ []) q (length keys) (record {
       within = omega (arith, length_push keys key);
       here = get_or_push keys key 0 (length keys) refl ∙ sym e;
@@ -96,7 +94,7 @@ slot_in-add keys key q none =
   where
     others : q ≢ key → slot_in (keys ++ key ∷ []) q ≡ slot_in keys q
     others ne =
-        cases (slot_cases keys q)
+        by_way (slot_cases keys q)
         (λ found.
         let has = slot_in-has keys q found.0 found.1 in
         slot_in-at (keys ++ key ∷ []) q found.0 (record {
@@ -106,7 +104,7 @@ slot_in-add keys key q none =
               (sym (get_or_append_left keys (key ∷ []) 0 j (omega (arith, lt, has.within))) ∙ same);
         }) ∙ sym found.1)
         (λ absent. slot_in-none (keys ++ key ∷ []) q (λ j lt same.
-        cases (cases_lt j (length keys))
+        by_way (cases_lt j (length keys))
         (λ under. slot_in-absent keys q absent j under
         (sym (get_or_append_left keys (key ∷ []) 0 j under) ∙ same))
         (λ last. ne (sym same ∙ ap (λ k. get_or (keys ++ key ∷ []) k 0)

@@ -7,10 +7,11 @@ use Rattle.std.specs.Option.{option_and_then}
 use Rattle.std.proofs.lemmas.Bool.{cases_lt, cases_eq, cond-true, cond-false, eq-eqb, ne_eqb}
 use Rattle.std.proofs.lemmas.List.{length_push, get_or_push, get_or_append_left, length-set, get_or-set_same}
 use Rattle.std.proofs.lemmas.List.{get_or-set_other, get_or-take, length-take-le, get_or_default}
+use borrow.Enum.Arm.{by_way}
 use Rattle.bit_set.specs.Counts.{one_if, count_below, but_at}
 use Rattle.bit_set.proofs.Counts.{count_agree, count_but_at, count_none}
 use Rattle.slot_index.specs.Slots.{slot_in, slot_without, is_key, IsIndexed}
-use Rattle.slot_index.proofs.Found.{cases, Has, HasOneSlot, slot_in-has, slot_in-at, slot_in-none}
+use Rattle.slot_index.proofs.Found.{Has, HasOneSlot, slot_in-has, slot_in-at, slot_in-none}
 use Rattle.slot_index.proofs.Found.{slot_in-absent, slot_in-one, slot_cases}
 
 -- no two slots have one key
@@ -48,7 +49,7 @@ added {slots} {keys} kept key lt room none =
       small = kept.small;
       reserved = kept.reserved;
       few = omega (arith, length_push keys key, room);
-      below = λ slot under. cases (cases_lt slot (length keys))
+      below = λ slot under. by_way (cases_lt slot (length keys))
           (λ old. omega (
             arith,
             get_or_append_left keys (key ∷ []) 0 slot old,
@@ -56,7 +57,7 @@ added {slots} {keys} kept key lt room none =
             length-set slots key (length keys),
           ))
           (λ last. omega (arith, at_last slot under last, lt, length-set slots key (length keys)));
-      tells = λ slot under. cases (cases_lt slot (length keys))
+      tells = λ slot under. by_way (cases_lt slot (length keys))
           (λ old. ap (λ k. get_or (set slots key (length keys)) k 0)
           (get_or_append_left keys (key ∷ []) 0 slot old)
           ∙ get_or-set_other slots key (get_or keys slot 0) (length keys) 0
@@ -141,7 +142,7 @@ counted limit (x ∷ xs) one below =
 
     first_or_rest : (k : ℕ) → is_key (x ∷ xs) k ≡ but_at (is_key xs) x true k
     first_or_rest k =
-        cases (cases_eq k x)
+        by_way (cases_eq k x)
         (λ e. ap is_some (slot_in-at (x ∷ xs) k 0
         (record { within = omega arith; here = sym e; first = λ j lt. absurd (omega (arith, lt)) }))
         ∙ sym (cond-true _ true (is_key xs k) (eq-eqb k x e)))
@@ -181,7 +182,7 @@ below_removed : {slots keys : List ℕ} {most capacity : ℕ} → IsIndexed slot
     → (gone d j : ℕ) → gone < length keys → j < last_of keys
     → get_or (swap_remove keys gone d) j 0 < length slots
 below_removed {slots} {keys} kept gone d j lt under =
-    cases (cases_eq j gone)
+    by_way (cases_eq j gone)
     (λ e. omega (
       arith,
       at_gone keys gone d (omega arith),
@@ -224,7 +225,7 @@ removed {slots} {keys} kept gone d moved lt is =
             (omega (arith, under, size)),
         length-set slots moved gone,
       );
-      tells = λ j under. cases (cases_eq j gone)
+      tells = λ j under. by_way (cases_eq j gone)
           (λ e. ap (λ k. get_or (set slots moved gone) (get_or (swap_remove keys gone d) k 0) 0) e
           ∙ ap (λ k. get_or (set slots moved gone) k 0) (sym is)
           ∙ get_or-set_same slots moved gone 0 moved_below ∙ sym e)
@@ -254,7 +255,7 @@ pub slot_in-removed : {slots keys : List ℕ} {most capacity : ℕ} → IsIndexe
     → (gone d key : ℕ) → gone < length keys
     → slot_in (swap_remove keys gone d) key ≡ slot_without keys gone key
 slot_in-removed {slots} {keys} kept gone d key lt =
-    cases (slot_cases keys key)
+    by_way (slot_cases keys key)
     (λ found. at_slot found.0 (slot_in-has keys key found.0 found.1)
     ∙ sym (ap (option_and_then slot_after) found.1))
     (λ none. slot_in-none rest key (absent none) ∙ sym (ap (option_and_then slot_after) none))
@@ -276,7 +277,7 @@ slot_in-removed {slots} {keys} kept gone d key lt =
         → (old : ℕ) × (old < length keys) × (get_or rest j 0 ≡ get_or keys old
         0) × ((j ≡ gone → old ≡ last_of keys) × (j ≢ gone → old ≡ j))
     came_from j under =
-        cases (cases_eq j gone)
+        by_way (cases_eq j gone)
         (λ e. (
           last_of keys,
           omega arith,
@@ -301,14 +302,14 @@ slot_in-removed {slots} {keys} kept gone d key lt =
 
     at_slot : (slot : ℕ) → Has keys key slot → slot_in rest key ≡ slot_after slot
     at_slot slot has =
-        cases (cases_eq slot gone)
+        by_way (cases_eq slot gone)
         (λ e. slot_in-none rest key (λ j under same.
         let was = old_slot slot j has (omega (arith, under, size)) same in
-        cases (cases_eq j gone) (λ at. absurd (omega (arith, was.0 at, e, at, under, size)))
+        by_way (cases_eq j gone) (λ at. absurd (omega (arith, was.0 at, e, at, under, size)))
         (λ off. off (sym (was.1 off) ∙ e)))
         ∙ sym (cond-true (eqb slot gone) None (Some (cond (eqb slot (last_of keys)) gone slot))
         (eq-eqb slot gone e)))
-        (λ ne. cases (cases_eq slot (last_of keys))
+        (λ ne. by_way (cases_eq slot (last_of keys))
         (λ e. slot_in-at rest key gone (record {
           within = omega (arith, size, e, ne, lt);
           here = at_gone keys gone d (omega (arith, e, ne, lt)) ∙ ap (λ k. get_or keys k 0) (sym e)
@@ -326,7 +327,7 @@ slot_in-removed {slots} {keys} kept gone d key lt =
           here = at_other keys gone d slot (omega (arith, inner, has.within)) ne ∙ has.here;
           first = λ j before same.
               let was = old_slot slot j has (omega (arith, before, inner, has.within)) same in
-              cases (cases_eq j gone) (λ at. inner (was.0 at))
+              by_way (cases_eq j gone) (λ at. inner (was.0 at))
               (λ off. absurd (omega (arith, was.1 off, before)));
         })
         ∙ sym (cond-false (eqb slot gone) None (Some (cond (eqb slot (last_of keys)) gone slot))

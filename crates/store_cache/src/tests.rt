@@ -1,3 +1,5 @@
+//! Stores of an attempt beside a plain model of the same storage: the blocks it has and the bytes they hold.
+
 use crate::{BLOCK_SIZE, StoreCache};
 use std::alloc::{AllocError, Global};
 use std::test::Fail;
@@ -211,14 +213,6 @@ fn walks_beside_plain_lists(rt: HostRuntime) -> Result<(), Fail> {
         assert!(rt; beside.turn(number)?);
     }
     Ok(())
-}
-
-#[test]
-fn has_laws() {
-    crate::lays_stores_in_program_order();
-    crate::one_store_is_seen();
-    crate::bytes_are_stored_in_turn();
-    crate::the_last_value_lasts();
 }
 
 /// Whether values of a type may move between threads and be shared by them.

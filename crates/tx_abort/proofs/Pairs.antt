@@ -1,14 +1,11 @@
 -- Registers that come back in pairs.
-use Rattle.std.proofs.Common.{◌≡◌, ℕ, ◌+◌, ◌/◌, ◌<◌, ◌≢◌, true, false, ◌&&◌, cond, ltb, List, length, get_or, set, refl, sym, ap, subst, ◌∙◌, ⊎_elim, arith}
-use Rattle.std.specs.Prelude.{◌⊎◌}
+use Rattle.std.proofs.Common.{◌≡◌, ℕ, ◌+◌, ◌/◌, ◌<◌, ◌≢◌, true, false, ◌&&◌, cond, ltb, List, length, get_or, set, refl, sym, ap, subst, ◌∙◌, arith}
 use Rattle.std.proofs.lemmas.List.{get_or-set_same, get_or-set_other}
 use Rattle.std.proofs.lemmas.List.FromFn.{fill_by_all, get_or-map-range_with_len}
 use Rattle.std.proofs.lemmas.Bool.{cases_eq, cases_lt, lt-ltb, le-ltb, agree_below_at}
+use borrow.Enum.Arm.{by_way}
 use Rattle.z_regs.specs.Pairs.{saves_pair}
 use Rattle.tx_abort.specs.Registers.{restored}
-
-cases : {A B C : Type 0} → A ⊎ B → (A → C) → (B → C) → C
-cases s f g = ⊎_elim f g s
 
 -- a register after the first r were seen to
 abbrev pub seen_to : ℕ → List ℕ → ℕ → List ℕ → ℕ → ℕ
@@ -17,7 +14,7 @@ seen_to r saved mask general k =
 
 -- a register other than the next is as before
 same_test : (r k : ℕ) → k ≢ r → ltb k (r + 1) ≡ ltb k r
-same_test r k other = cases (cases_lt k r)
+same_test r k other = by_way (cases_lt k r)
     (λ below. lt-ltb k (r + 1) (omega arith) ∙ sym (lt-ltb k r below))
     (λ above. le-ltb k (r + 1) (omega arith) ∙ sym (le-ltb k r above))
 
@@ -44,7 +41,7 @@ seen_to-last r saved mask general =
 pub brought : (r : ℕ) (saved : List ℕ) (mask : ℕ) (general now : List ℕ) → r < length now →
     saves_pair mask (r / 2) ≡ true → ((k : ℕ) → get_or now k 0 ≡ seen_to r saved mask general k) → (k : ℕ) →
     get_or (set now r (get_or saved r 0)) k 0 ≡ seen_to (r + 1) saved mask general k
-brought r saved mask general now room selected so_far k = cases (cases_eq k r)
+brought r saved mask general now room selected so_far k = by_way (cases_eq k r)
     (λ here.
     let P : ℕ → Type 0 = λ n. get_or (set now r (get_or saved r 0)) n 0 ≡
     seen_to (r + 1) saved mask general n in
@@ -59,7 +56,7 @@ brought r saved mask general now room selected so_far k = cases (cases_eq k r)
 pub left : (r : ℕ) (saved : List ℕ) (mask : ℕ) (general now : List ℕ) → saves_pair mask (r / 2) ≡ false →
     ((k : ℕ) → get_or now k 0 ≡ seen_to r saved mask general k) → (k : ℕ) →
     get_or now k 0 ≡ seen_to (r + 1) saved mask general k
-left r saved mask general now unselected so_far k = cases (cases_eq k r)
+left r saved mask general now unselected so_far k = by_way (cases_eq k r)
     (λ here.
     let P : ℕ → Type 0 = λ n. get_or now n 0 ≡ seen_to (r + 1) saved mask general n in
     subst P (sym here)

@@ -1,21 +1,18 @@
 -- Fields written one after the other make the block that the table says.
-use Rattle.std.proofs.Common.{◌≡◌, ℕ, zero, suc, ◌+◌, ◌-◌, ◌<◌, ◌≤◌, Bool, true, false, ◌&&◌, ◌||◌, cond, leb, ltb, List, [], ◌∷◌, ◌++◌, length, get_or, take, drop, map, replicate, refl, sym, ap, ◌∙◌, ⊎_elim, arith}
-use Rattle.std.specs.Prelude.{◌⊎◌}
+use Rattle.std.proofs.Common.{◌≡◌, ℕ, zero, suc, ◌+◌, ◌-◌, ◌<◌, ◌≤◌, Bool, true, false, ◌&&◌, ◌||◌, cond, leb, ltb, List, [], ◌∷◌, ◌++◌, length, get_or, take, drop, map, replicate, refl, sym, ap, ◌∙◌, arith}
 use Rattle.std.specs.List.{list_any, count_by, Contains, range_with_len}
 use Rattle.std.proofs.lemmas.List.{length-append, length-take-le, length-drop, get_or_append_left, get_or-append_right, get_or-take, get_or-drop, get_or_past}
 use Rattle.std.proofs.lemmas.List.FromFn.{fill_by_all, length-map-range_with_len, get_or-map-range_with_len}
 use Rattle.std.proofs.lemmas.Bool.{cases_lt, cases_Bool, and_parts, leb-true, ltb-true, and_left, and_right, and_from, lt-leb, le-ltb, le-leb, lt-ltb, or_from, or_parts, false_from_ne_true}
 use Rattle.std.proofs.lemmas.List.Sums.{sum_by-cons}
 use Rattle.std.proofs.lemmas.List.Folds.{list_any_at}
+use borrow.Enum.Arm.{by_way}
 use Rattle.byteorder.specs.Endian.{big_bytes}
 use Rattle.byteorder.specs.Numbers.{length-bytes_high_first}
 use Rattle.tx_control.specs.declared.begins.Begin.{Begin}
 use Rattle.tx_control.specs.declared.causes.Why.{Why}
 use Rattle.tx_abort.specs.Block.{Field, fields, register_field, register_fields, has, byte_in, byte_at, block}
 use Rattle.tx_abort.specs.Writes.{with_field, with_fields}
-
-cases : {A B C : Type 0} → A ⊎ B → (A → C) → (B → C) → C
-cases s f g = ⊎_elim f g s
 
 -- ---- one field
 
@@ -44,14 +41,14 @@ get_or-with_field f bytes k h =
     let rest : List ℕ = drop (f.first + f.length) bytes in
     let front : length (take f.first bytes) ≡ f.first = length-take-le f.first bytes (omega arith) in
     let middle : length value ≡ f.length = length-bytes_high_first f.length f.value in
-    cases (cases_lt k f.first)
+    by_way (cases_lt k f.first)
     (λ before.
     let none : has f k ≡ false = and_left (leb f.first k) (ltb k (f.first + f.length)) (lt-leb _ _ before) in
     get_or_append_left (take f.first bytes) (value ++ rest) 0 k (omega (arith, front))
     ∙ get_or-take f.first bytes k 0 before ∙ sym (ap (λ b. cond b (byte_in f k) (get_or bytes k 0)) none))
     (λ from.
     get_or-append_right (take f.first bytes) (value ++ rest) f.first k 0 front from
-    ∙ cases (cases_lt k (f.first + f.length))
+    ∙ by_way (cases_lt k (f.first + f.length))
     (λ within.
     let there : has f k ≡ true =
     and_from (leb f.first k) (ltb k (f.first + f.length)) (le-leb _ _ from) (lt-ltb _ _ within) in
@@ -123,7 +120,7 @@ one_at_most from end k (f ∷ fs) o =
     let parts = and_parts (leb from f.first) (are_in_order (f.first + f.length) end fs) o in
     let more : count_by (λ f. has f k) (f ∷ fs) ≡ cond {A = ℕ} (has f k) 1 0 + count_by (λ f. has f k) fs =
     sum_by-cons (λ f. cond {A = ℕ} (has f k) 1 0) f fs in
-    cases (cases_Bool (has f k))
+    by_way (cases_Bool (has f k))
     (λ here.
     let rest : count_by (λ f. has f k) fs ≡ 0 =
     count_none (λ f. has f k) fs (none_after f fs end k parts.1 here) in
@@ -208,7 +205,7 @@ block_is why nest general at zeros size empty =
     let order : are_in_order 0 (length zeros) fs ≡ true = ap (λ n. are_in_order 0 n fs) size
     ∙ block_order why nest general at in
     fill_by_all (byte_at fs) (with_fields fs zeros) 256 0 (length-with_fields 0 fs zeros order ∙ size)
-    (λ k h. get_or-with_fields 0 fs zeros k order ∙ cases (cases_Bool (have fs k))
+    (λ k h. get_or-with_fields 0 fs zeros k order ∙ by_way (cases_Bool (have fs k))
     (λ some. ap (λ b. cond b (byte_at fs k) (get_or zeros k 0)) some)
     (λ none. ap (λ b. cond b (byte_at fs k) (get_or zeros k 0)) none ∙ empty k
     ∙ sym (byte_at_none fs k none)))
@@ -264,7 +261,7 @@ some_of_count p [] none = refl
 some_of_count p (f ∷ fs) none =
     let more : count_by p (f ∷ fs) ≡ cond {A = ℕ} (p f) 1 0 + count_by p fs =
     sum_by-cons (λ x. cond {A = ℕ} (p x) 1 0) f fs in
-    cases (cases_Bool (p f))
+    by_way (cases_Bool (p f))
     (λ yes. let one : cond {A = ℕ} (p f) 1 0 ≡ 1 = ap (λ b. cond {A = ℕ} b 1 0) yes in absurd (omega arith))
     (λ no. or_from (p f) (list_any p fs) no (some_of_count p fs (omega arith)))
 
@@ -272,7 +269,7 @@ pub block_zero : (why : Why) (nest : List Begin) (general : List ℕ) (at k : �
     count_by (λ f. has f k) (fields why nest general at) ≡ 0 → get_or (block why nest general at) k 0 ≡ 0
 block_zero why nest general at k none =
     let fs = fields why nest general at in
-    cases (cases_lt k 256)
+    by_way (cases_lt k 256)
     (λ inside. get_or-block why nest general at k inside
     ∙ byte_at_none fs k (some_of_count (λ f. has f k) fs none))
     (λ past. get_or_past (block why nest general at) k 0 (omega (arith, length-block why nest general at)))

@@ -270,9 +270,3 @@ fn pairs_come_back(rt: HostRuntime) {
     assert_eq!(rt; image.general, saved);
     assert_eq!(rt; image.address, 0x5000);
 }
-
-#[test]
-fn laws_hold() {
-    crate::each_byte_has_one_field();
-    crate::registers_come_back_in_pairs();
-}

@@ -6,12 +6,12 @@ use Rattle.std.proofs.lemmas.List.Sums.{sum_by-append, sum_by-cons}
 use Rattle.std.proofs.lemmas.Grind.{flat_map-append}
 use Rattle.std.proofs.lemmas.List.Folds.{list_any-append}
 use Rattle.std.proofs.lemmas.Bool.{cases_lt, or_parts, ltb-false, lt-ltb, le-ltb, le-leb, lt-leb}
+use borrow.Enum.Arm.{by_way}
 use Rattle.tx_constraint.specs.Operations.{ends, is_permitted, unit_of}
 use Rattle.tx_constraint.specs.Bytes.{touches_own_page}
 use Rattle.tx_constraint.specs.Octowords.{with_octowords}
 use Rattle.tx_constraint.specs.Constraints.{Step, Attempt, with_step, begun, is_too_long, leaves_its_bytes, has_barred, is_too_wide, touches_itself, has_split, lies_near, is_split, octowords, first_of, text_breach, operand_breach, GoesOn}
 use Rattle.tx_constraint.specs.Kept.{Kept, kept, kept_at, added, next_text_breach, next_operand_breach}
-use Rattle.tx_constraint.proofs.Lists.{cases}
 use Rattle.tx_constraint.proofs.Piling.{with_octowords-append, with_octowords-none}
 
 -- ---- nothing broken
@@ -102,7 +102,7 @@ few_steps a g =
     omega (arith, short, all_count a.steps g.unended)
 
 too_long : (n : ℕ) (counts : Bool) → n ≤ 32 → ltb 32 (n + cond {A = ℕ} counts 1 0) ≡ (leb 32 n && counts)
-too_long n true few = cases (cases_lt n 32)
+too_long n true few = by_way (cases_lt n 32)
     (λ below. le-ltb 32 (n + 1) (omega arith) ∙ sym (ap (λ b. b && true) (lt-leb 32 n below)))
     (λ above. lt-ltb 32 (n + 1) (omega arith) ∙ sym (ap (λ b. b && true) (le-leb 32 n above)))
 too_long n false few = le-ltb 32 (n + 0) (omega arith) ∙ sym (and_false (leb 32 n))

@@ -6,9 +6,9 @@ use Rattle.std.proofs.Math.Nat.{div-mul-le_self}
 use Rattle.std.proofs.lemmas.List.FromFn.{map-range_with_len_more}
 use Rattle.std.proofs.lemmas.List.Folds.{list_any-append}
 use Rattle.std.proofs.lemmas.Bool.{cases_eq, cases_lt, and_from, and_left, and_right, or_left, or_right, le-leb, lt-leb, lt-ltb, le-ltb, eq-eqb, ne_eqb}
+use borrow.Enum.Arm.{by_way}
 use Rattle.z_regs.specs.declared.ranges.Range.{Range}
 use Rattle.tx_constraint.specs.Bytes.{pieces, first_piece, end_piece, touches_own_page}
-use Rattle.tx_constraint.proofs.Lists.{cases}
 
 -- ---- how the code computes the last piece
 
@@ -21,7 +21,7 @@ last_is f l size some bytes =
 pub few_pieces : (f size : ℕ) → 32 ≤ size → f < 2 ^ 64 → f / size < 2 ^ 59
 few_pieces f size least small =
     let back : f / size * size ≤ f = div-mul-le_self f size in
-    cases (cases_lt (f / size) (2 ^ 59)) (λ h. h) (λ large.
+    by_way (cases_lt (f / size) (2 ^ 59)) (λ h. h) (λ large.
     let more : 2 ^ 59 * 32 ≤ f / size * size = grind (arith) in absurd (omega arith))
 
 -- ---- a piece holds a byte exactly where it is between the first and the last
@@ -37,7 +37,7 @@ end_next f n =
     ap (λ b. cond b (f / 4096) ((f + (n + 1) - 1) / 4096 + 1)) some ∙ ap (λ m. m / 4096 + 1) same
 
 end_near : (f n : ℕ) → ((f + n) / 4096 ≤ end_of f n) × (end_of f n ≤ (f + n) / 4096 + 1)
-end_near f n = cases (cases_eq n 0)
+end_near f n = by_way (cases_eq n 0)
     (λ none.
     let e : end_of f n ≡ f / 4096 = ap (λ b. cond b (f / 4096) ((f + n - 1) / 4096 + 1)) (eq-eqb n 0 none) in
     (omega arith, omega arith))
@@ -47,14 +47,14 @@ end_near f n = cases (cases_eq n 0)
     (omega arith, omega arith))
 
 same_below : (k e x : ℕ) → x ≤ e → e ≤ x + 1 → k ≢ x → ltb k e ≡ ltb k (x + 1)
-same_below k e x low high other = cases (cases_lt k e)
+same_below k e x low high other = by_way (cases_lt k e)
     (λ below. lt-ltb k e below ∙ sym (lt-ltb k (x + 1) (omega arith)))
     (λ above. le-ltb k e above ∙ sym (le-ltb k (x + 1) (omega arith)))
 
 between : (f k n : ℕ) →
     list_any (λ p. eqb p k) (map (λ a. a / 4096) (range_with_len f n)) ≡
     (leb (f / 4096) k && ltb k (end_of f n))
-between f k zero = cases (cases_lt k (f / 4096))
+between f k zero = by_way (cases_lt k (f / 4096))
     (λ below. sym (and_left (leb (f / 4096) k) (ltb k (f / 4096)) (lt-leb (f / 4096) k below)))
     (λ above. sym (and_right (leb (f / 4096) k) (ltb k (f / 4096)) (le-ltb k (f / 4096) above)))
 between f k (suc n) =
@@ -68,7 +68,7 @@ between f k (suc n) =
     (leb (f / 4096) k && ltb k ((f + n) / 4096 + 1)) =
     ap (λ end. leb (f / 4096) k && ltb k end) (ap (end_of f) e ∙ end_next f n) in
     ap (list_any test) one_more ∙ list_any-append test before (quotient (f + n) ∷ [])
-    ∙ cases (cases_eq k ((f + n) / 4096))
+    ∙ by_way (cases_eq k ((f + n) / 4096))
     (λ here.
     or_right (list_any test before) (test (quotient (f + n)) || false)
     (or_left (test (quotient (f + n))) false (eq-eqb _ _ (sym here)))

@@ -1,17 +1,15 @@
 -- Tests of lists, and lists of numbers one after the other.
-use Rattle.std.proofs.Common.{◌≡◌, ℕ, zero, suc, ◌+◌, ◌<◌, Bool, true, false, ◌||◌, eqb, List, [], ◌∷◌, ◌++◌, length, get_or, take, Some, refl, sym, ap, ◌∙◌, ⊎_elim, arith}
-use Rattle.std.specs.Prelude.{◌⊎◌, slice_get}
+use Rattle.std.proofs.Common.{◌≡◌, ℕ, zero, suc, ◌+◌, ◌<◌, Bool, true, false, ◌||◌, eqb, List, [], ◌∷◌, ◌++◌, length, get_or, take, Some, refl, sym, ap, ◌∙◌, arith}
+use Rattle.std.specs.Prelude.{slice_get}
 use Rattle.std.specs.List.{list_any, list_all, range_with_len}
 use Rattle.std.proofs.lemmas.Bool.{cases_Bool, false_from_ne_true, and_parts, and_from, or_cases, or_left, or_right, eqb-true, eq-eqb}
 use Rattle.std.proofs.lemmas.List.Folds.{list_any_at, list_any_more}
 use Rattle.std.proofs.lemmas.Option.{get_or_from_slice_get, slice_get_cases}
-
-pub cases : {A B C : Type 0} → A ⊎ B → (A → C) → (B → C) → C
-cases s f g = ⊎_elim f g s
+use borrow.Enum.Arm.{by_way}
 
 -- two tests that hold together are equal
 pub same_tests : (a b : Bool) → (a ≡ true → b ≡ true) → (b ≡ true → a ≡ true) → a ≡ b
-same_tests a b to from = cases (cases_Bool b)
+same_tests a b to from = by_way (cases_Bool b)
     (λ yes. from yes ∙ sym yes)
     (λ no. false_from_ne_true a (λ h. let e : false ≡ true = sym no ∙ to h in cc) ∙ sym no)
 
@@ -24,7 +22,7 @@ pub among_all : (xs ys : List ℕ) (x : ℕ) → list_all (among ys) xs ≡ true
 among_all [] ys x all there = let e : false ≡ true = there in cc
 among_all (z ∷ xs) ys x all there =
     let parts = and_parts (among ys z) (list_all (among ys) xs) all in
-    cases (or_cases (eqb x z) (among xs x) there)
+    by_way (or_cases (eqb x z) (among xs x) there)
     (λ here. ap (among ys) (eqb-true x z here) ∙ parts.0)
     (λ later. among_all xs ys x parts.1 later)
 
@@ -39,7 +37,7 @@ all_among (z ∷ xs) ys each =
 -- ---- steps of a loop that tests the elements of a list in turn
 
 slice_get_inside : {X : Type 0} (xs : List X) (i : ℕ) (x : X) → slice_get xs i ≡ Some x → i < length xs
-slice_get_inside xs i x e = cases (slice_get_cases xs i).1
+slice_get_inside xs i x e = by_way (slice_get_cases xs i).1
     (λ there. there.1)
     (λ past. absurd (let no = past.1 in cc))
 

@@ -8,15 +8,16 @@ use Rattle.std.proofs.lemmas.Grind.{flat_map-append}
 use Rattle.std.proofs.lemmas.List.FromFn.{map-range_with_len_more}
 use Rattle.std.proofs.lemmas.List.Folds.{list_any-append}
 use Rattle.std.proofs.lemmas.Bool.{cases_eq, cases_Bool, or_left, or_right, eq-eqb, ne_eqb, leb-false, lt-leb}
+use borrow.Enum.Arm.{by_way}
 use Rattle.z_regs.specs.declared.ranges.Range.{Range}
 use Rattle.tx_constraint.specs.Bytes.{pieces, first_piece, end_piece}
 use Rattle.tx_constraint.specs.Octowords.{with_octoword, with_octowords}
-use Rattle.tx_constraint.proofs.Lists.{cases, range-split, inside, element_of}
+use Rattle.tx_constraint.proofs.Lists.{range-split, inside, element_of}
 
 -- ---- one octoword
 
 grows_by_one : (found : List ℕ) (o : ℕ) → length found ≤ length (with_octoword found o)
-grows_by_one found o = cases (cases_Bool (list_any (eqb o) found))
+grows_by_one found o = by_way (cases_Bool (list_any (eqb o) found))
     (λ there. let e : with_octoword found o ≡ found = ap (λ b. cond b found (found ++ o ∷ [])) there in
     omega (arith, ap length e))
     (λ new. let e : with_octoword found o ≡ found ++ o ∷ [] = ap (λ b. cond b found (found ++ o ∷ [])) new in
@@ -26,7 +27,7 @@ stays : (found : List ℕ) (o : ℕ) → list_any (eqb o) found ≡ true → wit
 stays found o there = ap (λ b. cond b found (found ++ o ∷ [])) there
 
 is_there : (found : List ℕ) (o : ℕ) → list_any (eqb o) (with_octoword found o) ≡ true
-is_there found o = cases (cases_Bool (list_any (eqb o) found))
+is_there found o = by_way (cases_Bool (list_any (eqb o) found))
     (λ there. ap (list_any (eqb o)) (stays found o there) ∙ there)
     (λ new.
     ap (list_any (eqb o)) (ap (λ b. cond b found (found ++ o ∷ [])) new)
@@ -98,7 +99,7 @@ some_bytes found f (suc n) =
     let e : suc n ≡ n + 1 = omega arith in
     one_byte_more found f (suc n)
     ∙ ap (λ xs. with_octoword xs ((f + suc n) / 32)) (ap (by_bytes found f) e ∙ some_bytes found f n)
-    ∙ cases (cases_eq ((f + suc n) / 32) ((f + n) / 32))
+    ∙ by_way (cases_eq ((f + suc n) / 32) ((f + n) / 32))
     (λ same.
     let low : f / 32 ≤ (f + n) / 32 = omega arith in
     let has : list_any (eqb ((f + n) / 32)) (in_turn found (f / 32) ((f + n) / 32 + 1)) ≡ true =

@@ -6,19 +6,20 @@ use Rattle.std.proofs.lemmas.Bool.{cases_Bool, cases_eq, or_left, or_right, or_p
 use Rattle.std.proofs.lemmas.List.Folds.{list_any-append, list_any_at, Any-from_list_any}
 use Rattle.std.proofs.lemmas.List.Sums.{sum_by-append, sum_by-cons}
 use Rattle.std.proofs.lemmas.List.FromFn.{length-range_with_len, get_or-range_with_len, length-map-range_with_len, get_or-map-range_with_len}
+use borrow.Enum.Arm.{by_way}
 use Rattle.z_regs.specs.declared.ranges.Range.{Range}
 use Rattle.tx_constraint.specs.Bytes.{pieces, lies_in_one, is_own_page}
 use Rattle.tx_constraint.specs.Octowords.{with_octoword, with_octowords}
-use Rattle.tx_constraint.proofs.Lists.{cases, same_tests}
+use Rattle.tx_constraint.proofs.Lists.{same_tests}
 
 -- ---- octowords
 
 member_one : (found : List ℕ) (o x : ℕ) →
     list_any (eqb x) (with_octoword found o) ≡ (list_any (eqb x) found || eqb x o)
-member_one found o x = cases (cases_Bool (list_any (eqb o) found))
+member_one found o x = by_way (cases_Bool (list_any (eqb o) found))
     (λ there.
     ap (list_any (eqb x)) (ap (λ b. cond b found (found ++ o ∷ [])) there)
-    ∙ cases (cases_eq x o)
+    ∙ by_way (cases_eq x o)
     (λ same. let h : list_any (eqb x) found ≡ true = ap (λ y. list_any (eqb y) found) same ∙ there in h
     ∙ sym (or_left (list_any (eqb x) found) (eqb x o) h))
     (λ other. or_none (list_any (eqb x) found)
@@ -70,14 +71,14 @@ tally_push x xs o =
     omega (arith, one, sum_by-append (λ z. cond {A = ℕ} (eqb x z) 1 0) xs (o ∷ []))
 
 once_one : (found : List ℕ) (o x : ℕ) → tally x found ≤ 1 → tally x (with_octoword found o) ≤ 1
-once_one found o x once = cases (cases_Bool (list_any (eqb o) found))
+once_one found o x once = by_way (cases_Bool (list_any (eqb o) found))
     (λ there. let e : with_octoword found o ≡ found = ap (λ b. cond b found (found ++ o ∷ [])) there in
     omega (arith, once, ap (tally x) e))
     (λ new.
     let e : with_octoword found o ≡ found ++ o ∷ [] = ap (λ b. cond b found (found ++ o ∷ [])) new in
     let pushed : tally x (with_octoword found o) ≡ tally x found + cond {A = ℕ} (eqb x o) 1 0 =
     ap (tally x) e ∙ tally_push x found o in
-    cases (cases_eq x o)
+    by_way (cases_eq x o)
     (λ same.
     let none : tally x found ≡ 0 = tally_none x found (ap (λ y. list_any (eqb y) found) same ∙ new) in
     let one : cond {A = ℕ} (eqb x o) 1 0 ≡ 1 = ap (λ b. cond {A = ℕ} b 1 0) (eq-eqb x o same) in
@@ -99,7 +100,7 @@ once ranges x = once_all [] (flat_map (pieces 32) ranges) x (omega arith)
 pub own_pages : (begin page : ℕ) →
     is_own_page begin page ≡ list_any (λ a. eqb page (a / 4096)) (range_with_len begin 256)
 own_pages begin page = same_tests _ _
-    (λ own. cases (cases_Bool (eqb page (begin / 4096)))
+    (λ own. by_way (cases_Bool (eqb page (begin / 4096)))
     (λ first.
     let e : get_or (range_with_len begin 256) 0 0 ≡ begin = get_or-range_with_len begin 256 0 0 (omega arith)
     ∙ omega arith in
@@ -118,7 +119,7 @@ own_pages begin page = same_tests _ _
     let here : found.1 ≡ begin + found.0 = sym found.3
     ∙ get_or-range_with_len begin 256 found.0 found.1 within in
     let there : page ≡ found.1 / 4096 = eqb-true page (found.1 / 4096) found.4 in
-    cases (cases_eq page (begin / 4096))
+    by_way (cases_eq page (begin / 4096))
     (λ first. or_left (eqb page (begin / 4096)) (eqb page ((begin + 255) / 4096)) (eq-eqb _ _ first))
     (λ other. or_right (eqb page (begin / 4096)) (eqb page ((begin + 255) / 4096))
     (eq-eqb _ _ (omega (arith, here, there)))))

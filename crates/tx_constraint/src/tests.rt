@@ -196,14 +196,6 @@ fn same_octowords_in_any_order(rt: HostRuntime) -> Result<(), Fail> {
     Ok(())
 }
 
-#[test]
-fn laws_hold() {
-    crate::the_list_decides();
-    crate::octowords_are_counted_once();
-    crate::pages_are_those_of_the_bytes();
-    crate::units_hold_all_bytes();
-}
-
 /// Whether values of a type may move between threads and be shared by them.
 fn is_shared<T: Send + Sync>() -> bool {
     true

@@ -5,6 +5,7 @@ use Rattle.std.proofs.Common.{get_or, replicate, Result, Ok, Err, refl, sym, ap,
 use Rattle.std.specs.Prelude.{◌||◌, ◌&&◌, not}
 use Rattle.std.proofs.lemmas.Bool.{cases_lt, cond-true, cond-false, lt-ltb, le-ltb}
 use Rattle.std.proofs.lemmas.List.{ext_get_or, length-replicate}
+use borrow.Enum.Arm.{by_way}
 use Rattle.bit_set.specs.Counts.{count_below}
 use Rattle.bit_set.proofs.Counts.{count_agree, count_none}
 use Rattle.bit_set.proofs.Marks.{clear_at}
@@ -19,7 +20,6 @@ use Rattle.tx_footprint.specs.declared.places.TheConstants.{LINE_SIZE, BLOCKS}
 use Rattle.tx_footprint.specs.Places.{has_place, fetches, stores, touched_by, marked_or_touched}
 use Rattle.tx_footprint.specs.Touched.{Sets, untouched, touching, line_count, block_count, fit_of}
 use Rattle.tx_footprint.specs.Touched.{Touched, sets_of, IsKept}
-use Rattle.tx_footprint.proofs.Spans.{cases}
 
 -- ---- a line is touched where it is fetched or stored
 
@@ -76,9 +76,9 @@ all_fit sets le few =
 pub fits_from : (sets : Sets) → fit_of sets ≡ Ok tt
     → (line_count sets ≤ MOST_LINES) × (block_count sets ≤ MOST_BLOCKS)
 fits_from sets e =
-    cases (cases_lt MOST_LINES (line_count sets))
+    by_way (cases_lt MOST_LINES (line_count sets))
     (λ over. let n : Err Fetch ≡ Ok tt = sym (too_many_lines sets over) ∙ e in cc)
-    (λ le. cases (cases_lt MOST_BLOCKS (block_count sets))
+    (λ le. by_way (cases_lt MOST_BLOCKS (block_count sets))
     (λ over. let n : Err Store ≡ Ok tt = sym (too_many_blocks sets le over) ∙ e in cc)
     (λ few. (le, few)))
 

@@ -7,12 +7,12 @@ use Rattle.std.proofs.lemmas.Bool.{cases_eq, cases_lt, and_right, and_from, or_f
 use Rattle.std.proofs.lemmas.List.{get_or-take, length-take}
 use Rattle.std.proofs.lemmas.List.Folds.{list_any_more, list_any_at}
 use Rattle.std.proofs.lemmas.Option.{get_or_from_slice_get, slice_get_within}
+use borrow.Enum.Arm.{by_way}
 use Rattle.bit_set.specs.Counts.{one_if, count_below, but_at}
 use Rattle.bit_set.proofs.Counts.{count_agree, count_but_at, but_at-same, but_at-other}
 use Rattle.z_regs.specs.declared.ranges.Range.{Range}
 use Rattle.tx_footprint.specs.declared.places.Kind.{Kind}
 use Rattle.tx_footprint.specs.Places.{IsInStorage, covers, touched_by, lies_in, marked_or_touched}
-use Rattle.tx_footprint.proofs.Spans.{cases}
 
 pub storage_at : (ranges : List Range) (i : ℕ) (r : Range) → All IsInStorage ranges
     → slice_get ranges i ≡ Some r → IsInStorage r
@@ -71,7 +71,7 @@ marked_more marks kind ranges i r place e =
 
 lies_next : (first at k : ℕ) → k ≢ at → lies_in first (at + 1) k ≡ lies_in first at k
 lies_next first at k ne =
-    cases (cases_lt k at)
+    by_way (cases_lt k at)
     (λ low. ap (λ b. leb first k && b) (lt-ltb k (at + 1) (omega (arith, low)) ∙ sym (lt-ltb k at low)))
     (λ high. ap (λ b. leb first k && b) (le-ltb k (at + 1) (omega (arith, high, ne))
     ∙ sym (le-ltb k at high)))
@@ -103,7 +103,7 @@ count_next n there first at le lt =
     each : (k : ℕ)
         → (there k || lies_in first (at + 1) k) ≡ but_at (λ j. there j || lies_in first at j) at true k
     each k =
-        cases (cases_eq k at)
+        by_way (cases_eq k at)
         (λ e.
         ap (λ j. there j || lies_in first (at + 1) j) e ∙ ap (λ b. there at || b) (lies_last first at le)
         ∙ or_true (there at)

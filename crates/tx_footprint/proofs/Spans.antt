@@ -1,7 +1,6 @@
 -- The places of a range, by its addresses and as a span.
 use Rattle.std.proofs.Common.{◌≡◌, ℕ, ◌+◌, ◌-◌, ◌*◌, ◌/◌, ◌<◌, ◌≤◌, true, false, eqb, ltb, leb, get_or}
-use Rattle.std.proofs.Common.{⊎_elim, sym, ap, ◌∙◌, arith}
-use Rattle.std.specs.Prelude.{◌⊎◌}
+use Rattle.std.proofs.Common.{sym, ap, ◌∙◌, arith}
 use Rattle.std.specs.List.{range_with_len}
 use Rattle.std.proofs.Math.Nat.{div-mul-le_self, le-div_iff_mul-le}
 use Rattle.std.proofs.lemmas.Nat.{div-mul-add}
@@ -9,13 +8,11 @@ use Rattle.std.proofs.lemmas.Bool.{cases_lt, cases_Bool, eq-eqb, eqb-true, and_p
 use Rattle.std.proofs.lemmas.Bool.{ltb-true, le-leb, lt-ltb, le-ltb, and_right, false_from_ne_true}
 use Rattle.std.proofs.lemmas.List.FromFn.{length-range_with_len, get_or-range_with_len}
 use Rattle.std.proofs.lemmas.List.Folds.{Any-from_list_any, list_any_at}
+use borrow.Enum.Arm.{by_way}
 use Rattle.z_regs.specs.declared.ranges.Range.{Range}
 use Rattle.tx_footprint.specs.declared.places.Kind.{Kind}
 use Rattle.tx_footprint.specs.declared.places.Kind.TheVariants.{Line, FetchedLine, StoredLine, StoredBlock}
 use Rattle.tx_footprint.specs.Places.{has_place, lies_in, size_of, places_of}
-
-pub cases : {A B C : Type 0} → A ⊎ B → (A → C) → (B → C) → C
-cases s f g = ⊎_elim f g s
 
 -- a range has a place exactly where one of its addresses lies there
 pub has_place-from : (size : ℕ) (r : Range) (place address : ℕ) → r.first ≤ address
@@ -61,7 +58,7 @@ has_span size r place some bytes e =
     let from : r.first / size ≤ place = leb-true _ _ parts.0 in
     let below : place < (r.first + r.length - 1) / size + 1 = ltb-true _ _ parts.1 in
     let start : place * size ≤ r.first + r.length - 1 = (le-div_iff_mul-le some).0 (omega (arith, below)) in
-    cases (cases_lt (place * size) r.first)
+    by_way (cases_lt (place * size) r.first)
     (λ before.
     let back : place ≤ r.first / size = (le-div_iff_mul-le some).1 (omega (arith, before)) in
     has_place-from size r place r.first (omega arith) (omega (arith, bytes)) (omega (arith, from, back)))
@@ -74,7 +71,7 @@ has_span size r place some bytes e =
 pub span_is : (size : ℕ) (r : Range) (place : ℕ) → 0 < size → 0 < r.length
     → lies_in (r.first / size) ((r.first + r.length - 1) / size + 1) place ≡ has_place size r place
 span_is size r place some bytes =
-    cases (cases_Bool (has_place size r place))
+    by_way (cases_Bool (has_place size r place))
     (λ set. span_has size r place some set ∙ sym set)
     (λ off. false_from_ne_true (lies_in (r.first / size) ((r.first + r.length - 1) / size + 1) place)
     (λ lies. let n : false ≡ true = sym off ∙ has_span size r place some bytes lies in cc) ∙ sym off)

@@ -7,7 +7,7 @@ use Rattle.std.proofs.lemmas.Bool.Decides.{Decides-eqb}
 use Rattle.std.specs.FinSet.{FinSet, contains, same_set, nat_cmp-IsAntisymmetric}
 use Rattle.std.specs.Ordering.{nat_cmp}
 use Rattle.std.specs.Cmp.{nat_cmp_total, booleans_Decides}
-use Rattle.std.proofs.lemmas.Bool.{cases_lt}
+use Rattle.std.proofs.lemmas.Bool.{cases_lt, and_parts}
 use Rattle.std.proofs.lemmas.List.{get_or-map}
 use mathlib.Core.Logic.{⊎_elim}
 use Rattle.z_regs.specs.Cpu.{Cpu, cpu_of}
@@ -83,16 +83,12 @@ decided v w b same schedule = (
 
 -- ---- what the comparisons that are derived decide
 
-both_hold : (a b : Bool) → (a && b) ≡ true → (a ≡ true) × (b ≡ true)
-both_hold true b is = (refl, is)
-both_hold false b is = absurd (cc is)
-
 pub show_decides : (a b : Show)
     → Decides ((a.first == b.first) && ((a.length == b.length) && beq a.fields b.fields)) (a ≡ b)
 show_decides a b = (
   λ h.
-      let parts = both_hold (a.first == b.first) ((a.length == b.length) && beq a.fields b.fields) h in
-      let others = both_hold (a.length == b.length) (beq a.fields b.fields) parts.1 in
+      let parts = and_parts (a.first == b.first) ((a.length == b.length) && beq a.fields b.fields) h in
+      let others = and_parts (a.length == b.length) (beq a.fields b.fields) parts.1 in
       let first = (Decides-eqb a.first b.first).0 parts.0 in
       let length = (Decides-eqb a.length b.length).0 others.0 in
       let fields = (booleans_Decides a.fields b.fields).0 others.1 in

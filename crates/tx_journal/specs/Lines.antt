@@ -6,6 +6,7 @@ use Rattle.std.specs.Fmt.{decimal}
 use Rattle.std.specs.Int.{to_be_bytes}
 use Rattle.hex.specs.Hex.{encode_lower}
 use mir.Syntax.{w16, w64}
+use Rattle.z_regs.specs.Prefix.{storage_size}
 use Rattle.tx_control.specs.declared.abort_codes.TheConstants as abort
 use Rattle.tx_control.specs.declared.causes.Why.{Why}
 use Rattle.tx_control.specs.declared.causes.Why.TheVariants.{Program, FetchConflict, StoreConflict, Filtered}
@@ -89,7 +90,7 @@ says_line code = nat_eq code abort.FETCH_CONFLICT || nat_eq code abort.STORE_CON
 
 -- a line of storage begins there
 pub record IsLineAddress (address : ℕ) : Type 0 where
-  pub within : address < 1048576
+  pub within : address < storage_size
   pub boundary : address % 256 ≡ 0
 
 -- the detail is one that an abort of this code has

@@ -1,13 +1,14 @@
 -- What is kept beside the stop queue stays true as CPUs join, leave and go to the tail.
 use Rattle.std.proofs.Common.{◌≡◌, ◌≢◌, ℕ, zero, suc, ◌+◌, ◌<◌, Bool, true, false, cond, eqb, List, [], ◌∷◌}
-use Rattle.std.proofs.Common.{◌++◌, length, get_or, set, take, drop, refl, sym, ap, ◌∙◌, arith, ⊎_elim}
-use Rattle.std.specs.Prelude.{◌||◌, ◌⊎◌, All, AllPairs, count_by}
+use Rattle.std.proofs.Common.{◌++◌, length, get_or, set, take, drop, refl, sym, ap, ◌∙◌, arith}
+use Rattle.std.specs.Prelude.{◌||◌, All, AllPairs, count_by}
 use Rattle.std.proofs.lemmas.Bool.{cases_eq, cases_lt, eqb-false, ne_eqb, eq-eqb, or_parts, or_from, or_left}
 use Rattle.std.proofs.lemmas.Bool.{or_right}
 use Rattle.std.proofs.lemmas.List.{get_or-set_same, get_or-set_other, get_or_past, length-set, length_push}
 use Rattle.std.proofs.lemmas.List.Folds.{list_any-append, list_any_at}
 use Rattle.std.proofs.lemmas.List.Quantifiers.{all_pairs_push}
 use Rattle.std.proofs.lemmas.List.Sums.{sum_by-set, count_by-le-length}
+use borrow.Enum.Arm.{by_way}
 use Rattle.tx_ladder.specs.Waiting.{waits_in, IsKept}
 
 abbrev mark_count : List Bool → ℕ
@@ -29,9 +30,6 @@ or_swap true false = refl
 or_swap false true = refl
 or_swap false false = refl
 
-cases : {A B C : Type 0} → A ⊎ B → (A → C) → (B → C) → C
-cases s f g = ⊎_elim f g s
-
 -- who is not in the list is at none of its places
 absent : (xs : List ℕ) (c k d : ℕ) → waits_in xs c ≡ false → k < length xs → get_or xs k d ≢ c
 absent [] c k d h l = absurd (omega arith)
@@ -47,7 +45,7 @@ away (x ∷ xs) c h =
 -- a CPU with a mark is below their number
 pub marked_below : (marks : List Bool) (c : ℕ) → get_or marks c false ≡ true → c < length marks
 marked_below marks c e =
-    cases (cases_lt c (length marks))
+    by_way (cases_lt c (length marks))
     (λ lt. lt)
     (λ ge. let n : false ≡ true = sym (get_or_past marks c false ge) ∙ e in cc)
 
@@ -80,7 +78,7 @@ joined marks order room c kept lt off =
     λ y. list_any-append (λ x. eqb x y) order (c ∷ []) in
     let none : bit (get_or marks c false) ≡ 0 = ap bit (kept.marked c ∙ off) in
     record {
-      marked = λ y. cases (cases_eq y c)
+      marked = λ y. by_way (cases_eq y c)
           (λ e. ap (λ z. get_or (set marks c true) z false) e ∙ get_or-set_same marks c true false lt
           ∙ sym (last y
           ∙ or_right (waits_in order y) (eqb c y || false)
@@ -110,7 +108,7 @@ left marks c rest room kept =
     let one : bit (get_or marks c false) ≡ 1 =
     ap bit (kept.marked c ∙ or_left (eqb c c) (waits_in rest c) (eq-eqb c c refl)) in
     record {
-      marked = λ y. cases (cases_eq y c)
+      marked = λ y. by_way (cases_eq y c)
           (λ e. ap (λ z. get_or (set marks c false) z false) e ∙ get_or-set_same marks c false false lt
           ∙ sym (ap (waits_in rest) e ∙ first_apart c rest kept.once))
           (λ ne. get_or-set_other marks c y false false ne ∙ kept.marked y

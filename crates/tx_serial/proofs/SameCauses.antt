@@ -1,7 +1,7 @@
 -- Causes that are the same.
 use Rattle.std.proofs.Common.{◌≡◌, ℕ, Bool, true, false, refl, sym, ap, arith}
 use Rattle.std.specs.Prelude.{◌&&◌, nat_eq}
-use Rattle.std.proofs.lemmas.Bool.{true≢false, and_from}
+use Rattle.std.proofs.lemmas.Bool.{true≢false, and_from, and_parts}
 use Rattle.z_instr.specs.Facts.{agree}
 use Rattle.tx_control.specs.declared.exceptions.Exception.{Exception}
 use Rattle.tx_control.specs.declared.causes.Why.{Why}
@@ -9,10 +9,6 @@ use Rattle.tx_control.specs.declared.causes.Why.TheVariants.{External, Program, 
 use Rattle.tx_control.specs.declared.causes.Why.TheVariants.{StoreConflict, FetchOverflow, StoreOverflow}
 use Rattle.tx_control.specs.declared.causes.Why.TheVariants.{Restricted, Filtered, Depth, Starved, Tabort}
 use Rattle.tx_serial.specs.Ending.{is_same_exception, is_same_cause}
-
-both_hold : (a b : Bool) → (a && b) ≡ true → (a ≡ true) × (b ≡ true)
-both_hold true b h = (refl, h)
-both_hold false b h = absurd (true≢false (sym h))
 
 same_number : (m n : ℕ) → nat_eq m n ≡ true → m ≡ n
 same_number m n h = grind (arith, h)
@@ -31,8 +27,8 @@ agrees_itself false = refl
 
 same_exception : (d e : Exception) → is_same_exception d e ≡ true → d ≡ e
 same_exception d e h =
-    let first = both_hold (nat_eq d.code e.code) (agree d.fetch e.fetch && nat_eq d.length e.length) h in
-    let rest = both_hold (agree d.fetch e.fetch) (nat_eq d.length e.length) first.1 in
+    let first = and_parts (nat_eq d.code e.code) (agree d.fetch e.fetch && nat_eq d.length e.length) h in
+    let rest = and_parts (agree d.fetch e.fetch) (nat_eq d.length e.length) first.1 in
     let code = same_number d.code e.code first.0 in
     let fetch = agreeing d.fetch e.fetch rest.0 in
     let length = same_number d.length e.length rest.1 in

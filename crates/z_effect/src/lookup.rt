@@ -1,4 +1,4 @@
-// Kinds by operations.
+//! Kinds by operations.
 ghost use Rattle.std.specs.Prelude.{◌≡◌};
 ghost use Rattle.z_effect.specs.Kinds.{kind_at};
 
@@ -10,5 +10,5 @@ use z_instr::op::Op;
 pub fn kind_of(op: Op) -> Kind
     ensures { result ≡ kind_at op.number }
 {
-    KINDS[op.number as usize]
+    KINDS[op.number as usize].kind
 }

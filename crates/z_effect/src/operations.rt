@@ -1,4 +1,4 @@
-// Operations on numbers, by their kinds.
+//! Operations on numbers, by their kinds.
 ghost use Rattle.std.specs.Prelude.{◌≡◌, ◌<◌, ◌^◌, ℕ};
 ghost use Rattle.z_arith.specs.Whole.{bits, signed, modulo, sign_code, plain_answer};
 ghost use Rattle.z_effect.specs.Operations.{logic_of, logic_answer as answer_of, zero_code as code_of, combined, compared, extended, size_of, bits_in, shifted};
@@ -43,7 +43,7 @@ fn plain(value: u64, condition: u8) -> Answer
 /// A result that is zero, negative or positive.
 fn tested(w: Width, value: u64) -> Answer
     requires { value < 2 ^ bits w }
-    ensures answer { result ≡ plain_answer value (sign_code (signed (bits w) value)) }
+    ensures value { result ≡ plain_answer value (sign_code (signed (bits w) value)) }
     ensures code { result.condition < 4 }
 {
     let condition = match number(w, value).signum() {
@@ -58,7 +58,7 @@ fn tested(w: Width, value: u64) -> Answer
 fn logic_answer(kind: Logic, w: Width, a: u64, b: u64) -> Answer
     requires a_in { a < 2 ^ bits w }
     requires b_in { b < 2 ^ bits w }
-    ensures answer { result ≡ answer_of (logic_of kind a b) }
+    ensures value { result ≡ answer_of (logic_of kind a b) }
     ensures fits { result.value < 2 ^ bits w }
     ensures code { result.condition < 4 }
 {
@@ -73,7 +73,7 @@ pub fn combine(operation: Operation, w: Width, condition: u8, a: u64, b: u64) ->
     requires a_in { a < 2 ^ bits w }
     requires b_in { b < 2 ^ bits w }
     requires condition_in { condition < 4 }
-    ensures answer { result ≡ combined operation w condition a b }
+    ensures value { result ≡ combined operation w condition a b }
     ensures fits { result.value < 2 ^ bits w }
     ensures code { result.condition < 4 }
 {
@@ -98,7 +98,7 @@ pub fn combine(operation: Operation, w: Width, condition: u8, a: u64, b: u64) ->
 pub fn compare(order: Order, w: Width, a: u64, b: u64) -> u8
     requires a_in { a < 2 ^ bits w }
     requires b_in { b < 2 ^ bits w }
-    ensures answer { result ≡ compared order w a b }
+    ensures value { result ≡ compared order w a b }
     ensures code { result < 4 }
 {
     match order {
@@ -168,7 +168,7 @@ pub fn shift(kind: Shift, w: Width, condition: u8, value: u64, amount: u32) -> A
     requires value_in { value < 2 ^ bits w }
     requires amount_in { amount < 64 }
     requires condition_in { condition < 4 }
-    ensures answer { result ≡ shifted kind w condition value amount }
+    ensures value { result ≡ shifted kind w condition value amount }
     ensures fits { result.value < 2 ^ bits w }
     ensures code { result.condition < 4 }
 {

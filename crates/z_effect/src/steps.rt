@@ -1,4 +1,4 @@
-// Steps on a CPU that instructions share.
+//! Steps on a CPU that instructions share.
 ghost use Rattle.std.specs.Prelude.{◌≡◌, ◌<◌, ◌^◌, ℕ, List};
 ghost use Rattle.z_arith.specs.Whole.{bits};
 ghost use Rattle.z_regs.specs.Cpu.{cpu_of};

@@ -1,5 +1,5 @@
-// Expected values follow from what the architecture says of the operations; where a line says so, they are
-// those that QEMU and Hercules answer.
+//! Expected values follow from what the architecture says of the operations; where a line says so, they are
+//! those that QEMU and Hercules answer.
 
 use crate::kind::{
     Branch, Combination, General, Kind, Logic, Operation, Order, Part, Place, Source, Storage,

@@ -1,4 +1,4 @@
-// The addresses of operands, and which registers and condition codes an instruction names.
+//! The addresses of operands, and which registers and condition codes an instruction names.
 ghost use Rattle.std.specs.Prelude.{◌≡◌, ◌<◌};
 ghost use Rattle.z_instr.specs.Operands.{part, address, selects, registers_between, first_address as first_of, second_address as second_of};
 

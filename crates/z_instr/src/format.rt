@@ -1,4 +1,4 @@
-// The formats of instructions.
+//! The formats of instructions.
 ghost use Rattle.std.specs.Prelude.{◌≡◌};
 ghost use Rattle.z_instr.specs.Layout.{place, format_length};
 

@@ -1,4 +1,4 @@
-// Instructions.
+//! Instructions.
 ghost use Rattle.std.specs.Prelude.{◌≡◌, ◌<◌, ◌↔◌, IsTrue, true, IfSome, IsSome};
 ghost use Rattle.z_instr.specs.Table.{entry_at};
 ghost use Rattle.z_instr.specs.Ranges.{are_within, are_registers_within, are_numbers_within, limits_of, AreBelowSixteen};

@@ -1,5 +1,5 @@
-// What holds of the whole table, and of every reading. Each law is the contract of a function that does
-// nothing.
+//! What holds of the whole table, and of every reading. Each law is the contract of a function that does
+//! nothing.
 ghost use Rattle.std.specs.Prelude.{◌≡◌, ◌<◌, ℕ, List, length, get_or, true, nat_eq, ◌≤◌, All};
 ghost use Rattle.std.specs.Prelude.{◌↔◌, Some, None};
 ghost use Rattle.std.specs.List.{list_any};

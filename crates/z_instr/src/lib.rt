@@ -1,6 +1,6 @@
-// The instructions of the machine: their table, their fields, and how their bytes are read. Names, formats,
-// opcodes and operands are those of z/Architecture, as its Principles of Operation gives them; which
-// operations transactions refuse is this machine's choice.
+//! The instructions of the machine: their table, their fields, and how their bytes are read. Names, formats,
+//! opcodes and operands are those of z/Architecture, as its Principles of Operation gives them; which
+//! operations transactions refuse is this machine's choice.
 #![tactic(auto)]
 
 pub mod addresses;

@@ -1,4 +1,4 @@
-// Which values the fields of instructions may have.
+//! Which values the fields of instructions may have.
 ghost use Rattle.std.specs.Prelude.{◌≡◌};
 ghost use Rattle.z_instr.specs.Table.{entry_at};
 ghost use Rattle.z_instr.specs.Ranges.{limits_in, limits_of, is_within, half, full, unless, given};

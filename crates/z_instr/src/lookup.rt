@@ -1,4 +1,4 @@
-// Rows by operations and by names.
+//! Rows by operations and by names.
 ghost use Rattle.std.specs.Prelude.{◌≡◌, ◌<◌, ◌≤◌, ℕ, IfSome, IfNone, take};
 ghost use Rattle.std.specs.Str.{IsAscii};
 ghost use Rattle.z_instr.specs.Table.{entry_at};

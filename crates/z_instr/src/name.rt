@@ -1,4 +1,4 @@
-// The names of operations.
+//! The names of operations.
 ghost use Rattle.std.specs.Prelude.{◌≡◌, List, ℕ, take, length, ◌≤◌};
 ghost use Rattle.std.specs.Str.{IsAscii};
 

@@ -1,4 +1,4 @@
-// Operations.
+//! Operations.
 ghost use Rattle.std.specs.Prelude.{◌<◌};
 ghost use Rattle.z_instr.specs.declared.table.TheConstants.{ROWS};
 

@@ -1,4 +1,4 @@
-// The operands in storage, and what an operation demands of its fields and operands.
+//! The operands in storage, and what an operation demands of its fields and operands.
 ghost use Rattle.std.specs.Prelude.{◌≡◌, ◌<◌};
 ghost use Rattle.z_instr.specs.Operands.{bytes_of};
 

@@ -1,4 +1,4 @@
-// What part an instruction has in the rules of transactions.
+//! What part an instruction has in the rules of transactions.
 ghost use Rattle.std.specs.Prelude.{◌≡◌};
 ghost use Rattle.z_instr.specs.Table.{entry_at};
 ghost use Rattle.z_instr.specs.Roles.{is_end as ends, sets_access_register as sets_access, is_relative_branch as branches, begins as begins_one, block_named as named};

@@ -1,4 +1,4 @@
-// The rows of the instruction table.
+//! The rows of the instruction table.
 
 use crate::format::Format;
 use crate::name::Name;

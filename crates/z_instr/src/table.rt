@@ -1,4 +1,4 @@
-// The instruction table, in the order of its rows.
+//! The instruction table, in the order of its rows.
 
 use crate::format::Format;
 use crate::operand::Operands::{

@@ -1,4 +1,4 @@
-// Row numbers and columns as the instruction table lists them, and fields at the edges of their ranges.
+//! Row numbers and columns as the instruction table lists them, and fields at the edges of their ranges.
 
 use crate::addresses::{first_address, is_selected, registers_named, second_address};
 use crate::format::{Format, Place, length_in, place_of};

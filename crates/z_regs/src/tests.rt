@@ -1,3 +1,5 @@
+//! Registers, storage, prefixes and ranges at values worked by hand.
+
 use crate::{
     Bytes, CpuImage, Guard, Range, RealView, RunState, Storage, Touches, Waiting, absolute,
     load_psw, psw_of,

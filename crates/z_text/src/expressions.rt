@@ -25,7 +25,7 @@ fn is_term(kind: TokenKind) -> bool
 }
 
 fn begins_term(tokens: &[Token]) -> bool
-    ensures is { result ≡ begins_term tokens.now }
+    ensures value { result ≡ begins_term tokens.now }
     ensures some { IsTrue result → 0 < length tokens.now }
 {
     match tokens {
@@ -35,7 +35,7 @@ fn begins_term(tokens: &[Token]) -> bool
 }
 
 fn begins_signed_term(tokens: &[Token]) -> bool
-    ensures is { result ≡ begins_signed_term tokens.now }
+    ensures value { result ≡ begins_signed_term tokens.now }
     ensures two { IsTrue result → 1 < length tokens.now }
 {
     match tokens {
@@ -47,7 +47,7 @@ fn begins_signed_term(tokens: &[Token]) -> bool
 /// How many tokens the signed terms at the front are.
 #[tactic(auto, using(std::proofs::lemmas::List::take_rest, crate::proofs::Terms::size_goes_on, crate::proofs::Terms::size_ends))]
 fn signed_terms_size(tokens: &[Token]) -> usize
-    ensures is { result ≡ signed_terms_size tokens.now }
+    ensures value { result ≡ signed_terms_size tokens.now }
     ensures within { result ≤ length tokens.now }
 {
     let mut size = 0;
@@ -60,7 +60,7 @@ fn signed_terms_size(tokens: &[Token]) -> usize
 /// How many tokens the longest expression at the front has, 0 where none begins.
 #[tactic(auto, unfolding(crate::specs::Expressions::expression_size))]
 fn expression_size(tokens: &[Token]) -> usize
-    ensures is { result ≡ expression_size tokens.now }
+    ensures value { result ≡ expression_size tokens.now }
     ensures within { result ≤ length tokens.now }
 {
     if begins_term(tokens) {
@@ -71,7 +71,7 @@ fn expression_size(tokens: &[Token]) -> usize
 
 fn end_of(tokens: &[Token], at: usize) -> Option<usize>
     requires { at ≤ length tokens.now }
-    ensures is { result ≡ end_of tokens.now at }
+    ensures value { result ≡ end_of tokens.now at }
     ensures later { IfSome result (λ end. at < end) }
     ensures within { IfSome result (λ end. end ≤ length tokens.now) }
 {
@@ -85,7 +85,7 @@ fn end_of(tokens: &[Token], at: usize) -> Option<usize>
 /// exactly where none begins there.
 pub fn expression_end(tokens: &[Token], at: usize) -> Option<usize>
     requires { at ≤ length tokens.now }
-    ensures is { result ≡ end_of tokens.now at }
+    ensures value { result ≡ end_of tokens.now at }
     ensures longest { IsLongest tokens.now at result }
     ensures later { IfSome result (λ end. at < end) }
     ensures within { IfSome result (λ end. end ≤ length tokens.now) }
@@ -104,7 +104,7 @@ fn value_at(
     requires tokens { AreTokensIn text.now tokens.now }
     requires at { at ≤ length tokens.now }
     requires here { here ≤ 1048576 }
-    ensures is { result ≡ expression_of text.now tokens.now at labels.now here }
+    ensures value { result ≡ expression_of text.now tokens.now at labels.now here }
     ensures later { IfOk result (λ r. at < r.1) }
     ensures within { IfOk result (λ r. r.1 ≤ length tokens.now) }
 {
@@ -133,7 +133,7 @@ pub fn expression(
     requires tokens { AreTokensIn text.now tokens.now }
     requires at { at ≤ length tokens.now }
     requires here { here ≤ 1048576 }
-    ensures is { result ≡ expression_of text.now tokens.now at labels.now here }
+    ensures value { result ≡ expression_of text.now tokens.now at labels.now here }
     ensures cause { HasCause text.now tokens.now at labels.now result }
     ensures later { IfOk result (λ r. at < r.1) }
     ensures within { IfOk result (λ r. r.1 ≤ length tokens.now) }

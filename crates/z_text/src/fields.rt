@@ -21,14 +21,14 @@ pub struct Fields {
 }
 
 fn count_blanks(line: &[u8]) -> usize
-    ensures is { result ≡ prefix_len is_blank line.now }
+    ensures value { result ≡ prefix_len is_blank line.now }
     ensures within { result ≤ length line.now }
 {
     line.iter().take_while(|b| **b == b' ').count()
 }
 
 fn count_inked(line: &[u8]) -> usize
-    ensures is { result ≡ prefix_len is_inked line.now }
+    ensures value { result ≡ prefix_len is_inked line.now }
     ensures within { result ≤ length line.now }
 {
     line.iter().take_while(|b| **b != b' ').count()
@@ -37,7 +37,7 @@ fn count_inked(line: &[u8]) -> usize
 #[tactic(auto, using(std::proofs::lemmas::List::take_rest))]
 fn past_blanks(line: &[u8], at: usize) -> usize
     requires { at ≤ length line.now }
-    ensures is { result ≡ past is_blank at line.now }
+    ensures value { result ≡ past is_blank at line.now }
     ensures within { result ≤ length line.now }
 {
     at + count_blanks(&line[at..])
@@ -46,7 +46,7 @@ fn past_blanks(line: &[u8], at: usize) -> usize
 #[tactic(auto, using(std::proofs::lemmas::List::take_rest))]
 fn past_inked(line: &[u8], at: usize) -> usize
     requires { at ≤ length line.now }
-    ensures is { result ≡ past is_inked at line.now }
+    ensures value { result ≡ past is_inked at line.now }
     ensures within { result ≤ length line.now }
 {
     at + count_inked(&line[at..])
@@ -55,7 +55,7 @@ fn past_inked(line: &[u8], at: usize) -> usize
 /// The parts of a line.
 #[tactic(auto, unfolding(crate::specs::Line::fields_of))]
 pub(crate) fn fields_of(line: &[u8]) -> Fields
-    ensures is { result ≡ fields_of line.now }
+    ensures value { result ≡ fields_of line.now }
     ensures label { result.label_end ≤ result.operation }
     ensures operation { result.operation ≤ result.operation_end }
     ensures between { result.operation_end ≤ result.operands }
@@ -102,7 +102,7 @@ fn are_letters_or_digits(text: &[u8]) -> bool
 
 /// Whether it is a capital letter with up to 15 capital letters or digits.
 pub(crate) fn is_name(text: &[u8]) -> bool
-    ensures is { result ≡ is_name text.now }
+    ensures value { result ≡ is_name text.now }
     ensures some { IsTrue result → 0 < length text.now }
     ensures short { IsTrue result → length text.now ≤ 16 }
 {

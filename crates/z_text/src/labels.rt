@@ -48,7 +48,7 @@ impl Labels {
 
     /// The value of the label of this name, if there is one.
     pub fn value(&self, name: &[u8]) -> Option<i128>
-        ensures is { result ≡ value_in self.now name.now }
+        ensures value { result ≡ value_in self.now name.now }
         ensures low { IfSome result (λ v. negsuc (2 ^ 63 - 1) ≤ℤ v) }
         ensures high { IfSome result (λ v. v ≤ℤ pos (2 ^ 64 - 1)) }
     {

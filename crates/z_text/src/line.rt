@@ -18,7 +18,7 @@ fn has_bad_head(line: &[u8], parts: Fields) -> bool
     requires label { parts.label_end ≤ parts.operation }
     requires operation { parts.operation ≤ parts.operation_end }
     requires within { parts.operation_end ≤ length line.now }
-    ensures is { result ≡ has_bad_head line.now parts }
+    ensures value { result ≡ has_bad_head line.now parts }
     ensures label_size { result ≡ false → parts.label_end ≤ 16 }
     ensures some { result ≡ false → parts.operation < parts.operation_end }
     ensures operation_size { result ≡ false → parts.operation_end ≤ parts.operation + 16 }
@@ -120,7 +120,7 @@ fn are_good_numbers(text: &[u8], tokens: &[Token]) -> bool
 /// The tokens of a text, or its first fault.
 #[tactic(auto, unfolding(crate::specs::Tokens::tokens_of))]
 fn tokens_of(alloc: Global, text: &[u8]) -> Result<Vec<Token>, TextFault>
-    ensures is { Gives (λ v. v.items) result (tokens_of text.now) }
+    ensures value { Gives (λ v. v.items) result (tokens_of text.now) }
     ensures inside { IfOk result (λ v. AreTokensIn text.now v.items) }
     ensures too_long { (result ≡ Err TextFault.LineTooLong) ↔ (120 < length text.now) }
 {
@@ -147,7 +147,7 @@ fn tokens_of(alloc: Global, text: &[u8]) -> Result<Vec<Token>, TextFault>
 /// [`TextFault::BadToken`] anywhere in the line; [`TextFault::BadNumber`] anywhere in the line.
 /// [`TextFault::Memory`] may come at any line that is not too long.
 pub fn tokens(alloc: Global, text: &[u8]) -> Result<Vec<Token>, TextFault>
-    ensures is { Gives (λ v. v.items) result (tokens_of text.now) }
+    ensures value { Gives (λ v. v.items) result (tokens_of text.now) }
     ensures inside { IfOk result (λ v. AreTokensIn text.now v.items) }
     ensures too_long { (result ≡ Err TextFault.LineTooLong) ↔ (120 < length text.now) }
     ensures filled { IfOk result (λ v. FillOperands (as_read text.now) v.items) }

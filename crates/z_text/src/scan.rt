@@ -26,7 +26,7 @@ fn kind_at(line: &[u8]) -> Option<TokenKind>
 }
 
 fn count_number_bytes(line: &[u8]) -> usize
-    ensures is { result ≡ prefix_len continues_number line.now }
+    ensures value { result ≡ prefix_len continues_number line.now }
     ensures within { result ≤ length line.now }
 {
     line.iter()
@@ -35,7 +35,7 @@ fn count_number_bytes(line: &[u8]) -> usize
 }
 
 fn count_name_bytes(line: &[u8]) -> usize
-    ensures is { result ≡ prefix_len is_letter_or_digit line.now }
+    ensures value { result ≡ prefix_len is_letter_or_digit line.now }
     ensures within { result ≤ length line.now }
 {
     line.iter()
@@ -46,7 +46,7 @@ fn count_name_bytes(line: &[u8]) -> usize
 #[tactic(auto, using(std::proofs::lemmas::List::take_rest))]
 fn size_of_token(kind: TokenKind, line: &[u8]) -> usize
     requires { 0 < length line.now }
-    ensures is { result ≡ size_for (Some kind) line.now }
+    ensures value { result ≡ size_for (Some kind) line.now }
     ensures some { 0 < result }
     ensures within { result ≤ length line.now }
 {

@@ -18,7 +18,7 @@ use crate::token::{Token, TokenKind};
 /// The value of the label, whose name is read in capitals.
 fn label_value(name: &[u8], labels: &Labels) -> Option<i128>
     requires { length name.now ≤ 16 }
-    ensures is { result ≡ value_in labels.now (as_read name.now) }
+    ensures value { result ≡ value_in labels.now (as_read name.now) }
     ensures near { IfSome result IsNear }
 {
     let mut buffer = [0u8; 16];
@@ -29,7 +29,7 @@ fn label_value(name: &[u8], labels: &Labels) -> Option<i128>
 }
 
 fn number_value(kind: TokenKind, text: &[u8]) -> Option<i128>
-    ensures is { result ≡ option_map pos (number_of kind text.now) }
+    ensures value { result ≡ option_map pos (number_of kind text.now) }
     ensures near { IfSome result IsNear }
 {
     number_of(kind, text).map(i128::from)
@@ -40,7 +40,7 @@ fn number_value(kind: TokenKind, text: &[u8]) -> Option<i128>
 fn term_value(text: &[u8], token: Token, labels: &Labels, here: u64) -> Option<i128>
     requires inside { LiesIn (length text.now) token }
     requires here { here ≤ 1048576 }
-    ensures is { result ≡ term_value text.now labels.now here token }
+    ensures value { result ≡ term_value text.now labels.now here token }
     ensures near { IfSome result IsNear }
 {
     let term = &text[token.first..token.end];

@@ -1,3 +1,5 @@
+//! Operand tests of single instructions, expected as the architecture orders them.
+
 use crate::{fetchable, specified, touches};
 use std::test::Fail;
 use tx_control::{Exception, codes};

@@ -7,4 +7,4 @@ use Rattle.z_assemble.proofs.values.atom_at.Goals as goal
 pub returns-in-Some-clause-atom : goal.returns-in-Some-clause-atom
 returns-in-Some-clause-atom c =
     ap Value c.value_at.ensures
-    ∙ value_here c.args.line.now c.args.tokens.now c.args.at c.in-Some.end c.args.labels.now c.args.here (record { first = 0; end = 0; kind = Star }) c.requires.at (sym c.expression_end.ensures.is ∙ c.in-Some.is)
+    ∙ value_here c.args.line.now c.args.tokens.now c.args.at c.in-Some.end c.args.labels.now c.args.here (record { first = 0; end = 0; kind = Star }) c.requires.at (sym c.expression_end.ensures.value ∙ c.in-Some.is)

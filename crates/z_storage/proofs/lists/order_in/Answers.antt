@@ -10,7 +10,7 @@ loop-k-preserved g c =
 
 pub returns-then-a-b-clause-order : goal.returns-then-a-b-clause-order
 returns-then-a-b-clause-order g c =
-    c.compare.ensures.answer
+    c.compare.ensures.value
     ∙ sym (order_differs _ c.args.first c.args.second c.loop-k.k c.args.count _ _ (omega arith) (omega arith)
     (omega arith) (c.from.ensures ∙ c.get-a.ensures) (c.from-then-a-b.ensures ∙ c.get-b.ensures)
     (omega arith))

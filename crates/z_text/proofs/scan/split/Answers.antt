@@ -12,7 +12,7 @@ returns-then-is_too_long c =
     let size = c.size_of_token-size.ensures in
     found_bad c.args.line.now _ _ _ c.loop-at.at c.args.end c.size_of_token-size.result
     (Some c.in-Some.kind) c.loop-at.invariant c.loop-at-test.true c.requires.within size.some
-    (omega arith) (sym c.kind_at.ensures ∙ c.in-Some.is) size.is (sym c.is_too_long.ensures ∙
+    (omega arith) (sym c.kind_at.ensures ∙ c.in-Some.is) size.value (sym c.is_too_long.ensures ∙
     c.if-is_too_long.true)
 
 pub loop-at-preserved : goal.loop-at-preserved
@@ -20,7 +20,7 @@ loop-at-preserved c =
     let size = c.size_of_token-size.ensures in
     let s = scans_on c.args.line.now _ _ _ c.loop-at.at c.args.end c.size_of_token-size.result c.in-Some.kind
     c.loop-at.invariant c.loop-at-test.true c.requires.within size.some (omega arith)
-    (sym c.kind_at.ensures ∙ c.in-Some.is) size.is (sym c.is_too_long.ensures ∙ c.if-is_too_long.false) in
+    (sym c.kind_at.ensures ∙ c.in-Some.is) size.value (sym c.is_too_long.ensures ∙ c.if-is_too_long.false) in
     subst (λ items. Scans c.args.line.now c.args.tokens.now.items items c.args.first
     (c.loop-at.at + c.size_of_token-size.result) c.args.end) (sym c.in_ok-push.ensures.items) s
 
