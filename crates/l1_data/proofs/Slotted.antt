@@ -10,7 +10,8 @@ use Rattle.std.proofs.lemmas.Option.{slice_get-get_or}
 use Rattle.bit_set.specs.Counts.{count_below}
 use Rattle.bit_set.proofs.Counts.{count_agree}
 use Rattle.slot_index.specs.Slots.{Slots, slot_in, slot_without, is_key}
-use Rattle.slot_index.proofs.Found.{cases, slot_in-has, slot_in-add, slot_in-none, slot_cases}
+use borrow.Enum.Arm.{by_way}
+use Rattle.slot_index.proofs.Found.{slot_in-has, slot_in-add, slot_in-none, slot_cases}
 use Rattle.l1_data.specs.declared.copies.TheConstants.{LINES, LINE_SIZE}
 use Rattle.l1_data.specs.Copies.{Kept, Copies, copies_of, with_copy, no_copies, copy_count, byte_in, IsSound}
 use Rattle.l1_data.specs.Copies.{IsKept}
@@ -31,7 +32,7 @@ copies_of-is lines copies = copies_of-kept (record { lines = lines; copies = cop
 pub is_some-copy_at : (lines : List ℕ) (copies : List (List ℕ)) (line : ℕ)
     → is_some (copy_at lines copies line) ≡ is_key lines line
 is_some-copy_at lines copies line =
-    cases (slot_cases lines line)
+    by_way (slot_cases lines line)
     (λ found. ap (λ o. is_some (option_map (λ slot. get_or copies slot []) o)) found.1
     ∙ ap is_some (sym found.1))
     (λ none. ap (λ o. is_some (option_map (λ slot. get_or copies slot []) o)) none ∙ ap is_some (sym none))
@@ -57,7 +58,7 @@ same_line lines a b slot other ea eb e =
 at_with : (copies : Copies) (line q : ℕ) (copy now : Option (List ℕ)) → (q ≡ line → now ≡ copy)
     → (q ≢ line → now ≡ copies q) → now ≡ with_copy copies line copy q
 at_with copies line q copy now here other =
-    cases (cases_eq q line)
+    by_way (cases_eq q line)
     (λ e. here e ∙ sym (cond-true (eqb q line) copy (copies q) (eq-eqb q line e)))
     (λ ne. other ne ∙ sym (cond-false (eqb q line) copy (copies q) (ne_eqb q line ne)))
 
@@ -83,7 +84,7 @@ installed lines copies line n copy none is room i q = at q i
     other q ne =
         let stays : slot_in (lines ++ line ∷ []) q ≡ slot_in lines q = slot_now q
         ∙ cond-false (eqb q line) (Some (length lines)) (slot_in lines q) (ne_eqb q line ne) in
-        cases (slot_cases lines q)
+        by_way (slot_cases lines q)
         (λ found.
         let has = slot_in-has lines q found.0 found.1 in
         at_found (lines ++ line ∷ []) (set copies n copy) q found.0 (stays ∙ found.1)
@@ -115,7 +116,7 @@ changed lines copies line slot change e room i q =
     other : q ≢ line → copy_at lines (set copies slot (change (get_or copies slot []))) q ≡ copy_at lines
         copies q
     other ne =
-        cases (slot_cases lines q)
+        by_way (slot_cases lines q)
         (λ found. at_found lines (set copies slot (change (get_or copies slot []))) q found.0 found.1
         ∙ ap Some (get_or-set_other copies slot found.0 (change (get_or copies slot [])) []
         (λ same. ne (same_line lines line q slot found.0 e found.1 same)))
@@ -146,7 +147,7 @@ dropped lines now copies line slot moved e room is slots i q =
 
     other : q ≢ line → copy_at now (set copies slot moved) q ≡ copy_at lines copies q
     other ne =
-        cases (slot_cases lines q)
+        by_way (slot_cases lines q)
         (λ found. at_slot found.0 found.1 (λ same. ne (same_line lines line q slot found.0 e found.1 same)))
         (λ absent. at_none now (set copies slot moved) q (slots q ∙ ap (option_and_then after) absent)
         ∙ sym (at_none lines copies q absent))
@@ -157,7 +158,7 @@ dropped lines now copies line slot moved e room is slots i q =
             let kept : slot_in now q ≡ Some (cond (eqb s last) slot s) = slots q
             ∙ ap (option_and_then after) found
             ∙ cond-false (eqb s slot) None (Some (cond (eqb s last) slot s)) (ne_eqb s slot off) in
-            cases (cases_eq s last)
+            by_way (cases_eq s last)
             (λ at_last. at_found now (set copies slot moved) q slot
             (kept ∙ ap Some (cond-true (eqb s last) slot s (eq-eqb s last at_last)))
             ∙ ap Some (get_or-set_same copies slot moved [] room ∙ is
@@ -190,7 +191,7 @@ sound index copies kept within counted below =
     record {
       few = omega (arith, kept.most, within, number);
       in_storage = λ line past. at_none index.keys copies line (below line (omega (arith, past, kept.limit)));
-      sized = λ line. cases (slot_cases index.keys line)
+      sized = λ line. by_way (slot_cases index.keys line)
           (λ found. subst (λ o. IfSome o (λ copy. length copy ≡ LINE_SIZE))
           (sym (at_found index.keys copies line found.0 found.1))
           (kept.sized found.0 (omega (
@@ -210,7 +211,7 @@ sound index copies kept within counted below =
 pub none_before : (lines : List ℕ) (copies : List (List ℕ)) (line : ℕ)
     → is_some (copy_at lines copies line) ≡ false → slot_in lines line ≡ None
 none_before lines copies line none =
-    cases (slot_cases lines line)
+    by_way (slot_cases lines line)
     (λ found. let n : true ≡ false = sym (ap is_some (at_found lines copies line found.0 found.1))
     ∙ none in cc)
     (λ absent. absent)

@@ -4,7 +4,7 @@ use Rattle.std.proofs.Common.{is_some, refl, sym, ap, ◌∙◌, arith}
 use Rattle.std.proofs.lemmas.Bool.{cases_eq, lt-ltb, le-ltb}
 use Rattle.bit_set.specs.Counts.{one_if, count_below, but_at}
 use Rattle.bit_set.proofs.Counts.{count_agree, count_but_at, but_at-same, but_at-other, count_none}
-use Rattle.slot_index.proofs.Found.{cases}
+use borrow.Enum.Arm.{by_way}
 use Rattle.store_cache.specs.declared.cache.TheConstants.{BLOCK_SIZE}
 use Rattle.store_cache.specs.Overlay.{Overlay, nothing, with_one, has_block}
 use Rattle.store_cache.proofs.Overlays.{with_one-here, with_one-other}
@@ -18,7 +18,7 @@ some_pass n f at lt pass =
     omega (arith, same, one, was)
   where
     stays : (k : ℕ) → f k ≡ but_at f at true k
-    stays k = cases (cases_eq k at)
+    stays k = by_way (cases_eq k at)
         (λ e. ap f e ∙ pass ∙ sym (ap (but_at f at true) e ∙ but_at-same f at true))
         (λ ne. sym (but_at-other f at true k ne))
 

@@ -8,7 +8,8 @@ use Rattle.std.proofs.lemmas.List.{get_or-set_same, get_or-set_other}
 use Rattle.std.proofs.lemmas.Nat.{same_from_place, div-add-mod'}
 use Rattle.std.proofs.Math.Nat.{mod-lt}
 use Rattle.slot_index.specs.Slots.{slot_in}
-use Rattle.slot_index.proofs.Found.{cases, slot_in-has, slot_in-add, slot_in-none, slot_cases}
+use borrow.Enum.Arm.{by_way}
+use Rattle.slot_index.proofs.Found.{slot_in-has, slot_in-add, slot_in-none, slot_cases}
 use Rattle.store_cache.specs.Overlay.{nothing, with_one}
 use Rattle.store_cache.specs.Entries.{items_of}
 use Rattle.store_cache.proofs.Overlays.{with_one-is}
@@ -70,7 +71,7 @@ items_of-add size blocks items marks block none clean i place = at_place i
 
     at_place : items_of size (blocks ++ block ∷ []) items marks place ≡ items_of size blocks items marks place
     at_place =
-        cases (cases_eq (place / size) block)
+        by_way (cases_eq (place / size) block)
         (λ e.
         items_of-at size (blocks ++ block ∷ []) items marks place (length blocks)
         (slot_now ∙ cond-true (eqb (place / size) block) (Some (length blocks))
@@ -82,7 +83,7 @@ items_of-add size blocks items marks block none clean i place = at_place i
         let stays : slot_in (blocks ++ block ∷ []) (place / size) ≡ slot_in blocks (place / size) = slot_now
         ∙ cond-false (eqb (place / size) block) (Some (length blocks)) (slot_in blocks (place / size))
         (ne_eqb (place / size) block ne) in
-        cases (slot_cases blocks (place / size))
+        by_way (slot_cases blocks (place / size))
         (λ found. items_of-at size (blocks ++ block ∷ []) items marks place found.0 (stays ∙ found.1)
         ∙ sym (items_of-at size blocks items marks place found.0 found.1))
         (λ absent. items_of-none size (blocks ++ block ∷ []) items marks place (stays ∙ absent)
@@ -110,7 +111,7 @@ items_of-store size pos blocks items marks place slot cell number found is room 
     others : (q : ℕ) → q ≢ place → items_of size blocks (set items cell number) (set marks cell true)
         q ≡ items_of size blocks items marks q
     others q ne =
-        cases (slot_cases blocks (q / size))
+        by_way (slot_cases blocks (q / size))
         (λ at.
         let off : cell_of size at.0 q ≢ cell = λ e. ne
         (same_place size pos blocks place q slot at.0 found at.1 (e ∙ is)) in

@@ -9,7 +9,8 @@ use Rattle.std.proofs.lemmas.List.{length-set, get_or-set_other, length_push, le
 use Rattle.bit_set.specs.Counts.{count_below}
 use Rattle.bit_set.proofs.Counts.{count_agree}
 use Rattle.slot_index.specs.Slots.{Slots, slot_in, is_key}
-use Rattle.slot_index.proofs.Found.{cases, slot_in-has, slot_in-add, slot_in-none, slot_cases}
+use borrow.Enum.Arm.{by_way}
+use Rattle.slot_index.proofs.Found.{slot_in-has, slot_in-add, slot_in-none, slot_cases}
 use Rattle.store_cache.specs.declared.cache.TheConstants.{BLOCKS, BLOCK_SIZE, DOUBLEWORDS, MOST_BLOCKS}
 use Rattle.store_cache.specs.Overlay.{Overlay, with_one, with_bytes, has_block, block_count}
 use Rattle.store_cache.specs.Stores.{Stores, no_stores, has_room, IsSound}
@@ -134,7 +135,7 @@ pub entered : (old index : Slots) (bytes : List ℕ) (marks : List Bool) (values
     (record { limit = old.limit; most = old.most; keys = old.keys ++ block ∷ [] })
     → Entered old index bytes marks values value_marks block
 entered old index bytes marks values value_marks block kept is =
-    cases (cases_Bool (is_key old.keys block))
+    by_way (cases_Bool (is_key old.keys block))
     (λ yes. subst (λ (now : Slots). Entered old now bytes marks values value_marks block)
     (sym (is ∙ cond-true (is_key old.keys block) old longer_index yes))
     (record {
@@ -166,7 +167,7 @@ entered old index bytes marks values value_marks block kept is =
 
     none : is_key old.keys block ≡ false → slot_in old.keys block ≡ None
     none off =
-        cases (slot_cases old.keys block)
+        by_way (slot_cases old.keys block)
         (λ found. let n : true ≡ false = sym (ap is_some found.1) ∙ off in cc)
         (λ absent. absent)
 
@@ -204,7 +205,7 @@ byte_kept old index bytes marks values value_marks address slot cell byte kept i
           ap (λ (o : Overlay). has_block o block)
           (byte_shown old index bytes marks values value_marks address slot cell byte kept in_entry found
           is within)
-          ∙ cases (cases_eq block (address / BLOCK_SIZE))
+          ∙ by_way (cases_eq block (address / BLOCK_SIZE))
           (λ e. has_block-here (items_of BLOCK_SIZE old.keys bytes marks) address byte block e
           ∙ sym (ap (is_key index.keys) e ∙ in_entry.here))
           (λ ne. has_block-other (items_of BLOCK_SIZE old.keys bytes marks) address byte block ne
@@ -264,7 +265,7 @@ pub room_stays : (overlay : Overlay) (address n : ℕ) (bytes : List ℕ) → n 
     → has_room overlay (address / BLOCK_SIZE) ≡ true
     → has_room (with_bytes overlay address (take n bytes)) (address / BLOCK_SIZE) ≡ true
 room_stays overlay address n bytes le room =
-    cases (cases_lt 0 n)
+    by_way (cases_lt 0 n)
     (λ some. or_left (has_block (with_bytes overlay address (take n bytes)) (address / BLOCK_SIZE))
     (ltb (block_count (with_bytes overlay address (take n bytes))) MOST_BLOCKS)
     (has_block-with_bytes overlay address (take n bytes)

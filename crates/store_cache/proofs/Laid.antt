@@ -8,7 +8,8 @@ use Rattle.std.proofs.lemmas.Nat.{mul-add-lt}
 use Rattle.std.proofs.Math.Nat.{mod-lt, mul_comm}
 use Rattle.bit_set.specs.Bits.{IsNext, NoneMarked}
 use Rattle.slot_index.specs.Slots.{slot_in}
-use Rattle.slot_index.proofs.Found.{cases, slot_in-has, slot_cases}
+use borrow.Enum.Arm.{by_way}
+use Rattle.slot_index.proofs.Found.{slot_in-has, slot_cases}
 use Rattle.store_cache.specs.Overlay.{nothing, with_one}
 use Rattle.store_cache.specs.Entries.{items_of}
 use Rattle.store_cache.proofs.Overlays.{with_one-is}
@@ -28,7 +29,7 @@ none_below size blocks items marks i place = at_place i
   where
     at_place : items_of size blocks items (take 0 marks) place ≡ None
     at_place =
-        cases (slot_cases blocks (place / size))
+        by_way (slot_cases blocks (place / size))
         (λ at. items_of-at size blocks items (take 0 marks) place at.0 at.1)
         (λ absent. items_of-none size blocks items (take 0 marks) place absent)
 
@@ -51,10 +52,10 @@ one_below size pos blocks items marks from end cell place slot next found is =
     marks_alike : (other : ℕ) → other ≢ cell
         → get_or (take (cell + 1) marks) other false ≡ get_or (take from marks) other false
     marks_alike other off =
-        cases (cases_lt other from)
+        by_way (cases_lt other from)
         (λ lt. below marks (cell + 1) other (omega (arith, lt, next.from_on))
         ∙ sym (below marks from other lt))
-        (λ le. cases (cases_lt other cell)
+        (λ le. by_way (cases_lt other cell)
         (λ between. below marks (cell + 1) other (omega (arith, between)) ∙ next.first other le between
         ∙ sym (past marks from other le))
         (λ over. past marks (cell + 1) other (omega (arith, over, off)) ∙ sym (past marks from other le)))
@@ -62,7 +63,7 @@ one_below size pos blocks items marks from end cell place slot next found is =
     others : (q : ℕ) → q ≢ place → items_of size blocks items (take (cell + 1) marks) q ≡ items_of size
         blocks items (take from marks) q
     others q ne =
-        cases (slot_cases blocks (q / size))
+        by_way (slot_cases blocks (q / size))
         (λ at.
         let off : cell_of size at.0 q ≢ cell = λ e. ne
         (same_place size pos blocks place q slot at.0 found at.1 (e ∙ sym is)) in
@@ -81,13 +82,13 @@ all_below size pos blocks items marks from end is none i place = at_place i
   where
     marks_alike : (cell : ℕ) → cell < end → get_or (take from marks) cell false ≡ get_or marks cell false
     marks_alike cell lt =
-        cases (cases_lt cell from)
+        by_way (cases_lt cell from)
         (λ under. below marks from cell under)
         (λ le. past marks from cell le ∙ sym (none cell le lt))
 
     at_place : items_of size blocks items (take from marks) place ≡ items_of size blocks items marks place
     at_place =
-        cases (slot_cases blocks (place / size))
+        by_way (slot_cases blocks (place / size))
         (λ at.
         let under : cell_of size at.0 place < size * length blocks = mul-add-lt at.0 size (place % size)
         (length blocks) (slot_in-has blocks (place / size) at.0 at.1).within (mod-lt place pos) in
@@ -107,10 +108,10 @@ pub unmarked_more : (marks now then : List Bool) (from end at : ℕ)
     → get_or then k false ≡ cond (ltb k (at + 1)) false (get_or marks k false)
 unmarked_more marks now then from end at so_far next is room k =
     ap (λ l. get_or l k false) is
-    ∙ cases (cases_lt k (at + 1))
-    (λ lt. cases (cases_eq k at)
+    ∙ by_way (cases_lt k (at + 1))
+    (λ lt. by_way (cases_eq k at)
     (λ e. ap (λ n. get_or (set now at false) n false) e ∙ get_or-set_same now at false false room ∙ gone lt)
-    (λ ne. get_or-set_other now at k false false ne ∙ cases (cases_lt k from)
+    (λ ne. get_or-set_other now at k false false ne ∙ by_way (cases_lt k from)
     (λ under. so_far k ∙ cond-true (ltb k from) false (get_or marks k false) (lt-ltb k from under) ∙ gone lt)
     (λ le. next.first k le (omega (arith, lt, ne)) ∙ gone lt)))
     (λ le. get_or-set_other now at k false false (λ e. absurd (omega (arith, e, le))) ∙ so_far k
@@ -124,8 +125,8 @@ pub unmarked_all : (marks now : List Bool) (from end : ℕ) → from ≤ end
     → ((k : ℕ) → get_or now k false ≡ cond (ltb k from) false (get_or marks k false))
     → NoneMarked now from end → (k : ℕ) → get_or now k false ≡ cond (ltb k end) false (get_or marks k false)
 unmarked_all marks now from end order so_far none k =
-    cases (cases_lt k end)
-    (λ lt. cases (cases_lt k from)
+    by_way (cases_lt k end)
+    (λ lt. by_way (cases_lt k from)
     (λ under. so_far k ∙ cond-true (ltb k from) false (get_or marks k false) (lt-ltb k from under))
     (λ le. none k le lt)
     ∙ sym (cond-true (ltb k end) false (get_or marks k false) (lt-ltb k end lt)))

@@ -11,7 +11,7 @@ use Rattle.std.proofs.lemmas.List.{get_or_push, get_or_append_left}
 use Rattle.std.proofs.lemmas.List.FromFn.{length-map-range_with_len, get_or-map-range_with_len}
 use Rattle.std.proofs.lemmas.Option.{slice_get-get_or}
 use Rattle.byteorder.specs.Endian.{big_bytes}
-use Rattle.slot_index.proofs.Found.{cases}
+use borrow.Enum.Arm.{by_way}
 use Rattle.store_cache.specs.Overlay.{Overlay, nothing, with_one, with_bytes, byte_through, bytes_through}
 use Rattle.store_cache.specs.Overlay.{Store, overlay_of, stored_in}
 use Rattle.store_cache.specs.Stores.{lasting_bytes}
@@ -35,7 +35,7 @@ with_one-is now overlay at number here others i place = at_place i
   where
     at_place : now place ≡ with_one overlay at number place
     at_place =
-        cases (cases_eq place at)
+        by_way (cases_eq place at)
         (λ e. ap now e ∙ here ∙ sym (with_one-here overlay at number place e))
         (λ ne. others place ne ∙ sym (with_one-other overlay at number place ne))
 
@@ -72,7 +72,7 @@ with_bytes-none overlay first i address = at_address i
   where
     at_address : with_bytes overlay first [] address ≡ overlay address
     at_address =
-        cases (cases_lt address first)
+        by_way (cases_lt address first)
         (λ lt. with_bytes-before overlay first [] address lt)
         (λ le. with_bytes-behind overlay first [] address (omega arith))
 
@@ -95,10 +95,10 @@ with_bytes-more overlay first bytes byte =
     others : (place : ℕ) → place ≢ first + length bytes
         → with_bytes overlay first (bytes ++ byte ∷ []) place ≡ with_bytes overlay first bytes place
     others place ne =
-        cases (cases_lt place first)
+        by_way (cases_lt place first)
         (λ before. with_bytes-before overlay first (bytes ++ byte ∷ []) place before
         ∙ sym (with_bytes-before overlay first bytes place before))
-        (λ from. cases (cases_lt place (first + length bytes))
+        (λ from. by_way (cases_lt place (first + length bytes))
         (λ under. with_bytes-inside overlay first (bytes ++ byte ∷ []) place from (omega (arith, size, under))
         ∙ ap Some (get_or_append_left bytes (byte ∷ []) 0 (place - first) (omega (arith, from, under)))
         ∙ sym (with_bytes-inside overlay first bytes place from under))
@@ -145,7 +145,7 @@ bytes_through-with_one overlay base address byte =
         (set (bytes_through overlay base) address byte) k 0
     at_place k lt =
         get_or-bytes_through (with_one overlay address byte) base k lt
-        ∙ cases (cases_eq k address)
+        ∙ by_way (cases_eq k address)
         (λ e. ap (λ o. unwrap_or o (get_or base k 0)) (with_one-here overlay address byte k e)
         ∙ sym (ap (λ n. get_or (set (bytes_through overlay base) address byte) n 0) e
         ∙ get_or-set_same (bytes_through overlay base) address byte 0 (omega (arith, lt, e, size))))
@@ -188,7 +188,7 @@ lasting_bytes-with_one lasting doubleword value i address = at_address i
     at_address : lasting_bytes (with_one lasting doubleword value) address ≡ with_bytes
         (lasting_bytes lasting) (doubleword * 8) (big_bytes 8 value) address
     at_address =
-        cases (cases_eq (address / 8) doubleword)
+        by_way (cases_eq (address / 8) doubleword)
         (λ e.
         let rest : address - doubleword * 8 ≡ address % 8 = omega (arith, e) in
         lasting_bytes-at (with_one lasting doubleword value) address value
@@ -198,7 +198,7 @@ lasting_bytes-with_one lasting doubleword value i address = at_address i
         (λ ne.
         lasting_bytes-agree (with_one lasting doubleword value) lasting address
         (with_one-other lasting doubleword value (address / 8) ne)
-        ∙ sym (cases (cases_lt address (doubleword * 8))
+        ∙ sym (by_way (cases_lt address (doubleword * 8))
         (λ before. with_bytes-before (lasting_bytes lasting) (doubleword * 8) (big_bytes 8 value) address
         before)
         (λ from. with_bytes-behind (lasting_bytes lasting) (doubleword * 8) (big_bytes 8 value) address

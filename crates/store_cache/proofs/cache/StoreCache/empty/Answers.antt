@@ -3,7 +3,7 @@ use Rattle.std.proofs.Common.{get_or}
 use Rattle.std.proofs.Common.{ap, ◌∙◌, arith}
 use Rattle.std.proofs.lemmas.Bool.{cond-true, cond-false, cases_lt, lt-ltb, le-ltb}
 use Rattle.slot_index.specs.Slots.{Slots}
-use Rattle.slot_index.proofs.Found.{cases}
+use borrow.Enum.Arm.{by_way}
 use Rattle.store_cache.specs.declared.cache.TheConstants.{BLOCK_SIZE, DOUBLEWORDS}
 use Rattle.store_cache.proofs.Kept.{shown, stores_of-is, shown-empty}
 use Rattle.store_cache.proofs.Kept.{emptied}
@@ -20,12 +20,12 @@ invariant_of-self c =
     c.self.invariant.value_room
     (c.unmark-2.ensures.size ∙ c.self.invariant.value_mark_room)
     (ap (λ (v : Slots). v.keys) c.clear.ensures)
-    (λ k. c.unmark.ensures.value k ∙ cases (cases_lt k (c.count-count.result * BLOCK_SIZE))
+    (λ k. c.unmark.ensures.value k ∙ by_way (cases_lt k (c.count-count.result * BLOCK_SIZE))
     (λ lt. cond-true (ltb k (c.count-count.result * BLOCK_SIZE)) false (get_or c.self.inside.marks k false)
     (lt-ltb _ _ lt))
     (λ le. cond-false (ltb k (c.count-count.result * BLOCK_SIZE)) false (get_or c.self.inside.marks k false)
     (le-ltb _ _ le) ∙ c.self.invariant.unmarked k (omega (arith, le, c.count-count.ensures.value))))
-    (λ k. c.unmark-2.ensures.value k ∙ cases (cases_lt k (c.count-count.result * DOUBLEWORDS))
+    (λ k. c.unmark-2.ensures.value k ∙ by_way (cases_lt k (c.count-count.result * DOUBLEWORDS))
     (λ lt. cond-true (ltb k (c.count-count.result * DOUBLEWORDS)) false
     (get_or c.self.inside.value_marks k false) (lt-ltb _ _ lt))
     (λ le. cond-false (ltb k (c.count-count.result * DOUBLEWORDS)) false
