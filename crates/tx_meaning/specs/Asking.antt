@@ -1,5 +1,5 @@
 -- How a CPU asks the holders for the lines that it needs.
-use Rattle.std.specs.Prelude.{ℕ, Bool, true, false, List, [], ◌∷◌, Option, Some, None}
+use Rattle.std.specs.Prelude.{ℕ, Bool, true, false, ◌&&◌, List, [], ◌∷◌, Option, Some, None}
 use Rattle.tx_control.specs.declared.causes.Why.{Why}
 use Rattle.tx_ladder.specs.Rungs.{is_late}
 use Rattle.line_table.specs.declared.table.Mode.{Mode}
@@ -27,7 +27,7 @@ pub record Asked : Type 0 where
 -- ---- one holder
 
 abbrev pub asker_of : Setting → State → ℕ → Asker
-asker_of m s i = record { head = is_head s i; late = is_late (standing_of m s i) }
+asker_of m s i = record { head = is_head s i; late = is_live s i && is_late (standing_of m s i) }
 
 -- what a CPU answers to another CPU's request for a line
 unfoldable pub reply : Setting → State → ℕ → ℕ → Mode → ℕ → Answer

@@ -39,17 +39,19 @@ chosen_next (Round from) cpu = Round (cpu + 1)
 
 -- ---- the list
 
+-- a turn of this CPU, and what follows it
+abbrev pub with_turn : Setting → Choosing → State → (Choosing → State → List Event) → ℕ → List Event
+with_turn m choosing s rest cpu =
+    Turn cpu ∷ rest (chosen_next choosing cpu) (happen m (Turn cpu) s).state
+
+abbrev pub with_next : Setting → Choosing → State → (Choosing → State → List Event) → List ℕ → List Event
+with_next m choosing s rest [] = []
+with_next m choosing s rest (cpu ∷ ready) = with_turn m choosing s rest (chosen choosing (cpu ∷ ready))
+
 -- turns of ready CPUs, as long as there is one, but at most so many
 unfoldable pub turns_from : ℕ → Setting → Choosing → State → List Event
 turns_from zero m choosing s = []
-turns_from (suc most) m choosing s = with_next (ready_cpus m s)
-  where
-    with_turn : ℕ → List Event
-    with_turn cpu = Turn cpu ∷ turns_from most m (chosen_next choosing cpu) (happen m (Turn cpu) s).state
-
-    with_next : List ℕ → List Event
-    with_next [] = []
-    with_next (cpu ∷ rest) = with_turn (chosen choosing (cpu ∷ rest))
+turns_from (suc most) m choosing s = with_next m choosing s (turns_from most m) (ready_cpus m s)
 
 -- no more turns than all CPUs together may have
 abbrev pub most_turns : Setting → ℕ

@@ -75,24 +75,22 @@ with_lines m i needs s next =
 
 -- ---- an instruction that goes, when its lines are there
 
--- the state of a CPU after an instruction outside transactions
-abbrev pub outcome_outside : RunState → Outcome
-outcome_outside (Interrupted code) = outcome.Interrupted code
-outcome_outside Running = outcome.Executed
-outcome_outside Halted = outcome.Executed
-
-abbrev pub stepping : Setting → ℕ → State → Turned
-stepping m i s = let t = with_entry (entry.Step i) s in turned t (outcome_outside (cpu_of m t i).state)
-
--- how long a program waits after the instruction
+-- a program interruption came, or the instruction is completed and the program may have to wait
 abbrev pub delaying_where : Bool → ℕ → ℕ → State → State
 delaying_where true i turns s = delaying i turns s
 delaying_where false i turns s = s
 
+abbrev pub stepped : ℕ → ℕ → RunState → State → Turned
+stepped i turns (Interrupted code) s = turned s (outcome.Interrupted code)
+stepped i turns Running s = turned (delaying_where (nat_lt 0 turns) i turns s) outcome.Executed
+stepped i turns Halted s = turned (delaying_where (nat_lt 0 turns) i turns s) outcome.Executed
+
+-- one instruction outside transactions, behind which the program waits for so many turns
+abbrev pub stepping : Setting → ℕ → ℕ → State → Turned
+stepping m i turns s = let t = with_entry (entry.Step i) s in stepped i turns (cpu_of m t i).state t
+
 abbrev pub step_outside : Setting → ℕ → Instr → State → Turned
-step_outside m i instr s =
-    let turns = delay_given instr (cpu_of m s i) in
-    stepping m i (delaying_where (nat_lt 0 turns) i turns s)
+step_outside m i instr s = stepping m i (delay_given instr (cpu_of m s i)) s
 
 abbrev pub ends_where : Setting → ℕ → ℕ → Option Why → State → Turned
 ends_where m i n None s = turned s outcome.Executed
@@ -127,7 +125,7 @@ abbrev pub attempting : Setting → ℕ → State → Fate → Turned
 attempting m i s (Goes instr ranges) =
     with_lines m i (operand_needs (cpu_of m s i).prefix ranges) s (executing m i instr)
 attempting m i s (Ends w) = ends_by m i (s.numbers i).completed w s
-attempting m i s (Stops e) = stepping m i s
+attempting m i s (Stops e) = stepping m i 0 s
 
 -- ---- what is left to do before the next instruction
 

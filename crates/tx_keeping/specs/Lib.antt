@@ -1,0 +1,6 @@
+-- The machine that keeps what its meaning computes again.
+pub mod Kept
+pub mod Moves
+pub mod Asking
+pub mod Turn
+pub mod Keeping
