@@ -18,8 +18,8 @@ use Rattle.z_assemble.specs.Machine.{Machine}
 use Rattle.z_assemble.specs.Text.{lines_of}
 use Rattle.z_assemble.specs.Whole.{Stands, ready, ready_for, known_in, image_of, places_from, pages_with}
 use Rattle.z_assemble.specs.Whole.{Second}
-use Rattle.z_assemble.specs.declared.operation.Operation.{Operation}
-use Rattle.z_assemble.specs.declared.operation.Operation.TheVariants as operations
+use Rattle.z_operands.specs.declared.operation.Operation.{Operation}
+use Rattle.z_operands.specs.declared.operation.Operation.TheVariants as operations
 use Rattle.z_assemble.proofs.Codes.{IsCoded, coded, stays, keeps_size}
 use Rattle.z_assemble.proofs.Machines.{IsMachine, IsClear, all_keep}
 use Rattle.z_assemble.proofs.Plans.{IsPlan, IsWithin, IsInRoom, Places, PlacesAt, first_fits}

@@ -1,13 +1,7 @@
-pub mod Numbers
+-- Lemmas on readings of lines and on images.
 pub mod Loops
-pub mod Pieces
-pub mod Atoms
-pub mod Bytes
 pub mod Says
-pub mod Forms
 pub mod Lists
-pub mod Rows
-pub mod Spelled
 pub mod Passed
 pub mod Machines
 pub mod Over

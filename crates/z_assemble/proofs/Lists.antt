@@ -1,5 +1,7 @@
 -- The steps of the loops over plain lists.
-use Rattle.std.proofs.Common.{◌≡◌, ℕ, zero, suc, ◌+◌, ◌<◌, ◌≤◌, Bool, true, false, ◌||◌, cond, List, [], ◌∷◌, ◌++◌, length, map, drop, get_or, refl, sym, ap, ◌∙◌, arith, append_assoc, append-nil}
+use Rattle.std.proofs.Common.{◌≡◌, ℕ, zero, suc, ◌+◌, ◌<◌, ◌≤◌, Bool, true, false, ◌||◌, cond, List, [], ◌∷◌}
+use Rattle.std.proofs.Common.{◌++◌, length, map, drop, get_or, refl, sym, ap, ◌∙◌, arith, append_assoc}
+use Rattle.std.proofs.Common.{append-nil}
 use Rattle.std.proofs.Math.ListN.{set}
 use Rattle.std.proofs.lemmas.Grind.{common_steps}
 use Rattle.std.proofs.lemmas.List.{drop_all}
@@ -8,21 +10,27 @@ use Rattle.z_regs.specs.Cpu.{Cpu, cpu_of}
 use Rattle.z_regs.specs.declared.image.CpuImage.{CpuImage}
 use Rattle.z_assemble.specs.Machine.{change_at}
 use Rattle.z_assemble.specs.Whole.{places_from, pages_with, with_pages, Pages, with_place}
-use Rattle.z_assemble.proofs.Loops.{drop_here}
+use Rattle.z_operands.proofs.Loops.{drop_here}
 
-pub any_true : {X : Type 0} (q : X → Bool) (xs : List X) (i : ℕ) (d : X) → i < length xs → q (get_or xs i d) ≡ true → list_any q (drop i xs) ≡ true
+pub any_true : {X : Type 0} (q : X → Bool) (xs : List X) (i : ℕ) (d : X) → i < length xs →
+    q (get_or xs i d) ≡ true → list_any q (drop i xs) ≡ true
 any_true q xs i d h e = ap (list_any q) (drop_here xs i d h) ∙ ap (λ b. b || list_any q (drop (i + 1) xs)) e
 
-pub any_here : {X : Type 0} (q : X → Bool) (xs : List X) (i : ℕ) (x : X) → i < length xs → x ≡ get_or xs i x → q x ≡ true → list_any q (drop i xs) ≡ true
+pub any_here : {X : Type 0} (q : X → Bool) (xs : List X) (i : ℕ) (x : X) → i < length xs → x ≡ get_or xs i x →
+    q x ≡ true → list_any q (drop i xs) ≡ true
 any_here q xs i x h is e = any_true q xs i x h (ap q (sym is) ∙ e)
 
-pub any_false : {X : Type 0} (q : X → Bool) (xs : List X) (i : ℕ) (d : X) → i < length xs → q (get_or xs i d) ≡ false → list_any q (drop (i + 1) xs) ≡ list_any q (drop i xs)
-any_false q xs i d h e = sym (ap (list_any q) (drop_here xs i d h) ∙ ap (λ b. b || list_any q (drop (i + 1) xs)) e)
+pub any_false : {X : Type 0} (q : X → Bool) (xs : List X) (i : ℕ) (d : X) → i < length xs →
+    q (get_or xs i d) ≡ false → list_any q (drop (i + 1) xs) ≡ list_any q (drop i xs)
+any_false q xs i d h e = sym (ap (list_any q) (drop_here xs i d h)
+    ∙ ap (λ b. b || list_any q (drop (i + 1) xs)) e)
 
-pub any_over : {X : Type 0} (q : X → Bool) (xs : List X) (i : ℕ) → length xs ≤ i → list_any q (drop i xs) ≡ false
+pub any_over : {X : Type 0} (q : X → Bool) (xs : List X) (i : ℕ) → length xs ≤ i →
+    list_any q (drop i xs) ≡ false
 any_over q xs i h = ap (list_any q) (drop_all i xs h)
 
-pub any_map : {X Y : Type 0} (q : Y → Bool) (f : X → Y) (xs : List X) → list_any q (map f xs) ≡ list_any (λ x. q (f x)) xs
+pub any_map : {X Y : Type 0} (q : Y → Bool) (f : X → Y) (xs : List X) →
+    list_any q (map f xs) ≡ list_any (λ x. q (f x)) xs
 any_map q f [] = refl
 any_map q f (x ∷ xs) = ap (λ b. q (f x) || b) (any_map q f xs)
 
@@ -30,13 +38,15 @@ pub ruleset any_steps = (any_true, any_false, any_over, common_steps)
 
 -- ---- a CPU changed
 
-pub changed : (f : Cpu → Cpu) (xs : List CpuImage) (i : ℕ) (d v : CpuImage) → i < length xs → cpu_of v ≡ f (cpu_of (get_or xs i d)) →
+pub changed : (f : Cpu → Cpu) (xs : List CpuImage) (i : ℕ) (d v : CpuImage) → i < length xs →
+    cpu_of v ≡ f (cpu_of (get_or xs i d)) →
     map cpu_of (set xs i v) ≡ change_at i f (map cpu_of xs)
 changed f [] i d v h e = absurd (omega arith)
 changed f (x ∷ xs) zero d v h e = ap (λ c. c ∷ map cpu_of xs) e
 changed f (x ∷ xs) (suc i) d v h e = ap (λ cs. cpu_of x ∷ cs) (changed f xs i d v (omega arith) e)
 
-pub unchanged : (f : Cpu → Cpu) (xs : List CpuImage) (i : ℕ) → length xs ≤ i → map cpu_of xs ≡ change_at i f (map cpu_of xs)
+pub unchanged : (f : Cpu → Cpu) (xs : List CpuImage) (i : ℕ) → length xs ≤ i →
+    map cpu_of xs ≡ change_at i f (map cpu_of xs)
 unchanged f [] i h = refl
 unchanged f (x ∷ xs) zero h = absurd (omega arith)
 unchanged f (x ∷ xs) (suc i) h = ap (λ cs. cpu_of x ∷ cs) (unchanged f xs i (omega arith))
@@ -46,42 +56,56 @@ pub ruleset change_steps = (changed, unchanged, common_steps)
 -- ---- places of marks
 
 places_here : (n : ℕ) (marks : List Bool) (i : ℕ) (d : Bool) → i < length marks →
-    places_from n (drop i marks) ≡ cond (get_or marks i d) (n ∷ places_from (suc n) (drop (i + 1) marks)) (places_from (suc n) (drop (i + 1) marks))
+    places_from n (drop i marks) ≡ cond (get_or marks i d) (n ∷ places_from (suc n) (drop (i + 1) marks))
+    (places_from (suc n) (drop (i + 1) marks))
 unfolding places_from
 places_here n marks i d h = ap (places_from n) (drop_here marks i d h)
 
-pub place_marked : (marks : List Bool) (i : ℕ) (d : Bool) (old whole : List ℕ) → i < length marks → get_or marks i d ≡ true →
-    old ++ places_from i (drop i marks) ≡ whole → (old ++ i ∷ []) ++ places_from (i + 1) (drop (i + 1) marks) ≡ whole
+pub place_marked : (marks : List Bool) (i : ℕ) (d : Bool) (old whole : List ℕ) → i < length marks →
+    get_or marks i d ≡ true →
+    old ++ places_from i (drop i marks) ≡ whole →
+    (old ++ i ∷ []) ++ places_from (i + 1) (drop (i + 1) marks) ≡ whole
 place_marked marks i d old whole h e w =
     let n : suc i ≡ i + 1 = omega arith in
     append_assoc old (i ∷ []) (places_from (i + 1) (drop (i + 1) marks))
     ∙ (ap (λ m. old ++ i ∷ places_from m (drop (i + 1) marks)) (sym n)
-    ∙ (ap (λ l. old ++ l) (sym (places_here i marks i d h ∙ ap (λ b. cond b (i ∷ places_from (suc i) (drop (i + 1) marks)) (places_from (suc i) (drop (i + 1) marks))) e)) ∙ w))
+    ∙ (ap (λ l. old ++ l) (sym (places_here i marks i d h
+    ∙ ap (λ b. cond b (i ∷ places_from (suc i) (drop (i + 1) marks))
+    (places_from (suc i) (drop (i + 1) marks))) e)) ∙ w))
 
-pub place_unmarked : (marks : List Bool) (i : ℕ) (d : Bool) (old whole : List ℕ) → i < length marks → get_or marks i d ≡ false →
+pub place_unmarked : (marks : List Bool) (i : ℕ) (d : Bool) (old whole : List ℕ) → i < length marks →
+    get_or marks i d ≡ false →
     old ++ places_from i (drop i marks) ≡ whole → old ++ places_from (i + 1) (drop (i + 1) marks) ≡ whole
 place_unmarked marks i d old whole h e w =
     let n : suc i ≡ i + 1 = omega arith in
     ap (λ m. old ++ places_from m (drop (i + 1) marks)) (sym n)
-    ∙ (ap (λ l. old ++ l) (sym (places_here i marks i d h ∙ ap (λ b. cond b (i ∷ places_from (suc i) (drop (i + 1) marks)) (places_from (suc i) (drop (i + 1) marks))) e)) ∙ w)
+    ∙ (ap (λ l. old ++ l) (sym (places_here i marks i d h
+    ∙ ap (λ b. cond b (i ∷ places_from (suc i) (drop (i + 1) marks))
+    (places_from (suc i) (drop (i + 1) marks))) e)) ∙ w)
 
-pub place_step : (marks : List Bool) (i : ℕ) (d : Bool) (old whole : List ℕ) (b : Bool) → i < length marks → get_or marks i d ≡ b →
-    old ++ places_from i (drop i marks) ≡ whole → with_place b i old ++ places_from (i + 1) (drop (i + 1) marks) ≡ whole
+pub place_step : (marks : List Bool) (i : ℕ) (d : Bool) (old whole : List ℕ) (b : Bool) → i < length marks →
+    get_or marks i d ≡ b →
+    old ++ places_from i (drop i marks) ≡ whole →
+    with_place b i old ++ places_from (i + 1) (drop (i + 1) marks) ≡ whole
 place_step marks i d old whole true h e w = place_marked marks i d old whole h e w
 place_step marks i d old whole false h e w = place_unmarked marks i d old whole h e w
 
-pub places_over : (marks : List Bool) (i : ℕ) (old whole : List ℕ) → length marks ≤ i → old ++ places_from i (drop i marks) ≡ whole → old ≡ whole
+pub places_over : (marks : List Bool) (i : ℕ) (old whole : List ℕ) → length marks ≤ i →
+    old ++ places_from i (drop i marks) ≡ whole → old ≡ whole
 unfolding places_from
-places_over marks i old whole h w = sym (append-nil old) ∙ (ap (λ l. old ++ places_from i l) (sym (drop_all i marks h)) ∙ w)
+places_over marks i old whole h w = sym (append-nil old)
+    ∙ (ap (λ l. old ++ places_from i l) (sym (drop_all i marks h)) ∙ w)
 
 -- ---- pages
 
 pub pages_go : (storage starts : List ℕ) (i : ℕ) (pages : Pages) → i < length starts →
-    pages_with storage (drop (i + 1) starts) (with_pages storage (get_or starts i 0) pages) ≡ pages_with storage (drop i starts) pages
+    pages_with storage (drop (i + 1) starts) (with_pages storage (get_or starts i 0) pages) ≡ pages_with
+    storage (drop i starts) pages
 unfolding pages_with
 pages_go storage starts i pages h = sym (ap (λ l. pages_with storage l pages) (drop_here starts i 0 h))
 
-pub pages_over : (storage starts : List ℕ) (i : ℕ) (pages : Pages) → length starts ≤ i → pages_with storage (drop i starts) pages ≡ pages
+pub pages_over : (storage starts : List ℕ) (i : ℕ) (pages : Pages) → length starts ≤ i →
+    pages_with storage (drop i starts) pages ≡ pages
 unfolding pages_with
 pages_over storage starts i pages h = ap (λ l. pages_with storage l pages) (drop_all i starts h)
 

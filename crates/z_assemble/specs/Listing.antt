@@ -1,5 +1,7 @@
 -- The first reading of the lines: labels, the location, and what is placed.
-use Rattle.std.specs.Prelude.{ℕ, ℤ, pos, negsuc, ◌+◌, ◌%◌, ◌^◌, Bool, true, false, not, ◌&&◌, ◌||◌, List, [], ◌∷◌, ◌++◌, length, drop, map, Option, Some, None, is_some, Result, Ok, Err, nat_lt, nat_le, ◌==◌, if◌then◌else◌, slice_set}
+use Rattle.std.specs.Prelude.{ℕ, ℤ, pos, negsuc, ◌+◌, ◌%◌, ◌^◌, Bool, true, false, not, ◌&&◌, ◌||◌, List, []}
+use Rattle.std.specs.Prelude.{◌∷◌, ◌++◌, length, drop, map, Option, Some, None, is_some, Result, Ok, Err}
+use Rattle.std.specs.Prelude.{nat_lt, nat_le, ◌==◌, if◌then◌else◌, slice_set}
 use Rattle.std.specs.List.{list_any}
 use Rattle.std.specs.Str.{bytes_eq}
 use Rattle.z_text.specs.Labels.{value_in}
@@ -9,17 +11,20 @@ use Rattle.z_text.specs.declared.token.TextFault.{TextFault}
 use Rattle.z_text.specs.declared.token.TextFault.TheVariants as texts
 use Rattle.z_text.specs.declared.token.Token.{Token}
 use Rattle.z_instr.specs.Ranges.{is_within, bounds}
-use Rattle.z_assemble.specs.Data.{data_of}
-use Rattle.z_assemble.specs.Operations.{operation_named, size_of_row}
-use Rattle.z_assemble.specs.Chain.{◌>>=◌}
+use Rattle.z_operands.specs.Data.{data_of}
+use Rattle.z_operands.specs.Operations.{operation_named, size_of_row}
+use Rattle.z_operands.specs.Chain.{◌>>=◌}
 use Rattle.z_assemble.specs.Text.{write_at, cut, copies}
-use Rattle.z_assemble.specs.Values.{Table, operands_on, one_in}
+use Rattle.z_operands.specs.Values.{Table, operands_on, one_in}
 use Rattle.z_assemble.specs.declared.draft.Draft.{Draft}
 use Rattle.z_assemble.specs.declared.draft.Work.{Work}
-use Rattle.z_assemble.specs.declared.fault.Kind.{Kind}
-use Rattle.z_assemble.specs.declared.fault.Kind.TheVariants.{BadToken, BadNumber, LineTooLong, UnknownMnemonic, OutOfRange, DoubleLabel, Overlap, BadDirective}
-use Rattle.z_assemble.specs.declared.operation.Operation.{Operation}
-use Rattle.z_assemble.specs.declared.operation.Operation.TheVariants.{Instruction, Org, Equ, Ds, Dc, Cpu, Reg, Show, Tdb, Sched, Parm, Prefix, End}
+use Rattle.z_operands.specs.declared.fault.Kind.{Kind}
+use Rattle.z_operands.specs.declared.fault.Kind.TheVariants.{BadToken, BadNumber, LineTooLong}
+use Rattle.z_operands.specs.declared.fault.Kind.TheVariants.{UnknownMnemonic, OutOfRange, DoubleLabel}
+use Rattle.z_operands.specs.declared.fault.Kind.TheVariants.{Overlap, BadDirective}
+use Rattle.z_operands.specs.declared.operation.Operation.{Operation}
+use Rattle.z_operands.specs.declared.operation.Operation.TheVariants.{Instruction, Org, Equ, Ds, Dc, Cpu, Reg}
+use Rattle.z_operands.specs.declared.operation.Operation.TheVariants.{Show, Tdb, Sched, Parm, Prefix, End}
 
 -- a line that is read again when all labels are known: its number, its location, its text and its operation
 pub record Task : Type 0 where
@@ -28,7 +33,8 @@ pub record Task : Type 0 where
   pub text : List ℕ
   pub operation : Operation
 
--- what the lines so far have made: the location, the labels, the bytes, which of them are placed and at which an instruction
+-- what the lines so far have made: the location, the labels, the bytes, which of them are placed and at which
+-- an instruction
 -- starts, whether END was there, how many CPUs there are, and the lines that are read again
 pub record Plan : Type 0 where
   pub here : ℕ
@@ -139,20 +145,26 @@ placed n p =
     else Ok (record p { here = p.here + n; taken = write_at p.here (copies n true) p.taken }))
 
 abbrev pub tasked : ℕ → ℕ → List ℕ → Operation → Plan → Plan
-tasked n here line op p = record p { tasks = p.tasks ++ record { line = n; here = here; text = line; operation = op } ∷ [] }
+tasked n here line op p = record p {
+  tasks = p.tasks ++ record
+      { line = n; here = here; text = line; operation = op } ∷ [];
+}
 
 abbrev pub value_on : List ℕ → List Token → Plan → Result ℤ Kind
 value_on line ts p = operands_on BadDirective line p.labels p.here ts >>= one_in
 
 unfoldable pub org_line : List ℕ → List Token → Plan → Result Plan Kind
-org_line line ts p = value_on line ts p >>= λ v. if is_below 1048577 v then Ok (record p { here = to_nat v }) else Err OutOfRange
+org_line line ts p = value_on line ts p >>= λ v. if is_below 1048577 v then Ok
+    (record p { here = to_nat v }) else Err OutOfRange
 
 unfoldable pub equ_line : List ℕ → List ℕ → List Token → Plan → Result Plan Kind
-equ_line label line ts p = value_on line ts p >>= λ v. if is_doubleword v then Ok (labelled label v p) else Err OutOfRange
+equ_line label line ts p = value_on line ts p >>= λ v. if is_doubleword v then Ok
+    (labelled label v p) else Err OutOfRange
 
 unfoldable pub ds_line : List ℕ → List ℕ → List Token → Plan → Result Plan Kind
 ds_line label line ts p =
-    value_on line ts p >>= λ v. if is_below 1048577 v then placed (to_nat v) (labelled label (pos p.here) p) else Err OutOfRange
+    value_on line ts p >>= λ v. if is_below 1048577 v then placed (to_nat v)
+    (labelled label (pos p.here) p) else Err OutOfRange
 
 -- bytes are placed and written
 unfoldable pub written : List ℕ → Plan → Result Plan Kind
@@ -169,10 +181,12 @@ started n p =
 
 unfoldable pub instruction_line : ℕ → List ℕ → List ℕ → ℕ → Option ℕ → Plan → Result Plan Kind
 instruction_line n label line row mask p =
-    started (size_of_row row) (labelled label (pos p.here) p) >>= λ q. Ok (tasked n p.here line (Instruction row mask) q)
+    started (size_of_row row) (labelled label (pos p.here) p) >>= λ q. Ok
+    (tasked n p.here line (Instruction row mask) q)
 
 unfoldable pub cpu_line : ℕ → List ℕ → Plan → Result Plan Kind
-cpu_line n line p = if nat_lt p.cpus 16 then Ok (tasked n p.here line Cpu (record p { cpus = p.cpus + 1 })) else Err OutOfRange
+cpu_line n line p = if nat_lt p.cpus 16 then Ok (tasked n p.here line Cpu (record p { cpus = p.cpus + 1 }))
+    else Err OutOfRange
 
 abbrev pub is_nil : {X : Type 0} → List X → Bool
 is_nil [] = true
@@ -181,7 +195,8 @@ is_nil (x ∷ xs) = false
 unfoldable pub end_line : List Token → Plan → Result Plan Kind
 end_line ts p = if is_nil ts then Ok (record p { ended = true }) else Err BadDirective
 
--- what a line of this operation does; `end` is the place behind the operation, and the tokens are those of the operands
+-- what a line of this operation does; `end` is the place behind the operation, and the tokens are those of
+-- the operands
 unfoldable pub operation_line : Operation → ℕ → List ℕ → List ℕ → ℕ → List Token → Plan → Result Plan Kind
 operation_line (Instruction row mask) n label line end ts p = instruction_line n label line row mask p
 operation_line Org n label line end ts p = org_line line ts p
@@ -223,7 +238,8 @@ abbrev pub said_line : ℕ → List ℕ → List Token → Option Token → Plan
 said_line n line ts None p = Ok p
 said_line n line ts (Some o) p =
     if p.ended then Err BadDirective
-    else named_line (operation_named (span o.first o.end line)) n (label_in line ts) line o.end (operands_in ts) p
+    else named_line (operation_named (span o.first o.end line)) n (label_in line ts) line o.end
+    (operands_in ts) p
 
 -- What a line leaves, or the first of its tests that fails.
 unfoldable pub line_gives : ℕ → List ℕ → Plan → Result Plan Kind

@@ -1,5 +1,7 @@
 -- The second reading of the lines, when all labels are known: instructions, and what the machine starts from.
-use Rattle.std.specs.Prelude.{ℕ, zero, suc, ℤ, pos, negsuc, ◌+◌, Bool, true, false, not, ◌&&◌, List, [], ◌∷◌, ◌++◌, length, drop, Option, Some, None, is_none, Result, Ok, Err, nat_lt, nat_le, ◌==◌, if◌then◌else◌, slice_set, codes, sum_by, get_or}
+use Rattle.std.specs.Prelude.{ℕ, zero, suc, ℤ, pos, negsuc, ◌+◌, Bool, true, false, not, ◌&&◌, List, [], ◌∷◌}
+use Rattle.std.specs.Prelude.{◌++◌, length, drop, Option, Some, None, is_none, Result, Ok, Err, nat_lt}
+use Rattle.std.specs.Prelude.{nat_le, ◌==◌, if◌then◌else◌, slice_set, codes, sum_by, get_or}
 use Rattle.std.specs.List.{list_any}
 use Rattle.std.specs.Str.{bytes_eq}
 use Rattle.z_text.specs.Line.{span}
@@ -16,22 +18,24 @@ use Rattle.tx_journal.specs.declared.events.Event.{Event}
 use Rattle.tx_journal.specs.declared.image.Show.{Show}
 use Rattle.tx_ladder.specs.Parameters.{Parameters}
 use Rattle.tx_ladder.specs.declared.parms.TheConstants.{REJECT, FIRM, LATE, STARVE, STOP, DELAY}
-use Rattle.z_assemble.specs.Code.{code_for}
-use Rattle.z_assemble.specs.Listing.{Task, heads_in, operands_in, operation_in, field_behind, is_below, is_doubleword, to_nat}
-use Rattle.z_assemble.specs.Operations.{size_of_row}
-use Rattle.z_assemble.specs.Chain.{◌>>=◌}
-use Rattle.z_assemble.specs.Schedule.{scheduled}
+use Rattle.z_operands.specs.Code.{code_for}
+use Rattle.z_assemble.specs.Listing.{Task, heads_in, operands_in, operation_in, field_behind, is_below}
+use Rattle.z_assemble.specs.Listing.{is_doubleword, to_nat}
+use Rattle.z_operands.specs.Operations.{size_of_row}
+use Rattle.z_operands.specs.Chain.{◌>>=◌}
+use Rattle.z_operands.specs.Schedule.{scheduled}
 use Rattle.z_assemble.specs.Text.{write_at}
-use Rattle.z_assemble.specs.Values.{Table, operands_on, one_in, two_in, three_in}
-use Rattle.z_assemble.specs.declared.fault.Kind.{Kind}
-use Rattle.z_assemble.specs.declared.fault.Kind.TheVariants.{OutOfRange, BadDirective, WrongOperands}
-use Rattle.z_assemble.specs.declared.operand.Operand.{Operand}
-use Rattle.z_assemble.specs.declared.operation.Operation.{Operation}
-use Rattle.z_assemble.specs.declared.operation.Operation.TheVariants as operations
+use Rattle.z_operands.specs.Values.{Table, operands_on, one_in, two_in, three_in}
+use Rattle.z_operands.specs.declared.fault.Kind.{Kind}
+use Rattle.z_operands.specs.declared.fault.Kind.TheVariants.{OutOfRange, BadDirective, WrongOperands}
+use Rattle.z_operands.specs.declared.operand.Operand.{Operand}
+use Rattle.z_operands.specs.declared.operation.Operation.{Operation}
+use Rattle.z_operands.specs.declared.operation.Operation.TheVariants as operations
 use Rattle.z_assemble.specs.declared.parameter.Parameter.{Parameter}
 use Rattle.z_assemble.specs.declared.parameter.Parameter.TheVariants.{Reject, Firm, Late, Starve, Stop, Delay}
 
--- what the lines so far have made of the machine: storage, the CPUs and how many of them have their entries, what is shown, the
+-- what the lines so far have made of the machine: storage, the CPUs and how many of them have their entries,
+-- what is shown, the
 -- schedule and whether there is one, and the numbers of the retry ladder
 pub record Machine : Type 0 where
   pub storage : List ℕ
@@ -59,7 +63,11 @@ with_general r v c = record c { general = slice_set c.general r v }
 unfoldable pub entry_line : List Operand → Machine → Result Machine Kind
 entry_line os m =
     one_in os >>= λ v.
-    if is_below 1048576 v then Ok (record m { cpus = change_at m.entered (with_address (to_nat v)) m.cpus; entered = m.entered + 1 })
+    if is_below 1048576 v then Ok (record m {
+      cpus =
+          change_at m.entered (with_address (to_nat v)) m.cpus;
+      entered = m.entered + 1;
+    })
     else Err OutOfRange
 
 abbrev pub is_register_value : ℕ → ℤ × ℤ × ℤ → Bool
@@ -143,7 +151,8 @@ parameter_in line _ = None
 
 unfoldable pub parameter_line : Parameter → List Operand → Machine → Result Machine Kind
 parameter_line p os m =
-    one_in os >>= λ v. if is_choice p v then Ok (record m { parms = with_parameter p (to_nat v) m.parms }) else Err OutOfRange
+    one_in os >>= λ v. if is_choice p v then Ok (record m { parms = with_parameter p (to_nat v) m.parms })
+    else Err OutOfRange
 
 -- ---- prefixes
 
@@ -165,7 +174,8 @@ is_free cpu n cpus = is_none (get_or cpus cpu (started 0)).prefix && not (list_a
 
 -- the line places an instruction with a byte in the area of two pages from an address on
 abbrev pub places_in : ℕ → ℕ → Operation → Bool
-places_in area here (operations.Instruction row mask) = nat_lt here (area + 8192) && nat_lt area (here + size_of_row row)
+places_in area here (operations.Instruction row mask) =
+    nat_lt here (area + 8192) && nat_lt area (here + size_of_row row)
 places_in area here _ = false
 
 abbrev pub task_places_in : ℕ → Task → Bool
@@ -174,7 +184,8 @@ task_places_in area t = places_in area t.here t.operation
 abbrev pub is_prefix_for : List Task → List Cpu → ℤ × ℤ → Bool
 is_prefix_for tasks cpus x =
     is_below (length cpus) x.0
-    && (is_area x.1 && (is_free (to_nat x.0) (to_nat x.1) cpus && not (list_any (task_places_in (to_nat x.1)) tasks)))
+    && (is_area x.1 && (is_free (to_nat x.0) (to_nat x.1) cpus && not
+    (list_any (task_places_in (to_nat x.1)) tasks)))
 
 abbrev pub with_prefix : ℕ → Cpu → Cpu
 with_prefix n c = record c { prefix = Some n }
@@ -194,7 +205,8 @@ schedule_line field m =
 
 unfoldable pub code_line : ℕ → Option ℕ → ℕ → List Operand → Machine → Result Machine Kind
 code_line row mask here os m =
-    code_for (entry_at row) mask here os >>= λ bytes. Ok (record m { storage = write_at here bytes m.storage })
+    code_for (entry_at row) mask here os >>= λ bytes. Ok
+    (record m { storage = write_at here bytes m.storage })
 
 -- ---- a line
 
@@ -232,9 +244,11 @@ directive_line operations.Prefix k os m = prefix_line k.tasks os m
 directive_line _ k os m = Ok m
 
 unfoldable pub read_again : Operation → Known → Task → List Token → Machine → Result Machine Kind
-read_again (operations.Instruction row mask) k t ts m = operands_for WrongOperands k t (operands_in ts) >>= λ os. code_line row mask t.here os m
+read_again (operations.Instruction row mask) k t ts m =
+    operands_for WrongOperands k t (operands_in ts) >>= λ os. code_line row mask t.here os m
 read_again operations.Sched k t ts m = schedule_line (field_behind (end_of (operation_in ts)) t.text) m
-read_again operations.Parm k t ts m = named_parameter (parameter_in t.text (operands_in ts)) k t (drop (heads_in ts + 2) ts) m
+read_again operations.Parm k t ts m = named_parameter (parameter_in t.text (operands_in ts)) k t
+    (drop (heads_in ts + 2) ts) m
 read_again op k t ts m = operands_for BadDirective k t (operands_in ts) >>= λ os. directive_line op k os m
 
 -- What the second reading of a line leaves, or the first of its tests that fails.

@@ -1,20 +1,22 @@
 -- What a text stands for, and its first fault.
-use Rattle.std.specs.Prelude.{◌≡◌, ℕ, suc, ◌+◌, ◌-◌, ◌/◌, Bool, true, false, cond, List, [], ◌∷◌, ◌++◌, length, replicate, None, Result, Ok, Err, nat_lt, ◌==◌, if◌then◌else◌, ◌⊎◌}
+use Rattle.std.specs.Prelude.{◌≡◌, ℕ, suc, ◌+◌, ◌-◌, ◌/◌, Bool, true, false, cond, List, [], ◌∷◌, ◌++◌}
+use Rattle.std.specs.Prelude.{length, replicate, None, Result, Ok, Err, nat_lt, ◌==◌, if◌then◌else◌, ◌⊎◌}
 use Rattle.std.specs.FinSet.{FinSet, empty, insert}
 use Rattle.std.specs.Ordering.{nat_cmp}
 use Rattle.z_regs.specs.Cpu.{started}
 use Rattle.tx_journal.specs.Content.{Content}
 use Rattle.tx_journal.specs.Image.{length_at}
 use Rattle.tx_ladder.specs.Parameters.{usual}
-use Rattle.z_assemble.specs.Kinds.{number_of}
+use Rattle.z_operands.specs.Kinds.{number_of}
 use Rattle.z_assemble.specs.Listing.{Plan, Task, line_gives}
 use Rattle.z_assemble.specs.Machine.{Machine, Known, task_gives}
-use Rattle.z_assemble.specs.Text.{lines_of, copies, without_end}
-use Rattle.z_assemble.specs.Values.{Table}
+use Rattle.z_operands.specs.Pieces.{without_end}
+use Rattle.z_assemble.specs.Text.{lines_of, copies}
+use Rattle.z_operands.specs.Values.{Table}
 use Rattle.z_assemble.specs.declared.fault.AssembleFault.{AssembleFault}
 use Rattle.z_assemble.specs.declared.fault.AssembleFault.TheVariants as ends
-use Rattle.z_assemble.specs.declared.fault.Kind.{Kind}
-use Rattle.z_assemble.specs.declared.fault.Kind.TheVariants.{ListingTooLong, TooManyLines, NoCpu}
+use Rattle.z_operands.specs.declared.fault.Kind.{Kind}
+use Rattle.z_operands.specs.declared.fault.Kind.TheVariants.{ListingTooLong, TooManyLines, NoCpu}
 use Rattle.z_assemble.specs.declared.fault.ListingFault.{ListingFault}
 
 abbrev pub fault_at : ℕ → Kind → ListingFault
@@ -72,7 +74,8 @@ with_page page pages = if nat_lt page 256 then insert pages page else pages
 
 -- the pages with those of the first and the last byte of an instruction
 abbrev pub with_pages : List ℕ → ℕ → Pages → Pages
-with_pages storage start pages = with_page ((start + length_at storage start - 1) / 4096) (with_page (start / 4096) pages)
+with_pages storage start pages = with_page ((start + length_at storage start - 1) / 4096)
+    (with_page (start / 4096) pages)
 
 -- the pages with those of all instructions
 unfoldable pub pages_with : List ℕ → List ℕ → Pages → Pages
@@ -96,7 +99,8 @@ image_of begins m =
 -- ---- one reading after the other
 
 infixl 10 ◌>>=◌
-abbrev pub ◌>>=◌ : {A B : Type 0} → Result A ListingFault → (A → Result B ListingFault) → Result B ListingFault
+abbrev pub ◌>>=◌ : {A B : Type 0} → Result A ListingFault → (A → Result B ListingFault) →
+    Result B ListingFault
 (Ok x) >>= f = f x
 (Err e) >>= f = Err e
 
@@ -125,10 +129,12 @@ abbrev pub after_first : Plan → Result Content ListingFault
 after_first p = second_over (known_in p) p.tasks (ready p) >>= finished p
 
 abbrev pub over_lines : List (List ℕ) → Result Content ListingFault
-over_lines lines = if nat_lt 262144 (length lines) then Err (fault_at 0 TooManyLines) else first_over 1 lines blank >>= after_first
+over_lines lines = if nat_lt 262144 (length lines) then Err
+    (fault_at 0 TooManyLines) else first_over 1 lines blank >>= after_first
 
 unfoldable pub assembled : List ℕ → Result Content ListingFault
-assembled text = if nat_lt 16777216 (length text) then Err (fault_at 0 ListingTooLong) else over_lines (lines_of text)
+assembled text = if nat_lt 16777216 (length text) then Err (fault_at 0 ListingTooLong) else over_lines
+    (lines_of text)
 
 -- ---- the same in words on whole lines
 
@@ -154,7 +160,8 @@ FaultInFirst n (l ∷ ls) p f =
 abbrev pub FaultInSecond : Known → List Task → Machine → ListingFault → Type 0
 FaultInSecond k [] m f = ⊥
 FaultInSecond k (t ∷ ts) m f =
-    ((e : Kind) × (task_gives k t m ≡ Err e) × IsFault t.line e f) ⊎ ((r : Machine) × (task_gives k t m ≡ Ok r) × FaultInSecond k ts r f)
+    ((e : Kind) × (task_gives k t m ≡ Err e) × IsFault t.line e f) ⊎
+    ((r : Machine) × (task_gives k t m ≡ Ok r) × FaultInSecond k ts r f)
 
 -- The text stands for the image: it is not too long, each line passes both readings, and there is a CPU.
 pub record Stands (text : List ℕ) (image : Content) : Type 0 where
@@ -170,13 +177,17 @@ pub record Stands (text : List ℕ) (image : Content) : Type 0 where
 -- the tests of the whole text and of its lines, in their order: each kind of first fault
 pub data FirstFault (text : List ℕ) (f : ListingFault) : Type 0 where
   too_long : nat_lt 16777216 (length text) ≡ true → IsFault 0 ListingTooLong f → FirstFault text f
-  too_many : nat_lt 16777216 (length text) ≡ false → nat_lt 262144 (length (lines_of text)) ≡ true → IsFault 0 TooManyLines f → FirstFault text f
+  too_many : nat_lt 16777216 (length text) ≡ false → nat_lt 262144 (length (lines_of text)) ≡ true →
+      IsFault 0 TooManyLines f → FirstFault text f
   in_first : nat_lt 16777216 (length text) ≡ false → nat_lt 262144 (length (lines_of text)) ≡ false →
       FaultInFirst 1 (lines_of text) blank f → FirstFault text f
-  in_second : nat_lt 16777216 (length text) ≡ false → nat_lt 262144 (length (lines_of text)) ≡ false → (p : Plan) → First 1 (lines_of text) blank p →
+  in_second : nat_lt 16777216 (length text) ≡ false → nat_lt 262144 (length (lines_of text)) ≡ false →
+      (p : Plan) → First 1 (lines_of text) blank p →
       FaultInSecond (known_in p) p.tasks (ready p) f → FirstFault text f
-  no_cpu : nat_lt 16777216 (length text) ≡ false → nat_lt 262144 (length (lines_of text)) ≡ false → (p : Plan) → First 1 (lines_of text) blank p →
-      (m : Machine) → Second (known_in p) p.tasks (ready p) m → (p.cpus == 0) ≡ true → IsFault 0 NoCpu f → FirstFault text f
+  no_cpu : nat_lt 16777216 (length text) ≡ false → nat_lt 262144 (length (lines_of text)) ≡ false →
+      (p : Plan) → First 1 (lines_of text) blank p →
+      (m : Machine) → Second (known_in p) p.tasks (ready p) m → (p.cpus == 0) ≡ true → IsFault 0 NoCpu f →
+      FirstFault text f
 
 -- ---- what the code answers
 

@@ -2,7 +2,7 @@
 ghost use Rattle.std.specs.Prelude.{◌≡◌, ◌≤◌, length};
 ghost use Rattle.z_assemble.specs.Sizes.{IsPlaced, placed_prop};
 
-use crate::operation::Operation;
+use z_operands::Operation;
 use z_text::Labels;
 
 /// The bytes of storage.

@@ -1,69 +1,11 @@
 //! Why a text is no listing.
 ghost use Rattle.std.specs.Prelude.{◌≡◌};
-ghost use Rattle.z_assemble.specs.declared.fault.LineFault.TheVariants.{Memory, Failed};
-ghost use Rattle.z_assemble.specs.Kinds.{number_of, line_fault, words_of};
+ghost use Rattle.z_assemble.specs.Words.{words_of};
 
-use std::alloc::{AllocError, AllocFailed};
-use z_text::{NoMemory, TextFault};
+use std::alloc::AllocError;
 
-/// What is wrong with a line, or with the whole text.
-#[derive(Clone, Copy, Debug, PartialEq, Eq)]
-pub enum Kind {
-    /// The text has more than 16,777,216 bytes.
-    ListingTooLong,
-    /// The text has more than 262,144 lines.
-    TooManyLines,
-    /// A malformed label or operation, a label alone, or operands that are not made of tokens.
-    BadToken,
-    /// A number that is malformed or does not fit 64 bits.
-    BadNumber,
-    /// The line has more than 120 bytes.
-    LineTooLong,
-    /// The operation is neither an instruction nor a directive.
-    UnknownMnemonic,
-    /// The operands of an instruction do not have its form.
-    WrongOperands,
-    /// A value or a place is outside its range, or there is one thing more than there may be.
-    OutOfRange,
-    /// An expression has a label that has no value.
-    UnknownLabel,
-    /// A label is defined twice.
-    DoubleLabel,
-    /// A byte is placed twice.
-    Overlap,
-    /// A directive's operands do not have its form, a label is missing or not allowed, or a line follows the end.
-    BadDirective,
-    /// There is no CPU.
-    NoCpu,
-    /// A schedule is malformed or too long, or names a CPU that is not there.
-    BadSchedule,
-}
-
-impl Kind {
-    /// The number of the kind, 1 to 14.
-    pub fn number(self) -> u8
-        ensures { result ≡ number_of self }
-    {
-        match self {
-            Kind::ListingTooLong => 1,
-            Kind::TooManyLines => 2,
-            Kind::BadToken => 3,
-            Kind::BadNumber => 4,
-            Kind::LineTooLong => 5,
-            Kind::UnknownMnemonic => 6,
-            Kind::WrongOperands => 7,
-            Kind::OutOfRange => 8,
-            Kind::UnknownLabel => 9,
-            Kind::DoubleLabel => 10,
-            Kind::Overlap => 11,
-            Kind::BadDirective => 12,
-            Kind::NoCpu => 13,
-            Kind::BadSchedule => 14,
-        }
-    }
-}
-
-/// The first fault of a text: its line, from 1 on, or 0 where it is of no line; and the number of its kind, 1 to 14.
+/// The first fault of a text: its line, from 1 on, or 0 where it is of no line; and the number of its kind, 1
+/// to 14.
 #[derive(Clone, Copy, Debug, PartialEq, Eq)]
 pub struct ListingFault {
     /// The line, or 0.
@@ -81,15 +23,6 @@ pub enum AssembleFault {
     Listing(ListingFault),
 }
 
-/// What stops a pass at a line.
-#[derive(Clone, Copy, Debug, PartialEq, Eq)]
-pub enum LineFault {
-    /// There was no memory.
-    Memory,
-    /// A test failed.
-    Failed(Kind),
-}
-
 impl From<AllocError> for AssembleFault {
     ghost use Rattle.z_assemble.specs.declared.fault.AssembleFault.TheVariants as ends;
 
@@ -100,53 +33,8 @@ impl From<AllocError> for AssembleFault {
     }
 }
 
-impl From<AllocError> for LineFault {
-    ghost from_gives = { λ _ e. e ≡ Memory };
-
-    fn from(_error: AllocError) -> LineFault {
-        LineFault::Memory
-    }
-}
-
-impl<T: Drop> From<AllocFailed<T>> for LineFault {
-    ghost from_gives = { λ _ e. e ≡ Memory };
-
-    fn from(_error: AllocFailed<T>) -> LineFault {
-        LineFault::Memory
-    }
-}
-
-impl From<NoMemory> for LineFault {
-    ghost from_gives = { λ _ e. e ≡ Memory };
-
-    fn from(_error: NoMemory) -> LineFault {
-        LineFault::Memory
-    }
-}
-
-impl From<Kind> for LineFault {
-    ghost from_gives = { λ kind e. e ≡ Failed kind };
-
-    fn from(kind: Kind) -> LineFault {
-        LineFault::Failed(kind)
-    }
-}
-
-impl From<TextFault> for LineFault {
-    ghost from_gives = { λ fault e. e ≡ line_fault fault };
-
-    fn from(fault: TextFault) -> LineFault {
-        match fault {
-            TextFault::Memory => LineFault::Memory,
-            TextFault::LineTooLong => LineFault::Failed(Kind::LineTooLong),
-            TextFault::BadToken => LineFault::Failed(Kind::BadToken),
-            TextFault::BadNumber => LineFault::Failed(Kind::BadNumber),
-        }
-    }
-}
-
 /// The words for the kind of a fault, by its number from 1 to 14.
-#[tactic(auto, unfolding(crate::specs::Kinds::words_of))]
+#[tactic(auto, unfolding(crate::specs::Words::words_of))]
 pub fn words_of(kind: u8) -> &'static str
     ensures { result.now ≡ words_of kind }
 {

@@ -1,21 +1,26 @@
 //! The first reading of the lines: labels, the location, and what is placed.
-ghost use Rattle.std.specs.Prelude.{◌≡◌, ℕ, ◌≤◌, ◌<◌, ◌+◌, ◌^◌, length, drop, pos, negsuc, IfSome, Ok, IsTrue, All, false, ◌≤ℤ◌};
+ghost use Rattle.std.specs.Prelude.{◌≡◌, ℕ, ◌≤◌, ◌<◌, ◌+◌, ◌^◌, length, drop, pos, negsuc, IfSome, Ok};
+ghost use Rattle.std.specs.Prelude.{IsTrue, All, false, ◌≤ℤ◌};
 ghost use Rattle.std.specs.List.{prefix_len};
 ghost use Rattle.z_instr.specs.declared.table.TheConstants.{ROWS};
 ghost use Rattle.z_text.specs.Labels.{value_in};
 ghost use Rattle.z_text.specs.Line.{is_blank, is_inked, past};
 ghost use Rattle.z_text.specs.Tokens.{AreTokensIn, LiesIn};
-ghost use Rattle.z_assemble.specs.Listing.{plan_of, label_in, operation_in, heads_in, operands_in, field_behind, table_with, is_bad_label, is_defined, value_on, org_line, equ_line, ds_line, dc_line, instruction_line, cpu_line, end_line, operation_line, line_gives, tasked, labelled, first_token, is_nil, is_doubleword, is_below};
-ghost use Rattle.z_assemble.specs.Sizes.{IsKnown, IsMask, IsPlaced};
-ghost use Rattle.z_assemble.specs.Steps.{Gives, Answers};
+ghost use Rattle.z_assemble.specs.Listing.{plan_of, label_in, operation_in, heads_in, operands_in};
+ghost use Rattle.z_assemble.specs.Listing.{field_behind, table_with, is_bad_label, is_defined, value_on};
+ghost use Rattle.z_assemble.specs.Listing.{org_line, equ_line, ds_line, dc_line, instruction_line, cpu_line};
+ghost use Rattle.z_assemble.specs.Listing.{end_line, operation_line, line_gives, tasked, labelled};
+ghost use Rattle.z_assemble.specs.Listing.{first_token, is_nil, is_doubleword, is_below};
+ghost use Rattle.z_operands.specs.Sizes.{IsKnown, IsMask};
+ghost use Rattle.z_assemble.specs.Sizes.{IsPlaced};
+ghost use Rattle.z_operands.specs.Steps.{Gives, Answers};
 
-use crate::data::data_of;
 use crate::draft::{Draft, Work};
-use crate::fault::{Kind, LineFault};
-use crate::operation::{Operation, operation_named, size_of_row};
 use crate::place::{place, start, write};
-use crate::values::{one_in, operands_on};
 use std::alloc::Global;
+use z_operands::{
+    Kind, LineFault, Operation, data_of, one_in, operands_on, operation_named, size_of_row,
+};
 use z_text::{Labels, Token, tokens};
 
 // ---- the parts of a line
@@ -136,7 +141,8 @@ fn define(labels: &mut Labels, label: &[u8], value: i128) -> Result<(), LineFaul
 /// Gives the label, where there is one, the location as its value.
 fn define_here(draft: &mut Draft, label: &[u8]) -> Result<(), LineFault>
     requires fresh { is_defined label.now (value_in draft.old.labels) ≡ false }
-    ensures { Gives result (Ok (labelled label.now (pos draft.old.here) (plan_of draft.old))) (plan_of draft.new) }
+    ensures { Gives result (Ok (labelled label.now (pos draft.old.here) (plan_of draft.old)))
+        (plan_of draft.new) }
 {
     define(&mut draft.labels, label, draft.here as i128)
 }
@@ -164,7 +170,8 @@ fn value_on(alloc: Global, draft: &Draft, line: &[u8], tokens: &[Token]) -> Resu
 #[tactic(auto, unfolding(crate::specs::Listing::org_line))]
 fn org(alloc: Global, draft: &mut Draft, line: &[u8], tokens: &[Token]) -> Result<(), LineFault>
     requires tokens { AreTokensIn line.now tokens.now }
-    ensures { Gives result (org_line line.now (operands_in tokens.now) (plan_of draft.old)) (plan_of draft.new) }
+    ensures { Gives result (org_line line.now (operands_in tokens.now) (plan_of draft.old))
+        (plan_of draft.new) }
 {
     let value = value_on(alloc, draft, line, tokens)?;
     if value < 0 || 1_048_576 < value {
@@ -184,7 +191,8 @@ fn equ(
 ) -> Result<(), LineFault>
     requires tokens { AreTokensIn line.now tokens.now }
     requires fresh { is_defined label.now (value_in draft.old.labels) ≡ false }
-    ensures { Gives result (equ_line label.now line.now (operands_in tokens.now) (plan_of draft.old)) (plan_of draft.new) }
+    ensures { Gives result (equ_line label.now line.now (operands_in tokens.now) (plan_of draft.old))
+        (plan_of draft.new) }
 {
     let value = value_on(alloc, draft, line, tokens)?;
     if !is_doubleword(value) {
@@ -210,7 +218,8 @@ fn ds(
 ) -> Result<(), LineFault>
     requires tokens { AreTokensIn line.now tokens.now }
     requires fresh { is_defined label.now (value_in draft.old.labels) ≡ false }
-    ensures { Gives result (ds_line label.now line.now (operands_in tokens.now) (plan_of draft.old)) (plan_of draft.new) }
+    ensures { Gives result (ds_line label.now line.now (operands_in tokens.now) (plan_of draft.old))
+        (plan_of draft.new) }
 {
     let value = value_on(alloc, draft, line, tokens)?;
     if value < 0 || 1_048_576 < value {
@@ -242,7 +251,8 @@ fn instruction<'a>(
     requires fresh { is_defined label.now (value_in draft.old.labels) ≡ false }
     requires row { row < ROWS }
     requires mask { IsMask mask }
-    ensures { Gives result (instruction_line number label.now line.now row mask (plan_of draft.old)) (plan_of draft.new) }
+    ensures { Gives result (instruction_line number label.now line.now row mask (plan_of draft.old))
+        (plan_of draft.new) }
 {
     let here = draft.here;
     define_here(draft, label)?;
@@ -264,7 +274,8 @@ fn leave<'a>(
     operation: Operation,
 ) -> Result<(), LineFault>
     requires { IsPlaced draft.old.here operation }
-    ensures { Gives result (Ok (tasked number draft.old.here line.now operation (plan_of draft.old))) (plan_of draft.new) }
+    ensures { Gives result (Ok (tasked number draft.old.here line.now operation (plan_of draft.old)))
+        (plan_of draft.new) }
 {
     let here = draft.here;
     draft.works.push(Work {
@@ -315,7 +326,8 @@ fn end(draft: &mut Draft, tokens: &[Token]) -> Result<(), LineFault>
     Ok(())
 }
 
-/// Does what a line of this operation does. The tokens are those of the line; `behind` is the place after the operation.
+/// Does what a line of this operation does. The tokens are those of the line; `behind` is the place after the
+/// operation.
 #[tactic(auto, unfolding(crate::specs::Listing::operation_line))]
 fn run<'a>(
     alloc: Global,
@@ -331,7 +343,8 @@ fn run<'a>(
     requires fresh { is_defined label.now (value_in draft.old.labels) ≡ false }
     requires known { IsKnown operation }
     requires behind { behind ≤ length line.now }
-    ensures { Gives result (operation_line operation number label.now line.now behind (operands_in tokens.now) (plan_of draft.old)) (plan_of draft.new) }
+    ensures { Gives result (operation_line operation number label.now line.now behind (operands_in tokens.now)
+        (plan_of draft.old)) (plan_of draft.new) }
 {
     match operation {
         Operation::Instruction(row, mask) => instruction(draft, number, label, line, row, mask),

@@ -6,7 +6,8 @@ use tx_journal::{Event, Image, Show};
 use tx_ladder::Parms;
 use z_regs::{CpuImage, Guard};
 
-/// What a listing stands for. Contracts see it as they see an [`Image`], which it becomes where its parts fit together.
+/// What a listing stands for. Contracts see it as they see an [`Image`], which it becomes where its parts fit
+/// together.
 #[derive(Drop)]
 pub struct Parts {
     /// All of storage, from address 0 on.

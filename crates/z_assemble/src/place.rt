@@ -2,11 +2,11 @@
 ghost use Rattle.std.specs.Prelude.{◌≡◌, ◌≤◌, ◌<◌, ◌+◌, length, true, OnOk};
 ghost use Rattle.std.specs.List.{list_any};
 ghost use Rattle.z_assemble.specs.Listing.{plan_of, placed, written, started};
-ghost use Rattle.z_assemble.specs.Steps.{Gives};
+ghost use Rattle.z_operands.specs.Steps.{Gives};
 ghost use Rattle.z_assemble.specs.Text.{write_at, copies};
 
 use crate::draft::{Draft, SIZE};
-use crate::fault::{Kind, LineFault};
+use z_operands::{Kind, LineFault};
 
 fn is_any(marks: &[bool]) -> bool
     ensures { result ≡ list_any (λ b. b) marks.now }

@@ -1,31 +1,37 @@
 //! The second reading of the lines, when all labels are known.
-ghost use Rattle.std.specs.Prelude.{◌≡◌, ℕ, IfOk, Ok, OnOk, ◌≤◌, ◌<◌, ◌+◌, ◌-◌, ◌*◌, ◌^◌, length, drop, map, pos, sum_by, IsTrue, All, Option, Some, true, false};
+ghost use Rattle.std.specs.Prelude.{◌≡◌, ℕ, IfOk, Ok, OnOk, ◌≤◌, ◌<◌, ◌+◌, ◌-◌, ◌*◌, ◌^◌, length, drop, map};
+ghost use Rattle.std.specs.Prelude.{pos, sum_by, IsTrue, All, Option, Some, true, false};
 ghost use Rattle.std.specs.List.{list_any};
 ghost use Rattle.z_instr.specs.Reading.{modulo};
 ghost use Rattle.z_regs.specs.Cpu.{cpu_of};
 ghost use Rattle.z_regs.specs.Prefix.{is_prefix};
 ghost use Rattle.z_text.specs.Labels.{value_in};
 ghost use Rattle.z_text.specs.Tokens.{AreTokensIn, LiesIn};
-ghost use Rattle.z_assemble.specs.Listing.{task_of, heads_in, operands_in, operation_in, is_below, is_doubleword, field_behind};
-ghost use Rattle.z_assemble.specs.Machine.{change_at, with_address, with_general, entry_line, is_register_value, register_line, size_of_show, is_accessible, has_room_for, shown, show_line, block_line, is_comma, parameter_in, parameter_line, named_parameter, is_area, is_same_prefix, has_prefix, is_free, places_in, task_places_in, is_prefix_for, with_prefix, prefix_line, schedule_line, code_line, tokens_in, end_of, directive_line, read_again, task_gives};
+ghost use Rattle.z_assemble.specs.Listing.{task_of, heads_in, operands_in, operation_in, is_below};
+ghost use Rattle.z_assemble.specs.Listing.{is_doubleword, field_behind};
+ghost use Rattle.z_assemble.specs.Machine.{change_at, with_address, with_general, entry_line};
+ghost use Rattle.z_assemble.specs.Machine.{is_register_value, register_line, size_of_show, is_accessible};
+ghost use Rattle.z_assemble.specs.Machine.{has_room_for, shown, show_line, block_line, is_comma};
+ghost use Rattle.z_assemble.specs.Machine.{parameter_in, parameter_line, named_parameter, is_area};
+ghost use Rattle.z_assemble.specs.Machine.{is_same_prefix, has_prefix, is_free, places_in, task_places_in};
+ghost use Rattle.z_assemble.specs.Machine.{is_prefix_for, with_prefix, prefix_line, schedule_line, code_line};
+ghost use Rattle.z_assemble.specs.Machine.{tokens_in, end_of, directive_line, read_again, task_gives};
 ghost use Rattle.z_assemble.specs.Setup.{machine_of, known_of};
 ghost use Rattle.z_assemble.specs.Sizes.{IsPlaced};
-ghost use Rattle.z_assemble.specs.Steps.{Gives, Answers};
-ghost use Rattle.z_assemble.specs.Values.{operands_on};
+ghost use Rattle.z_operands.specs.Steps.{Gives, Answers};
+ghost use Rattle.z_operands.specs.Values.{operands_on};
 
 use crate::draft::{SIZE, Work};
-use crate::fault::{Kind, LineFault};
 use crate::first::{behind, field_behind, heads_in, is_doubleword, operation_in};
-use crate::instruction::code_for;
-use crate::operand::Operand;
-use crate::operation::{Operation, size_of_row};
 use crate::parameter::{Parameter, is_choice, parameter_named, set_parameter};
 use crate::place::write_bytes;
-use crate::schedule::schedule;
 use crate::setup::Setup;
-use crate::values::{one_in, operands_on, three_in, two_in};
 use std::alloc::Global;
 use tx_journal::Show;
+use z_operands::{
+    Kind, LineFault, Operand, Operation, code_for, one_in, operands_on, push_events, size_of_row,
+    three_in, two_in,
+};
 use z_regs::CpuImage;
 use z_text::{Labels, TextFault, Token, TokenKind, tokens};
 
@@ -51,7 +57,8 @@ fn set_address(cpus: &mut Vec<CpuImage>, at: usize, address: u64)
 #[tactic(auto, using(crate::proofs::Lists::change_steps))]
 fn set_general(cpus: &mut Vec<CpuImage>, at: usize, register: usize, value: u64)
     requires { register < 16 }
-    ensures is { map cpu_of cpus.new.items ≡ change_at at (with_general register value) (map cpu_of cpus.old.items) }
+    ensures is { map cpu_of cpus.new.items ≡ change_at at (with_general register value)
+        (map cpu_of cpus.old.items) }
     ensures count { length cpus.new.items ≡ length cpus.old.items }
 {
     if at < cpus.len() {
@@ -189,7 +196,8 @@ fn parameter_in(line: &[u8], tokens: &[Token]) -> Option<Parameter>
 
 #[tactic(auto, unfolding(crate::specs::Machine::parameter_line))]
 fn choose(setup: &mut Setup, parameter: Parameter, operands: &[Operand]) -> Result<(), LineFault>
-    ensures gives { Gives result (parameter_line parameter operands.now (machine_of setup.old)) (machine_of setup.new) }
+    ensures gives { Gives result (parameter_line parameter operands.now (machine_of setup.old))
+        (machine_of setup.new) }
     ensures entered { setup.new.entered ≡ setup.old.entered }
 {
     let value = one_in(operands)?;
@@ -274,7 +282,8 @@ fn is_text_in(area: u32, works: &[Work]) -> bool
 
 #[tactic(auto, unfolding(crate::specs::Machine::prefix_line))]
 fn give_prefix(setup: &mut Setup, works: &[Work], operands: &[Operand]) -> Result<(), LineFault>
-    ensures gives { Gives result (prefix_line (map task_of works.now) operands.now (machine_of setup.old)) (machine_of setup.new) }
+    ensures gives { Gives result (prefix_line (map task_of works.now) operands.now (machine_of setup.old))
+        (machine_of setup.new) }
     ensures entered { setup.new.entered ≡ setup.old.entered }
 {
     let (cpu, prefix) = two_in(operands)?;
@@ -297,7 +306,7 @@ fn add_events(alloc: Global, setup: &mut Setup, field: &[u8]) -> Result<(), Line
     ensures gives { Gives result (schedule_line field.now (machine_of setup.old)) (machine_of setup.new) }
     ensures entered { setup.new.entered ≡ setup.old.entered }
 {
-    schedule(alloc, setup.cpus.len(), field, &mut setup.schedule)?;
+    push_events(alloc, setup.cpus.len(), field, &mut setup.schedule)?;
     setup.scheduled = true;
     Ok(())
 }
@@ -311,7 +320,8 @@ fn write_code(
     operands: &[Operand],
 ) -> Result<(), LineFault>
     requires { IsPlaced here (Operation.Instruction row mask) }
-    ensures gives { Gives result (code_line row mask here operands.now (machine_of setup.old)) (machine_of setup.new) }
+    ensures gives { Gives result (code_line row mask here operands.now (machine_of setup.old))
+        (machine_of setup.new) }
     ensures entered { setup.new.entered ≡ setup.old.entered }
 {
     let code = code_for(row, mask, here, operands)?;
@@ -345,7 +355,8 @@ fn operands_for(
     first: usize,
 ) -> Result<Vec<Operand>, LineFault>
     requires { AreTokensIn work.text.now tokens.now }
-    ensures { Answers (λ v. v.items) result (operands_on malformed work.entry.text.now (value_in labels.now) work.entry.here (drop first tokens.now)) }
+    ensures { Answers (λ v. v.items) result (operands_on malformed work.entry.text.now
+        (value_in labels.now) work.entry.here (drop first tokens.now)) }
 {
     operands_on(
         alloc, malformed, work.text, tokens, first, labels, work.here,
@@ -373,7 +384,9 @@ fn choose_named(
     tokens: &[Token],
 ) -> Result<(), LineFault>
     requires { AreTokensIn work.text.now tokens.now }
-    ensures gives { Gives result (named_parameter (parameter_in work.entry.text.now (operands_in tokens.now)) (known_of labels.now works.now) (task_of work.entry) (drop (heads_in tokens.now + 2) tokens.now) (machine_of setup.old)) (machine_of setup.new) }
+    ensures gives { Gives result (named_parameter (parameter_in work.entry.text.now (operands_in tokens.now))
+        (known_of labels.now works.now) (task_of work.entry) (drop (heads_in tokens.now + 2) tokens.now)
+        (machine_of setup.old)) (machine_of setup.new) }
     ensures entered { setup.new.entered ≡ setup.old.entered }
 {
     let heads = heads_in(tokens);
@@ -394,7 +407,8 @@ fn directive(
     operands: &[Operand],
 ) -> Result<(), LineFault>
     requires { setup.old.entered < 2 ^ 64 - 1 }
-    ensures gives { Gives result (directive_line operation (known_of labels.now works.now) operands.now (machine_of setup.old)) (machine_of setup.new) }
+    ensures gives { Gives result (directive_line operation (known_of labels.now works.now) operands.now
+        (machine_of setup.old)) (machine_of setup.new) }
     ensures entered { setup.new.entered ≤ setup.old.entered + 1 }
 {
     let _labels = labels;
@@ -420,7 +434,8 @@ fn read_again(
 ) -> Result<(), LineFault>
     requires tokens { AreTokensIn work.text.now tokens.now }
     requires entered { setup.old.entered < 2 ^ 64 - 1 }
-    ensures gives { Gives result (read_again work.entry.operation (known_of labels.now works.now) (task_of work.entry) tokens.now (machine_of setup.old)) (machine_of setup.new) }
+    ensures gives { Gives result (read_again work.entry.operation (known_of labels.now works.now)
+        (task_of work.entry) tokens.now (machine_of setup.old)) (machine_of setup.new) }
     ensures entered { setup.new.entered ≤ setup.old.entered + 1 }
 {
     let heads = heads_in(tokens);
@@ -452,7 +467,8 @@ pub(crate) fn read_second(
     work: Work,
 ) -> Result<(), LineFault>
     requires { setup.old.entered < 2 ^ 64 - 1 }
-    ensures gives { Gives result (task_gives (known_of labels.now works.now) (task_of work.entry) (machine_of setup.old)) (machine_of setup.new) }
+    ensures gives { Gives result (task_gives (known_of labels.now works.now) (task_of work.entry)
+        (machine_of setup.old)) (machine_of setup.new) }
     ensures entered { setup.new.entered ≤ setup.old.entered + 1 }
 {
     let tokens = tokens_in(alloc, work.text)?;

@@ -1,5 +1,6 @@
 //! Both readings of all lines, and the image.
-ghost use Rattle.std.specs.Prelude.{◌≡◌, ◌-◌, ◌≤◌, ◌<◌, ◌^◌, ◌+◌, ◌/◌, length, List, IfOk, OnOk, map, replicate, IfErr, drop, false, ℕ, All};
+ghost use Rattle.std.specs.Prelude.{◌≡◌, ◌-◌, ◌≤◌, ◌<◌, ◌^◌, ◌+◌, ◌/◌, length, List, IfOk, OnOk, map};
+ghost use Rattle.std.specs.Prelude.{replicate, IfErr, drop, false, ℕ, All};
 ghost use Rattle.std.specs.FinSet.{empty};
 ghost use Rattle.z_instr.specs.Layout.{length_by};
 ghost use Rattle.z_regs.specs.Cpu.{cpu_of, started};
@@ -10,12 +11,14 @@ ghost use Rattle.z_assemble.specs.Listing.{plan_of, task_of};
 ghost use Rattle.z_assemble.specs.Setup.{machine_of, known_of};
 ghost use Rattle.z_assemble.specs.Steps.{Passes, on_line};
 ghost use Rattle.z_assemble.specs.Text.{lines_of, copies};
-ghost use Rattle.z_assemble.specs.Whole.{first_on, first_over, second_on, second_over, blank, no_label, places_from, with_place, with_page, with_pages, pages_with, image_of, finished, after_first, over_lines, assembled, Stands, HasFault, IsOutcome, fault_at, ready_for};
+ghost use Rattle.z_assemble.specs.Whole.{first_on, first_over, second_on, second_over, blank, no_label};
+ghost use Rattle.z_assemble.specs.Whole.{places_from, with_place, with_page, with_pages, pages_with};
+ghost use Rattle.z_assemble.specs.Whole.{image_of, finished, after_first, over_lines, assembled, Stands};
+ghost use Rattle.z_assemble.specs.Whole.{HasFault, IsOutcome, fault_at, ready_for};
 
 use crate::draft::{Draft, SIZE, Work};
-use crate::fault::{AssembleFault, Kind, LineFault, ListingFault};
+use crate::fault::{AssembleFault, ListingFault};
 use crate::first::read_first;
-use crate::lines::{pieces_by, without_end};
 use crate::parts::Parts;
 use crate::second::read_second;
 use crate::setup::Setup;
@@ -23,6 +26,7 @@ use std::alloc::{AllocError, Global};
 use tx_journal::Image;
 use tx_ladder::Parms;
 use z_decode::length_of;
+use z_operands::{Kind, LineFault, pieces_by, without_end};
 use z_regs::{CpuImage, Guard};
 use z_text::Labels;
 
@@ -66,7 +70,8 @@ fn first_over<'a>(
     lines: &[&'a [u8]],
 ) -> Result<(), AssembleFault>
     requires { length lines.now ≤ 262144 }
-    ensures { Passes result (first_over 1 (map (λ l. l.now) lines.now) (plan_of draft.old)) (plan_of draft.new) }
+    ensures { Passes result (first_over 1 (map (λ l. l.now) lines.now) (plan_of draft.old))
+        (plan_of draft.new) }
 {
     let mut number = 1;
     for line in lines {
@@ -127,7 +132,8 @@ fn second_on(
     work: Work,
 ) -> Result<(), AssembleFault>
     requires { setup.old.entered < 2 ^ 64 - 1 }
-    ensures passes { Passes result (second_on (known_of labels.now works.now) (task_of work.entry) (machine_of setup.old)) (machine_of setup.new) }
+    ensures passes { Passes result (second_on (known_of labels.now works.now) (task_of work.entry)
+        (machine_of setup.old)) (machine_of setup.new) }
     ensures entered { setup.new.entered ≤ setup.old.entered + 1 }
 {
     match read_second(alloc, setup, labels, works, work) {
@@ -143,7 +149,8 @@ fn second_over(
     works: &[Work],
 ) -> Result<(), AssembleFault>
     requires { setup.old.entered ≡ 0 }
-    ensures { Passes result (second_over (known_of labels.now works.now) (map task_of works.now) (machine_of setup.old)) (machine_of setup.new) }
+    ensures { Passes result (second_over (known_of labels.now works.now) (map task_of works.now)
+        (machine_of setup.old)) (machine_of setup.new) }
 {
     for work in works {
         second_on(alloc, setup, labels, works, *work)?;
@@ -166,7 +173,8 @@ fn entering(alloc: Global, count: u32) -> Result<Vec<CpuImage>, AllocError>
 
 fn push_marked(places: &mut Vec<u32>, place: u32, mark: bool) -> Result<(), AllocError>
     ensures is { OnOk result (places.new.items ≡ with_place mark place places.old.items) }
-    ensures inside { (n : ℕ) → place < n → All (λ p. p < n) places.old.items → OnOk result (All (λ p. p < n) places.new.items) }
+    ensures inside { (n : ℕ) → place < n → All (λ p. p < n) places.old.items →
+        OnOk result (All (λ p. p < n) places.new.items) }
 {
     if mark {
         places.push(place)?;
@@ -313,7 +321,8 @@ fn assembled(alloc: Global, text: &[u8]) -> Result<Parts, AssembleFault>
     over_lines(alloc, &lines)
 }
 
-/// The image that the text of a listing stands for, or the first fault of the text, in the order of the tests.
+/// The image that the text of a listing stands for, or the first fault of the text, in the order of the
+/// tests.
 pub fn assemble(alloc: Global, text: &[u8]) -> Result<Image, AssembleFault>
     ensures image { IfOk result (λ image. Stands text.now image) }
     ensures fault { IfErr result (λ e. HasFault text.now e) }

@@ -5,4 +5,5 @@ use Rattle.z_assemble.specs.Machine.{has_prefix}
 use Rattle.z_assemble.proofs.second.is_given.Given as goal
 
 abbrev pub invariant-loop-cpu : goal.invariant-loop-cpu
-invariant-loop-cpu l = list_any (λ c. has_prefix l.prefix (cpu_of c)) (drop l.cpu-index l.cpus) ≡ list_any (λ c. has_prefix l.prefix (cpu_of c)) l.cpus
+invariant-loop-cpu l = list_any (λ c. has_prefix l.prefix (cpu_of c)) (drop l.cpu-index l.cpus) ≡ list_any
+    (λ c. has_prefix l.prefix (cpu_of c)) l.cpus

@@ -9,8 +9,12 @@ use Rattle.z_assemble.proofs.whole.over_lines.Goals as goal
 
 pub returns : goal.returns
 returns c =
-    let few : length (map (λ (l : Piece). l.now) c.args.lines.now) ≤ 262144 = simp length-map c.if-lines-gt-MOST_LINES.false in
+    let few : length (map (λ (l : Piece). l.now) c.args.lines.now) ≤ 262144 =
+    simp length-map c.if-lines-gt-MOST_LINES.false in
     let some : (c.first_over.new.draft.cpus == 0) ≡ false = grind (arith, nat_tests) in
-    lines_stand (map (λ (l : Piece). l.now) c.args.lines.now) (plan_of c.in_ok-draft.draft) (plan_of c.first_over.new.draft) (machine_of c.in_ok-setup.setup) (machine_of c.second_over.new.setup) c.in_ok-image.field-0
+    lines_stand (map (λ (l : Piece). l.now) c.args.lines.now) (plan_of c.in_ok-draft.draft)
+    (plan_of c.first_over.new.draft) (machine_of c.in_ok-setup.setup)
+    (machine_of c.second_over.new.setup) c.in_ok-image.field-0
     few c.in_ok-draft.ensures.is c.in_ok-first_over.ensures c.in_ok-setup.ensures.is
-    (rw c.deref.ensures.value at c.in_ok-second_over.ensures) some (rw c.deref-2.ensures.value at c.in_ok-image.ensures)
+    (rw c.deref.ensures.value at c.in_ok-second_over.ensures) some
+    (rw c.deref-2.ensures.value at c.in_ok-image.ensures)

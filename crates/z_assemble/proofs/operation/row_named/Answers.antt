@@ -1,8 +1,0 @@
-use Rattle.z_assemble.proofs.Rows.{row_none, row_found}
-use Rattle.z_assemble.proofs.operation.row_named.Goals as goal
-
-pub returns-in-None-clause-is : goal.returns-in-None-clause-is
-returns-in-None-clause-is c = row_none c.args.name.now c.in-None.ensures.none
-
-pub returns-in-Some-clause-is : goal.returns-in-Some-clause-is
-returns-in-Some-clause-is c = row_found c.args.name.now c.in-Some.op.number c.in-Some.op.known c.in-Some.ensures.found

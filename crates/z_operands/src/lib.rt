@@ -1,0 +1,22 @@
+//! What the operation and the operands of a line of a listing say: values, bytes of data and of instructions,
+//! events.
+#![tactic(auto)]
+
+mod data;
+mod fault;
+mod instruction;
+mod lines;
+mod number;
+mod operand;
+mod operation;
+mod schedule;
+mod values;
+
+pub use data::{Width, data_of};
+pub use fault::{Kind, LineFault};
+pub use instruction::code_for;
+pub use lines::{pieces_by, without_end};
+pub use operand::{Atom, Operand, Piece, Slot};
+pub use operation::{Operation, operation_named, size_of_row};
+pub use schedule::{MOST_EVENTS, Run, push_events};
+pub use values::{one_in, operands_on, three_in, two_in};

@@ -1,0 +1,195 @@
+//! Operations: instructions and directives.
+ghost use Rattle.std.specs.Prelude.{◌≡◌, ◌<◌, ◌≤◌, IfSome, option_map, codes};
+ghost use Rattle.z_instr.specs.declared.table.TheConstants.{ROWS};
+ghost use Rattle.z_operands.specs.Operations.{directive_named, branch_mask, row_named, instruction, extended};
+ghost use Rattle.z_operands.specs.Operations.{or_else, operation_named, size_of_row};
+ghost use Rattle.z_operands.specs.Sizes.{IsKnown, IsMask};
+
+use z_instr::format::length_in;
+use z_instr::lookup::{find, line};
+use z_instr::op::Op;
+
+/// What a line asks for.
+#[derive(Clone, Copy, Debug, PartialEq, Eq)]
+pub enum Operation {
+    /// An instruction: its row in the instruction table, and the mask of an extended mnemonic.
+    Instruction(u16, Option<u8>),
+    /// ORG: the location changes.
+    Org,
+    /// EQU: a label gets a value.
+    Equ,
+    /// DS: zeros.
+    Ds,
+    /// DC: bytes.
+    Dc,
+    /// CPU: the next CPU's entry.
+    Cpu,
+    /// REG: a general register's first value.
+    Reg,
+    /// SHOW: bytes that are shown.
+    Show,
+    /// TDB: a diagnostic block that is shown.
+    Tdb,
+    /// SCHED: events.
+    Sched,
+    /// PARM: a number of the retry ladder.
+    Parm,
+    /// PREFIX: a CPU's prefix.
+    Prefix,
+    /// END: no more lines that say something.
+    End,
+}
+
+#[tactic(auto, unfolding(crate::specs::Operations::directive_named))]
+fn directive_named(name: &[u8]) -> Option<Operation>
+    ensures is { result ≡ directive_named name.now }
+    ensures known { IfSome result IsKnown }
+{
+    if name == b"ORG".as_slice() {
+        return Some(Operation::Org);
+    }
+    if name == b"EQU".as_slice() {
+        return Some(Operation::Equ);
+    }
+    if name == b"DS".as_slice() {
+        return Some(Operation::Ds);
+    }
+    if name == b"DC".as_slice() {
+        return Some(Operation::Dc);
+    }
+    if name == b"CPU".as_slice() {
+        return Some(Operation::Cpu);
+    }
+    if name == b"REG".as_slice() {
+        return Some(Operation::Reg);
+    }
+    if name == b"SHOW".as_slice() {
+        return Some(Operation::Show);
+    }
+    if name == b"TDB".as_slice() {
+        return Some(Operation::Tdb);
+    }
+    if name == b"SCHED".as_slice() {
+        return Some(Operation::Sched);
+    }
+    if name == b"PARM".as_slice() {
+        return Some(Operation::Parm);
+    }
+    if name == b"PREFIX".as_slice() {
+        return Some(Operation::Prefix);
+    }
+    if name == b"END".as_slice() {
+        return Some(Operation::End);
+    }
+    None
+}
+
+/// The mask of an extended mnemonic that branches to a target.
+#[tactic(auto, unfolding(crate::specs::Operations::branch_mask))]
+fn branch_mask(name: &[u8]) -> Option<u8>
+    ensures is { result ≡ branch_mask name.now }
+    ensures known { IsMask result }
+{
+    if name == b"J".as_slice() {
+        return Some(15);
+    }
+    if name == b"JE".as_slice() {
+        return Some(8);
+    }
+    if name == b"JZ".as_slice() {
+        return Some(8);
+    }
+    if name == b"JNE".as_slice() {
+        return Some(7);
+    }
+    if name == b"JNZ".as_slice() {
+        return Some(7);
+    }
+    if name == b"JH".as_slice() {
+        return Some(2);
+    }
+    if name == b"JP".as_slice() {
+        return Some(2);
+    }
+    if name == b"JL".as_slice() {
+        return Some(4);
+    }
+    if name == b"JM".as_slice() {
+        return Some(4);
+    }
+    if name == b"JO".as_slice() {
+        return Some(1);
+    }
+    if name == b"JNH".as_slice() {
+        return Some(13);
+    }
+    if name == b"JNL".as_slice() {
+        return Some(11);
+    }
+    if name == b"JNO".as_slice() {
+        return Some(14);
+    }
+    None
+}
+
+/// The number of the row of a name.
+fn row_named(name: &[u8]) -> Option<u16>
+    ensures is { result ≡ row_named name.now }
+    ensures known { IfSome result (λ row. row < ROWS) }
+{
+    match find(name) {
+        Some(op) => Some(op.number),
+        None => None,
+    }
+}
+
+fn instruction(row: Option<u16>, mask: Option<u8>) -> Option<Operation>
+    requires row { IfSome row (λ row. row < ROWS) }
+    requires mask { IsMask mask }
+    ensures is { result ≡ instruction row mask }
+    ensures known { IfSome result IsKnown }
+{
+    let row = row?;
+    Some(Operation::Instruction(row, mask))
+}
+
+/// The operation of an extended mnemonic.
+fn extended(name: &[u8]) -> Option<Operation>
+    ensures is { result ≡ extended name.now (branch_mask name.now) }
+    ensures known { IfSome result IsKnown }
+{
+    match branch_mask(name) {
+        Some(mask) => instruction(row_named(b"BRC"), Some(mask)),
+        None => {
+            if name == b"BR".as_slice() {
+                return instruction(row_named(b"BCR"), Some(15));
+            }
+            None
+        }
+    }
+}
+
+/// The operation of a name in capitals, if it is one.
+#[tactic(auto, unfolding(crate::specs::Operations::operation_named))]
+pub fn operation_named(name: &[u8]) -> Option<Operation>
+    ensures is { result ≡ operation_named name.now }
+    ensures known { IfSome result IsKnown }
+{
+    if let Some(directive) = directive_named(name) {
+        return Some(directive);
+    }
+    if let Some(operation) = instruction(row_named(name), None) {
+        return Some(operation);
+    }
+    extended(name)
+}
+
+/// How many bytes a row's instructions have: 2, 4 or 6.
+pub fn size_of_row(row: u16) -> usize
+    requires { row < ROWS }
+    ensures is { result ≡ size_of_row row }
+    ensures some { 0 < result }
+    ensures few { result ≤ 6 }
+{
+    usize::from(length_in(line(Op { number: row }).format))
+}
