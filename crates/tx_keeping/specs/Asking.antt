@@ -6,10 +6,11 @@ use Rattle.interrogate.specs.declared.kinds.Answer.{Answer}
 use Rattle.interrogate.specs.declared.kinds.Answer.TheVariants.{Yields, Rejects, Aborts}
 use Rattle.interrogate.specs.Replies as interrogate
 use Rattle.tx_meaning.specs.Limits.{Setting}
-use Rattle.tx_meaning.specs.Needs.{Need}
+use Rattle.tx_meaning.specs.declared.asking.Need.{Need}
 use Rattle.tx_meaning.specs.State.{State, is_live, cpus_of}
 use Rattle.tx_meaning.specs.Changes.{granting}
-use Rattle.tx_meaning.specs.Asking.{Reject, is_there}
+use Rattle.tx_meaning.specs.declared.asking.Reject.{Reject}
+use Rattle.tx_meaning.specs.Asking.{is_there}
 use Rattle.tx_keeping.specs.Kept.{Kept, kept_asker, kept_footprint, with_state}
 use Rattle.tx_keeping.specs.Moves.{k_asking, k_rejecting, k_rejected, k_yielding, k_aborting}
 

@@ -19,10 +19,11 @@ use Rattle.tx_progress.specs.declared.done.Done.TheVariants as done
 use Rattle.tx_meaning.specs.declared.outcome.Outcome.{Outcome}
 use Rattle.tx_meaning.specs.declared.outcome.Outcome.TheVariants as outcome
 use Rattle.tx_meaning.specs.Limits.{Setting}
-use Rattle.tx_meaning.specs.Needs.{Need, operand_needs, block_needs, interruption_needs}
+use Rattle.tx_meaning.specs.declared.asking.Need.{Need}
+use Rattle.tx_meaning.specs.Needs.{operand_needs, block_needs, interruption_needs}
 use Rattle.tx_meaning.specs.State.{is_live}
 use Rattle.tx_meaning.specs.Changes.{with_event, counting_turn, waiting_turn, delaying}
-use Rattle.tx_meaning.specs.Asking.{Reject}
+use Rattle.tx_meaning.specs.declared.asking.Reject.{Reject}
 use Rattle.tx_meaning.specs.Idle.{idle_by}
 use Rattle.tx_meaning.specs.Turn.{outcome_of_abort, is_tick, to_tail}
 use Rattle.tx_keeping.specs.Kept.{Kept, text_of, kept_finished, with_state, with_beside, beside}

@@ -10,14 +10,10 @@ use Rattle.interrogate.specs.declared.kinds.Answer.TheVariants.{Yields, Rejects,
 use Rattle.interrogate.specs.declared.kinds.Asker.{Asker}
 use Rattle.interrogate.specs.Replies as interrogate
 use Rattle.tx_meaning.specs.Limits.{Setting}
-use Rattle.tx_meaning.specs.Needs.{Need}
+use Rattle.tx_meaning.specs.declared.asking.Need.{Need}
+use Rattle.tx_meaning.specs.declared.asking.Reject.{Reject}
 use Rattle.tx_meaning.specs.State.{State, is_live, is_head, footprint_of, standing_of, cpus_of}
 use Rattle.tx_meaning.specs.Changes.{asking, rejecting_one, rejected_once, yielding, granting, aborting}
-
--- who rejected a request, and for which line
-pub record Reject : Type 0 where
-  pub by : ℕ
-  pub line : ℕ
 
 -- the state after questions, and the reject that ended them, if one did
 pub record Asked : Type 0 where

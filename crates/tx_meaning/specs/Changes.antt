@@ -18,7 +18,7 @@ use Rattle.line_table.specs.declared.table.Mode.TheVariants.{Shared, Exclusive}
 use Rattle.line_table.specs.declared.table.TheConstants.{LINES, MOST_HELD}
 use Rattle.line_table.specs.Holders.{Holders, holding, lines_held}
 use Rattle.tx_serial.specs.Flat.{at_put}
-use Rattle.tx_meaning.specs.Needs.{Need}
+use Rattle.tx_meaning.specs.declared.asking.Need.{Need}
 use Rattle.tx_meaning.specs.State.{Numbers, State, is_first}
 
 abbrev pub with_numbers : ℕ → Numbers → State → State

@@ -9,12 +9,8 @@ use Rattle.tx_footprint.specs.declared.places.TheConstants.{LINE_SIZE}
 use Rattle.line_table.specs.declared.table.Mode.{Mode}
 use Rattle.line_table.specs.declared.table.Mode.TheVariants.{Shared, Exclusive}
 use Rattle.tx_serial.specs.Flat.{Pending}
+use Rattle.tx_meaning.specs.declared.asking.Need.{Need}
 use Rattle.tx_serial.specs.Apply.{identification, old_psw, new_psw, interruption_block}
-
--- a line, and how it has to be held
-pub record Need : Type 0 where
-  pub line : ℕ
-  pub mode : Mode
 
 -- ---- the lines of ranges by absolute addresses
 

@@ -26,11 +26,13 @@ use Rattle.tx_progress.specs.Doing.{delay_given}
 use Rattle.tx_meaning.specs.declared.outcome.Outcome.{Outcome}
 use Rattle.tx_meaning.specs.declared.outcome.Outcome.TheVariants as outcome
 use Rattle.tx_meaning.specs.Limits.{RunLimits, Setting}
-use Rattle.tx_meaning.specs.Needs.{Need, operand_needs, block_needs, interruption_needs}
+use Rattle.tx_meaning.specs.declared.asking.Need.{Need}
+use Rattle.tx_meaning.specs.Needs.{operand_needs, block_needs, interruption_needs}
 use Rattle.tx_meaning.specs.State.{Numbers, State, flat_of, attempt_of, cpu_of, is_live, standing_of}
 use Rattle.tx_meaning.specs.Changes.{with_entry, with_event, counting_turn, waiting_turn, delaying}
 use Rattle.tx_meaning.specs.Changes.{starting, continuing, committing, aborting, head_to_tail}
-use Rattle.tx_meaning.specs.Asking.{Reject, Asked, get_lines, aborting_live}
+use Rattle.tx_meaning.specs.declared.asking.Reject.{Reject}
+use Rattle.tx_meaning.specs.Asking.{Asked, get_lines, aborting_live}
 use Rattle.tx_meaning.specs.Idle.{idle}
 
 -- the state after an event, what came of it, and the reject in it, where there was one

@@ -3,8 +3,10 @@
 //! compute storage, CPUs and live attempts from the history.
 #![tactic(auto)]
 
+pub mod asking;
 pub mod limits;
 pub mod outcome;
 
+pub use asking::{Need, Reject};
 pub use limits::Limits;
 pub use outcome::Outcome;
