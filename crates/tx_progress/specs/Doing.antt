@@ -5,7 +5,7 @@ use Rattle.z_regs.specs.declared.image.RunState.{RunState}
 use Rattle.z_regs.specs.declared.image.RunState.TheVariants.{Running, Halted, Interrupted}
 use Rattle.z_regs.specs.declared.ranges.Range.{Range}
 use Rattle.z_instr.specs.declared.instr.Instr.{Instr}
-use Rattle.z_instr.specs.Table.{Entry, entry_at}
+use Rattle.z_instr.specs.Table.{entry_at}
 use Rattle.z_instr.specs.Roles.{begins, is_named}
 use Rattle.z_effect.specs.After.{exception}
 use Rattle.z_effect.specs.One.{length_of}
@@ -19,7 +19,7 @@ use Rattle.tx_control.specs.declared.causes.Why.TheVariants.{Tabort}
 use Rattle.tx_control.specs.declared.codes.TheConstants.{FIXED_POINT_OVERFLOW, FIXED_POINT_DIVIDE}
 use Rattle.tx_control.specs.declared.exceptions.Exception.{Exception}
 use Rattle.store_cache.specs.Overlay.{Store}
-use Rattle.tx_serial.specs.Flat.{Storage, operand_stores, laid_over}
+use Rattle.tx_serial.specs.Flat.{operand_stores, laid_over}
 use Rattle.tx_serial.specs.Fate.{cause_in}
 use Rattle.tx_serial.specs.Remains.{waiting_with}
 use Rattle.tx_progress.specs.Progress.{Progress, resting, is_live, advanced, seen_through}

@@ -4,3 +4,4 @@ pub mod Trial
 pub mod Local
 pub mod Doing
 pub mod Reached
+pub mod Followed

@@ -1,5 +1,5 @@
 -- What is kept of one CPU: as the history leaves it, and its attempt.
-use Rattle.std.specs.Prelude.{ℕ, List, [], ◌∷◌, Option, Some, None}
+use Rattle.std.specs.Prelude.{ℕ, List, Option, Some, None}
 use Rattle.z_regs.specs.Cpu.{Cpu}
 use Rattle.z_regs.specs.declared.waiting.Waiting.{Waiting}
 use Rattle.tx_control.specs.Nesting.{outermost_mask, outermost_block}

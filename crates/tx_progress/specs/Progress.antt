@@ -1,6 +1,6 @@
 -- How far an attempt has come: all of a private run that its later steps and its end need, without its copy
 -- of storage and without the list of its instructions.
-use Rattle.std.specs.Prelude.{ℕ, ◌+◌, ◌/◌, Bool, if◌then◌else◌, fold, nat_lt, List, [], ◌∷◌, Option, Some, None}
+use Rattle.std.specs.Prelude.{ℕ, ◌+◌, Bool, if◌then◌else◌, fold, nat_lt, List, [], Option, Some, None}
 use Rattle.std.specs.Prelude.{unwrap_or}
 use Rattle.z_regs.specs.Cpu.{Cpu}
 use Rattle.z_regs.specs.Absolute.{absolute_ranges}

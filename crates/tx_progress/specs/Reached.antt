@@ -1,5 +1,5 @@
 -- The progress that a private run has made, and what is kept of a CPU as its run and the flat state say.
-use Rattle.std.specs.Prelude.{◌≡◌, ℕ, ◌+◌, true, is_none, if◌then◌else◌, List, [], ◌∷◌, length, Option, Some, None}
+use Rattle.std.specs.Prelude.{◌≡◌, ℕ, ◌+◌, true, if◌then◌else◌, List, [], ◌∷◌, length, Option, Some, None}
 use Rattle.z_effect.specs.One.{length_of}
 use Rattle.tx_constraint.specs.Constraints.{Step}
 use Rattle.tx_constraint.specs.Kept.{Kept, kept}

@@ -1,5 +1,5 @@
 -- Whether the next instruction goes, by what is kept of the attempt.
-use Rattle.std.specs.Prelude.{ℕ, Bool, List, [], ◌∷◌, length, Option, Some, None}
+use Rattle.std.specs.Prelude.{ℕ, List, [], ◌∷◌, Option, Some, None}
 use Rattle.z_regs.specs.Absolute.{absolute_ranges}
 use Rattle.z_regs.specs.declared.ranges.Range.{Range}
 use Rattle.z_instr.specs.declared.instr.Instr.{Instr}
