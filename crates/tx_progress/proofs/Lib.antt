@@ -4,3 +4,5 @@ pub mod SeenStores
 pub mod OneMore
 pub mod Standing
 pub mod Fates
+pub mod Lines
+pub mod Alike

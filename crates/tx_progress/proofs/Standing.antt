@@ -1,7 +1,7 @@
 -- What holds of every open run: its begin is the first instruction, its nest is never empty behind that, and a
 -- constrained one goes on.
 use Rattle.std.proofs.Common.{◌≡◌, ℕ, zero, suc, ◌-◌, ◌≤◌, Bool, true, false, List, [], ◌∷◌, ◌++◌}
-use Rattle.std.proofs.Common.{Option, Some, None, refl, sym, ap, subst, ◌∙◌, arith, length, take}
+use Rattle.std.proofs.Common.{⊎_elim, Option, Some, None, refl, sym, ap, subst, ◌∙◌, arith, length, take}
 use Rattle.std.specs.Prelude.{if◌then◌else◌, ◌||◌, ◌&&◌, not}
 use Rattle.std.proofs.lemmas.List.{get_or_past}
 use Rattle.std.proofs.lemmas.Bool.{cases_lt, true≢false}
@@ -22,7 +22,6 @@ use Rattle.tx_constraint.specs.Constraints.{Step, Attempt, begun, with_step, tex
 use Rattle.tx_constraint.specs.Constraints.{first_of, GoesOn}
 use Rattle.tx_constraint.specs.Kept.{next_text_breach}
 use Rattle.tx_constraint.proofs.Attempts.{text_step}
-use Rattle.tx_constraint.proofs.Lists.{cases}
 use Rattle.tx_serial.specs.Flat.{FlatState}
 use Rattle.tx_serial.specs.Attempt.{Run, Mark, Open, Overflowed, attempt_of}
 use Rattle.tx_serial.specs.Fate.{Refusal, Goes, fate, step_of, operands, tests, first_refusal}
@@ -64,8 +63,8 @@ bars_begins e = not (begins e && e.permitted)
 barred : (n : ℕ) → bars_begins (entry_at n) ≡ true
 unfolding entry_at
 barred n =
-    cases (cases_lt n ROWS) (λ h. passes_row bars_begins refl n h)
-    (λ h. ap bars_begins (get_or_past table n no_entry (past h)))
+    ⊎_elim (λ h. passes_row bars_begins refl n h) (λ h. ap bars_begins (get_or_past table n no_entry (past h)))
+    (cases_lt n ROWS)
   where
     past : ROWS ≤ n → length table ≤ n
     past h = subst (λ (t : List Entry). length t ≤ n) same_table h
@@ -268,7 +267,7 @@ run_stands f i (suc k) e =
     let next = run f i (suc k) in
     let w = went f i k (open_is_there next.mark e) in
     let marked : next.mark ≡ mark_in (nest_after w.instruction p.cpu.general p.nest) =
-    cases w.outcome (λ d. d.1) (λ o. no_overflow next.mark e o.1) in
+    ⊎_elim (λ d. d.1) (λ o. no_overflow next.mark e o.1) w.outcome in
     subst (RunStands (f.cpus i)) (sym w.is)
     (stands_more (f.cpus i) p.cpu p.steps p.nest w.instruction w.ranges w.cpu
     (run_stands f i k w.opens) w.follows (goes_unbroken f.text p w.instruction w.ranges w.goes)
