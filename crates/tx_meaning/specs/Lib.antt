@@ -10,3 +10,5 @@ pub mod Turn
 pub mod Meaning
 pub mod Schedules
 pub mod Stretches
+pub mod Queues
+pub mod Room

@@ -1,11 +1,11 @@
 -- What events mean.
-use Rattle.std.specs.Prelude.{◌≡◌, ℕ, ◌<◌, ◌≤◌, Bool, true, false, List, [], ◌∷◌, All, count_by}
+use Rattle.std.specs.Prelude.{◌<◌, ◌≤◌, Bool, true, false, List, [], ◌∷◌, All, count_by}
 use Rattle.tx_journal.specs.Image.{IsImage, cpu_of_event}
 use Rattle.tx_journal.specs.declared.events.Event.{Event}
 use Rattle.tx_journal.specs.declared.events.Event.TheVariants.{Turn, External}
 use Rattle.tx_meaning.specs.Limits.{Setting, AreAllowed}
 use Rattle.tx_meaning.specs.State.{State, beginning, cpus_of}
-use Rattle.tx_meaning.specs.Turn.{Turned, happen}
+use Rattle.tx_meaning.specs.Turn.{happen}
 
 -- the state after events, one after the other
 unfoldable pub meaning_from : Setting → List Event → State → State

@@ -1,5 +1,5 @@
 -- The state of a machine, and what is read in it.
-use Rattle.std.specs.Prelude.{ℕ, Bool, nat_lt, List, [], ◌∷◌, ◌++◌, ◌==◌, false, length, Option, Some, None}
+use Rattle.std.specs.Prelude.{ℕ, Bool, nat_lt, List, [], ◌∷◌, ◌==◌, false, length, Option, Some, None}
 use Rattle.z_regs.specs.Cpu.{Cpu}
 use Rattle.tx_control.specs.Nesting.{is_constrained}
 use Rattle.tx_footprint.specs.Touched.{Sets}

@@ -1,6 +1,6 @@
 -- How many turns a constrained transaction has had, and how many it can still need.
-use Rattle.std.specs.Prelude.{◌≡◌, ℕ, ◌+◌, ◌*◌, ◌-◌, ◌<◌, ◌≤◌, Bool, true, false, ◌&&◌, ◌||◌, not, ◌==◌}
-use Rattle.std.specs.Prelude.{nat_lt, is_none, if◌then◌else◌, drop, length, sum_by, List, [], ◌∷◌, Option, Some, None}
+use Rattle.std.specs.Prelude.{ℕ, ◌+◌, ◌*◌, ◌-◌, Bool, true, false, ◌&&◌, ◌==◌}
+use Rattle.std.specs.Prelude.{nat_lt, if◌then◌else◌, drop, length, sum_by, List, [], ◌∷◌}
 use Rattle.std.specs.List.{list_any, range_with_len}
 use Rattle.tx_control.specs.declared.causes.Why.{Why}
 use Rattle.tx_control.specs.declared.causes.Why.TheVariants as why
@@ -10,8 +10,8 @@ use Rattle.tx_journal.specs.declared.entries.Entry.{Entry}
 use Rattle.tx_journal.specs.declared.entries.Entry.TheVariants.{Step, Commit, Abort, Tdb, Interrupt}
 use Rattle.tx_journal.specs.declared.events.Event.{Event}
 use Rattle.tx_journal.specs.declared.events.Event.TheVariants.{Turn, External}
-use Rattle.tx_meaning.specs.Limits.{RunLimits, Setting}
-use Rattle.tx_meaning.specs.State.{Numbers, State, beginning, is_live, standing_of}
+use Rattle.tx_meaning.specs.Limits.{Setting}
+use Rattle.tx_meaning.specs.State.{State, beginning, is_live, standing_of}
 use Rattle.tx_meaning.specs.Idle.{is_ready}
 use Rattle.tx_meaning.specs.Turn.{happen, is_tick}
 

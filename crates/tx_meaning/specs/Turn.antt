@@ -1,9 +1,8 @@
 -- One turn of a CPU, and an external interruption.
-use Rattle.std.specs.Prelude.{ℕ, suc, ◌+◌, ◌%◌, Bool, true, false, ◌&&◌, nat_eq, nat_lt, if◌then◌else◌}
-use Rattle.std.specs.Prelude.{List, [], ◌∷◌, Option, Some, None}
+use Rattle.std.specs.Prelude.{ℕ, suc, ◌+◌, ◌%◌, Bool, true, false, ◌&&◌, nat_eq, nat_lt}
+use Rattle.std.specs.Prelude.{List, Option, Some, None}
 use Rattle.z_regs.specs.declared.image.RunState.{RunState}
 use Rattle.z_regs.specs.declared.image.RunState.TheVariants.{Running, Halted, Interrupted}
-use Rattle.z_regs.specs.declared.ranges.Range.{Range}
 use Rattle.z_regs.specs.declared.waiting.Waiting.{Waiting}
 use Rattle.z_instr.specs.declared.instr.Instr.{Instr}
 use Rattle.z_instr.specs.Table.{entry_at}
@@ -16,7 +15,7 @@ use Rattle.tx_ladder.specs.Rungs.{is_starved}
 use Rattle.tx_journal.specs.declared.entries.Entry.TheVariants as entry
 use Rattle.tx_journal.specs.declared.events.Event.{Event}
 use Rattle.tx_journal.specs.declared.events.Event.TheVariants as event
-use Rattle.tx_serial.specs.Flat.{FlatState, Pending}
+use Rattle.tx_serial.specs.Flat.{Pending}
 use Rattle.tx_serial.specs.Attempt.{Run, Mark, Open, Committed, Overflowed, Missing}
 use Rattle.tx_serial.specs.Fate.{Fate, Goes, Ends, Stops, fate}
 use Rattle.tx_serial.specs.Run.{run}
@@ -28,11 +27,11 @@ use Rattle.tx_meaning.specs.declared.outcome.Outcome.TheVariants as outcome
 use Rattle.tx_meaning.specs.Limits.{RunLimits, Setting}
 use Rattle.tx_meaning.specs.declared.asking.Need.{Need}
 use Rattle.tx_meaning.specs.Needs.{operand_needs, block_needs, interruption_needs}
-use Rattle.tx_meaning.specs.State.{Numbers, State, flat_of, attempt_of, cpu_of, is_live, standing_of}
+use Rattle.tx_meaning.specs.State.{State, flat_of, attempt_of, cpu_of, is_live, standing_of}
 use Rattle.tx_meaning.specs.Changes.{with_entry, with_event, counting_turn, waiting_turn, delaying}
 use Rattle.tx_meaning.specs.Changes.{starting, continuing, committing, aborting, head_to_tail}
 use Rattle.tx_meaning.specs.declared.asking.Reject.{Reject}
-use Rattle.tx_meaning.specs.Asking.{Asked, get_lines, aborting_live}
+use Rattle.tx_meaning.specs.Asking.{get_lines, aborting_live}
 use Rattle.tx_meaning.specs.Idle.{idle}
 
 -- the state after an event, what came of it, and the reject in it, where there was one

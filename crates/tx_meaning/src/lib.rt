@@ -4,6 +4,7 @@
 #![tactic(auto)]
 
 pub mod asking;
+pub mod laws;
 pub mod limits;
 pub mod outcome;
 

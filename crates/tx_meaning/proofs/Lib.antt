@@ -1,0 +1,6 @@
+-- What every change in an event keeps, the event keeps; the queue, the events and the history; and schedules.
+pub mod Replies
+pub mod Walk
+pub mod Queues
+pub mod Books
+pub mod Room
