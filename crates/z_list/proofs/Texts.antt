@@ -83,12 +83,12 @@ AreSmall (o ∷ os) = IsSmall o × AreSmall os
 same_number : (m n : ℕ) → m < 2 ^ 63 → n < 2 ^ 63 → decimal m ≡ decimal n → m ≡ n
 same_number m n m_in n_in is = decimal_injective m n (omega arith) (omega arith) is
 
-based_before : (d : ℤ) (b : ℕ) (tail : List ℕ)
+pub based_before : (d : ℤ) (b : ℕ) (tail : List ℕ)
     → based_text d b ++ tail ≡ signed_decimal d ++ 40 ∷ (decimal b ++ 41 ∷ tail)
 based_before d b tail = append_assoc (signed_decimal d) (40 ∷ (decimal b ++ 41 ∷ [])) tail
     ∙ ap (λ (t : List ℕ). signed_decimal d ++ 40 ∷ t) (append_assoc (decimal b) (41 ∷ []) tail)
 
-pair_before : (d : ℤ) (m n : ℕ) (tail : List ℕ)
+pub pair_before : (d : ℤ) (m n : ℕ) (tail : List ℕ)
     → pair_text d m n ++ tail ≡ signed_decimal d ++ 40 ∷ (decimal m ++ 44 ∷ (decimal n ++ 41 ∷ tail))
 pair_before d m n tail =
     append_assoc (signed_decimal d) (40 ∷ (decimal m ++ 44 ∷ (decimal n ++ 41 ∷ []))) tail
