@@ -42,7 +42,7 @@ use Rattle.z_operands.proofs.Spelled.{plain_code}
 
 -- ---- the code of an instruction
 
-size_in : (format : Format) (o : ℕ) (f : Fields) → length (code_in format o f) ≡ format_length format
+pub size_in : (format : Format) (o : ℕ) (f : Fields) → length (code_in format o f) ≡ format_length format
 size_in RR o f = refl
 size_in I o f = refl
 size_in RX o f = refl
@@ -195,7 +195,7 @@ read_writes op k t ts m r known e =
     let g = then_ok (operands_for BadDirective k t
     (operands_in ts)) _ r e in directive_leaves op k g.0 m r g.2
 
-task_writes : (k : Known) (t : Task) (m r : Machine) → IsWithin t → task_gives k t m ≡ Ok r →
+pub task_writes : (k : Known) (t : Task) (m r : Machine) → IsWithin t → task_gives k t m ≡ Ok r →
     WritesAt t.here t.operation m r
 unfolding task_gives
 task_writes k t m r w e = read_writes t.operation k t (tokens_in t.text) m r w.row e
@@ -215,7 +215,7 @@ HasCodeAt storage here _ = Unit {0}
 abbrev pub IsCoded : List ℕ → Task → Type 0
 IsCoded storage t = HasCodeAt storage t.here t.operation
 
-step_size : (here : ℕ) (op : Operation) (m r : Machine) → IsInRoom here op → WritesAt here op m r →
+pub step_size : (here : ℕ) (op : Operation) (m r : Machine) → IsInRoom here op → WritesAt here op m r →
     length m.storage ≡ 1048576 → length r.storage ≡ 1048576
 step_size here (operations.Instruction row mask) m r room w s =
     let size = w.1.size in

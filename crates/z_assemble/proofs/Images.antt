@@ -74,7 +74,7 @@ ready_holds tasks storage n =
       allowed = usual_allowed;
     }
 
-ready_storage : (storage : List ℕ) (n : ℕ) → (ready_for storage n).storage ≡ storage
+pub ready_storage : (storage : List ℕ) (n : ℕ) → (ready_for storage n).storage ≡ storage
 unfolding ready_for
 ready_storage storage n = refl
 

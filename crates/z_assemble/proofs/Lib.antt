@@ -9,3 +9,9 @@ pub mod Plans
 pub mod Codes
 pub mod Texts
 pub mod Images
+pub mod Acted
+pub mod Named
+pub mod Laid
+pub mod Lines
+pub mod Tasks
+pub mod Begun

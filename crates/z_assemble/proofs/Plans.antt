@@ -140,7 +140,7 @@ free_of from n taken e k l h =
     false≢true (sym e ∙ list_any_at (λ b. b) (cut from (from + n) taken) j false
     (in_list (cut from (from + n) taken) j here) here))
 
-place_holds : (n : ℕ) (p q : Plan) → placed n p ≡ Ok q → HasPlaced n p q
+pub place_holds : (n : ℕ) (p q : Plan) → placed n p ≡ Ok q → HasPlaced n p q
 unfolding placed
 place_holds n p q e =
     let a = unless_ok (not (has_room n p.here)) _ q OutOfRange e in
@@ -155,14 +155,14 @@ place_holds n p q e =
 abbrev pub marked : ℕ → ℕ → List Bool → List Bool
 marked here n taken = write_at here (copies n true) taken
 
-mark_room : (here n : ℕ) (taken : List Bool) → length taken ≡ 1048576 →
+pub mark_room : (here n : ℕ) (taken : List Bool) → length taken ≡ 1048576 →
     (0 < n → (8192 ≤ here) × (here + n ≤ 1048576)) → HasRoom here (copies n true) taken
 mark_room here n taken size room some =
     let s : length (copies n true) ≡ n = copies_size n true in
     let r = room (omega arith) in
     omega (arith, r.1)
 
-mark_sets : (here n : ℕ) (taken : List Bool) → HasRoom here (copies n true) taken → (k : ℕ) → here ≤ k →
+pub mark_sets : (here n : ℕ) (taken : List Bool) → HasRoom here (copies n true) taken → (k : ℕ) → here ≤ k →
     k < here + n → get_or (marked here n taken) k false ≡ true
 mark_sets here n taken room k l h =
     let s : length (copies n true) ≡ n = copies_size n true in
@@ -302,7 +302,7 @@ equ_fits label line ts p q e i =
     let w = where_ok _ _ q OutOfRange t.2 in
     subst IsPlan w.1 i
 
-ds_by : (b : Bool) (o : Result Plan Kind) (q : Plan) → (if b then o else Err OutOfRange) ≡ Ok q → o ≡ Ok q
+pub ds_by : (b : Bool) (o : Result Plan Kind) (q : Plan) → (if b then o else Err OutOfRange) ≡ Ok q → o ≡ Ok q
 ds_by true o q e = e
 ds_by false o q e = absurd (cc)
 
@@ -406,7 +406,7 @@ operation_fits End n label line end ts p q known e i = end_fits ts p q e i
 
 -- ---- operations are those of the table
 
-abbrev IsAnyInTable : Option Operation → Type 0
+abbrev pub IsAnyInTable : Option Operation → Type 0
 IsAnyInTable None = Unit {0}
 IsAnyInTable (Some op) = IsInTable op
 
@@ -482,7 +482,7 @@ extended_in_table name None =
     choice_in_table (bytes_eq name (codes "BR")) (instruction (row_named (codes "BCR")) (Some 15)) None
     (instruction_in_table (row_named (codes "BCR")) (Some 15) (row_in_table (codes "BCR"))) tt
 
-operation_in_table : (name : List ℕ) → IsAnyInTable (operation_named name)
+pub operation_in_table : (name : List ℕ) → IsAnyInTable (operation_named name)
 unfolding operation_named
 operation_in_table name =
     first_in_table (directive_named name) _ (directive_in_table name)

@@ -1,5 +1,7 @@
--- The words of a fault.
-use Rattle.std.specs.Prelude.{ℕ, List, ◌==◌, if◌then◌else◌, codes}
+-- What is printed for a fault.
+use Rattle.std.specs.Prelude.{ℕ, List, ◌++◌, ◌==◌, if◌then◌else◌, codes}
+use Rattle.std.specs.Fmt.{decimal}
+use Rattle.z_assemble.specs.declared.fault.ListingFault.{ListingFault}
 
 -- the words for the kind of a number from 1 to 14
 unfoldable pub words_of : ℕ → List ℕ
@@ -18,3 +20,7 @@ words_of n =
     else (if n == 12 then codes "bad directive"
     else (if n == 13 then codes "no CPU"
     else codes "bad schedule"))))))))))))
+
+-- the line of a fault, with its line end
+abbrev pub fault_line : ListingFault → List ℕ
+fault_line f = codes "ztx: line " ++ (decimal f.line ++ (codes ": " ++ (words_of f.kind ++ codes "\n")))

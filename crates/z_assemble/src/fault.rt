@@ -1,8 +1,8 @@
 //! Why a text is no listing.
-ghost use Rattle.std.specs.Prelude.{◌≡◌};
-ghost use Rattle.z_assemble.specs.Words.{words_of};
+ghost use Rattle.std.specs.Prelude.{◌≡◌, IfOk, string_bytes};
+ghost use Rattle.z_assemble.specs.Words.{words_of, fault_line};
 
-use std::alloc::AllocError;
+use std::alloc::{AllocError, Global};
 
 /// The first fault of a text: its line, from 1 on, or 0 where it is of no line; and the number of its kind, 1
 /// to 14.
@@ -35,47 +35,32 @@ impl From<AllocError> for AssembleFault {
 
 /// The words for the kind of a fault, by its number from 1 to 14.
 #[tactic(auto, unfolding(crate::specs::Words::words_of))]
-pub fn words_of(kind: u8) -> &'static str
-    ensures { result.now ≡ words_of kind }
+fn words_of(kind: u8) -> &'static str
+    ensures value { result.now ≡ words_of kind }
 {
-    if kind == 1 {
-        return "listing too long";
+    match kind {
+        1 => "listing too long",
+        2 => "too many lines",
+        3 => "bad token",
+        4 => "bad number",
+        5 => "line too long",
+        6 => "unknown mnemonic",
+        7 => "wrong operands",
+        8 => "out of range",
+        9 => "unknown label",
+        10 => "double label",
+        11 => "overlap",
+        12 => "bad directive",
+        13 => "no CPU",
+        _ => "bad schedule",
     }
-    if kind == 2 {
-        return "too many lines";
-    }
-    if kind == 3 {
-        return "bad token";
-    }
-    if kind == 4 {
-        return "bad number";
-    }
-    if kind == 5 {
-        return "line too long";
-    }
-    if kind == 6 {
-        return "unknown mnemonic";
-    }
-    if kind == 7 {
-        return "wrong operands";
-    }
-    if kind == 8 {
-        return "out of range";
-    }
-    if kind == 9 {
-        return "unknown label";
-    }
-    if kind == 10 {
-        return "double label";
-    }
-    if kind == 11 {
-        return "overlap";
-    }
-    if kind == 12 {
-        return "bad directive";
-    }
-    if kind == 13 {
-        return "no CPU";
-    }
-    "bad schedule"
+}
+
+/// The line that is printed for a fault, with its line end.
+pub fn fault_line(alloc: Global, fault: ListingFault) -> Result<String, AllocError>
+    ensures value { IfOk result (λ line. string_bytes line ≡ fault_line fault) }
+{
+    let line = fault.line;
+    let words = words_of(fault.kind);
+    format!(in alloc; "ztx: line {line}: {words}\n")
 }

@@ -1,5 +1,9 @@
 //! What holds of all texts. Each law is the contract of a function that does nothing.
-ghost use Rattle.std.specs.Prelude.{◌≡◌, ℕ, List, ◌⊎◌};
+ghost use Rattle.std.specs.Prelude.{◌≡◌, ℕ, ℤ, List, Some, All, AllPairs, ◌⊎◌, ◌↔◌, slice_index};
+ghost use Rattle.std.specs.List.{Contains};
+ghost use Rattle.z_assemble.specs.Statements.{statements_of, IsNamed, HaveOtherLabels, IsPlaced, AreApart};
+ghost use Rattle.z_assemble.specs.Statements.{Covers};
+ghost use Rattle.z_assemble.specs.Statements.{IsStarted};
 ghost use Rattle.tx_journal.specs.Content.{Content};
 ghost use Rattle.z_assemble.specs.Whole.{Stands, FirstFault, assembled};
 ghost use Rattle.z_assemble.specs.declared.fault.ListingFault.{ListingFault};
@@ -20,4 +24,30 @@ pub fn a_text_is_one_of_two()
 /// What a text stands for is an image.
 pub fn what_stands_is_an_image()
     ensures { (text : List ℕ) (content : Content) → Stands text content → IsImage content }
+{}
+
+/// The labels of a text are those of its lines, each given once.
+pub fn labels_are_those_of_lines()
+    ensures given { (text : List ℕ) (image : Content) (s : Stands text image) (name : List ℕ) (value : ℤ) →
+        s.plan.labels name ≡ Some value ↔ IsNamed (statements_of text) name value }
+    ensures once { (text : List ℕ) (image : Content) → Stands text image →
+        AllPairs HaveOtherLabels (statements_of text) }
+{}
+
+/// The bytes that a line places stand in storage at its location: the code of an instruction, the data of DC,
+/// the
+/// zeros of DS. No byte is placed by two lines, and a byte that no line places is 0.
+pub fn each_byte_is_that_of_one_line()
+    ensures placed { (text : List ℕ) (image : Content) (s : Stands text image) →
+        All (IsPlaced s.plan.labels image.storage) (statements_of text) }
+    ensures once { (text : List ℕ) (image : Content) (s : Stands text image) →
+        AllPairs (AreApart s.plan.labels) (statements_of text) }
+    ensures others { (text : List ℕ) (image : Content) (s : Stands text image) (at : ℕ) →
+        All (λ line. Covers s.plan.labels line at → ⊥) (statements_of text) → slice_index image.storage at ≡ 0 }
+{}
+
+/// The starts of an image are the addresses of the lines that are instructions.
+pub fn starts_are_those_of_instructions()
+    ensures { (text : List ℕ) (image : Content) (s : Stands text image) (at : ℕ) →
+        Contains image.starts at ↔ IsStarted (statements_of text) at }
 {}

@@ -13,8 +13,11 @@ mod setup;
 mod whole;
 
 pub use draft::{Draft, SIZE, Work};
-pub use fault::{AssembleFault, ListingFault, words_of};
-pub use laws::{a_text_is_one_of_two, what_stands_is_an_image};
+pub use fault::{AssembleFault, ListingFault, fault_line};
+pub use laws::{
+    a_text_is_one_of_two, each_byte_is_that_of_one_line, labels_are_those_of_lines,
+    starts_are_those_of_instructions, what_stands_is_an_image,
+};
 pub use parameter::Parameter;
 pub use setup::Setup;
 pub use whole::{MOST_BYTES, MOST_LINES, assemble};

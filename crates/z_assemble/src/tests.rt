@@ -3,7 +3,7 @@ mod lines;
 mod machines;
 mod programs;
 
-use crate::{AssembleFault, MOST_BYTES, MOST_LINES, SIZE, assemble};
+use crate::{AssembleFault, ListingFault, MOST_BYTES, MOST_LINES, SIZE, assemble, fault_line};
 use lines::{DATA_AND_OPERANDS, OPERANDS_OF_INSTRUCTIONS, TEXTS_AND_TOKENS};
 use machines::{MACHINE_LINES, PARAMETERS_AND_PREFIXES, SCHEDULES};
 use programs::{MORE_WHOLE_PROGRAMS, WHOLE_PROGRAMS};
@@ -184,5 +184,36 @@ fn texts_that_are_too_long(rt: HostRuntime) -> Result<(), Fail> {
     assert_eq!(rt; told(rt.alloc(), &lines[1..])?.as_str(), "0 13");
     let outside = told(rt.alloc(), b" CPU 1\n DC \xE9")?;
     assert_eq!(rt; outside.as_str(), "2 3");
+    Ok(())
+}
+
+/// The lines that are printed for faults, by their lines and the numbers of their kinds.
+static LINES_OF_FAULTS: [(u32, u8, &str); 14] = [
+    (0, 1, "ztx: line 0: listing too long\n"),
+    (0, 2, "ztx: line 0: too many lines\n"),
+    (3, 3, "ztx: line 3: bad token\n"),
+    (12, 4, "ztx: line 12: bad number\n"),
+    (1, 5, "ztx: line 1: line too long\n"),
+    (2, 6, "ztx: line 2: unknown mnemonic\n"),
+    (5, 7, "ztx: line 5: wrong operands\n"),
+    (4, 8, "ztx: line 4: out of range\n"),
+    (262_144, 9, "ztx: line 262144: unknown label\n"),
+    (7, 10, "ztx: line 7: double label\n"),
+    (8, 11, "ztx: line 8: overlap\n"),
+    (9, 12, "ztx: line 9: bad directive\n"),
+    (0, 13, "ztx: line 0: no CPU\n"),
+    (100, 14, "ztx: line 100: bad schedule\n"),
+];
+
+#[test]
+fn lines_of_faults(rt: HostRuntime) -> Result<(), Fail> {
+    for (line, kind, wanted) in &LINES_OF_FAULTS {
+        let fault = ListingFault {
+            line: *line,
+            kind: *kind,
+        };
+        let printed = fault_line(rt.alloc(), fault)?;
+        assert_eq!(rt; printed.as_str(), *wanted);
+    }
     Ok(())
 }

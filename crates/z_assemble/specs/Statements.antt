@@ -1,0 +1,154 @@
+-- What the lines of a text say, each line where it stands: what laws about whole texts speak of.
+use Rattle.std.specs.Prelude.{◌≡◌, ◌≢◌, ℕ, ℤ, pos, ◌+◌, ◌<◌, ◌≤◌, List, [], ◌∷◌, ◌++◌, length, Option, Some}
+use Rattle.std.specs.Prelude.{None}
+use Rattle.std.specs.Prelude.{Result, Ok, Err, slice_index}
+use Rattle.std.specs.List.{Contains}
+use Rattle.z_text.specs.Line.{span}
+use Rattle.z_text.specs.declared.token.Token.{Token}
+use Rattle.z_instr.specs.Table.{entry_at}
+use Rattle.z_operands.specs.Chain.{◌>>=◌}
+use Rattle.z_operands.specs.Code.{code_for}
+use Rattle.z_operands.specs.Data.{data_of}
+use Rattle.z_operands.specs.Operations.{operation_named}
+use Rattle.z_operands.specs.Pieces.{without_end}
+use Rattle.z_operands.specs.Values.{Table, operands_on, one_in}
+use Rattle.z_operands.specs.declared.fault.Kind.{Kind}
+use Rattle.z_operands.specs.declared.fault.Kind.TheVariants.{BadDirective, WrongOperands}
+use Rattle.z_operands.specs.declared.operation.Operation.{Operation}
+use Rattle.z_operands.specs.declared.operation.Operation.TheVariants.{Instruction, Equ, Ds, Dc}
+use Rattle.z_assemble.specs.Listing.{Plan, line_gives, label_in, operands_in, operation_in, field_behind}
+use Rattle.z_assemble.specs.Listing.{to_nat}
+use Rattle.z_assemble.specs.Machine.{tokens_in}
+use Rattle.z_assemble.specs.Text.{lines_of, copies}
+use Rattle.z_assemble.specs.Whole.{blank}
+
+-- A line that says something: its number, its text, its location, the labels of the lines before it, its own
+-- label
+-- (empty where it has none), its operation, the place behind that, and the tokens of its operands.
+pub record Statement : Type 0 where
+  pub number : ℕ
+  pub text : List ℕ
+  pub here : ℕ
+  pub labels : Table
+  pub label : List ℕ
+  pub operation : Operation
+  pub end : ℕ
+  pub operands : List Token
+
+abbrev pub statement : ℕ → List ℕ → List Token → Token → Plan → Operation → Statement
+statement n line ts o p op = record {
+  number = n;
+  text = line;
+  here = p.here;
+  labels = p.labels;
+  label = label_in line ts;
+  operation = op;
+  end = o.end;
+  operands = operands_in ts;
+}
+
+abbrev pub said_by : Option Operation → ℕ → List ℕ → List Token → Token → Plan → List Statement
+said_by None n line ts o p = []
+said_by (Some op) n line ts o p = statement n line ts o p op ∷ []
+
+abbrev pub said_with : ℕ → List ℕ → List Token → Option Token → Plan → List Statement
+said_with n line ts None p = []
+said_with n line ts (Some o) p = said_by (operation_named (span o.first o.end line)) n line ts o p
+
+-- what a line says: nothing, or one statement
+unfoldable pub said_on : ℕ → List ℕ → Plan → List Statement
+said_on n line p = said_with n line (tokens_in line) (operation_in (tokens_in line)) p
+
+abbrev pub behind : Result Plan Kind → (Plan → List Statement) → List Statement
+behind (Ok p) more = more p
+behind (Err k) more = []
+
+-- what lines say of which the first has this number, each where the lines before it left the location and the
+-- labels
+unfoldable pub said_from : ℕ → List (List ℕ) → Plan → List Statement
+said_from n [] p = []
+said_from n (l ∷ ls) p =
+    said_on n (without_end l) p ++ behind (line_gives n (without_end l) p) (said_from (n + 1) ls)
+
+-- what the lines of a text say, in their order
+abbrev pub statements_of : List ℕ → List Statement
+statements_of text = said_from 1 (lines_of text) blank
+
+-- ---- labels
+
+-- the value of the one operand of a directive, by the labels of the lines before it
+abbrev pub value_of : Statement → Result ℤ Kind
+value_of s = operands_on BadDirective s.text s.labels s.here s.operands >>= one_in
+
+-- EQU gives its operand; instructions, DS and DC their location
+abbrev pub Gives : Operation → Statement → ℤ → Type 0
+Gives Equ s v = value_of s ≡ Ok v
+Gives (Instruction row mask) s v = v ≡ pos s.here
+Gives Ds s v = v ≡ pos s.here
+Gives Dc s v = v ≡ pos s.here
+Gives _ s v = ⊥
+
+-- the statement gives its label, which is this name, this value
+pub record Defines (s : Statement) (name : List ℕ) (value : ℤ) : Type 0 where
+  pub label : s.label ≡ name
+  pub some : name ≢ []
+  pub gives : Gives s.operation s value
+
+-- one of the statements gives the name the value
+pub record IsNamed (ss : List Statement) (name : List ℕ) (value : ℤ) : Type 0 where
+  pub statement : Statement
+  pub among : Contains ss statement
+  pub defines : Defines statement name value
+
+-- no name is given a value by both
+abbrev pub HaveOtherLabels : Statement → Statement → Type 0
+HaveOtherLabels some other =
+    (name : List ℕ) (v w : ℤ) → Defines some name v → Defines other name w → ⊥
+
+-- ---- bytes
+
+abbrev pub bytes_with : Operation → Table → Statement → Result (List ℕ) Kind
+bytes_with (Instruction row mask) labels s =
+    operands_on WrongOperands s.text labels s.here s.operands >>= code_for (entry_at row) mask s.here
+bytes_with Dc labels s = data_of (field_behind s.end s.text)
+bytes_with Ds labels s = value_of s >>= λ n. Ok (copies (to_nat n) 0)
+bytes_with _ labels s = Ok []
+
+-- The bytes that a statement places at its location, by the values of all labels: the code of an instruction,
+-- the data
+-- of DC, zeros for DS, and none for another directive.
+abbrev pub bytes_of : Table → Statement → Result (List ℕ) Kind
+bytes_of labels s = bytes_with s.operation labels s
+
+-- the bytes stand there
+abbrev pub Stand : List ℕ → ℕ → List ℕ → Type 0
+Stand bytes here storage = (i : ℕ) → i < length bytes → slice_index storage (here + i) ≡ slice_index bytes i
+
+-- a statement's bytes, which stand in storage at its location
+pub record IsPlaced (labels : Table) (storage : List ℕ) (s : Statement) : Type 0 where
+  pub bytes : List ℕ
+  pub are : bytes_of labels s ≡ Ok bytes
+  pub stand : Stand bytes s.here storage
+
+-- one of the statement's bytes has this address
+pub record Covers (labels : Table) (s : Statement) (at : ℕ) : Type 0 where
+  pub bytes : List ℕ
+  pub are : bytes_of labels s ≡ Ok bytes
+  pub low : s.here ≤ at
+  pub high : at < s.here + length bytes
+
+abbrev pub AreApart : Table → Statement → Statement → Type 0
+AreApart labels some other = (at : ℕ) → Covers labels some at → Covers labels other at → ⊥
+
+-- ---- instructions
+
+abbrev pub IsInstruction : Operation → Type 0
+IsInstruction (Instruction row mask) = Unit {0}
+IsInstruction _ = ⊥
+
+-- one of the statements is an instruction at this address
+pub record IsStarted (ss : List Statement) (at : ℕ) : Type 0 where
+  pub statement : Statement
+  pub among : Contains ss statement
+  pub instruction : IsInstruction statement.operation
+  pub here : statement.here ≡ at
