@@ -1,18 +1,15 @@
 -- What holds of every open run: its begin is the first instruction, its nest is never empty behind that, and a
 -- constrained one goes on.
-use Rattle.std.proofs.Common.{◌≡◌, ℕ, zero, suc, ◌-◌, ◌≤◌, Bool, true, false, List, [], ◌∷◌, ◌++◌}
+use Rattle.std.proofs.Common.{◌≡◌, ℕ, zero, suc, ◌-◌, Bool, true, false, List, [], ◌∷◌, ◌++◌}
 use Rattle.std.proofs.Common.{⊎_elim, Option, Some, None, refl, sym, ap, subst, ◌∙◌, arith, length, take}
 use Rattle.std.specs.Prelude.{if◌then◌else◌, ◌||◌, ◌&&◌, not}
-use Rattle.std.proofs.lemmas.List.{get_or_past}
-use Rattle.std.proofs.lemmas.Bool.{cases_lt, true≢false}
+use Rattle.std.proofs.lemmas.Bool.{true≢false}
 use Rattle.std.proofs.lemmas.List.Folds.{list_any-append}
 use Rattle.z_regs.specs.Cpu.{Cpu}
 use Rattle.z_regs.specs.declared.ranges.Range.{Range}
 use Rattle.z_instr.specs.declared.instr.Instr.{Instr}
-use Rattle.z_instr.specs.declared.table.TheConstants.{ROWS}
-use Rattle.z_instr.specs.Table.{Entry, entry_at, table, no_entry}
+use Rattle.z_instr.specs.Table.{entry_at}
 use Rattle.z_instr.specs.Roles.{begins}
-use Rattle.z_instr.proofs.TableFacts.{passes_row, same_table}
 use Rattle.z_effect.specs.Beginning.{begin_of}
 use Rattle.tx_control.specs.declared.begins.Begin.{Begin}
 use Rattle.tx_control.specs.Nesting.{is_constrained}
@@ -30,6 +27,7 @@ use Rattle.tx_serial.specs.Fate.{operand_refusal, overflow_refusal}
 use Rattle.tx_serial.specs.Run.{run, nest_after, mark_in, may_follow}
 use Rattle.tx_serial.proofs.Passing.{passes}
 use Rattle.tx_progress.specs.Progress.{begins_constrained}
+use Rattle.tx_progress.proofs.Rows.{begins_are_barred}
 use Rattle.tx_progress.proofs.OneMore.{went, open_is_there}
 
 -- ---- what holds
@@ -57,18 +55,6 @@ is_begun_so c begin later b bs h = ap (λ (x : Begin). x.constrained) h.opened
 
 -- ---- no constraint permits a begin
 
-abbrev bars_begins : Entry → Bool
-bars_begins e = not (begins e && e.permitted)
-
-barred : (n : ℕ) → bars_begins (entry_at n) ≡ true
-unfolding entry_at
-barred n =
-    ⊎_elim (λ h. passes_row bars_begins refl n h) (λ h. ap bars_begins (get_or_past table n no_entry (past h)))
-    (cases_lt n ROWS)
-  where
-    past : ROWS ≤ n → length table ≤ n
-    past h = subst (λ (t : List Entry). length t ≤ n) same_table h
-
 no_text_breach : (x y p : Bool) → first_of x 1 (first_of y 2 (first_of (not p) 3 None)) ≡ None → p ≡ true
 no_text_breach x y true h = refl
 no_text_breach true y false h = absurd (cc)
@@ -85,7 +71,7 @@ begins_not : (a : Attempt) (s : Step) → GoesOn a → text_breach (with_step a 
 unfolding next_text_breach
 begins_not a s goes h =
     is_barred (begins (entry_at s.instruction.op.number)) (entry_at s.instruction.op.number).permitted _
-    (barred s.instruction.op.number)
+    (begins_are_barred s.instruction.op.number)
     (no_text_breach _ _ (is_permitted s.instruction) (sym (text_step a s goes) ∙ h))
 
 -- ---- the start of an attempt

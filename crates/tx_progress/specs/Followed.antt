@@ -1,16 +1,20 @@
--- What is said of runs that are followed: one instruction more, and flat states that are the same to a CPU.
-use Rattle.std.specs.Prelude.{◌≡◌, ℕ, ◌/◌, true, ◌||◌, List}
+-- What is said of runs that are followed: one instruction more, flat states that are the same to a CPU, and what
+-- an entry leaves.
+use Rattle.std.specs.Prelude.{◌≡◌, ℕ, ◌/◌, true, ◌||◌, List, Some}
 use Rattle.z_regs.specs.Cpu.{Cpu}
 use Rattle.z_regs.specs.declared.ranges.Range.{Range}
 use Rattle.z_instr.specs.declared.instr.Instr.{Instr}
 use Rattle.tx_footprint.specs.Touched.{Sets}
 use Rattle.tx_footprint.specs.declared.places.TheConstants.{LINE_SIZE}
-use Rattle.tx_serial.specs.Flat.{FlatState}
+use Rattle.tx_journal.specs.declared.entries.Entry.{Entry}
+use Rattle.tx_serial.specs.Apply.{apply}
+use Rattle.tx_serial.specs.Flat.{FlatState, Storage, at_put}
 use Rattle.tx_serial.specs.Attempt.{Run, Mark}
 use Rattle.tx_serial.specs.Text.{SameText}
 use Rattle.tx_progress.specs.Progress.{Progress, advanced}
 use Rattle.tx_progress.specs.Doing.{stores_of}
-use Rattle.tx_progress.specs.Reached.{progress_of}
+use Rattle.tx_progress.specs.Local.{Local, Beside, flat_from}
+use Rattle.tx_progress.specs.Reached.{progress_of, IsFollowed}
 
 -- the longer run, after an instruction that has left this CPU and these bytes
 pub record Advances (next : Run) (instr : Instr) (ranges : List Range) (c : Cpu) (bytes : List ℕ) (q : Progress)
@@ -28,3 +32,23 @@ pub record AreSameTo (i : ℕ) (touched : Sets) (f g : FlatState) : Type 0 where
   pub text : SameText f.text f.storage g.storage
   pub lines : (a : ℕ) → (touched.fetched (a / LINE_SIZE) || touched.stored (a / LINE_SIZE)) ≡ true
       → g.storage a ≡ f.storage a
+
+-- ---- flat states that differ in one CPU and in storage
+
+abbrev pub beside_in : Storage → (ℕ → Local) → ℕ → Beside
+beside_in storage locals i = record { local = locals i; storage = storage }
+
+abbrev pub flat_after : List ℕ → (ℕ → Local) → ℕ → Beside → FlatState
+flat_after text locals i after = flat_from text after.storage (at_put locals i after.local)
+
+-- an entry fits, and makes of flat storage what is left of its CPU and of storage, and that is followed
+pub record Leaves (text : List ℕ) (storage : Storage) (locals : ℕ → Local) (i : ℕ) (e : Entry) (after : Beside)
+    : Type 0 where
+  pub applied : apply (flat_from text storage locals) e ≡ Some (flat_after text locals i after)
+  pub followed : IsFollowed (flat_after text locals i after) i after.local
+
+-- no entry, and storage stays; what is left of the CPU is followed
+pub record GoesOnAs (text : List ℕ) (storage : Storage) (locals : ℕ → Local) (i : ℕ) (after : Beside)
+    : Type 0 where
+  pub same : flat_after text locals i after ≡ flat_from text storage locals
+  pub followed : IsFollowed (flat_after text locals i after) i after.local

@@ -1,23 +1,36 @@
 //! Laws of progress and of what is kept of a CPU. Each law is the contract of a function that does nothing.
-ghost use Rattle.std.specs.Prelude.{◌≡◌, ◌≢◌, ℕ, ◌/◌, suc, true, ◌||◌, nat_eq, List};
+ghost use Rattle.std.specs.Prelude.{◌≡◌, ◌≢◌, ℕ, ◌/◌, suc, true, false, ◌||◌, nat_eq, List, ◌∷◌, Some, None};
 ghost use Rattle.std.specs.List.{list_any};
-ghost use Rattle.tx_footprint.specs.declared.places.TheConstants.{LINE_SIZE};
-ghost use Rattle.tx_serial.specs.Alike.{touched_addresses, AreAlike};
+ghost use Rattle.z_regs.specs.Cpu.{Cpu};
+ghost use Rattle.z_regs.specs.Prefix.{absolute_of, is_prefix};
+ghost use Rattle.z_regs.specs.declared.ranges.Range.{Range};
+ghost use Rattle.z_regs.specs.declared.waiting.Waiting.{Waiting};
+ghost use Rattle.z_instr.specs.declared.instr.Instr.{Instr};
+ghost use Rattle.z_instr.specs.Roles.{begins};
+ghost use Rattle.z_instr.specs.Table.{entry_at};
 ghost use Rattle.z_effect.specs.Outcome.{Did};
 ghost use Rattle.z_effect.specs.Outcome as outcome;
-ghost use Rattle.z_instr.specs.declared.instr.Instr.{Instr};
-ghost use Rattle.z_regs.specs.Cpu.{Cpu};
-ghost use Rattle.z_regs.specs.declared.ranges.Range.{Range};
+ghost use Rattle.tx_control.specs.Nesting.{is_constrained};
+ghost use Rattle.tx_control.specs.declared.causes.Why.{Why};
+ghost use Rattle.tx_control.specs.declared.causes.Why.TheVariants.{External, FetchConflict, StoreConflict};
+ghost use Rattle.tx_control.specs.declared.causes.Why.TheVariants.{Starved};
+ghost use Rattle.tx_control.specs.declared.exceptions.Exception.{Exception};
+ghost use Rattle.tx_footprint.specs.declared.places.TheConstants.{LINE_SIZE};
+ghost use Rattle.tx_journal.specs.declared.entries.Entry.TheVariants.{Step, Commit, Abort, Tdb, Interrupt};
+ghost use Rattle.tx_serial.specs.Alike.{touched_addresses, AreAlike};
+ghost use Rattle.tx_serial.specs.Apply.{may_act};
 ghost use Rattle.tx_serial.specs.Attempt.{Open, Overflowed, Missing, footprint};
-ghost use Rattle.tx_serial.specs.Fate.{Goes, fate};
-ghost use Rattle.tx_serial.specs.Flat.{FlatState};
+ghost use Rattle.tx_serial.specs.Ending.{fits};
+ghost use Rattle.tx_serial.specs.Fate.{Goes, Ends, Stops, fate};
+ghost use Rattle.tx_serial.specs.Flat.{FlatState, Storage, Pending};
 ghost use Rattle.tx_serial.specs.Run.{run, may_follow, mark_in, nest_after, outcome_of};
-ghost use Rattle.tx_progress.specs.Followed.{Advances, AreSameTo};
-ghost use Rattle.tx_progress.specs.Local.{Local};
-ghost use Rattle.z_regs.specs.Prefix.{absolute_of, is_prefix};
-ghost use Rattle.tx_progress.specs.Progress.{resting, seen_through};
+ghost use Rattle.tx_progress.specs.Doing.{executed, stopped};
+ghost use Rattle.tx_progress.specs.Followed.{Advances, AreSameTo, beside_in, Leaves, GoesOnAs};
+ghost use Rattle.tx_progress.specs.Local.{Local, flat_from, aborted, block_stored, interruption_taken};
+ghost use Rattle.tx_progress.specs.Progress.{resting, seen_through, is_live};
 ghost use Rattle.tx_progress.specs.Reached.{progress_of, IsFollowed};
 ghost use Rattle.tx_progress.specs.Trial.{fate_by_progress, outcome_by};
+ghost use Rattle.tx_progress.specs.declared.done.Done.TheVariants as done;
 
 /// Progress follows the run. It starts at rest, counts the instructions, and shows the run's copy of storage
 /// through its overlay. The fate of the next instruction and its outcome are those that the progress gives.
@@ -58,4 +71,94 @@ pub fn others_stay_followed()
     ensures same { (f g : FlatState) (i : ℕ) (local : Local) → IsFollowed f i local
         → is_prefix (f.cpus i).prefix ≡ true → AreSameTo i local.attempt.footprint f g
         → IsFollowed g i local }
+{}
+
+/// What may come from outside fits, by what is followed of a live attempt: an interruption, a conflict on a line
+/// of its footprint, and for a constrained transaction that asks for a line too many rejects.
+pub fn causes_from_outside_fit()
+    ensures external { (f : FlatState) (i : ℕ) (local : Local) → IsFollowed f i local
+        → fits f.text (run f i local.attempt.count) External ≡ true }
+    ensures stored { (f : FlatState) (i line : ℕ) (local : Local) → IsFollowed f i local
+        → local.attempt.footprint.stored line ≡ true
+        → fits f.text (run f i local.attempt.count) (StoreConflict line) ≡ true }
+    ensures fetched { (f : FlatState) (i line : ℕ) (local : Local) → IsFollowed f i local
+        → local.attempt.footprint.fetched line ≡ true → local.attempt.footprint.stored line ≡ false
+        → fits f.text (run f i local.attempt.count) (FetchConflict line) ≡ true }
+    ensures starved { (f : FlatState) (i : ℕ) (local : Local) (instr : Instr) (r : Range) (rs : List Range)
+        → IsFollowed f i local → is_constrained local.attempt.nest ≡ true
+        → fate_by_progress f.text f.storage local.attempt ≡ Goes instr (r ∷ rs)
+        → fits f.text (run f i local.attempt.count) Starved ≡ true }
+{}
+
+/// A live attempt that is aborted, by a cause that fits, leaves what its entry makes of flat storage; so it does
+/// where a test of its next instruction ends it.
+pub fn an_abort_leaves_what_its_entry_does()
+    ensures fitting { (text : List ℕ) (storage : Storage) (locals : ℕ → Local) (i : ℕ) (why : Why)
+        → IsFollowed (flat_from text storage locals) i (locals i) → is_live (locals i).attempt ≡ true
+        → fits text (run (flat_from text storage locals) i (locals i).attempt.count) why ≡ true
+        → Leaves text storage locals i (Abort i (locals i).attempt.count why)
+        (aborted why (locals i).attempt.cpu.address (beside_in storage locals i)) }
+    ensures refused { (text : List ℕ) (storage : Storage) (locals : ℕ → Local) (i : ℕ) (why : Why)
+        → IsFollowed (flat_from text storage locals) i (locals i) → is_live (locals i).attempt ≡ true
+        → fate_by_progress text storage (locals i).attempt ≡ Ends why
+        → Leaves text storage locals i (Abort i (locals i).attempt.count why)
+        (aborted why (locals i).attempt.cpu.address (beside_in storage locals i)) }
+{}
+
+/// A block that is stored, and an interruption that is taken, leave what their entries make of flat storage.
+pub fn what_was_left_to_do_is_done()
+    ensures block { (text : List ℕ) (storage : Storage) (locals : ℕ → Local) (i : ℕ) (b : Pending)
+        → IsFollowed (flat_from text storage locals) i (locals i) → (locals i).pending ≡ Some b
+        → Leaves text storage locals i (Tdb i) (block_stored (beside_in storage locals i)) }
+    ensures interruption { (text : List ℕ) (storage : Storage) (locals : ℕ → Local) (i : ℕ) (w : Waiting)
+        → (locals i).pending ≡ None → (locals i).waiting ≡ Some w
+        → Leaves text storage locals i (Interrupt i) (interruption_taken (beside_in storage locals i)) }
+{}
+
+/// Outside transactions, an instruction that goes and an exception that stops the program leave what the entry
+/// of a step makes of flat storage; and a begin makes no entry, and opens an attempt that is followed.
+pub fn a_step_leaves_what_its_entry_does()
+    ensures goes { (text : List ℕ) (storage : Storage) (locals : ℕ → Local) (i : ℕ) (instr : Instr)
+        (ranges : List Range) → IsFollowed (flat_from text storage locals) i (locals i)
+        → may_act (flat_from text storage locals) i ≡ true → is_live (locals i).attempt ≡ false
+        → begins (entry_at instr.op.number) ≡ false
+        → fate_by_progress text storage (locals i).attempt ≡ Goes instr ranges
+        → Leaves text storage locals i (Step i) (executed instr ranges (beside_in storage locals i)).after }
+    ensures stops { (text : List ℕ) (storage : Storage) (locals : ℕ → Local) (i : ℕ) (e : Exception)
+        → IsFollowed (flat_from text storage locals) i (locals i)
+        → may_act (flat_from text storage locals) i ≡ true → is_live (locals i).attempt ≡ false
+        → fate_by_progress text storage (locals i).attempt ≡ Stops e
+        → Leaves text storage locals i (Step i) record { local = stopped e (locals i); storage = storage } }
+    ensures begins { (text : List ℕ) (storage : Storage) (locals : ℕ → Local) (i : ℕ) (instr : Instr)
+        (ranges : List Range) → IsFollowed (flat_from text storage locals) i (locals i)
+        → may_act (flat_from text storage locals) i ≡ true → is_live (locals i).attempt ≡ false
+        → begins (entry_at instr.op.number) ≡ true
+        → fate_by_progress text storage (locals i).attempt ≡ Goes instr ranges
+        → GoesOnAs text storage locals i (executed instr ranges (beside_in storage locals i)).after }
+{}
+
+/// Inside transactions, an instruction that goes is told of by what it leaves: the attempt goes on, with nothing
+/// changed in flat storage; it is committed, as its entry says; or it has come to a cause, and the abort by that
+/// leaves what its entry says, with the address of this instruction.
+pub fn what_an_instruction_tells_is_so()
+    ensures stepped { (text : List ℕ) (storage : Storage) (locals : ℕ → Local) (i : ℕ) (instr : Instr)
+        (ranges : List Range) → IsFollowed (flat_from text storage locals) i (locals i)
+        → is_live (locals i).attempt ≡ true
+        → fate_by_progress text storage (locals i).attempt ≡ Goes instr ranges
+        → (executed instr ranges (beside_in storage locals i)).told ≡ done.Stepped
+        → GoesOnAs text storage locals i (executed instr ranges (beside_in storage locals i)).after }
+    ensures committed { (text : List ℕ) (storage : Storage) (locals : ℕ → Local) (i n : ℕ) (instr : Instr)
+        (ranges : List Range) → IsFollowed (flat_from text storage locals) i (locals i)
+        → is_live (locals i).attempt ≡ true
+        → fate_by_progress text storage (locals i).attempt ≡ Goes instr ranges
+        → (executed instr ranges (beside_in storage locals i)).told ≡ done.Committed n
+        → Leaves text storage locals i (Commit i n) (executed instr ranges (beside_in storage locals i)).after }
+    ensures ended { (text : List ℕ) (storage : Storage) (locals : ℕ → Local) (i : ℕ) (instr : Instr)
+        (ranges : List Range) (why : Why) → IsFollowed (flat_from text storage locals) i (locals i)
+        → is_live (locals i).attempt ≡ true
+        → fate_by_progress text storage (locals i).attempt ≡ Goes instr ranges
+        → (executed instr ranges (beside_in storage locals i)).told ≡ done.Ended why
+        → Leaves text storage locals i
+        (Abort i (executed instr ranges (beside_in storage locals i)).after.local.attempt.count why)
+        (aborted why (locals i).attempt.cpu.address (executed instr ranges (beside_in storage locals i)).after) }
 {}
