@@ -11,3 +11,4 @@ pub mod Parts
 pub mod Leaving
 pub mod Moving
 pub mod Endings
+pub mod Facts

@@ -1,9 +1,10 @@
 -- What is said of runs that are followed: one instruction more, flat states that are the same to a CPU, and what
 -- an entry leaves.
-use Rattle.std.specs.Prelude.{◌≡◌, ℕ, ◌/◌, true, ◌||◌, List, Some}
+use Rattle.std.specs.Prelude.{◌≡◌, ℕ, ◌+◌, ◌/◌, ◌≤◌, true, ◌||◌, List, length, Some}
 use Rattle.z_regs.specs.Cpu.{Cpu}
 use Rattle.z_regs.specs.declared.ranges.Range.{Range}
 use Rattle.z_instr.specs.declared.instr.Instr.{Instr}
+use Rattle.tx_constraint.specs.Kept.{Kept}
 use Rattle.tx_footprint.specs.Touched.{Sets}
 use Rattle.tx_footprint.specs.declared.places.TheConstants.{LINE_SIZE}
 use Rattle.tx_journal.specs.declared.entries.Entry.{Entry}
@@ -52,3 +53,16 @@ pub record GoesOnAs (text : List ℕ) (storage : Storage) (locals : ℕ → Loca
     : Type 0 where
   pub same : flat_after text locals i after ≡ flat_from text storage locals
   pub followed : IsFollowed (flat_after text locals i after) i after.local
+
+-- ---- constrained attempts
+
+-- What a constrained attempt keeps to, on a CPU that is like this at rest: few instructions, its begin again after
+-- an abort, and what its constraints ask.
+pub record KeepsTo (c : Cpu) (q : Progress) : Type 0 where
+  pub few : q.count ≤ 33
+  pub again : q.resumes_at ≡ c.address
+  pub kept : Kept
+  pub constraint : q.constraint ≡ Some kept
+  pub begin : kept.begin ≡ c.address
+  pub counted : q.count ≡ kept.count + 1
+  pub octowords : length kept.octowords ≤ 4

@@ -1,8 +1,9 @@
 //! Laws of progress and of what is kept of a CPU. Each law is the contract of a function that does nothing.
-ghost use Rattle.std.specs.Prelude.{◌≡◌, ◌≢◌, ℕ, ◌/◌, suc, true, false, ◌||◌, nat_eq, List, ◌∷◌, Some, None};
+ghost use Rattle.std.specs.Prelude.{◌≡◌, ◌≢◌, ℕ, ◌/◌, suc, true, false, ◌||◌, nat_eq, is_some, List, [], ◌∷◌, Some, None};
 ghost use Rattle.std.specs.List.{list_any};
 ghost use Rattle.z_regs.specs.Cpu.{Cpu};
 ghost use Rattle.z_regs.specs.Prefix.{absolute_of, is_prefix};
+ghost use Rattle.z_regs.specs.declared.image.RunState.TheVariants.{Running};
 ghost use Rattle.z_regs.specs.declared.ranges.Range.{Range};
 ghost use Rattle.z_regs.specs.declared.waiting.Waiting.{Waiting};
 ghost use Rattle.z_instr.specs.declared.instr.Instr.{Instr};
@@ -15,7 +16,7 @@ ghost use Rattle.tx_control.specs.declared.causes.Why.{Why};
 ghost use Rattle.tx_control.specs.declared.causes.Why.TheVariants.{External, FetchConflict, StoreConflict};
 ghost use Rattle.tx_control.specs.declared.causes.Why.TheVariants.{Starved};
 ghost use Rattle.tx_control.specs.declared.exceptions.Exception.{Exception};
-ghost use Rattle.tx_footprint.specs.declared.places.TheConstants.{LINE_SIZE};
+ghost use Rattle.tx_footprint.specs.declared.places.TheConstants.{LINE_SIZE, BLOCK_SIZE};
 ghost use Rattle.tx_journal.specs.declared.entries.Entry.TheVariants.{Step, Commit, Abort, Tdb, Interrupt};
 ghost use Rattle.tx_serial.specs.Alike.{touched_addresses, AreAlike};
 ghost use Rattle.tx_serial.specs.Apply.{may_act};
@@ -25,7 +26,7 @@ ghost use Rattle.tx_serial.specs.Fate.{Goes, Ends, Stops, fate};
 ghost use Rattle.tx_serial.specs.Flat.{FlatState, Storage, Pending};
 ghost use Rattle.tx_serial.specs.Run.{run, may_follow, mark_in, nest_after, outcome_of};
 ghost use Rattle.tx_progress.specs.Doing.{executed, stopped};
-ghost use Rattle.tx_progress.specs.Followed.{Advances, AreSameTo, beside_in, Leaves, GoesOnAs};
+ghost use Rattle.tx_progress.specs.Followed.{Advances, AreSameTo, beside_in, Leaves, GoesOnAs, KeepsTo};
 ghost use Rattle.tx_progress.specs.Local.{Local, flat_from, aborted, block_stored, interruption_taken};
 ghost use Rattle.tx_progress.specs.Progress.{resting, seen_through, is_live};
 ghost use Rattle.tx_progress.specs.Reached.{progress_of, IsFollowed};
@@ -161,4 +162,39 @@ pub fn what_an_instruction_tells_is_so()
         → Leaves text storage locals i
         (Abort i (executed instr ranges (beside_in storage locals i)).after.local.attempt.count why)
         (aborted why (locals i).attempt.cpu.address (executed instr ranges (beside_in storage locals i)).after) }
+{}
+
+/// Where nothing is live, what is followed is the CPU at rest. A live attempt has a begin that is open; its CPU
+/// is running, and has the prefix that it had.
+pub fn a_live_attempt_is_open()
+    ensures rests { (f : FlatState) (i : ℕ) (local : Local) → IsFollowed f i local
+        → is_live local.attempt ≡ false → local.attempt ≡ resting local.cpu }
+    ensures nest { (f : FlatState) (i : ℕ) (local : Local) → IsFollowed f i local
+        → is_live local.attempt ≡ true → local.attempt.nest ≢ [] }
+    ensures running { (f : FlatState) (i : ℕ) (local : Local) → IsFollowed f i local
+        → is_live local.attempt ≡ true → local.cpu.state ≡ Running }
+    ensures prefix { (f : FlatState) (i : ℕ) (local : Local) → IsFollowed f i local
+        → local.attempt.cpu.prefix ≡ local.cpu.prefix }
+{}
+
+/// An attempt is constrained exactly where what its constraints ask is kept; and then it keeps to them.
+pub fn a_constrained_attempt_keeps_to_its_constraints()
+    ensures some { (f : FlatState) (i : ℕ) (local : Local) → IsFollowed f i local
+        → is_some local.attempt.constraint ≡ is_constrained local.attempt.nest }
+    ensures keeps { (f : FlatState) (i : ℕ) (local : Local) → IsFollowed f i local
+        → is_constrained local.attempt.nest ≡ true → KeepsTo local.cpu local.attempt }
+{}
+
+/// Every byte that an attempt has stored, also one that outlives an abort, lies in a line and a block that its
+/// footprint has as stored.
+pub fn stored_bytes_lie_in_the_footprint()
+    ensures line { (f : FlatState) (i a byte : ℕ) (local : Local) → IsFollowed f i local
+        → is_prefix local.cpu.prefix ≡ true → local.attempt.overlay a ≡ Some byte
+        → local.attempt.footprint.stored (a / LINE_SIZE) ≡ true }
+    ensures block { (f : FlatState) (i a byte : ℕ) (local : Local) → IsFollowed f i local
+        → is_prefix local.cpu.prefix ≡ true → local.attempt.overlay a ≡ Some byte
+        → local.attempt.footprint.blocks (a / BLOCK_SIZE) ≡ true }
+    ensures lasting { (f : FlatState) (i a byte : ℕ) (local : Local) → IsFollowed f i local
+        → is_prefix local.cpu.prefix ≡ true → local.attempt.lasting a ≡ Some byte
+        → local.attempt.footprint.stored (a / LINE_SIZE) ≡ true }
 {}
