@@ -12,3 +12,4 @@ pub mod Leaving
 pub mod Moving
 pub mod Endings
 pub mod Facts
+pub mod Limits

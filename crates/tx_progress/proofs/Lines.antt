@@ -34,7 +34,7 @@ use Rattle.tx_progress.proofs.OneMore.{went, open_is_there}
 
 -- ---- one range
 
-abbrev seen_test : Option ℕ → (ℕ → Bool) → ℕ → Bool
+abbrev pub seen_test : Option ℕ → (ℕ → Bool) → ℕ → Bool
 seen_test prefix test a = test (absolute_of prefix a)
 
 abbrev any_there : (ℕ → Bool) → List Range → Bool
@@ -146,7 +146,7 @@ some_passes : (test : ℕ → Bool) (a : ℕ) (xs : List ℕ) → list_any (nat_
 some_passes test a [] h t = absurd (true≢false (sym h))
 some_passes test a (x ∷ xs) h t = at_one test a x xs (nat_eq a x) refl h t (λ g. some_passes test a xs g t)
 
-either_way : (test : Range → Bool) (rs : List Range)
+pub either_way : (test : Range → Bool) (rs : List Range)
     → list_any test rs
     ≡ (list_any (λ r. not r.store && test r) rs || list_any (λ r. r.store && test r) rs)
 either_way test [] = refl

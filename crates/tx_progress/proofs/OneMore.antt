@@ -32,7 +32,7 @@ use Rattle.tx_progress.proofs.SeenStores.{laying_more}
 
 -- ---- the parts of the progress
 
-touching_twice : (sets : Sets) (xs ys : List Range) → touching (touching sets xs) ys ≡ touching sets (xs ++ ys)
+pub touching_twice : (sets : Sets) (xs ys : List Range) → touching (touching sets xs) ys ≡ touching sets (xs ++ ys)
 touching_twice sets xs ys i = record {
   fetched = λ line. in_turn (λ r. not r.store && has_place LINE_SIZE r line) (sets.fetched line) i;
   stored = λ line. in_turn (λ r. r.store && has_place LINE_SIZE r line) (sets.stored line) i;

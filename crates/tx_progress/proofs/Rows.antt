@@ -21,7 +21,7 @@ use Rattle.z_effect.specs.Outcome.{Outcome, Did}
 use Rattle.z_effect.specs.TransactionEffect.{transaction_effect}
 
 -- a computed test of the table, said of every number
-any_row : (test : Entry → Bool) → list_all test (map entry_of TABLE) ≡ true → test no_entry ≡ true → (n : ℕ)
+pub any_row : (test : Entry → Bool) → list_all test (map entry_of TABLE) ≡ true → test no_entry ≡ true → (n : ℕ)
     → test (entry_at n) ≡ true
 unfolding entry_at
 any_row test rows none n =

@@ -5,7 +5,8 @@ use Rattle.z_regs.specs.Cpu.{Cpu}
 use Rattle.z_regs.specs.declared.ranges.Range.{Range}
 use Rattle.z_instr.specs.declared.instr.Instr.{Instr}
 use Rattle.tx_constraint.specs.Kept.{Kept}
-use Rattle.tx_footprint.specs.Touched.{Sets}
+use Rattle.tx_footprint.specs.Touched.{Sets, line_count, block_count}
+use Rattle.tx_footprint.specs.declared.footprint.TheConstants.{MOST_LINES, MOST_BLOCKS}
 use Rattle.tx_footprint.specs.declared.places.TheConstants.{LINE_SIZE}
 use Rattle.tx_journal.specs.declared.entries.Entry.{Entry}
 use Rattle.tx_serial.specs.Apply.{apply}
@@ -66,3 +67,10 @@ pub record KeepsTo (c : Cpu) (q : Progress) : Type 0 where
   pub begin : kept.begin ≡ c.address
   pub counted : q.count ≡ kept.count + 1
   pub octowords : length kept.octowords ≤ 4
+
+-- ---- limits
+
+-- no more lines and no more stored blocks than a transaction may touch
+pub record KeepsLimits (touched : Sets) : Type 0 where
+  pub lines : line_count touched ≤ MOST_LINES
+  pub blocks : block_count touched ≤ MOST_BLOCKS

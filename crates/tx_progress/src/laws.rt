@@ -1,5 +1,5 @@
 //! Laws of progress and of what is kept of a CPU. Each law is the contract of a function that does nothing.
-ghost use Rattle.std.specs.Prelude.{◌≡◌, ◌≢◌, ℕ, ◌/◌, suc, true, false, ◌||◌, nat_eq, is_some, List, [], ◌∷◌, Some, None};
+ghost use Rattle.std.specs.Prelude.{◌≡◌, ◌≢◌, ℕ, ◌/◌, ◌<◌, suc, true, false, ◌||◌, nat_eq, is_some, List, [], ◌∷◌, Some, None};
 ghost use Rattle.std.specs.List.{list_any};
 ghost use Rattle.z_regs.specs.Cpu.{Cpu};
 ghost use Rattle.z_regs.specs.Prefix.{absolute_of, is_prefix};
@@ -16,6 +16,7 @@ ghost use Rattle.tx_control.specs.declared.causes.Why.{Why};
 ghost use Rattle.tx_control.specs.declared.causes.Why.TheVariants.{External, FetchConflict, StoreConflict};
 ghost use Rattle.tx_control.specs.declared.causes.Why.TheVariants.{Starved};
 ghost use Rattle.tx_control.specs.declared.exceptions.Exception.{Exception};
+ghost use Rattle.line_table.specs.declared.table.TheConstants.{LINES};
 ghost use Rattle.tx_footprint.specs.declared.places.TheConstants.{LINE_SIZE, BLOCK_SIZE};
 ghost use Rattle.tx_journal.specs.declared.entries.Entry.TheVariants.{Step, Commit, Abort, Tdb, Interrupt};
 ghost use Rattle.tx_serial.specs.Alike.{touched_addresses, AreAlike};
@@ -26,7 +27,7 @@ ghost use Rattle.tx_serial.specs.Fate.{Goes, Ends, Stops, fate};
 ghost use Rattle.tx_serial.specs.Flat.{FlatState, Storage, Pending};
 ghost use Rattle.tx_serial.specs.Run.{run, may_follow, mark_in, nest_after, outcome_of};
 ghost use Rattle.tx_progress.specs.Doing.{executed, stopped};
-ghost use Rattle.tx_progress.specs.Followed.{Advances, AreSameTo, beside_in, Leaves, GoesOnAs, KeepsTo};
+ghost use Rattle.tx_progress.specs.Followed.{Advances, AreSameTo, beside_in, Leaves, GoesOnAs, KeepsTo, KeepsLimits};
 ghost use Rattle.tx_progress.specs.Local.{Local, flat_from, aborted, block_stored, interruption_taken};
 ghost use Rattle.tx_progress.specs.Progress.{resting, seen_through, is_live};
 ghost use Rattle.tx_progress.specs.Reached.{progress_of, IsFollowed};
@@ -197,4 +198,14 @@ pub fn stored_bytes_lie_in_the_footprint()
     ensures lasting { (f : FlatState) (i a byte : ℕ) (local : Local) → IsFollowed f i local
         → is_prefix local.cpu.prefix ≡ true → local.attempt.lasting a ≡ Some byte
         → local.attempt.footprint.stored (a / LINE_SIZE) ≡ true }
+{}
+
+/// The footprint of an attempt keeps the limits, and its lines are lines of storage.
+pub fn footprints_keep_the_limits()
+    ensures limits { (f : FlatState) (i : ℕ) (local : Local) → IsFollowed f i local
+        → KeepsLimits local.attempt.footprint }
+    ensures lines { (f : FlatState) (i line : ℕ) (local : Local) → IsFollowed f i local
+        → is_prefix local.cpu.prefix ≡ true
+        → (local.attempt.footprint.fetched line || local.attempt.footprint.stored line) ≡ true
+        → line < LINES }
 {}
