@@ -73,7 +73,8 @@ module _ (events : List Event) (turns : ℕ → ℕ) where
     rejects = λ s j known other live b.
         let t = rejecting_one j (standing_of m s j) s in
         let c : Booked events turns t =
-        renumbered j (record (s.numbers j) { given = (rejecting (standing_of m s j)).rejects_given }) s refl b in
+        renumbered j (record (s.numbers j) { given = (rejecting (standing_of m s j)).rejects_given }) s refl b
+        in
         renumbered i _ t refl c;
     aborts = λ s j line stored known other live b.
         abort_booked j (standing_of m s j) (s.numbers j).completed (conflict_on stored line) s b;
@@ -105,7 +106,8 @@ module _ (events : List Event) (turns : ℕ → ℕ) where
 -- ---- one event
 
 -- an idle turn changes nothing
-pub idle_stays : (m : Setting) (i : ℕ) (s : State) (o : Outcome) → idle m s i ≡ Some o → (turn m i s).state ≡ s
+pub idle_stays : (m : Setting) (i : ℕ) (s : State) (o : Outcome) → idle m s i ≡ Some o
+    → (turn m i s).state ≡ s
 unfolding turn
 idle_stays m i s o e = ap (λ x. (turn_where x m i s).state) e
 
@@ -118,22 +120,26 @@ pub turn_booked : (m : Setting) (i : ℕ) (s : State) → idle m s i ≡ None
 turn_booked m i s e =
     let events = s.events ++ event.Turn i ∷ [] in
     let turns = one_turn_more i s in
-    in_a_turn m i (Booked events turns) (Booked events turns) (Booked events turns) (books_kept events turns m i)
+    in_a_turn m i (Booked events turns) (Booked events turns) (Booked events turns)
+    (books_kept events turns m i)
     s (λ o is. let n : Some o ≡ None = sym is ∙ e in cc)
     (λ _. record { recorded = refl; counted = λ x. refl })
 
 pub external_booked : (m : Setting) (i : ℕ) (s : State)
-    → Booked (s.events ++ event.External i ∷ []) (λ x. (s.numbers x).turns) (happen m (event.External i) s).state
+    → Booked (s.events ++ event.External i ∷ []) (λ x. (s.numbers x).turns)
+    (happen m (event.External i) s).state
 unfolding happen
 external_booked m i s =
     let events = s.events ++ event.External i ∷ [] in
     let turns = λ (x : ℕ). (s.numbers x).turns in
-    externally m i (Booked events turns) (Booked events turns) (Booked events turns) (books_kept events turns m i)
+    externally m i (Booked events turns) (Booked events turns) (Booked events turns)
+    (books_kept events turns m i)
     (with_event (event.External i) s) (record { recorded = refl; counted = λ x. refl })
 
 -- ---- readiness
 
-pub idle_or_not : (o : Option Outcome) (T : Option Outcome → Type 0) → ((x : Outcome) → o ≡ Some x → T (Some x))
+pub idle_or_not : (o : Option Outcome) (T : Option Outcome → Type 0) → ((x : Outcome) → o ≡ Some x
+    → T (Some x))
     → (o ≡ None → T None) → T o
 idle_or_not None T some none = none refl
 idle_or_not (Some x) T some none = some x refl
@@ -291,6 +297,31 @@ few_turns m events known =
     total_at_most (cpus_of m) m.limits.turns (λ x. ((meaning m events).numbers x).turns) (λ x lo. c.few x) in
     let same = c.turns in
     omega arith
+
+-- a turn of a ready CPU is one counted turn more
+pub total_turned : (m : Setting) (i : ℕ) (s : State) → i < cpus_of m → idle m s i ≡ None
+    → total (cpus_of m) (λ x. ((turn m i s).state.numbers x).turns)
+    ≡ total (cpus_of m) (λ x. (s.numbers x).turns) + 1
+total_turned m i s known none =
+    let b = turn_booked m i s none in
+    total_same (cpus_of m) (one_turn_more i s) (λ x. ((turn m i s).state.numbers x).turns)
+    (λ x lo. b.counted x)
+    ∙ one_counted (cpus_of m) i s known
+
+pub total_full : (n most : ℕ) (f : ℕ → ℕ) (i : ℕ) → ((x : ℕ) → x < n → f x ≤ most) → n * most ≤ total n f
+    → i < n → most ≤ f i
+unfolding total
+total_full zero most f i few full lo = absurd (omega arith)
+total_full (suc n) most f i few full lo =
+    let times : suc n * most ≡ n * most + most = omega arith in
+    let below = total_at_most n most f (λ x less. few x (omega arith)) in
+    let top : f n ≤ most = few n (omega arith) in
+    by_way (cases_eq i n)
+    (λ e. let here : most ≤ f n = omega arith in subst (λ k. most ≤ f k) (sym e) here)
+    (λ ne.
+    let less : i < n = omega arith in
+    let rest : n * most ≤ total n f = omega arith in
+    total_full n most f i (λ x l. few x (omega arith)) rest less)
 
 -- every external event is recorded
 externals_turned : (m : Setting) (i : ℕ) (s : State)

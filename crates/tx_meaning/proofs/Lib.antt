@@ -4,3 +4,6 @@ pub mod Walk
 pub mod Queues
 pub mod Books
 pub mod Room
+pub mod Needs
+pub mod Schedules
+mod Examples

@@ -15,7 +15,8 @@ use Rattle.tx_meaning.specs.Changes.{without_head, head_to_tail, without_attempt
 use Rattle.tx_meaning.specs.Idle.{idle, idle_by, is_ready, is_finished, is_spent}
 use Rattle.tx_meaning.specs.Turn.{happen}
 use Rattle.tx_meaning.specs.Queues.{Stays, Leaves, GoesLast, QueueMoves}
-use Rattle.tx_meaning.proofs.Walk.{Walk, conflict_on, rung_case, leaving_case, cause_case, in_a_turn, externally}
+use Rattle.tx_meaning.proofs.Walk.{Walk, conflict_on, rung_case, leaving_case, cause_case, in_a_turn}
+use Rattle.tx_meaning.proofs.Walk.{externally}
 
 -- the queue with CPUs behind it
 record JoinedBy (before queue : List ℕ) : Type 0 where
@@ -99,7 +100,8 @@ walked m i before = record {
   starts = λ s live p. stays before s.queue p;
   continues = λ s live p. stays before s.queue p;
   commits = λ s constrained n live p.
-      leaving_case (λ t. QueueMoves before t.queue) i constrained (without_attempt i s) (stays before s.queue p)
+      leaving_case (λ t. QueueMoves before t.queue) i constrained (without_attempt i s)
+      (stays before s.queue p)
       (leaves before s.queue i p);
   waits = λ s p. stays before s.queue p;
   interrupted = λ s live p. interruption_moves before i (standing_of m s i) (s.numbers i).completed s p;
@@ -111,7 +113,8 @@ pub queue_moves : (m : Setting) (e : Event) (s : State) → QueueMoves s.queue (
 unfolding happen
 queue_moves m (event.Turn i) s =
     in_a_turn m i (λ t. JoinedBy s.queue t.queue) (λ t. JoinedBy s.queue t.queue)
-    (λ t. QueueMoves s.queue t.queue) (walked m i s.queue) s (λ o e. stays s.queue s.queue (nobody_joined s.queue))
+    (λ t. QueueMoves s.queue t.queue) (walked m i s.queue) s
+    (λ o e. stays s.queue s.queue (nobody_joined s.queue))
     (λ e. nobody_joined s.queue)
 queue_moves m (event.External i) s =
     externally m i (λ t. JoinedBy s.queue t.queue) (λ t. JoinedBy s.queue t.queue)
@@ -136,4 +139,5 @@ unfolding idle
 only_the_head m s i head rest e other =
     let off : head ≢ i = λ h. other (sym h) in
     ap (λ q. is_none (idle_by m.limits (is_finished m s i) q (s.numbers i) i)) e
-    ∙ not_ready_by m.limits (is_finished m s i) (is_spent m.limits (s.numbers i)) (head == i) _ (ne_eqb head i off)
+    ∙ not_ready_by m.limits (is_finished m s i) (is_spent m.limits (s.numbers i)) (head == i) _
+    (ne_eqb head i off)

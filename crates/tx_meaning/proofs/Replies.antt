@@ -10,7 +10,8 @@ use Rattle.interrogate.specs.declared.kinds.Asker.{Asker}
 use Rattle.interrogate.specs.Replies.{Lines, conflicts, may_hold_out, cause_at, reply}
 
 answered : (T : Answer → Type 0) (conflict holds_out : Bool) (why : Why) → T Yields
-    → (conflict ≡ true → holds_out ≡ true → T Rejects) → (conflict ≡ true → holds_out ≡ false → T (Aborts why))
+    → (conflict ≡ true → holds_out ≡ true → T Rejects) → (conflict ≡ true → holds_out ≡ false
+    → T (Aborts why))
     → T (if not conflict then Yields else (if holds_out then Rejects else Aborts why))
 answered T false holds_out why yields rejects aborts = yields
 answered T true true why yields rejects aborts = rejects refl refl
@@ -31,6 +32,7 @@ pub replied : (T : Answer → Type 0) (live : Bool) (fetched stored : Lines) (st
 unfolding reply
 replied T live fetched stored standing line mode asker yields rejects aborts =
     let live_in = conflicts_live live fetched stored line mode in
-    answered T (conflicts live fetched stored line mode) (may_hold_out standing asker) (cause_at stored line) yields
+    answered T (conflicts live fetched stored line mode) (may_hold_out standing asker) (cause_at stored line)
+    yields
     (λ conflict holds. rejects (live_in conflict) holds)
     (λ conflict yields_to. aborts (live_in conflict) yields_to)

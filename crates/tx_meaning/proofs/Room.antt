@@ -128,12 +128,15 @@ module _ (m : Setting) (i : ℕ) (known : i < cpus_of m) (most : ℕ) where
 
   few_walk : Walk m i Few Few Fewer
   few_walk = record {
-    asks = λ s few. few_renumbered i (record (s.numbers i) { asked = (s.numbers i).asked + 1 }) s known refl few;
-    holds = λ s held few. let same = same_places (cpus_of m) s (record s { held = held }) refl refl in omega arith;
+    asks = λ s few. few_renumbered i (record (s.numbers i) { asked = (s.numbers i).asked + 1 }) s known refl
+        few;
+    holds = λ s held few. let same = same_places (cpus_of m) s (record s { held = held }) refl refl in omega
+        arith;
     rejects = λ s j lo other live few.
         let t = rejecting_one j (standing_of m s j) s in
         let c : Few t =
-        few_renumbered j (record (s.numbers j) { given = (rejecting (standing_of m s j)).rejects_given }) s lo refl
+        few_renumbered j (record (s.numbers j) { given = (rejecting (standing_of m s j)).rejects_given }) s lo
+        refl
         few in
         few_renumbered i _ t known refl c;
     aborts = λ s j line stored lo other live few.
@@ -184,7 +187,8 @@ room_turned m i s known room =
     let most = length s.events in
     let t = with_event (event.Turn i) (counting_turn i s) in
     let start : places (cpus_of m) t ≤ most =
-    let same = renumbered (cpus_of m) i (record (s.numbers i) { turns = (s.numbers i).turns + 1 }) s known refl in
+    let same = renumbered (cpus_of m) i (record (s.numbers i) { turns = (s.numbers i).turns + 1 }) s known
+    refl in
     let also = same_places (cpus_of m) (counting_turn i s) t refl refl in
     omega arith in
     let after = in_a_turn m i (Few m i known most) (Few m i known most) (Fewer m i known most)
@@ -202,7 +206,8 @@ room_external m i s known room =
     let start : places (cpus_of m) t ≤ most = omega arith in
     let after = externally m i (Few m i known most) (Few m i known most) (Fewer m i known most)
     (few_walk m i known most) t start in
-    let recorded = ap length (external_booked m i s).recorded ∙ length-append s.events (event.External i ∷ []) in
+    let recorded = ap length (external_booked m i s).recorded ∙ length-append s.events (event.External i ∷ [])
+    in
     omega arith
 
 room_happened : (m : Setting) (e : Event) (s : State) → cpu_of_event e < cpus_of m → HasRoom m s
@@ -226,7 +231,8 @@ none_at_first m =
     omega arith
 
 pub room : (m : Setting) (events : List Event) → All (λ e. cpu_of_event e < cpus_of m) events
-    → length (meaning m events).history + live_attempts m (meaning m events) ≤ length (meaning m events).events
+    → length (meaning m events).history + live_attempts m (meaning m events) ≤ length
+    (meaning m events).events
 unfolding places
 room m events known =
     let none = none_at_first m in

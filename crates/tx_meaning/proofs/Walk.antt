@@ -1,5 +1,6 @@
 -- A walk through an event: what every change in it keeps, the event keeps.
-use Rattle.std.proofs.Common.{◌≡◌, ◌≢◌, ℕ, zero, suc, ◌+◌, ◌<◌, ◌≤◌, Bool, true, false, cond, List, [], ◌∷◌, ◌++◌}
+use Rattle.std.proofs.Common.{◌≡◌, ◌≢◌, ℕ, zero, suc, ◌+◌, ◌<◌, ◌≤◌, Bool, true, false, cond, List, [], ◌∷◌}
+use Rattle.std.proofs.Common.{◌++◌}
 use Rattle.std.proofs.Common.{Option, Some, None, refl, sym, ap, ◌∙◌, arith}
 use Rattle.std.specs.Prelude.{◌&&◌, ◌==◌, not, nat_lt, if◌then◌else◌}
 use Rattle.std.specs.List.{filter, range_with_len}
@@ -132,7 +133,8 @@ module _ (m : Setting) (i : ℕ) (P Q F : State → Type 0) (w : Walk m i P Q F)
       let q = w.asks s p in
       let lines = footprint_of m s j in
       let live_then : is_live s j ≡ true → is_live t j ≡ true = λ h. live_asking i s j ∙ h in
-      replied (λ (a : Answer). IsBehind P Q (by_answer m i need j t a)) (is_live s j) lines.fetched lines.stored
+      replied (λ (a : Answer). IsBehind P Q (by_answer m i need j t a)) (is_live s j) lines.fetched
+      lines.stored
       (standing_of m s j) need.line need.mode (asker_of m s i)
       (w.holds t (yielding j need.line need.mode t).held q)
       (λ live _. w.rejects t j known other (live_then live) q)
@@ -165,7 +167,8 @@ module _ (m : Setting) (i : ℕ) (P Q F : State → Type 0) (w : Walk m i P Q F)
       other_at a (filter (λ j. not (j == i) && test j) (range_with_len (a + 1) n)) (a == i) (test a) refl here
       (others_among test (a + 1) n later)
 
-  all_others : (held : Holders) (line : ℕ) (mode : Mode) → AreOthers m i (against (cpus_of m) held i line mode)
+  all_others : (held : Holders) (line : ℕ) (mode : Mode)
+      → AreOthers m i (against (cpus_of m) held i line mode)
   unfolding against
   all_others held line mode =
       let all : 0 + cpus_of m ≤ cpus_of m = omega arith in
@@ -253,7 +256,8 @@ module _ (m : Setting) (i : ℕ) (P Q F : State → Type 0) (w : Walk m i P Q F)
 
   attempted : (s : State) (f : Fate) → P s → F (attempting m i s f).state
   attempted s (Goes instr ranges) p =
-      lines_then (operand_needs (cpu_of m s i).prefix ranges) s (executing m i instr) p (instruction_done instr)
+      lines_then (operand_needs (cpu_of m s i).prefix ranges) s (executing m i instr) p
+      (instruction_done instr)
   attempted s (Ends why) p = w.ends s (s.numbers i).completed why p
   attempted s (Stops e) p = step_made 0 s p
 

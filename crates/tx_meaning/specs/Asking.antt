@@ -83,7 +83,8 @@ take_line m i needs need s =
 abbrev pub get_unless : Bool → Setting → ℕ → List Need → Need → State → Asked
 get_unless true m i needs need s = all_given s
 get_unless false m i needs need s =
-    then_ask (ask_each m i need (against (cpus_of m) s.held i need.line need.mode) s) (take_line m i needs need)
+    then_ask (ask_each m i need (against (cpus_of m) s.held i need.line need.mode) s)
+    (take_line m i needs need)
 
 unfoldable pub get_line : Setting → ℕ → List Need → Need → State → Asked
 get_line m i needs need s = get_unless (is_there need.mode (s.held i need.line)) m i needs need s

@@ -17,7 +17,8 @@ use Rattle.tx_serial.specs.History.{start_of, on_some}
 abbrev pub tries_constrained : FlatState → ℕ → Bool
 tries_constrained f i = is_constrained (run f i 1).nest
 
--- what an abort of a constrained attempt makes of the count: conflicts are counted, a program interruption ends
+-- what an abort of a constrained attempt makes of the count: conflicts are counted, a program interruption
+-- ends
 -- the transaction
 abbrev pub hits_by : Why → ℕ → ℕ
 hits_by (FetchConflict line) hits = hits + 1

@@ -1,5 +1,6 @@
 -- Turns that are idle.
-use Rattle.std.specs.Prelude.{ℕ, Bool, true, false, ◌&&◌, nat_le, is_none, if◌then◌else◌, List, [], ◌∷◌, Option, Some, None}
+use Rattle.std.specs.Prelude.{ℕ, Bool, true, false, ◌&&◌, nat_le, is_none, if◌then◌else◌, List, [], ◌∷◌}
+use Rattle.std.specs.Prelude.{Option, Some, None}
 use Rattle.z_regs.specs.declared.image.RunState.{RunState}
 use Rattle.z_regs.specs.declared.image.RunState.TheVariants.{Running, Halted, Interrupted}
 use Rattle.tx_ladder.specs.Waiting.{waits_in}

@@ -3,7 +3,8 @@ use Rattle.std.specs.Prelude.{ℕ, ◌≤◌}
 use Rattle.tx_journal.specs.Content.{Content}
 use Rattle.tx_meaning.specs.declared.limits.TheConstants.{MOST_TURNS, MOST_TICK, MOST_EXTERNALS}
 
--- the counted turns of each CPU, the turns from one tick to the next, which is 0 where there are none, and the
+-- the counted turns of each CPU, the turns from one tick to the next, which is 0 where there are none, and
+-- the
 -- external events
 pub record RunLimits : Type 0 where
   pub turns : ℕ

@@ -30,7 +30,7 @@ lines_of r = lines_by r.length
     lines_by n = if nat_eq n 0 then [] else range_with_len (first_line r) (last_line r + 1 - first_line r)
 
 -- one more number in its place among rising ones, where it is not there
-pub with_number : ℕ → List ℕ → List ℕ
+unfoldable pub with_number : ℕ → List ℕ → List ℕ
 with_number n [] = n ∷ []
 with_number n (k ∷ rest) =
     if nat_lt n k then n ∷ k ∷ rest else (if nat_eq n k then k ∷ rest else k ∷ with_number n rest)
@@ -44,7 +44,8 @@ mode_for ranges line = if list_any (λ r. r.store && has_line line r) ranges the
 
 -- the lines of ranges, in rising order
 unfoldable pub needs_of : List Range → List Need
-needs_of ranges = map (λ line. record { line = line; mode = mode_for ranges line }) (rising (flat_map lines_of ranges))
+needs_of ranges = map (λ line. record { line = line; mode = mode_for ranges line })
+    (rising (flat_map lines_of ranges))
 
 -- ---- what is needed
 

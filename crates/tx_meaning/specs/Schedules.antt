@@ -1,5 +1,5 @@
 -- Schedules: given, drawn, and round.
-use Rattle.std.specs.Prelude.{◌≡◌, ℕ, zero, suc, ◌+◌, ◌*◌, ◌/◌, ◌%◌, ◌^◌, ◌<◌, false, nat_le}
+use Rattle.std.specs.Prelude.{◌≡◌, ℕ, zero, suc, ◌+◌, ◌*◌, ◌/◌, ◌%◌, ◌^◌, ◌<◌, true, false, nat_le}
 use Rattle.std.specs.Prelude.{if◌then◌else◌, length, List, [], ◌∷◌, Option, Some, None, get_or}
 use Rattle.std.specs.List.{filter, range_with_len}
 use Rattle.tx_journal.specs.declared.events.Event.{Event}
@@ -74,3 +74,17 @@ planned m seed = if m.image.scheduled then m.image.schedule else planned_by seed
 -- after these events the next turn of every CPU would be idle
 abbrev pub IsComplete : Setting → List Event → Type 0
 IsComplete m events = (i : ℕ) → i < cpus_of m → is_ready m (meaning m events) i ≡ false
+
+-- ---- turns that are not idle
+
+-- the event is a turn of a CPU that is ready
+pub record IsReadyTurn (m : Setting) (s : State) (e : Event) : Type 0 where
+  pub cpu : ℕ
+  pub turn : e ≡ Turn cpu
+  pub known : cpu < cpus_of m
+  pub ready : is_ready m s cpu ≡ true
+
+-- each event is, in the state behind the ones before it
+abbrev pub AreReadyTurns : Setting → List Event → State → Type 0
+AreReadyTurns m [] s = Unit {0}
+AreReadyTurns m (e ∷ rest) s = IsReadyTurn m s e × AreReadyTurns m rest (happen m e s).state

@@ -14,7 +14,8 @@ use Rattle.tx_serial.specs.History.{replay, start_of}
 use Rattle.tx_meaning.specs.Limits.{Setting}
 use Rattle.tx_meaning.specs.Hits.{hits}
 
--- of one CPU: the instructions that its live attempt has completed, 0 where none is live; the attempts that it
+-- of one CPU: the instructions that its live attempt has completed, 0 where none is live; the attempts that
+-- it
 -- has started; the rejects that the last of them gave, and its requests that were rejected; the turns that it
 -- still waits; its counted turns; its questions to holders, and those of them that were answered by a reject
 pub record Numbers : Type 0 where

@@ -118,7 +118,8 @@ left_by parms aborts delay completed refused =
 abbrev pub left : Setting → State → ℕ → ℕ
 left m s i =
     let n = s.numbers i in
-    left_by m.image.parms (standing_of m s i).aborts n.delay n.completed (if is_live s i then n.refused else 0)
+    left_by m.image.parms (standing_of m s i).aborts n.delay n.completed
+    (if is_live s i then n.refused else 0)
 
 -- the turns that a constrained transaction needs at most, where nothing interrupts it
 abbrev pub bound : Parameters → ℕ

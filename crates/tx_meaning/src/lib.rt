@@ -1,5 +1,6 @@
 //! The machine of 1 to 16 CPUs over events: what each event makes of the serial history and of the lines that
-//! the CPUs hold, and how many turns a constrained transaction can need. The definitions are in `specs/`; they
+//! the CPUs hold, and how many turns a constrained transaction can need. The definitions are in `specs/`;
+//! they
 //! compute storage, CPUs and live attempts from the history.
 #![tactic(auto)]
 

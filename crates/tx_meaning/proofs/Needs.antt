@@ -1,0 +1,282 @@
+-- The needed lines are those of the ranges, each once, in rising order.
+use Rattle.std.proofs.Common.{◌≡◌, ℕ, zero, suc, ◌+◌, ◌-◌, ◌<◌, ◌≤◌, Bool, true, false, List, []}
+use Rattle.std.proofs.Common.{◌∷◌, length, get_or, refl, sym, ap, ◌∙◌, arith}
+use Rattle.std.specs.Prelude.{◌||◌, ◌&&◌, not, ◌==◌, nat_eq, nat_lt, nat_le, if◌then◌else◌, map, fold, All}
+use Rattle.std.specs.Prelude.{AllPairs}
+use Rattle.std.specs.List.{list_any, flat_map, range_with_len}
+use Rattle.std.proofs.lemmas.Bool.{cases_eq, or_cases, or_left, or_right, and_parts, and_from}
+use Rattle.std.proofs.lemmas.Bool.{eq-eqb, eqb-true, leb-true, ltb-true, ltb-false, eqb-false, le-leb, lt-ltb}
+use Rattle.std.proofs.lemmas.List.Folds.{list_any-append}
+use Rattle.std.proofs.lemmas.List.Elements.{All-map}
+use borrow.Enum.Arm.{by_way}
+use Rattle.z_regs.specs.declared.ranges.Range.{Range}
+use Rattle.line_table.specs.declared.table.Mode.TheVariants.{Shared, Exclusive}
+use Rattle.tx_footprint.specs.declared.places.TheConstants.{LINE_SIZE}
+use Rattle.tx_footprint.specs.Places.{has_place, lies_in, fetches, stores}
+use Rattle.tx_footprint.proofs.Spans.{span_is, no_bytes}
+use Rattle.tx_meaning.specs.declared.asking.Need.{Need}
+use Rattle.tx_meaning.specs.Needs.{first_line, last_line, has_line, lines_of, with_number, rising, mode_for}
+use Rattle.tx_meaning.specs.Needs.{needs_of}
+use Rattle.tx_meaning.specs.Changes.{is_needed}
+
+same_bool : (a b : Bool) → (a ≡ true → b ≡ true) → (b ≡ true → a ≡ true) → a ≡ b
+same_bool true b to from = sym (to refl)
+same_bool false true to from = from refl
+same_bool false false to from = refl
+
+abbrev has : ℕ → List ℕ → Bool
+has x numbers = list_any (λ k. k == x) numbers
+
+-- ---- numbers from one to another
+
+record IsWithin (first end x : ℕ) : Type 0 where
+  low : first ≤ x
+  high : x < end
+
+in_range : (a n x : ℕ) → has x (range_with_len a n) ≡ true → IsWithin a (a + n) x
+in_range a zero x h = let no : false ≡ true = h in absurd (cc)
+in_range a (suc n) x h =
+    by_way (or_cases (a == x) (has x (range_with_len (a + 1) n)) h)
+    (λ e. let same : a ≡ x = eqb-true a x e in record { low = omega arith; high = omega arith })
+    (λ later.
+    let rest = in_range (a + 1) n x later in
+    record { low = omega (arith, rest.low); high = omega (arith, rest.high) })
+
+range_has : (a n x : ℕ) → a ≤ x → x < a + n → has x (range_with_len a n) ≡ true
+range_has a zero x low high = absurd (omega arith)
+range_has a (suc n) x low high =
+    by_way (cases_eq a x)
+    (λ e. or_left (a == x) (has x (range_with_len (a + 1) n)) (eq-eqb a x e))
+    (λ ne.
+    let above : a + 1 ≤ x = omega arith in
+    let below : x < a + 1 + n = omega arith in
+    or_right (a == x) (has x (range_with_len (a + 1) n)) (range_has (a + 1) n x above below))
+
+lines_between : (first last x : ℕ)
+    → has x (range_with_len first (last + 1 - first)) ≡ lies_in first (last + 1) x
+lines_between first last x =
+    same_bool (has x (range_with_len first (last + 1 - first))) (lies_in first (last + 1) x)
+    (λ h.
+    let w = in_range first (last + 1 - first) x h in
+    let low : first ≤ x = w.low in
+    let high : x < last + 1 = omega (arith, w.high) in
+    and_from (nat_le first x) (nat_lt x (last + 1)) (le-leb first x low) (lt-ltb x (last + 1) high))
+    (λ h.
+    let p = and_parts (nat_le first x) (nat_lt x (last + 1)) h in
+    let low : first ≤ x = leb-true first x p.0 in
+    let high : x < last + 1 = ltb-true x (last + 1) p.1 in
+    let within : x < first + (last + 1 - first) = omega arith in
+    range_has first (last + 1 - first) x low within)
+
+-- ---- the lines of a range
+
+lines_by : (r : Range) (x : ℕ) (none : Bool) → nat_eq r.length 0 ≡ none
+    → has x (if none then [] else range_with_len (first_line r) (last_line r + 1 - first_line r))
+    ≡ has_place LINE_SIZE r x
+lines_by r x true e = sym (no_bytes LINE_SIZE r x (eqb-true r.length 0 e))
+lines_by r x false e =
+    let off = eqb-false r.length 0 e in
+    let some : 0 < r.length = omega arith in
+    lines_between (first_line r) (last_line r) x ∙ span_is LINE_SIZE r x (omega arith) some
+
+lines_are : (r : Range) (x : ℕ) → has x (lines_of r) ≡ has_place LINE_SIZE r x
+lines_are r x = lines_by r x (nat_eq r.length 0) refl
+
+up_to : (x last : ℕ) → nat_le x last ≡ nat_lt x (last + 1)
+up_to x last =
+    same_bool (nat_le x last) (nat_lt x (last + 1))
+    (λ h. let le : x ≤ last = leb-true x last h in lt-ltb x (last + 1) (omega arith))
+    (λ h. let lt : x < last + 1 = ltb-true x (last + 1) h in le-leb x last (omega arith))
+
+has_line_by : (r : Range) (x : ℕ) (some : Bool) → nat_lt 0 r.length ≡ some
+    → (some && (nat_le (first_line r) x && nat_le x (last_line r))) ≡ has_place LINE_SIZE r x
+has_line_by r x true e =
+    let some : 0 < r.length = ltb-true 0 r.length e in
+    ap (λ b. nat_le (first_line r) x && b) (up_to x (last_line r)) ∙ span_is LINE_SIZE r x (omega arith) some
+has_line_by r x false e =
+    let none = ltb-false 0 r.length e in
+    let zero_bytes : r.length ≡ 0 = omega arith in
+    sym (no_bytes LINE_SIZE r x zero_bytes)
+
+has_line_is : (r : Range) (x : ℕ) → has_line x r ≡ has_place LINE_SIZE r x
+has_line_is r x = has_line_by r x (nat_lt 0 r.length) refl
+
+-- ---- the lines of all ranges
+
+all_lines : (ranges : List Range) (x : ℕ)
+    → has x (flat_map lines_of ranges) ≡ list_any (λ r. has_place LINE_SIZE r x) ranges
+all_lines [] x = refl
+all_lines (r ∷ rest) x =
+    list_any-append (λ k. k == x) (lines_of r) (flat_map lines_of rest)
+    ∙ ap (λ b. b || has x (flat_map lines_of rest)) (lines_are r x)
+    ∙ ap (λ b. has_place LINE_SIZE r x || b) (all_lines rest x)
+
+either_way : (store here f s : Bool)
+    → (here || (f || s)) ≡ (((not store && here) || f) || ((store && here) || s))
+either_way true true true s = refl
+either_way true true false s = refl
+either_way true false f s = refl
+either_way false true f s = refl
+either_way false false f s = refl
+
+fetched_or_stored : (ranges : List Range) (x : ℕ)
+    → list_any (λ r. has_place LINE_SIZE r x) ranges ≡ (fetches ranges x || stores ranges x)
+fetched_or_stored [] x = refl
+fetched_or_stored (r ∷ rest) x =
+    ap (λ b. has_place LINE_SIZE r x || b) (fetched_or_stored rest x)
+    ∙ either_way r.store (has_place LINE_SIZE r x) (fetches rest x) (stores rest x)
+
+stored_lines : (ranges : List Range) (x : ℕ)
+    → list_any (λ r. r.store && has_line x r) ranges ≡ stores ranges x
+stored_lines [] x = refl
+stored_lines (r ∷ rest) x =
+    ap (λ b. (r.store && b) || list_any (λ s. s.store && has_line x s) rest) (has_line_is r x)
+    ∙ ap (λ b. (r.store && has_place LINE_SIZE r x) || b) (stored_lines rest x)
+
+-- ---- in rising order
+
+or_again : (a b : Bool) → (a || b) ≡ (a || (a || b))
+or_again true b = refl
+or_again false b = refl
+
+or_swap : (a b c : Bool) → (a || (b || c)) ≡ (b || (a || c))
+or_swap true true c = refl
+or_swap true false c = refl
+or_swap false b c = refl
+
+put_by : (n k x : ℕ) (rest more : List ℕ) (less same : Bool) → nat_eq n k ≡ same
+    → has x more ≡ ((n == x) || has x rest)
+    → has x (if less then n ∷ k ∷ rest else (if same then k ∷ rest else k ∷ more))
+    ≡ ((n == x) || ((k == x) || has x rest))
+put_by n k x rest more true same e h = refl
+put_by n k x rest more false true e h =
+    or_again (k == x) (has x rest)
+    ∙ ap (λ j. (j == x) || ((k == x) || has x rest)) (sym (eqb-true n k e))
+put_by n k x rest more false false e h =
+    ap (λ b. (k == x) || b) h ∙ or_swap (k == x) (n == x) (has x rest)
+
+put_is : (n x : ℕ) (numbers : List ℕ) → has x (with_number n numbers) ≡ ((n == x) || has x numbers)
+unfolding with_number
+put_is n x [] = refl
+put_is n x (k ∷ rest) =
+    put_by n k x rest (with_number n rest) (nat_lt n k) (nat_eq n k) refl (put_is n x rest)
+
+sorted_has : (sorted numbers : List ℕ) (x : ℕ)
+    → has x (fold (λ s n. with_number n s) sorted numbers) ≡ (has x numbers || has x sorted)
+sorted_has sorted [] x = refl
+sorted_has sorted (n ∷ rest) x =
+    sorted_has (with_number n sorted) rest x
+    ∙ ap (λ b. has x rest || b) (put_is n x sorted)
+    ∙ or_swap (has x rest) (n == x) (has x sorted)
+    ∙ or_group (n == x) (has x rest) (has x sorted)
+  where
+    or_group : (a b c : Bool) → (a || (b || c)) ≡ ((a || b) || c)
+    or_group true b c = refl
+    or_group false b c = refl
+
+or_none : (b : Bool) → (b || false) ≡ b
+or_none true = refl
+or_none false = refl
+
+rising_has : (numbers : List ℕ) (x : ℕ) → has x (rising numbers) ≡ has x numbers
+rising_has numbers x = sorted_has [] numbers x ∙ or_none (has x numbers)
+
+-- each number is above the one before it
+abbrev IsAbove : ℕ → List ℕ → Type 0
+IsAbove k [] = Unit {0}
+IsAbove k (j ∷ rest) = k < j
+
+abbrev Rises : List ℕ → Type 0
+Rises [] = Unit {0}
+Rises (k ∷ rest) = IsAbove k rest × Rises rest
+
+above_put_by : (j n k : ℕ) (rest more : List ℕ) (less same : Bool) → j < k → j < n
+    → IsAbove j (if less then n ∷ k ∷ rest else (if same then k ∷ rest else k ∷ more))
+above_put_by j n k rest more true same h lt = lt
+above_put_by j n k rest more false true h lt = h
+above_put_by j n k rest more false false h lt = h
+
+above_put : (j n : ℕ) (numbers : List ℕ) → IsAbove j numbers → j < n → IsAbove j (with_number n numbers)
+unfolding with_number
+above_put j n [] h lt = lt
+above_put j n (k ∷ rest) h lt =
+    above_put_by j n k rest (with_number n rest) (nat_lt n k) (nat_eq n k) h lt
+
+rises_put_by : (n k : ℕ) (rest more : List ℕ) (less same : Bool) → nat_lt n k ≡ less → nat_eq n k ≡ same
+    → IsAbove k rest → Rises rest → (k < n → IsAbove k more) → Rises more
+    → Rises (if less then n ∷ k ∷ rest else (if same then k ∷ rest else k ∷ more))
+rises_put_by n k rest more true same e f above rises above_more rises_more = (ltb-true n k e, (above, rises))
+rises_put_by n k rest more false true e f above rises above_more rises_more = (above, rises)
+rises_put_by n k rest more false false e f above rises above_more rises_more =
+    let ge = ltb-false n k e in
+    let ne = eqb-false n k f in
+    let lt : k < n = omega arith in
+    (above_more lt, rises_more)
+
+rises_put : (n : ℕ) (numbers : List ℕ) → Rises numbers → Rises (with_number n numbers)
+unfolding with_number
+rises_put n [] h = (tt, tt)
+rises_put n (k ∷ rest) h =
+    rises_put_by n k rest (with_number n rest) (nat_lt n k) (nat_eq n k) refl refl h.0 h.1
+    (above_put k n rest h.0) (rises_put n rest h.1)
+
+sorted_rises : (sorted numbers : List ℕ) → Rises sorted
+    → Rises (fold (λ s n. with_number n s) sorted numbers)
+sorted_rises sorted [] h = h
+sorted_rises sorted (n ∷ rest) h = sorted_rises (with_number n sorted) rest (rises_put n sorted h)
+
+-- ---- as needs
+
+abbrev need_at : List Range → ℕ → Need
+need_at ranges line = record { line = line; mode = mode_for ranges line }
+
+needed_by : (ranges : List Range) (numbers : List ℕ) (x : ℕ)
+    → is_needed (map (need_at ranges) numbers) x ≡ has x numbers
+needed_by ranges [] x = refl
+needed_by ranges (k ∷ rest) x = ap (λ b. (k == x) || b) (needed_by ranges rest x)
+
+pub needed_lines : (ranges : List Range) (line : ℕ)
+    → is_needed (needs_of ranges) line ≡ (fetches ranges line || stores ranges line)
+unfolding needs_of
+needed_lines ranges line =
+    needed_by ranges (rising (flat_map lines_of ranges)) line
+    ∙ rising_has (flat_map lines_of ranges) line
+    ∙ all_lines ranges line
+    ∙ fetched_or_stored ranges line
+
+pub needed_modes : (ranges : List Range)
+    → All (λ (need : Need). need.mode ≡ (if stores ranges need.line then Exclusive else Shared))
+    (needs_of ranges)
+unfolding needs_of
+needed_modes ranges =
+    let numbers = rising (flat_map lines_of ranges) in
+    All-map (λ (need : Need). need.mode ≡ (if stores ranges need.line then Exclusive else Shared))
+    (need_at ranges) numbers
+    (λ k d lo. ap (λ b. if b then Exclusive else Shared) (stored_lines ranges (get_or numbers k d)))
+
+above_each : (ranges : List Range) (x : ℕ) (numbers : List ℕ) → IsAbove x numbers → Rises numbers
+    → (j : ℕ) (d : Need) → j < length (map (need_at ranges) numbers)
+    → x < (get_or (map (need_at ranges) numbers) j d).line
+above_each ranges x [] above rises j d lo = absurd (omega arith)
+above_each ranges x (k ∷ rest) above rises zero d lo = above
+above_each ranges x (k ∷ rest) above rises (suc j) d lo =
+    let less : j < length (map (need_at ranges) rest) = omega arith in
+    let later = above_each ranges k rest rises.0 rises.1 j d less in
+    omega arith
+
+rising_pairs : (ranges : List Range) (numbers : List ℕ) → Rises numbers
+    → AllPairs (λ (a b : Need). a.line < b.line) (map (need_at ranges) numbers)
+rising_pairs ranges [] rises i j d lt lo = absurd (omega arith)
+rising_pairs ranges (k ∷ rest) rises i zero d lt lo = absurd (omega arith)
+rising_pairs ranges (k ∷ rest) rises zero (suc j) d lt lo =
+    let less : j < length (map (need_at ranges) rest) = omega arith in
+    above_each ranges k rest rises.0 rises.1 j d less
+rising_pairs ranges (k ∷ rest) rises (suc i) (suc j) d lt lo =
+    let before : i < j = omega arith in
+    let less : j < length (map (need_at ranges) rest) = omega arith in
+    rising_pairs ranges rest rises.1 i j d before less
+
+pub needs_rise : (ranges : List Range) → AllPairs (λ (a b : Need). a.line < b.line) (needs_of ranges)
+unfolding needs_of
+needs_rise ranges = rising_pairs ranges (rising (flat_map lines_of ranges))
+    (sorted_rises [] (flat_map lines_of ranges) tt)
