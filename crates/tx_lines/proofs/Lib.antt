@@ -1,0 +1,3 @@
+-- Lemmas of lines in rising order.
+pub mod Places
+pub mod Ranges

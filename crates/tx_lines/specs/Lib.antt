@@ -1,0 +1,3 @@
+-- Storage and the holders of its lines, as one.
+pub mod Owned
+pub mod Needs
