@@ -1,7 +1,7 @@
 -- The place of a number among rising ones.
-use Rattle.std.proofs.Common.{◌≡◌, ◌≢◌, ℕ, zero, suc, ◌+◌, ◌<◌, ◌≤◌, Bool, true, false, List, [], ◌∷◌, ◌++◌}
-use Rattle.std.proofs.Common.{add-one, length, refl, sym, ap, subst, ◌∙◌, arith, get_or, Option, Some, None}
-use Rattle.std.specs.Prelude.{nat_lt, nat_eq, if◌then◌else◌, take, drop, slice_get}
+use Rattle.std.proofs.Common.{◌≡◌, ◌≢◌, ℕ, suc, ◌+◌, ◌<◌, ◌≤◌, Bool, true, false, List, [], ◌∷◌}
+use Rattle.std.proofs.Common.{add-one, length, refl, sym, ap, subst, ◌∙◌, arith, get_or, Some}
+use Rattle.std.specs.Prelude.{nat_lt, drop, slice_get}
 use Rattle.std.specs.List.{insert}
 use Rattle.std.proofs.Math.Seq.{drop-cons}
 use Rattle.std.proofs.lemmas.List.{drop_all}

@@ -2,7 +2,12 @@
 //! touches a byte or a mode; and the lines that a turn needs.
 #![tactic(auto)]
 
+pub mod laws;
 pub mod lines;
 pub mod needs;
 
-pub use lines::Lines;
+pub use lines::{Lines, NoMemory};
+pub use needs::{MOST_NEEDS, lines_needed, need_for};
+
+#[cfg(test)]
+mod tests;

@@ -1,6 +1,6 @@
 //! Storage, and who holds its lines.
 ghost use Rattle.std.specs.Prelude.{◌≡◌, ◌≢◌, ℕ, ◌<◌, ◌≤◌, [], Some, None, IfOk, IfSome, IfNone, length, slice_index};
-ghost use Rattle.std.specs.Prelude.{false, true, is_some, slice_get};
+ghost use Rattle.std.specs.Prelude.{false, true, is_some, slice_get, not, ◌==◌, ◌&&◌};
 ghost use Rattle.z_regs.specs.Prefix.{storage_size};
 ghost use Rattle.line_table.specs.declared.table.TheConstants.{LINES};
 ghost use Rattle.line_table.specs.Holders.{nobody, holding, against, is_against, lines_held, IsSound};
@@ -8,8 +8,10 @@ ghost use Rattle.tx_footprint.specs.Touched.{sets_of};
 ghost use Rattle.tx_meaning.specs.Asking.{is_there};
 ghost use Rattle.tx_meaning.specs.Changes.{left_to, granting, spare_line, is_spare, has_room, giving_up};
 ghost use Rattle.tx_lines.specs.Owned.{Owned, holders_in};
+ghost use Rattle.tx_lines.specs.Spare.{is_unused, lowest_spare, granted};
+ghost use Rattle.tx_lines.specs.Next.{next_against, stands_against};
 
-use line_table::{LineTable, Mode};
+use line_table::{LineTable, MOST_HELD, Mode};
 use std::alloc::Global;
 use std::marker::Model;
 use tx_footprint::Footprint;
@@ -28,18 +30,22 @@ pub struct Lines {
 }
 
 impl Model for Lines {
+    ghost use Rattle.std.specs.Prelude.{◌≤◌};
     ghost use Rattle.tx_lines.specs.Owned.{Owned};
 
     ghost Value = { Owned };
 
     ghost view = { λ l. record { bytes = l.storage; cpus = l.table.cpus; modes = l.table.modes } };
+
+    ghost invariant = { λ l. l.table.cpus ≤ 16 };
 }
 
 impl Lines {
-    /// Storage that holds these bytes, which are 1,048,576, for CPUs 0 to `cpus` - 1, in which nobody holds
-    /// a line. The error is want of memory.
+    /// Storage that holds these bytes, which are 1,048,576, for CPUs 0 to `cpus` - 1, at most sixteen, in which
+    /// nobody holds a line. The error is want of memory.
     pub fn open(alloc: Global, bytes: &[u8], cpus: u32) -> Result<Lines, NoMemory>
-        requires { length bytes.now ≡ storage_size }
+        requires size { length bytes.now ≡ storage_size }
+        requires few { cpus ≤ 16 }
         ensures bytes { IfOk result (λ lines. lines.bytes ≡ bytes.now) }
         ensures cpus { IfOk result (λ lines. lines.cpus ≡ cpus) }
         ensures nobody { IfOk result (λ lines. holders_in lines ≡ nobody) }
@@ -89,5 +95,101 @@ impl Lines {
             Mode::Shared => self.table.demote(holder, line),
             Mode::Exclusive => self.table.give_up(holder, line),
         }
+    }
+
+    /// Whether another CPU's hold stands against a CPU's request for a line.
+    fn stands_against(&self, other: u32, cpu: u32, need: Need) -> bool
+        requires cpu { other < self.now.cpus }
+        requires line { need.line < LINES }
+        ensures { result ≡ stands_against (holders_in self.now) cpu need.line need.mode other }
+    {
+        if other == cpu {
+            return false;
+        }
+        match self.table.mode_of(other, need.line) {
+            None => false,
+            Some(Mode::Exclusive) => true,
+            Some(Mode::Shared) => matches!(need.mode, Mode::Exclusive),
+        }
+    }
+
+    /// The lowest CPU at or above `from` whose hold stands against a CPU's request for a line; None exactly
+    /// where there is none.
+    pub fn next_against(&self, cpu: u32, need: Need, from: u32) -> Option<u32>
+        requires line { need.line < LINES }
+        requires from { from ≤ self.now.cpus }
+        ensures { result ≡ next_against self.now.cpus (holders_in self.now) cpu need.line need.mode from }
+    {
+        let mut at = from;
+        while let Some(other) = self.table.next_holder(need.line, at) {
+            if self.stands_against(other, cpu, need) {
+                return Some(other);
+            }
+            at = other + 1;
+        }
+        None
+    }
+
+    /// Whether a CPU may give a line up that it holds: its attempt has not touched it, and this turn does not
+    /// need it.
+    fn is_free(&self, line: u32, footprint: &Footprint, needed: &[u32]) -> bool
+        requires { line < LINES }
+        ensures { result ≡ is_unused (sets_of footprint.now) needed.now line }
+    {
+        if footprint.fetched(line) || footprint.stored(line) {
+            return false;
+        }
+        !needed.contains(&line)
+    }
+
+    /// The lowest line that the CPU holds and may give up: neither its attempt nor this turn needs it. None
+    /// exactly where there is none.
+    pub fn spare(&self, cpu: u32, footprint: &Footprint, needed: &[u32]) -> Option<u32>
+        requires { cpu < self.now.cpus }
+        ensures value { result ≡ lowest_spare (holders_in self.now) cpu (sets_of footprint.now) needed.now }
+        ensures in_range { IfSome result (λ line. line < LINES) }
+        ensures held { IfSome result (λ line. is_some (holders_in self.now cpu line) ≡ true) }
+    {
+        let mut at = 0;
+        while let Some(line) = self.table.next_line(cpu, at) {
+            if self.is_free(line, footprint, needed) {
+                return Some(line);
+            }
+            at = line + 1;
+        }
+        None
+    }
+
+    /// The CPU holds the line from now on as it needs it. Nobody else may stand against that. Where it holds as
+    /// many lines as it may, it gives up the lowest that neither its attempt nor this turn needs, which there
+    /// must be.
+    pub fn grant(&mut self, cpu: u32, need: Need, footprint: &Footprint, needed: &[u32])
+        requires cpu { cpu < self.old.cpus }
+        requires line { need.line < LINES }
+        requires free { against self.old.cpus (holders_in self.old) cpu need.line need.mode ≡ [] }
+        requires spare { has_room (holders_in self.old) cpu need.line ≡ false
+            → is_some (lowest_spare (holders_in self.old) cpu (sets_of footprint.now) needed.now) ≡ true }
+        ensures bytes { self.new.bytes ≡ self.old.bytes }
+        ensures cpus { self.new.cpus ≡ self.old.cpus }
+        ensures held { holders_in self.new ≡ granted cpu (sets_of footprint.now) needed.now need (holders_in self.old) }
+    {
+        if self.has_room(cpu, need.line) {
+            self.table.grant(cpu, need.line, need.mode);
+            return;
+        }
+        if let Some(line) = self.spare(cpu, footprint, needed) {
+            self.table.give_up(cpu, line);
+            self.table.grant(cpu, need.line, need.mode);
+        }
+    }
+
+    /// Whether the CPU may hold the line, as far as numbers say.
+    fn has_room(&self, cpu: u32, line: u32) -> bool
+        requires cpu { cpu < self.now.cpus }
+        requires line { line < LINES }
+        ensures value { result ≡ has_room (holders_in self.now) cpu line }
+        ensures sound { IsSound (holders_in self.now) }
+    {
+        self.table.mode_of(cpu, line).is_some() || self.table.held(cpu) < MOST_HELD
     }
 }

@@ -1,5 +1,5 @@
 -- A range that stores into the line is found, and before that there is none.
-use Rattle.std.proofs.Common.{◌≡◌, sym, ◌∙◌}
+use Rattle.std.proofs.Common.{sym}
 use Rattle.std.specs.Prelude.{◌&&◌}
 use Rattle.tx_meaning.specs.Needs.{has_line}
 use Rattle.tx_lines.proofs.Ranges.{still_none, found_at}

@@ -1,5 +1,5 @@
 -- The lines of one range more.
-use Rattle.std.proofs.Common.{◌≡◌, ap, sym, ◌∙◌, arith}
+use Rattle.std.proofs.Common.{ap, sym, ◌∙◌, arith}
 use Rattle.tx_meaning.specs.Needs.{lines_of}
 use Rattle.tx_lines.specs.Needs.{with_numbers}
 use Rattle.tx_lines.proofs.Ranges.{lines_more}
