@@ -13,3 +13,4 @@ pub mod Moving
 pub mod Endings
 pub mod Facts
 pub mod Limits
+mod Examples
