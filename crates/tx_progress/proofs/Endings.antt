@@ -90,7 +90,8 @@ undone_leaves text storage locals i instr ranges o why is live h came cause =
     let q = (locals i).attempt in
     let p = run f i q.count in
     abort_leaves text storage locals i why is live
-    (ending_fits text p why (open_ending text p (Goes instr ranges) is.opens (followed_fate f i (locals i) is ∙ h)
+    (ending_fits text p why (open_ending text p (Goes instr ranges) is.opens (followed_fate f i (locals i) is
+    ∙ h)
     ∙ ap (outcome_cause p.nest instr) (followed_outcome f i (locals i) instr ranges is ∙ came)
     ∙ ap (λ n. outcome_cause n instr o) (its_nest p q is.attempt) ∙ cause))
 
@@ -101,7 +102,8 @@ last_is [] s = refl
 last_is (x ∷ []) s = refl
 last_is (x ∷ y ∷ rest) s = last_is (y ∷ rest) s
 
-still_resumes : (c now : Cpu) (steps : List Step) (nest : List Begin) (t : Step) (k : ℕ) → Stands c now steps nest
+still_resumes : (c now : Cpu) (steps : List Step) (nest : List Begin) (t : Step) (k : ℕ)
+    → Stands c now steps nest
     → length steps ≡ k → nat_lt 0 k ≡ true
     → resumed_at (is_constrained nest) (steps ++ t ∷ []) ≡ resumption_of (steps ++ t ∷ [])
 still_resumes c now [] [] t k h e some = absurd (true≢false (sym some ∙ ap (λ n. nat_lt 0 n) (sym e)))
@@ -115,7 +117,8 @@ no_role : (b : Bool) → (b ≡ true → ⊥) → b ≡ false
 no_role true h = absurd (h refl)
 no_role false h = refl
 
-same_nest : (i : Instr) (general : List ℕ) (nest : List Begin) (c now : Cpu) (bytes given : List ℕ) (depth : ℕ)
+same_nest : (i : Instr) (general : List ℕ) (nest : List Begin) (c now : Cpu) (bytes given : List ℕ) (depth :
+    ℕ)
     → one i now depth given ≡ outcome.Overflowed c bytes → nest_after i general nest ≡ nest
 same_nest i general nest c now bytes given depth o =
     plain (begins (entry_at i.op.number)) (is_end (entry_at i.op.number))
@@ -124,7 +127,8 @@ same_nest i general nest c now bytes given depth o =
     let e : Did d.cpu d.bytes ≡ outcome.Overflowed c bytes = sym d.is ∙ o in absurd (cc)))
   where
     plain : (x y : Bool) → (x || y) ≡ false
-        → (if x then nest ++ begin_of i general ∷ [] else if y then take (length nest - 1) nest else nest) ≡ nest
+        → (if x then nest ++ begin_of i general ∷ [] else if y then take (length nest - 1) nest else nest) ≡
+        nest
     plain true y h = absurd (true≢false h)
     plain false true h = absurd (true≢false h)
     plain false false h = refl
@@ -150,7 +154,8 @@ over_leaves : (text : List ℕ) (storage : Storage) (locals : ℕ → Local) (i 
     → IsFollowed (flat_from text storage locals) i (locals i) → is_live (locals i).attempt ≡ true
     → fate_by_progress text storage (locals i).attempt ≡ Goes instr ranges
     → outcome_by storage instr ranges (locals i).attempt ≡ outcome.Overflowed c bytes
-    → cause_in (next_of (locals i) instr ranges c bytes).nest (exception FIXED_POINT_OVERFLOW (length_of instr))
+    → cause_in (next_of (locals i) instr ranges c bytes).nest (exception FIXED_POINT_OVERFLOW (length_of
+    instr))
     ≡ why
     → Leaves text storage locals i (Abort i (next_of (locals i) instr ranges c bytes).count why)
     (aborted why (locals i).attempt.cpu.address
@@ -180,7 +185,8 @@ over_leaves text storage locals i instr ranges c bytes why is live h came cause 
     ap (λ r. fits text r why) longer ∙ ending_fits text over why ends in
     let resumes : resumed_at (is_constrained over.nest) over.steps ≡ resumption_of over.steps =
     ap (λ nest. resumed_at (is_constrained nest) over.steps)
-    (same_nest instr p.cpu.general p.nest c p.cpu bytes (operand_bytes p.cpu.prefix p.copy ranges) (length p.nest)
+    (same_nest instr p.cpu.general p.nest c p.cpu bytes (operand_bytes p.cpu.prefix p.copy ranges) (length
+    p.nest)
     out)
     ∙ still_resumes (f.cpus i) p.cpu p.steps p.nest (step_of instr ranges p.cpu) q.count
     (run_stands f i q.count is.opens) (counts f i q.count (open_is_there p.mark is.opens)) live in

@@ -1,5 +1,5 @@
--- Worked values: programs at 4000 in hexadecimal, in text page 4, turn by turn on what is kept of one CPU. The
--- expected values are those of an independent model of the machine.
+-- Worked values: programs at 4000 in hexadecimal, in text page 4, turn by turn on what is kept of one CPU.
+-- The expected values are those of an independent model of the machine.
 use Rattle.std.proofs.Common.{◌≡◌, refl, ℕ, zero, suc, ◌+◌, ◌-◌, true, false, List, [], ◌∷◌, ◌++◌}
 use Rattle.std.proofs.Common.{length, get_or, Option, Some, None}
 use Rattle.std.specs.Prelude.{◌&&◌, nat_lt, nat_le, if◌then◌else◌, is_some, take, drop, map, slice_range}
@@ -56,7 +56,10 @@ with_registers values c = record c { general = values ++ drop (length values) c.
 abbrev by_fate : Fate → Beside → Executed
 by_fate (Goes i ranges) b = executed i ranges b
 by_fate (Ends why) b = ended b why
-by_fate (Stops e) b = record { after = record b { local = stopped e b.local }; told = done.Interrupted e.code }
+by_fate (Stops e) b = record {
+  after = record b { local = stopped e b.local };
+  told = done.Interrupted e.code;
+}
 
 abbrev turn : Beside → Executed
 turn b = by_fate (fate_by_progress (4 ∷ []) b.storage b.local.attempt) b
@@ -106,9 +109,11 @@ storing =
     0x00 ∷ 0x00 ∷ 0x09 ∷ 0x24 ∷ 0xB2 ∷ 0xF8 ∷ 0x00 ∷ 0x00 ∷ 0x0A ∷ 0x00 ∷ []
 
 begun : both (turns 1 (on plain storing)).told
-    (let q = (turns 1 (on plain storing)).after.local.attempt in both (both q.count (length q.nest)) q.resumes_at)
+    (let q = (turns 1 (on plain storing)).after.local.attempt in both (both q.count (length q.nest))
+    q.resumes_at)
     ≡ both done.Began (both (both 1 1) 0x400A)
-unfolding executed stopped aborted interruption_taken block_stored fate_by_progress cause_in laid_over reading_of
+unfolding executed stopped aborted interruption_taken block_stored fate_by_progress cause_in laid_over
+    reading_of
     row_number entry_at table accessible_pages text_pages unfetched spans_in unspecified_in inaccessible_in
     kind_at kind_named combined general_effect branch_effect storage_effect transaction_effect absolute_range
     has_place count_below next_text_breach next_operand_breach with_octowords add_of divide_word_of block
@@ -120,17 +125,25 @@ stored : both (turns 2 (on plain storing)).told (both (bytes_at 0x9000 8 (turns 
     both (both (q.overlay 0x9007) (q.overlay 0x9008)) (both (q.lasting 0x9007) (q.footprint.stored 0x90))))
     ≡ both done.Stepped (both (0 ∷ 0 ∷ 0 ∷ 0 ∷ 0 ∷ 0 ∷ 0 ∷ 0 ∷ [])
     (both (both (Some 2) None) (both None true)))
-unfolding executed stopped aborted interruption_taken block_stored fate_by_progress cause_in laid_over reading_of
+unfolding executed stopped aborted interruption_taken block_stored fate_by_progress cause_in laid_over
+    reading_of
     row_number entry_at table accessible_pages text_pages unfetched spans_in unspecified_in inaccessible_in
     kind_at kind_named combined general_effect branch_effect storage_effect transaction_effect absolute_range
     has_place count_below next_text_breach next_operand_breach with_octowords add_of divide_word_of block
     fields register_fields restored psw_of with_fields loaded
 stored = refl
 
-committed : both (turns 3 (on plain storing)).told (both (bytes_at 0x9000 8 (turns 3 (on plain storing)).after)
+committed : both (turns 3 (on plain storing)).told (both (bytes_at 0x9000 8 (turns 3 (on plain
+    storing)).after)
     (seen 4 (turns 4 (on plain storing)).after.local.cpu))
-    ≡ both (done.Committed 3) (both (0 ∷ 0 ∷ 0 ∷ 0 ∷ 0 ∷ 0 ∷ 0 ∷ 2 ∷ []) (0 ∷ 0 ∷ 0 ∷ 2 ∷ [], 0x4016, 0, Halted))
-unfolding executed stopped aborted interruption_taken block_stored fate_by_progress cause_in laid_over reading_of
+    ≡ both (done.Committed 3) (both (0 ∷ 0 ∷ 0 ∷ 0 ∷ 0 ∷ 0 ∷ 0 ∷ 2 ∷ []) (
+      0 ∷ 0 ∷ 0 ∷ 2 ∷ [],
+      0x4016,
+      0,
+      Halted,
+    ))
+unfolding executed stopped aborted interruption_taken block_stored fate_by_progress cause_in laid_over
+    reading_of
     row_number entry_at table accessible_pages text_pages unfetched spans_in unspecified_in inaccessible_in
     kind_at kind_named combined general_effect branch_effect storage_effect transaction_effect absolute_range
     has_place count_below next_text_breach next_operand_breach with_octowords add_of divide_word_of block
@@ -148,9 +161,11 @@ aborting =
     0xA7 ∷ 0x19 ∷ 0x00 ∷ 0x0B ∷ 0xA7 ∷ 0x29 ∷ 0x00 ∷ 0x0C ∷ 0xB2 ∷ 0xFC ∷ 0x01 ∷ 0x01 ∷
     0x0A ∷ 0x00 ∷ []
 
-abort_is_told : both (turns 7 (on plain aborting)).told (turns 7 (on plain aborting)).after.local.attempt.cpu.address
+abort_is_told : both (turns 7 (on plain aborting)).told (turns 7 (on plain
+    aborting)).after.local.attempt.cpu.address
     ≡ both (done.Ended (Tabort 257)) 0x4020
-unfolding executed stopped aborted interruption_taken block_stored fate_by_progress cause_in laid_over reading_of
+unfolding executed stopped aborted interruption_taken block_stored fate_by_progress cause_in laid_over
+    reading_of
     row_number entry_at table accessible_pages text_pages unfetched spans_in unspecified_in inaccessible_in
     kind_at kind_named combined general_effect branch_effect storage_effect transaction_effect absolute_range
     has_place count_below next_text_breach next_operand_breach with_octowords add_of divide_word_of block
@@ -162,7 +177,8 @@ left_by_abort : (let b = left 0x4020 (turns 7 (on plain aborting)) in
     b.local.attempt.count))
     ≡ both (0 ∷ 1 ∷ 12 ∷ [], 0x4014, 3, Running) (both (both (0x9000 ∷ 1 ∷ 0 ∷ [])
     (0x9000 ∷ 0 ∷ 0 ∷ 0 ∷ 0 ∷ 0 ∷ 0 ∷ 0x40 ∷ 0x20 ∷ [])) 0)
-unfolding executed stopped aborted interruption_taken block_stored fate_by_progress cause_in laid_over reading_of
+unfolding executed stopped aborted interruption_taken block_stored fate_by_progress cause_in laid_over
+    reading_of
     row_number entry_at table accessible_pages text_pages unfetched spans_in unspecified_in inaccessible_in
     kind_at kind_named combined general_effect branch_effect storage_effect transaction_effect absolute_range
     has_place count_below next_text_breach next_operand_breach with_octowords add_of divide_word_of block
@@ -172,7 +188,8 @@ left_by_abort = refl
 its_block : (let b = block_stored (left 0x4020 (turns 7 (on plain aborting))) in
     both (is_some b.local.pending) (bytes_at 0x9000 16 b))
     ≡ both false (1 ∷ 0 ∷ 0 ∷ 0 ∷ 0 ∷ 0 ∷ 0 ∷ 1 ∷ 0 ∷ 0 ∷ 0 ∷ 0 ∷ 0 ∷ 0 ∷ 1 ∷ 1 ∷ [])
-unfolding executed stopped aborted interruption_taken block_stored fate_by_progress cause_in laid_over reading_of
+unfolding executed stopped aborted interruption_taken block_stored fate_by_progress cause_in laid_over
+    reading_of
     row_number entry_at table accessible_pages text_pages unfetched spans_in unspecified_in inaccessible_in
     kind_at kind_named combined general_effect branch_effect storage_effect transaction_effect absolute_range
     has_place count_below next_text_breach next_operand_breach with_octowords add_of divide_word_of block
@@ -196,7 +213,8 @@ its_last_value_stays : (let e = turns 4 (on three_and_four lasting) in
     (both (seen 3 (left 0x401A e).local.cpu) (bytes_at 0x9000 8 (left 0x401A e)))))
     ≡ both (done.Ended (Tabort 256)) (both (both (Some 4) (Some 3))
     (both (0 ∷ 3 ∷ 4 ∷ [], 0x4006, 2, Running) (0 ∷ 0 ∷ 0 ∷ 0 ∷ 0 ∷ 0 ∷ 0 ∷ 3 ∷ [])))
-unfolding executed stopped aborted interruption_taken block_stored fate_by_progress cause_in laid_over reading_of
+unfolding executed stopped aborted interruption_taken block_stored fate_by_progress cause_in laid_over
+    reading_of
     row_number entry_at table accessible_pages text_pages unfetched spans_in unspecified_in inaccessible_in
     kind_at kind_named combined general_effect branch_effect storage_effect transaction_effect absolute_range
     has_place count_below next_text_breach next_operand_breach with_octowords add_of divide_word_of block
@@ -215,7 +233,8 @@ nothing_yet = record { begin = 0x4000; count = 0; octowords = [] }
 
 constrained : (let q = (turns 0 (on plain own_page)).after.local.attempt in both q.constraint q.resumes_at)
     ≡ both (Some nothing_yet) 0x4000
-unfolding executed stopped aborted interruption_taken block_stored fate_by_progress cause_in laid_over reading_of
+unfolding executed stopped aborted interruption_taken block_stored fate_by_progress cause_in laid_over
+    reading_of
     row_number entry_at table accessible_pages text_pages unfetched spans_in unspecified_in inaccessible_in
     kind_at kind_named combined general_effect branch_effect storage_effect transaction_effect absolute_range
     has_place count_below next_text_breach next_operand_breach with_octowords add_of divide_word_of block
@@ -224,7 +243,8 @@ constrained = refl
 
 breach : (let e = turns 1 (on plain own_page) in both e.told (seen 0 (left 0x4006 e).local.cpu))
     ≡ both (done.Ended (Program (exception 0x18 6))) ([], 0x4000, 3, Interrupted 0x218)
-unfolding executed stopped aborted interruption_taken block_stored fate_by_progress cause_in laid_over reading_of
+unfolding executed stopped aborted interruption_taken block_stored fate_by_progress cause_in laid_over
+    reading_of
     row_number entry_at table accessible_pages text_pages unfetched spans_in unspecified_in inaccessible_in
     kind_at kind_named combined general_effect branch_effect storage_effect transaction_effect absolute_range
     has_place count_below next_text_breach next_operand_breach with_octowords add_of divide_word_of block
@@ -245,7 +265,8 @@ overflow_has_completed : (let e = turns 1 (on full overflowing) in
     both e.told (both e.after.local.attempt.count (seen 3 (left 0x4006 e).local.cpu)))
     ≡ both (done.Ended (Filtered (exception 8 4)))
     (both 2 (0 ∷ 0x8000000000000000 ∷ 1 ∷ [], 0x4006, 3, Running))
-unfolding executed stopped aborted interruption_taken block_stored fate_by_progress cause_in laid_over reading_of
+unfolding executed stopped aborted interruption_taken block_stored fate_by_progress cause_in laid_over
+    reading_of
     row_number entry_at table accessible_pages text_pages unfetched spans_in unspecified_in inaccessible_in
     kind_at kind_named combined general_effect branch_effect storage_effect transaction_effect absolute_range
     has_place count_below next_text_breach next_operand_breach with_octowords add_of divide_word_of block

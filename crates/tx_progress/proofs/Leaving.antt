@@ -1,5 +1,5 @@
--- What is left of a CPU and of storage when an attempt is aborted, a block is stored, an interruption is taken,
--- or a program outside transactions is stopped.
+-- What is left of a CPU and of storage when an attempt is aborted, a block is stored, an interruption is
+-- taken, or a program outside transactions is stopped.
 use Rattle.std.proofs.Common.{◌≡◌, ℕ, ◌+◌, Bool, true, false, List, [], ◌∷◌, Option, Some, None}
 use Rattle.std.proofs.Common.{refl, sym, ap, subst, ◌∙◌}
 use Rattle.std.specs.Prelude.{if◌then◌else◌, ◌&&◌, is_none}
@@ -116,7 +116,8 @@ abort_leaves text storage locals i why is live fit =
     let q = (locals i).attempt in
     let p = run f i q.count in
     let at = q.cpu.address in
-    let told = ap (λ m. address_in m (last_step p.steps) p.cpu.address) is.opens ∙ its_address p q is.attempt in
+    let told = ap (λ m. address_in m (last_step p.steps) p.cpu.address) is.opens ∙ its_address p q is.attempt
+    in
     record {
       applied =
           (λ k. only_where (is.acts live k && (live k && fit k)) (Some (remains f i p why)))

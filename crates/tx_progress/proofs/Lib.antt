@@ -1,5 +1,6 @@
 -- Stores seen through an overlay, what one instruction more makes of a run and of its progress, what holds of
--- open runs, fates and outcomes by progress, the lines of a run, states that are alike, and what entries leave.
+-- open runs, fates and outcomes by progress, the lines of a run, states that are alike, and what entries
+-- leave.
 pub mod SeenStores
 pub mod OneMore
 pub mod Rows

@@ -1,5 +1,6 @@
 -- The footprint of an open run keeps the limits, and lies in storage.
-use Rattle.std.proofs.Common.{◌≡◌, ◌≢◌, ℕ, zero, suc, ◌+◌, ◌/◌, ◌<◌, ◌≤◌, Bool, true, false, List, [], ◌∷◌, ◌++◌}
+use Rattle.std.proofs.Common.{◌≡◌, ◌≢◌, ℕ, zero, suc, ◌+◌, ◌/◌, ◌<◌, ◌≤◌, Bool, true, false, List, [], ◌∷◌}
+use Rattle.std.proofs.Common.{◌++◌}
 use Rattle.std.proofs.Common.{Option, Some, None, refl, sym, ap, subst, ◌∙◌, arith, length, map, Ok, Err}
 use Rattle.std.specs.Prelude.{if◌then◌else◌, ◌||◌, not, nat_lt, ◌==◌}
 use Rattle.std.specs.List.{list_any, list_all, All}
@@ -14,7 +15,8 @@ use Rattle.z_regs.specs.Prefix.{absolute_of, is_prefix, storage_size}
 use Rattle.z_regs.proofs.Exchange.{absolute_within}
 use Rattle.z_instr.specs.Access.{accessible_pages}
 use Rattle.z_instr.specs.Facts.{is_begin}
-use Rattle.z_instr.specs.Operands.{Span, IsSmall, from_up, spans, spans_in, tested_spans, is_inside, where_wrong}
+use Rattle.z_instr.specs.Operands.{Span, IsSmall, from_up, spans, spans_in, tested_spans, is_inside}
+use Rattle.z_instr.specs.Operands.{where_wrong}
 use Rattle.z_instr.specs.Operands.{inaccessible_in, addressing}
 use Rattle.z_instr.specs.Roles.{begins}
 use Rattle.z_instr.specs.Table.{Entry, entry_at}
@@ -65,7 +67,8 @@ begins_bare e = not (begins e) || is_absent e.operands
 no_spans : (e : Entry) (i : Instr) (general : List ℕ) (code : ℕ) → begins_bare e ≡ true → begins e ≡ true
     → spans_in e.operands i general code ≡ []
 unfolding spans_in
-no_spans e i general code bare begin = bare_by e.operands (sym (ap (λ b. not b || is_absent e.operands) begin) ∙ bare)
+no_spans e i general code bare begin = bare_by e.operands (sym (ap (λ b. not b || is_absent e.operands)
+    begin) ∙ bare)
   where
     bare_by : (o : Operands) → is_absent o ≡ true → spans_in o i general code ≡ []
     bare_by Absent h = refl
@@ -116,7 +119,8 @@ limits_more text p i old follows none = by p.nest follows none
     by [] f n =
         subst (λ rs. KeepsLimits (touching (footprint p) (absolute_ranges p.cpu.prefix rs)))
         (sym (bare_operands i p.cpu f)) (subst KeepsLimits (touching_none (footprint p)) old)
-    by (b ∷ bs) f n = keeps_limits (touching (footprint p) (absolute_ranges p.cpu.prefix (operands i p.cpu))) n
+    by (b ∷ bs) f n = keeps_limits (touching (footprint p) (absolute_ranges p.cpu.prefix (operands i p.cpu)))
+        n
 
 run_limits : (f : FlatState) (i k : ℕ) → (run f i k).mark ≢ Missing → KeepsLimits (footprint (run f i k))
 unfolding run
@@ -173,7 +177,8 @@ spans_low : (prefix : Option ℕ) (ss : List Span) → All IsSmall ss
     → list_all low (addresses_in (map range_of ss)) ≡ true
 spans_low prefix [] small h = refl
 spans_low prefix (s ∷ ss) small h =
-    let parts = and_parts (is_inside (accessible_pages prefix) s) (list_all (is_inside (accessible_pages prefix))
+    let parts = and_parts (is_inside (accessible_pages prefix) s) (list_all (is_inside (accessible_pages
+    prefix))
     ss) h in
     list_all-append low (from_up s.first s.length) (addresses_in (map range_of ss))
     ∙ and_from (list_all low (from_up s.first s.length)) (list_all low (addresses_in (map range_of ss)))
@@ -187,7 +192,8 @@ plain_low text p i plain none =
     let c = p.cpu in
     let e = entry_at i.op.number in
     let ss = spans i c.general c.condition in
-    let reached = accessible (list_all (is_inside (accessible_pages c.prefix)) (tested_spans e.demand ss i c.general
+    let reached = accessible (list_all (is_inside (accessible_pages c.prefix)) (tested_spans e.demand ss i
+    c.general
     (length p.nest))) addressing _ (not_excepted i _ none) in
     spans_low c.prefix ss (sizes e.operands i c.general c.condition)
     (ap (list_all (is_inside (accessible_pages c.prefix))) (sym (tested_all e.demand ss i c.general (length
@@ -195,7 +201,8 @@ plain_low text p i plain none =
 
 operands_low : (text : List ℕ) (p : Run) (i : Instr) (b : Bool) → begins (entry_at i.op.number) ≡ b
     → operand_refusal text p i ≡ None → list_all low (addresses_in (operands i p.cpu)) ≡ true
-operands_low text p i true begin none = ap (λ rs. list_all low (addresses_in rs)) (bare_operands i p.cpu begin)
+operands_low text p i true begin none = ap (λ rs. list_all low (addresses_in rs)) (bare_operands i p.cpu
+    begin)
 operands_low text p i false plain none = plain_low text p i plain none
 
 low_more : (steps : List Step) (s : Step) → list_all low (alike.addresses_of steps) ≡ true
@@ -257,7 +264,8 @@ run_lines f i k line ok exists h =
     let p = run f i k in
     let prefix = (f.cpus i).prefix in
     let test = λ (b : ℕ). b / LINE_SIZE == line in
-    let touched = run_there test f i k ok exists ∙ either_way (λ r. has_place LINE_SIZE r line) p.touched ∙ h in
+    let touched = run_there test f i k ok exists ∙ either_way (λ r. has_place LINE_SIZE r line) p.touched ∙ h
+    in
     let one = both (seen_test prefix test) low (alike.addresses_of p.steps) touched (run_low f i k exists) in
     low_line prefix line one.number ok (ltb-true one.number storage_size one.second) one.first
 

@@ -46,7 +46,8 @@ up_is_range (suc n) a =
     ap (λ xs. a ∷ xs) (up_is_range n (suc a) ∙ ap (λ b. range_with_len b n) (let e : suc a ≡ a + 1 = omega
     arith in e))
 
-any_map : (test : ℕ → Bool) (f : ℕ → ℕ) (xs : List ℕ) → list_any test (map f xs) ≡ list_any (λ a. test (f a)) xs
+any_map : (test : ℕ → Bool) (f : ℕ → ℕ) (xs : List ℕ) → list_any test (map f xs) ≡ list_any (λ a. test (f a))
+    xs
 any_map test f [] = refl
 any_map test f (x ∷ xs) = ap (λ b. test (f x) || b) (any_map test f xs)
 
@@ -104,7 +105,8 @@ there_more : (test : ℕ → Bool) (prefix : Option ℕ) (steps : List Step) (to
     → is_prefix prefix ≡ true → AreSmall s.ranges → AreThere test prefix steps touched
     → AreThere test prefix (steps ++ s ∷ []) (touched ++ absolute_ranges prefix s.ranges)
 there_more test prefix steps touched s ok small old =
-    ap (list_any (seen_test prefix test)) (flat_map-append (λ (x : Step). addresses_in x.ranges) steps (s ∷ []))
+    ap (list_any (seen_test prefix test)) (flat_map-append (λ (x : Step). addresses_in x.ranges) steps (s ∷
+    []))
     ∙ list_any-append (seen_test prefix test) (alike.addresses_of steps) (addresses_in s.ranges ++ [])
     ∙ ap (λ b. b || list_any (seen_test prefix test) (addresses_in s.ranges ++ [])) old
     ∙ ap (λ b. any_there test touched || b)
@@ -135,8 +137,10 @@ run_there test f i (suc k) ok exists =
 
 -- ---- lines
 
-at_one : (test : ℕ → Bool) (a x : ℕ) (xs : List ℕ) (b : Bool) → nat_eq a x ≡ b → (b || list_any (nat_eq a) xs) ≡ true
-    → test a ≡ true → (list_any (nat_eq a) xs ≡ true → list_any test xs ≡ true) → (test x || list_any test xs) ≡ true
+at_one : (test : ℕ → Bool) (a x : ℕ) (xs : List ℕ) (b : Bool) → nat_eq a x ≡ b
+    → (b || list_any (nat_eq a) xs) ≡ true
+    → test a ≡ true → (list_any (nat_eq a) xs ≡ true → list_any test xs ≡ true) → (test x || list_any test
+    xs) ≡ true
 at_one test a x xs true e h t more =
     let same : a ≡ x = grind (arith, e) in or_left (test x) (list_any test xs) (ap test (sym same) ∙ t)
 at_one test a x xs false e h t more = or_right (test x) (list_any test xs) (more h)

@@ -163,7 +163,8 @@ more_by f i k q instr ranges c bytes e opens goes follows came =
     (completed f i k instr ranges c bytes opens goes follows came)
 
 abbrev pub next_of : Local → Instr → List Range → Cpu → List ℕ → Progress
-next_of local instr ranges c bytes = advanced instr ranges c (stores_of ranges bytes local.attempt) local.attempt
+next_of local instr ranges c bytes = advanced instr ranges c (stores_of ranges bytes local.attempt)
+    local.attempt
 
 -- of what is followed
 pub one_more : (f : FlatState) (i : ℕ) (local : Local) (instr : Instr) (ranges : List Range) (c : Cpu)
@@ -176,7 +177,8 @@ pub one_more : (f : FlatState) (i : ℕ) (local : Local) (instr : Instr) (ranges
 one_more f i local instr ranges c bytes is h follows o =
     let q = local.attempt in
     let n : suc q.count ≡ q.count + 1 = omega arith in
-    subst (λ m. Advances (run f i m) instr ranges c bytes q (mark_in (next_of local instr ranges c bytes).nest)) n
+    subst (λ m. Advances (run f i m) instr ranges c bytes q (mark_in (next_of local instr ranges c
+    bytes).nest)) n
     (more_by f i q.count q instr ranges c bytes is.attempt is.opens (followed_fate f i local is ∙ h) follows
     (followed_outcome f i local instr ranges is ∙ o))
 
@@ -221,7 +223,8 @@ begin_leaves text storage locals i instr ranges is acts quiet begin h =
     let d = role_done instr q.cpu (length q.nest) (operand_bytes q.cpu.prefix (seen_through q.overlay storage)
     ranges) (or_left (begins (entry_at instr.op.number)) (is_end (entry_at instr.op.number)) begin) in
     let follows : may_follow (run f i q.count).nest instr ≡ true =
-    ap (λ p. may_follow p.nest instr) (sym (quiet_run f i (locals i) quiet)) ∙ begin_follows f i instr begin in
+    ap (λ p. may_follow p.nest instr) (sym (quiet_run f i (locals i) quiet)) ∙ begin_follows f i instr begin
+    in
     let more = one_more f i (locals i) instr ranges d.cpu d.bytes is h follows d.is in
     let general : q.nest ≡ [] = ap (λ x. x.nest) (rests f i (locals i) is quiet) in
     let opens : mark_in (next_of (locals i) instr ranges d.cpu d.bytes).nest ≡ Open =
@@ -229,7 +232,8 @@ begin_leaves text storage locals i instr ranges is acts quiet begin h =
     ∙ ap (λ x. mark_in (if x then begin_of instr q.cpu.general ∷ [] else
     if is_end (entry_at instr.op.number) then take (0 - 1) [] else [])) begin in
     subst (λ (e : Executed). GoesOnAs text storage locals i e.after)
-    (sym (executed_is instr ranges b false true quiet begin ∙ ap (executed_where false true instr ranges b) d.is))
+    (sym (executed_is instr ranges b false true quiet begin ∙ ap (executed_where false true instr ranges b)
+    d.is))
     (goes_on_as text storage locals i (next_of (locals i) instr ranges d.cpu d.bytes) more.progress
     (more.mark ∙ opens) acts)
 
@@ -260,7 +264,8 @@ going_leaves text storage locals i instr ranges is live h told =
         goes_on_as text storage locals i (next_of (locals i) instr ranges c bytes) more.progress more.mark
         (is.acts live)
 
-    by : (o : Outcome) → may_follow (run (flat_from text storage locals) i (locals i).attempt.count).nest instr
+    by : (o : Outcome) → may_follow (run (flat_from text storage locals) i (locals i).attempt.count).nest
+        instr
         ≡ true → outcome_by storage instr ranges (locals i).attempt ≡ o
         → (inside instr ranges (beside_in storage locals i) o).told ≡ done.Stepped
         → GoesOnAs text storage locals i (inside instr ranges (beside_in storage locals i) o).after
@@ -338,7 +343,8 @@ commit_leaves text storage locals i n instr ranges is live h told =
         (next_of (locals i) instr ranges c bytes) more.progress more.mark (is.acts live))
     closed c bytes (outermost ∷ inner) more t = absurd (cc)
 
-    by : (o : Outcome) → may_follow (run (flat_from text storage locals) i (locals i).attempt.count).nest instr
+    by : (o : Outcome) → may_follow (run (flat_from text storage locals) i (locals i).attempt.count).nest
+        instr
         ≡ true → outcome_by storage instr ranges (locals i).attempt ≡ o
         → (inside instr ranges (beside_in storage locals i) o).told ≡ done.Committed n
         → Leaves text storage locals i (Commit i n) (inside instr ranges (beside_in storage locals i) o).after

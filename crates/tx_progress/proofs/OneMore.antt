@@ -1,5 +1,6 @@
 -- What one instruction more makes of a run, and of the progress that the run has made.
-use Rattle.std.proofs.Common.{◌≡◌, ◌≢◌, ℕ, zero, suc, ◌+◌, Bool, true, false, List, [], ◌∷◌, ◌++◌, Option, Some}
+use Rattle.std.proofs.Common.{◌≡◌, ◌≢◌, ℕ, zero, suc, ◌+◌, Bool, true, false, List, [], ◌∷◌, ◌++◌, Option}
+use Rattle.std.proofs.Common.{Some}
 use Rattle.std.proofs.Common.{None, refl, sym, ap, ◌∙◌, arith, length, inl, inr}
 use Rattle.std.specs.Prelude.{if◌then◌else◌, ◌||◌, ◌&&◌, not, ◌⊎◌, nat_lt}
 use Rattle.std.specs.List.{list_any}
@@ -32,7 +33,8 @@ use Rattle.tx_progress.proofs.SeenStores.{laying_more}
 
 -- ---- the parts of the progress
 
-pub touching_twice : (sets : Sets) (xs ys : List Range) → touching (touching sets xs) ys ≡ touching sets (xs ++ ys)
+pub touching_twice : (sets : Sets) (xs ys : List Range) → touching (touching sets xs) ys ≡ touching sets (xs
+    ++ ys)
 touching_twice sets xs ys i = record {
   fetched = λ line. in_turn (λ r. not r.store && has_place LINE_SIZE r line) (sets.fetched line) i;
   stored = λ line. in_turn (λ r. r.store && has_place LINE_SIZE r line) (sets.stored line) i;
@@ -184,7 +186,8 @@ pub went_on : (text : List ℕ) (p next : Run) (w : Went text p next)
     (operand_stores p.cpu.prefix w.ranges w.bytes) (progress_of p)
 unfolding progress_of
 went_on text p next w =
-    ap progress_of w.is ∙ advances w.instruction w.ranges w.cpu (operand_stores p.cpu.prefix w.ranges w.bytes) p
+    ap progress_of w.is ∙ advances w.instruction w.ranges w.cpu (operand_stores p.cpu.prefix w.ranges
+    w.bytes) p
 
 -- an open run is no missing one
 pub open_is_there : (m : Mark) → m ≡ Open → m ≢ Missing
@@ -234,7 +237,8 @@ completed f i k instr ranges c bytes opens goes follows e =
 
 pub overflows : (f : FlatState) (i k : ℕ) (instr : Instr) (ranges : List Range) (c : Cpu) (bytes : List ℕ)
     → (run f i k).mark ≡ Open → fate f.text (run f i k) ≡ Goes instr ranges
-    → may_follow (run f i k).nest instr ≡ true → outcome_of instr ranges (run f i k) ≡ outcome.Overflowed c bytes
+    → may_follow (run f i k).nest instr ≡ true → outcome_of instr ranges (run f i k) ≡ outcome.Overflowed c
+    bytes
     → Advances (run f i (suc k)) instr ranges c bytes (progress_of (run f i k)) Overflowed
 unfolding progress_of
 overflows f i k instr ranges c bytes opens goes follows e =

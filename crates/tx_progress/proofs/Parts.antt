@@ -41,7 +41,8 @@ same_part part locals i l e k j = by (j == i) refl k
     by true h = let same : j ≡ i = grind (arith, h) in ap (λ n. part (locals n)) same ∙ sym e
     by false h = refl
 
-pub put_twice : {A : Type 0} (table : ℕ → A) (i : ℕ) (x y : A) → at_put (at_put table i x) i y ≡ at_put table i y
+pub put_twice : {A : Type 0} (table : ℕ → A) (i : ℕ) (x y : A) → at_put (at_put table i x) i y ≡ at_put table
+    i y
 put_twice table i x y k j = by (j == i) k
   where
     by : (b : Bool) → (if b then y else (if b then x else table j)) ≡ (if b then y else table j)
@@ -83,7 +84,8 @@ followed_at_rest f i local cpu pending waiting e =
 
 -- what a CPU is left at rest is followed
 pub left_at_rest : (text : List ℕ) (locals : ℕ → Local) (i : ℕ) (after : Beside)
-    → after.local.attempt ≡ resting after.local.cpu → IsFollowed (flat_after text locals i after) i after.local
+    → after.local.attempt ≡ resting after.local.cpu → IsFollowed (flat_after text locals i after) i
+    after.local
 left_at_rest text locals i after e =
     let here = at_put_same locals i after.local in
     followed_at_rest (flat_after text locals i after) i after.local (ap (λ l. l.cpu) here)
@@ -91,7 +93,8 @@ left_at_rest text locals i after e =
 
 -- ---- a live attempt
 
-follows_by : (c now : Cpu) (steps : List Step) (nest : List Begin) (i : Instr) (k : ℕ) → Stands c now steps nest
+follows_by : (c now : Cpu) (steps : List Step) (nest : List Begin) (i : Instr) (k : ℕ)
+    → Stands c now steps nest
     → length steps ≡ k → nat_lt 0 k ≡ true → may_follow nest i ≡ true
 follows_by c now [] [] i k h e some = absurd (true≢false (sym some ∙ ap (λ n. nat_lt 0 n) (sym e)))
 follows_by c now [] (b ∷ bs) i k h e some = absurd h

@@ -1,5 +1,6 @@
 -- What the instruction table says of begins and ends.
-use Rattle.std.proofs.Common.{◌≡◌, ℕ, ◌≤◌, Bool, true, false, List, ⊎_elim, refl, sym, ap, subst, ◌∙◌, map, length}
+use Rattle.std.proofs.Common.{◌≡◌, ℕ, ◌≤◌, Bool, true, false, List, ⊎_elim, refl, sym, ap, subst, ◌∙◌, map}
+use Rattle.std.proofs.Common.{length}
 use Rattle.std.specs.Prelude.{◌&&◌, ◌||◌, not}
 use Rattle.std.specs.List.{list_all}
 use Rattle.std.proofs.lemmas.List.{get_or_past}
@@ -21,7 +22,8 @@ use Rattle.z_effect.specs.Outcome.{Outcome, Did}
 use Rattle.z_effect.specs.TransactionEffect.{transaction_effect}
 
 -- a computed test of the table, said of every number
-pub any_row : (test : Entry → Bool) → list_all test (map entry_of TABLE) ≡ true → test no_entry ≡ true → (n : ℕ)
+pub any_row : (test : Entry → Bool) → list_all test (map entry_of TABLE) ≡ true → test no_entry ≡ true
+    → (n : ℕ)
     → test (entry_at n) ≡ true
 unfolding entry_at
 any_row test rows none n =

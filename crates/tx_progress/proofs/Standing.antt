@@ -1,5 +1,5 @@
--- What holds of every open run: its begin is the first instruction, its nest is never empty behind that, and a
--- constrained one goes on.
+-- What holds of every open run: its begin is the first instruction, its nest is never empty behind that, and
+-- a constrained one goes on.
 use Rattle.std.proofs.Common.{◌≡◌, ℕ, zero, suc, ◌-◌, Bool, true, false, List, [], ◌∷◌, ◌++◌}
 use Rattle.std.proofs.Common.{⊎_elim, Option, Some, None, refl, sym, ap, subst, ◌∙◌, arith, length, take}
 use Rattle.std.specs.Prelude.{if◌then◌else◌, ◌||◌, ◌&&◌, not}
@@ -22,7 +22,8 @@ use Rattle.tx_constraint.proofs.Attempts.{text_step}
 use Rattle.tx_serial.specs.Flat.{FlatState}
 use Rattle.tx_serial.specs.Attempt.{Run, Mark, Open, Overflowed, attempt_of}
 use Rattle.tx_serial.specs.Fate.{Refusal, Goes, fate, step_of, operands, tests, first_refusal}
-use Rattle.tx_serial.specs.Fate.{broken_where, text_refusal, place_refusal, restricted_refusal, specified_refusal, depth_refusal}
+use Rattle.tx_serial.specs.Fate.{broken_where, text_refusal, place_refusal, restricted_refusal}
+use Rattle.tx_serial.specs.Fate.{specified_refusal, depth_refusal}
 use Rattle.tx_serial.specs.Fate.{operand_refusal, overflow_refusal}
 use Rattle.tx_serial.specs.Run.{run, nest_after, mark_in, may_follow}
 use Rattle.tx_serial.proofs.Passing.{passes}
@@ -117,7 +118,8 @@ abbrev nest_by : Bool → Bool → Begin → List Begin → List Begin
 nest_by begins ends new nest =
     if begins then nest ++ new ∷ [] else if ends then take (length nest - 1) nest else nest
 
-open_by : (c : Cpu) (s : Step) (ss : List Step) (b : Begin) (bs : List Begin) (t : Step) (new : Begin) (now : Cpu)
+open_by : (c : Cpu) (s : Step) (ss : List Step) (b : Begin) (bs : List Begin) (t : Step) (new : Begin) (now :
+    Cpu)
     (x y : Bool) → HasBegun c s ss b bs → begins (entry_at t.instruction.op.number) ≡ x
     → ends t.instruction ≡ y → BreaksNone (b ∷ bs) (with_step (attempt_of (s ∷ ss)) t)
     → mark_in (nest_by x y new (b ∷ bs)) ≡ Open
@@ -126,8 +128,10 @@ open_by c s ss b bs t new now true y h ex ey clear m = record {
   begins = h.begins;
   at = h.at;
   opened = h.opened;
-  single = λ k. absurd (true≢false (sym ex ∙ begins_not (attempt_of (s ∷ ss)) t (h.goes_on k) (clear.text k)));
-  goes_on = λ k. absurd (true≢false (sym ex ∙ begins_not (attempt_of (s ∷ ss)) t (h.goes_on k) (clear.text k)));
+  single = λ k. absurd (true≢false (sym ex ∙ begins_not (attempt_of (s ∷ ss)) t (h.goes_on k) (clear.text
+      k)));
+  goes_on = λ k. absurd (true≢false (sym ex ∙ begins_not (attempt_of (s ∷ ss)) t (h.goes_on k) (clear.text
+      k)));
 }
 open_by c s ss b [] t new now false true h ex ey clear m = absurd (cc)
 open_by c s ss b (d ∷ ds) t new now false true h ex ey clear m =
@@ -149,7 +153,8 @@ open_by c s ss b bs t new now false false h ex ey clear m = record {
   goes_on = λ k. still_unended (attempt_of (s ∷ ss)) t (h.goes_on k) ey (clear.text k) (clear.operands k);
 }
 
-stands_more : (c now : Cpu) (steps : List Step) (nest : List Begin) (i : Instr) (ranges : List Range) (next : Cpu)
+stands_more : (c now : Cpu) (steps : List Step) (nest : List Begin) (i : Instr) (ranges : List Range) (next :
+    Cpu)
     → Stands c now steps nest → may_follow nest i ≡ true
     → BreaksNone nest (with_step (attempt_of steps) (step_of i ranges now))
     → mark_in (nest_after i now.general nest) ≡ Open

@@ -63,7 +63,8 @@ outside i ranges b (Did c bytes) = record {
 }
 outside i ranges b (outcome.Overflowed c bytes) = record {
   local =
-      interrupted_at (cpu_outside (length_of i) b.local.cpu (outcome.Overflowed c bytes)) (length_of i) b.local;
+      interrupted_at (cpu_outside (length_of i) b.local.cpu (outcome.Overflowed c bytes)) (length_of i)
+      b.local;
   storage = laid_over b.storage (stores_of ranges bytes b.local.attempt);
 }
 outside i ranges b Divides =

@@ -1,5 +1,5 @@
--- What is said of runs that are followed: one instruction more, flat states that are the same to a CPU, and what
--- an entry leaves.
+-- What is said of runs that are followed: one instruction more, flat states that are the same to a CPU, and
+-- what an entry leaves.
 use Rattle.std.specs.Prelude.{◌≡◌, ℕ, ◌+◌, ◌/◌, ◌≤◌, true, ◌||◌, List, length, Some}
 use Rattle.z_regs.specs.Cpu.{Cpu}
 use Rattle.z_regs.specs.declared.ranges.Range.{Range}
@@ -19,13 +19,14 @@ use Rattle.tx_progress.specs.Local.{Local, Beside, flat_from}
 use Rattle.tx_progress.specs.Reached.{progress_of, IsFollowed}
 
 -- the longer run, after an instruction that has left this CPU and these bytes
-pub record Advances (next : Run) (instr : Instr) (ranges : List Range) (c : Cpu) (bytes : List ℕ) (q : Progress)
+pub record Advances (next : Run) (instr : Instr) (ranges : List Range) (c : Cpu) (bytes : List ℕ) (q :
+    Progress)
     (m : Mark) : Type 0 where
   pub progress : progress_of next ≡ advanced instr ranges c (stores_of ranges bytes q) q
   pub mark : next.mark ≡ m
 
--- Two flat states are the same to a CPU whose attempt has touched some lines: all that they have of the CPU is
--- the same, and so is every byte of text and of those lines.
+-- Two flat states are the same to a CPU whose attempt has touched some lines: all that they have of the CPU
+-- is the same, and so is every byte of text and of those lines.
 pub record AreSameTo (i : ℕ) (touched : Sets) (f g : FlatState) : Type 0 where
   pub cpu : g.cpus i ≡ f.cpus i
   pub pending : g.pending i ≡ f.pending i
@@ -44,7 +45,8 @@ abbrev pub flat_after : List ℕ → (ℕ → Local) → ℕ → Beside → Flat
 flat_after text locals i after = flat_from text after.storage (at_put locals i after.local)
 
 -- an entry fits, and makes of flat storage what is left of its CPU and of storage, and that is followed
-pub record Leaves (text : List ℕ) (storage : Storage) (locals : ℕ → Local) (i : ℕ) (e : Entry) (after : Beside)
+pub record Leaves (text : List ℕ) (storage : Storage) (locals : ℕ → Local) (i : ℕ) (e : Entry) (after :
+    Beside)
     : Type 0 where
   pub applied : apply (flat_from text storage locals) e ≡ Some (flat_after text locals i after)
   pub followed : IsFollowed (flat_after text locals i after) i after.local
@@ -57,8 +59,8 @@ pub record GoesOnAs (text : List ℕ) (storage : Storage) (locals : ℕ → Loca
 
 -- ---- constrained attempts
 
--- What a constrained attempt keeps to, on a CPU that is like this at rest: few instructions, its begin again after
--- an abort, and what its constraints ask.
+-- What a constrained attempt keeps to, on a CPU that is like this at rest: few instructions, its begin again
+-- after an abort, and what its constraints ask.
 pub record KeepsTo (c : Cpu) (q : Progress) : Type 0 where
   pub few : q.count ≤ 33
   pub again : q.resumes_at ≡ c.address

@@ -11,8 +11,8 @@ pub enum Done {
     Paused(u32),
     /// It has begun an outermost transaction.
     Began,
-    /// It has ended the outermost transaction, which has completed so many instructions, its begin and its end
-    /// among them; all stores are in storage.
+    /// It has ended the outermost transaction, which has completed so many instructions, its begin and its
+    /// end among them; all stores are in storage.
     Committed(u32),
     /// Outside transactions a program interruption came, with this code.
     Interrupted(u16),

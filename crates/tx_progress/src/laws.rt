@@ -1,5 +1,6 @@
 //! Laws of progress and of what is kept of a CPU. Each law is the contract of a function that does nothing.
-ghost use Rattle.std.specs.Prelude.{◌≡◌, ◌≢◌, ℕ, ◌/◌, ◌<◌, suc, true, false, ◌||◌, nat_eq, is_some, List, [], ◌∷◌, Some, None};
+ghost use Rattle.std.specs.Prelude.{◌≡◌, ◌≢◌, ℕ, ◌/◌, ◌<◌, suc, true, false, ◌||◌, nat_eq, is_some, List, []};
+ghost use Rattle.std.specs.Prelude.{◌∷◌, Some, None};
 ghost use Rattle.std.specs.List.{list_any};
 ghost use Rattle.z_regs.specs.Cpu.{Cpu};
 ghost use Rattle.z_regs.specs.Prefix.{absolute_of, is_prefix};
@@ -27,7 +28,8 @@ ghost use Rattle.tx_serial.specs.Fate.{Goes, Ends, Stops, fate};
 ghost use Rattle.tx_serial.specs.Flat.{FlatState, Storage, Pending};
 ghost use Rattle.tx_serial.specs.Run.{run, may_follow, mark_in, nest_after, outcome_of};
 ghost use Rattle.tx_progress.specs.Doing.{executed, stopped};
-ghost use Rattle.tx_progress.specs.Followed.{Advances, AreSameTo, beside_in, Leaves, GoesOnAs, KeepsTo, KeepsLimits};
+ghost use Rattle.tx_progress.specs.Followed.{Advances, AreSameTo, beside_in, Leaves, GoesOnAs, KeepsTo};
+ghost use Rattle.tx_progress.specs.Followed.{KeepsLimits};
 ghost use Rattle.tx_progress.specs.Local.{Local, flat_from, aborted, block_stored, interruption_taken};
 ghost use Rattle.tx_progress.specs.Progress.{resting, seen_through, is_live};
 ghost use Rattle.tx_progress.specs.Reached.{progress_of, IsFollowed};
@@ -59,9 +61,9 @@ pub fn progress_follows_the_run()
         → Advances (run f i (suc k)) instr ranges c bytes (progress_of (run f i k)) Overflowed }
 {}
 
-/// What is followed of a CPU stays followed in every flat state that is the same to it: in its own parts, in the
-/// list of text pages and their bytes, and in all that its run has touched, which lies in the lines of its
-/// footprint.
+/// What is followed of a CPU stays followed in every flat state that is the same to it: in its own parts, in
+/// the list of text pages and their bytes, and in all that its run has touched, which lies in the lines of
+/// its footprint.
 pub fn others_stay_followed()
     ensures lines { (f : FlatState) (i k a : ℕ) → is_prefix (f.cpus i).prefix ≡ true
         → (run f i k).mark ≢ Missing → list_any (nat_eq a) (touched_addresses (run f i k)) ≡ true
@@ -75,8 +77,8 @@ pub fn others_stay_followed()
         → IsFollowed g i local }
 {}
 
-/// What may come from outside fits, by what is followed of a live attempt: an interruption, a conflict on a line
-/// of its footprint, and for a constrained transaction that asks for a line too many rejects.
+/// What may come from outside fits, by what is followed of a live attempt: an interruption, a conflict on a
+/// line of its footprint, and for a constrained transaction that asks for a line too many rejects.
 pub fn causes_from_outside_fit()
     ensures external { (f : FlatState) (i : ℕ) (local : Local) → IsFollowed f i local
         → fits f.text (run f i local.attempt.count) External ≡ true }
@@ -92,8 +94,8 @@ pub fn causes_from_outside_fit()
         → fits f.text (run f i local.attempt.count) Starved ≡ true }
 {}
 
-/// A live attempt that is aborted, by a cause that fits, leaves what its entry makes of flat storage; so it does
-/// where a test of its next instruction ends it.
+/// A live attempt that is aborted, by a cause that fits, leaves what its entry makes of flat storage; so it
+/// does where a test of its next instruction ends it.
 pub fn an_abort_leaves_what_its_entry_does()
     ensures fitting { (text : List ℕ) (storage : Storage) (locals : ℕ → Local) (i : ℕ) (why : Why)
         → IsFollowed (flat_from text storage locals) i (locals i) → is_live (locals i).attempt ≡ true
@@ -117,8 +119,8 @@ pub fn what_was_left_to_do_is_done()
         → Leaves text storage locals i (Interrupt i) (interruption_taken (beside_in storage locals i)) }
 {}
 
-/// Outside transactions, an instruction that goes and an exception that stops the program leave what the entry
-/// of a step makes of flat storage; and a begin makes no entry, and opens an attempt that is followed.
+/// Outside transactions, an instruction that goes and an exception that stops the program leave what the
+/// entry of a step makes of flat storage; and a begin makes no entry, and opens an attempt that is followed.
 pub fn a_step_leaves_what_its_entry_does()
     ensures goes { (text : List ℕ) (storage : Storage) (locals : ℕ → Local) (i : ℕ) (instr : Instr)
         (ranges : List Range) → IsFollowed (flat_from text storage locals) i (locals i)
@@ -139,9 +141,9 @@ pub fn a_step_leaves_what_its_entry_does()
         → GoesOnAs text storage locals i (executed instr ranges (beside_in storage locals i)).after }
 {}
 
-/// Inside transactions, an instruction that goes is told of by what it leaves: the attempt goes on, with nothing
-/// changed in flat storage; it is committed, as its entry says; or it has come to a cause, and the abort by that
-/// leaves what its entry says, with the address of this instruction.
+/// Inside transactions, an instruction that goes is told of by what it leaves: the attempt goes on, with
+/// nothing changed in flat storage; it is committed, as its entry says; or it has come to a cause, and the
+/// abort by that leaves what its entry says, with the address of this instruction.
 pub fn what_an_instruction_tells_is_so()
     ensures stepped { (text : List ℕ) (storage : Storage) (locals : ℕ → Local) (i : ℕ) (instr : Instr)
         (ranges : List Range) → IsFollowed (flat_from text storage locals) i (locals i)
@@ -154,7 +156,8 @@ pub fn what_an_instruction_tells_is_so()
         → is_live (locals i).attempt ≡ true
         → fate_by_progress text storage (locals i).attempt ≡ Goes instr ranges
         → (executed instr ranges (beside_in storage locals i)).told ≡ done.Committed n
-        → Leaves text storage locals i (Commit i n) (executed instr ranges (beside_in storage locals i)).after }
+        → Leaves text storage locals i (Commit i n) (executed instr ranges (beside_in storage locals
+        i)).after }
     ensures ended { (text : List ℕ) (storage : Storage) (locals : ℕ → Local) (i : ℕ) (instr : Instr)
         (ranges : List Range) (why : Why) → IsFollowed (flat_from text storage locals) i (locals i)
         → is_live (locals i).attempt ≡ true
@@ -162,11 +165,12 @@ pub fn what_an_instruction_tells_is_so()
         → (executed instr ranges (beside_in storage locals i)).told ≡ done.Ended why
         → Leaves text storage locals i
         (Abort i (executed instr ranges (beside_in storage locals i)).after.local.attempt.count why)
-        (aborted why (locals i).attempt.cpu.address (executed instr ranges (beside_in storage locals i)).after) }
+        (aborted why (locals i).attempt.cpu.address (executed instr ranges (beside_in storage locals
+        i)).after) }
 {}
 
-/// Where nothing is live, what is followed is the CPU at rest. A live attempt has a begin that is open; its CPU
-/// is running, and has the prefix that it had.
+/// Where nothing is live, what is followed is the CPU at rest. A live attempt has a begin that is open; its
+/// CPU is running, and has the prefix that it had.
 pub fn a_live_attempt_is_open()
     ensures rests { (f : FlatState) (i : ℕ) (local : Local) → IsFollowed f i local
         → is_live local.attempt ≡ false → local.attempt ≡ resting local.cpu }
@@ -186,8 +190,8 @@ pub fn a_constrained_attempt_keeps_to_its_constraints()
         → is_constrained local.attempt.nest ≡ true → KeepsTo local.cpu local.attempt }
 {}
 
-/// Every byte that an attempt has stored, also one that outlives an abort, lies in a line and a block that its
-/// footprint has as stored.
+/// Every byte that an attempt has stored, also one that outlives an abort, lies in a line and a block that
+/// its footprint has as stored.
 pub fn stored_bytes_lie_in_the_footprint()
     ensures line { (f : FlatState) (i a byte : ℕ) (local : Local) → IsFollowed f i local
         → is_prefix local.cpu.prefix ≡ true → local.attempt.overlay a ≡ Some byte
