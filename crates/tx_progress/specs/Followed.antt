@@ -19,9 +19,8 @@ use Rattle.tx_progress.specs.Local.{Local, Beside, flat_from}
 use Rattle.tx_progress.specs.Reached.{progress_of, IsFollowed}
 
 -- the longer run, after an instruction that has left this CPU and these bytes
-pub record Advances (next : Run) (instr : Instr) (ranges : List Range) (c : Cpu) (bytes : List ℕ) (q :
-    Progress)
-    (m : Mark) : Type 0 where
+pub record Advances (next : Run) (instr : Instr) (ranges : List Range) (c : Cpu) (bytes : List ℕ)
+    (q : Progress) (m : Mark) : Type 0 where
   pub progress : progress_of next ≡ advanced instr ranges c (stores_of ranges bytes q) q
   pub mark : next.mark ≡ m
 
@@ -45,9 +44,8 @@ abbrev pub flat_after : List ℕ → (ℕ → Local) → ℕ → Beside → Flat
 flat_after text locals i after = flat_from text after.storage (at_put locals i after.local)
 
 -- an entry fits, and makes of flat storage what is left of its CPU and of storage, and that is followed
-pub record Leaves (text : List ℕ) (storage : Storage) (locals : ℕ → Local) (i : ℕ) (e : Entry) (after :
-    Beside)
-    : Type 0 where
+pub record Leaves (text : List ℕ) (storage : Storage) (locals : ℕ → Local) (i : ℕ) (e : Entry)
+    (after : Beside) : Type 0 where
   pub applied : apply (flat_from text storage locals) e ≡ Some (flat_after text locals i after)
   pub followed : IsFollowed (flat_after text locals i after) i after.local
 
