@@ -20,7 +20,8 @@ use Rattle.z_instr.specs.Facts.{is_begin}
 use Rattle.z_instr.specs.Roles.{may_name_block, block_named}
 use Rattle.z_instr.specs.Operands.{Span, span, IsSmall, spans, spans_in, is_inside, is_stored_into}
 use Rattle.z_instr.specs.Operands.{tested_spans}
-use Rattle.z_instr.specs.Operands.{where_wrong, addressing, protection, inaccessible_in}
+use Rattle.z_instr.specs.Operands.{where_wrong, addressing, protection, inaccessible_in, inaccessible}
+use Rattle.z_regs.specs.Cpu.{Cpu}
 use Rattle.z_instr.specs.Operands.{first_address}
 use Rattle.z_instr.specs.Access.{accessible_pages, text_pages, lies_in}
 use Rattle.z_instr.proofs.TableFacts.{passes_row}
@@ -129,7 +130,7 @@ not_both : (a : Bool) → (a ≡ true → ⊥) → a ≡ false
 not_both true h = absurd (h refl)
 not_both false h = refl
 
-usable : (prefix : Option ℕ) (s : Span) (k : ℕ) → IsSmall s → is_inside (accessible_pages prefix) s ≡ true
+pub usable : (prefix : Option ℕ) (s : Span) (k : ℕ) → IsSmall s → is_inside (accessible_pages prefix) s ≡ true
     → k < s.length → is_accessible prefix (s.first + k) ≡ true
 usable None s k small inside h =
     let ends = (inside_without s small).0 inside in
@@ -239,3 +240,32 @@ free_block text p i a ok outside h names k below =
     let in_none = any_parts (is_stored_into pages s) false passed.apart in
     subst (λ first. IsFree c.prefix text (first + k)) n.2
     (free_byte c.prefix text s k ok (small_block (first_address i c.general)) in_all.0 in_none.0 refl below)
+
+-- ---- by the test of operands alone
+
+-- the operands of an instruction that passes it are inside
+pub inside_operands : (text : List ℕ) (i : Instr) (c : Cpu) (depth : ℕ)
+    → inaccessible i c.general c.condition depth (accessible_pages c.prefix) (text_pages c.prefix text) ≡ None
+    → list_all (is_inside (accessible_pages c.prefix)) (spans i c.general c.condition) ≡ true
+inside_operands text i c depth h =
+    let e = entry_at i.op.number in
+    (spans_pass e.demand e.operands i c.general c.condition depth (accessible_pages c.prefix)
+    (text_pages c.prefix text) (all_begin_bare i.op.number i.op.known)
+    (tested_pass e i c.general c.condition depth (accessible_pages c.prefix) (text_pages c.prefix text) h)).inside
+
+-- and so is the block that an outermost begin names
+pub inside_block : (text : List ℕ) (i : Instr) (c : Cpu) (a : ℕ)
+    → inaccessible i c.general c.condition 0 (accessible_pages c.prefix) (text_pages c.prefix text) ≡ None
+    → block_named i c.general ≡ Some a → a + 256 ≤ 1048576
+inside_block text i c a h names =
+    let e = entry_at i.op.number in
+    let s = span (first_address i c.general) 256 true in
+    let n = named e.demand (not (nat_eq i.b 0)) (first_address i c.general) a names in
+    let ss = spans i c.general c.condition in
+    let accessible = accessible_pages c.prefix in
+    let pages = text_pages c.prefix text in
+    let tested = tested_pass e i c.general c.condition 0 accessible pages h in
+    let passed = subst (ArePassed accessible pages) (block_tested e.demand ss i c.general n.0 n.1) tested in
+    let in_all = and_parts (is_inside accessible s) true passed.inside in
+    subst (λ first. first + 256 ≤ 1048576) n.2
+    (inside_ends c.prefix s (small_block (first_address i c.general)) in_all.0)

@@ -1,0 +1,6 @@
+-- Lemmas on storage as lists and functions, and on what is kept of an attempt.
+pub mod Storages
+pub mod Resting
+pub mod Ends
+pub mod Reached
+pub mod Tests

@@ -1,0 +1,34 @@
+-- The first test that finds something decides.
+use Rattle.std.proofs.Common.{ℕ}
+use Rattle.std.specs.FinSet.{items}
+use Rattle.z_regs.specs.Cpu.{cpu_of}
+use Rattle.tx_cpu.specs.Tracked.{progress}
+use Rattle.tx_cpu.specs.Refused.{refusal_of}
+use Rattle.tx_cpu.proofs.Tests.{heads, tails, tried-first, tried-later, tried-goes}
+use Rattle.tx_cpu.proofs.Tests.{specified-heads}
+use Rattle.tx_cpu.proofs.plan.tried.Goals as goal
+
+pub returns-in-Err : goal.returns-in-Err
+returns-in-Err c storage =
+    let q = progress c.args.attempt.now (cpu_of c.args.image.now) in
+    tried-first q c.args.instr (heads storage q c.args.instr) (tails (items c.args.guard.now) storage q
+    c.args.instr) c.nest-nest.result.now (refusal_of c.in-Err.refusal) _ c.nest-nest.ensures
+    c.after_refusal.ensures (c.in-Err.ensures storage)
+
+pub operands-requires : goal.operands-requires
+operands-requires c =
+    let q = progress c.args.attempt.now (cpu_of c.args.image.now) in
+    specified-heads (λ (a : ℕ). 0) q c.args.instr (c.in-Ok.ensures (λ (a : ℕ). 0))
+
+pub returns-in-Err-operands : goal.returns-in-Err-operands
+returns-in-Err-operands c storage =
+    let q = progress c.args.attempt.now (cpu_of c.args.image.now) in
+    tried-later q c.args.instr (heads storage q c.args.instr) (tails (items c.args.guard.now) storage q
+    c.args.instr) c.nest-nest.result.now (refusal_of c.in-Err-operands.refusal) _ c.nest-nest.ensures
+    c.after_refusal-in-Err-operands.ensures (c.in-Ok.ensures storage) (c.in-Err-operands.ensures storage)
+
+pub returns-in-Ok-operands : goal.returns-in-Ok-operands
+returns-in-Ok-operands c storage =
+    let q = progress c.args.attempt.now (cpu_of c.args.image.now) in
+    tried-goes q c.args.instr (heads storage q c.args.instr) (tails (items c.args.guard.now) storage q
+    c.args.instr) c.in-Ok-operands.need (c.in-Ok.ensures storage) (c.in-Ok-operands.ensures storage)

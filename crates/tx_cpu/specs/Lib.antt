@@ -1,0 +1,7 @@
+-- One CPU as data, what that stands for, and what its calls say.
+pub mod Tracked
+pub mod Parts
+pub mod Same
+pub mod Plans
+pub mod Blocks
+pub mod Refused

@@ -1,0 +1,303 @@
+//! The attempt of a CPU.
+ghost use Rattle.std.specs.Prelude.{◌≡◌, ◌<◌, ◌≤◌, ◌+◌, ℕ, IfOk, nat_lt, length, is_some, unwrap_or, slice_index};
+ghost use Rattle.std.specs.Prelude.{true, Some};
+ghost use Rattle.z_regs.specs.Cpu.{Cpu};
+ghost use Rattle.z_regs.specs.Prefix.{storage_size};
+ghost use Rattle.store_cache.specs.Entries.{stores_of};
+ghost use Rattle.store_cache.specs.Stores.{lasting_bytes};
+ghost use Rattle.tx_footprint.specs.Touched.{sets_of};
+ghost use Rattle.tx_control.specs.Nesting.{outermost_mask, outermost_block};
+ghost use Rattle.tx_progress.specs.Progress.{resting, seen_through};
+ghost use Rattle.tx_cpu.specs.Tracked.{Tracked, progress};
+ghost use Rattle.tx_cpu.specs.Parts.{storage_of};
+ghost use Rattle.tx_cpu.specs.Same.{AreSameParts, AreSameConstraints};
+ghost use Rattle.std.specs.Prelude.{◌↔◌, IsTrue, All, if◌then◌else◌};
+ghost use Rattle.z_regs.specs.Cpu.{cpu_of};
+ghost use Rattle.z_regs.specs.Prefix.{is_prefix, absolute_of};
+ghost use Rattle.z_regs.specs.Absolute.{IsAccessible, absolute_ranges};
+ghost use Rattle.tx_constraint.specs.Kept.{next_text_breach, next_operand_breach};
+ghost use Rattle.tx_footprint.specs.Touched.{touching};
+ghost use Rattle.tx_serial.specs.Flat.{bytes_seen};
+ghost use Rattle.tx_serial.specs.Fate.{overflow_in};
+ghost use Rattle.tx_progress.specs.Trial.{constraint_refusal};
+ghost use Rattle.tx_cpu.specs.Refused.{found};
+
+use crate::refusal::{Refusal, breach};
+use std::alloc::Global;
+use std::marker::Model;
+use store_cache::StoreCache;
+use tx_constraint::Constraint;
+use tx_control::{Nest, Why};
+use tx_footprint::{Footprint, Overflow};
+use z_instr::instr::Instr;
+use z_regs::{Bytes, CpuImage, NoMemory, STORAGE_SIZE, Touches, place_of};
+
+/// All that is kept of an attempt but the CPU.
+#[derive(Drop)]
+pub struct Attempt {
+    nest: Nest,
+    footprint: Footprint,
+    constraint: Option<Constraint>,
+    stores: StoreCache,
+    count: u32,
+    resumes_at: u64,
+}
+
+impl Model for Attempt {
+    ghost use Rattle.tx_cpu.specs.Tracked.{Tracked, IsSound};
+
+    ghost Value = { Tracked };
+
+    ghost view = { λ a. record {
+      nest = a.nest;
+      footprint = a.footprint;
+      constraint = a.constraint;
+      stores = a.stores;
+      count = a.count;
+      resumes_at = a.resumes_at;
+    } };
+
+    ghost invariant = { λ a. IsSound (record {
+      nest = a.nest;
+      footprint = a.footprint;
+      constraint = a.constraint;
+      stores = a.stores;
+      count = a.count;
+      resumes_at = a.resumes_at;
+    }) };
+}
+
+/// Whether both constraints are those of attempts with one TBEGINC and the same octowords, or there are none.
+fn are_same_constraints(one: &Option<Constraint>, other: &Option<Constraint>) -> bool
+    ensures { IsTrue result ↔ AreSameConstraints one.now other.now }
+{
+    match one {
+        None => other.is_none(),
+        Some(constraint) => match other {
+            None => false,
+            Some(another) => constraint.same(another),
+        },
+    }
+}
+
+impl Attempt {
+    /// No attempt, with room for all that later calls need.
+    pub fn open(alloc: Global) -> Result<Attempt, NoMemory>
+        ensures { IfOk result (λ attempt. (c : Cpu) → progress attempt c ≡ resting c) }
+    {
+        let Ok(footprint) = Footprint::open(alloc) else {
+            return Err(NoMemory);
+        };
+        let Ok(stores) = StoreCache::open(alloc) else {
+            return Err(NoMemory);
+        };
+        Ok(Attempt {
+            nest: Nest::none(),
+            footprint,
+            constraint: None,
+            stores,
+            count: 0,
+            resumes_at: 0,
+        })
+    }
+
+    /// What holds of every attempt: before the first instruction there is nothing, and behind it a begin is
+    /// open. The block that the outermost begin names lies in storage.
+    pub fn is_sound(&self)
+        ensures rests { self.now.count ≡ 0 → (c : Cpu) → progress self.now c ≡ resting c }
+        ensures opens { 0 < self.now.count → 0 < length self.now.nest }
+        ensures block { (a : ℕ) → outermost_block self.now.nest ≡ Some a → a + 256 ≤ storage_size }
+    {
+        let _count = self.count;
+    }
+
+    /// Whether there is an attempt.
+    pub fn is_live(&self) -> bool
+        ensures { result ≡ nat_lt 0 self.now.count }
+    {
+        self.count > 0
+    }
+
+    /// How many instructions are completed, the begin among them.
+    pub fn count(&self) -> u32
+        ensures { result ≡ self.now.count }
+    {
+        self.count
+    }
+
+    /// The open begins.
+    pub fn nest(&self) -> &Nest
+        ensures { result.now ≡ self.now.nest }
+    {
+        &self.nest
+    }
+
+    /// What the attempt has touched.
+    pub fn footprint(&self) -> &Footprint
+        ensures { result.now ≡ self.now.footprint }
+    {
+        &self.footprint
+    }
+
+    /// Where the program goes on after an abort.
+    pub fn resumes_at(&self) -> u64
+        ensures { result ≡ self.now.resumes_at }
+    {
+        self.resumes_at
+    }
+
+    /// Whether a constrained attempt is live.
+    pub fn is_constrained(&self) -> bool
+        ensures { result ≡ is_some self.now.constraint }
+    {
+        self.constraint.is_some()
+    }
+
+    /// The CPU as the history leaves it: as it was saved where an attempt is live.
+    pub fn settled<'a>(&self, saved: &'a CpuImage, image: &'a CpuImage) -> &'a CpuImage
+        ensures { cpu_of result.now ≡ (if nat_lt 0 self.now.count then cpu_of saved.now else cpu_of image.now) }
+    {
+        if self.count > 0 { saved } else { image }
+    }
+
+    /// The byte of the program `k` bytes behind an address, as the attempt sees it over the text's storage; zero
+    /// where there is none.
+    fn text_byte(&self, first: u64, k: u8, prefix: Option<u32>, text: &[u8]) -> u8
+        requires prefix_in { IsTrue (is_prefix prefix) }
+        requires size { length text.now ≡ storage_size }
+        ensures { result ≡ seen_through (stores_of self.now.stores).overlay (storage_of text.now)
+            (absolute_of prefix (first + k)) }
+    {
+        let stores = &self.stores;
+        if first >= STORAGE_SIZE {
+            return 0;
+        }
+        let address = first + u64::from(k);
+        if address >= STORAGE_SIZE {
+            return 0;
+        }
+        let place = place_of(prefix, address);
+        match stores.byte(place) {
+            Some(byte) => byte,
+            None => text[place as usize],
+        }
+    }
+
+    /// The six bytes of the program from an address on.
+    pub fn text_bytes(&self, first: u64, prefix: Option<u32>, text: &[u8]) -> [u8; 6]
+        requires prefix_in { IsTrue (is_prefix prefix) }
+        requires size { length text.now ≡ storage_size }
+        ensures { result ≡ bytes_seen prefix (seen_through (stores_of self.now.stores).overlay (storage_of
+            text.now)) first 6 }
+    {
+        let mut bytes = [0; 6];
+        for k in 0..6u8 {
+            bytes[k as usize] = self.text_byte(first, k, prefix, text);
+        }
+        bytes
+    }
+
+    /// Whether constraints let the attempt have the instruction at an address next.
+    pub fn admit_text(&self, instr: &Instr, at: u64) -> Result<(), Refusal>
+        ensures { found result ≡
+            constraint_refusal (λ kept. next_text_breach kept instr.now at) instr.now self.now.constraint }
+    {
+        let Some(constraint) = &self.constraint else {
+            return Ok(());
+        };
+        match constraint.admit_text(instr, at) {
+            Ok(()) => Ok(()),
+            Err(_) => Err(breach(instr)),
+        }
+    }
+
+    /// Whether constraints let the attempt have the instruction with these operands next.
+    pub fn admit_operands(&self, instr: &Instr, need: &Touches) -> Result<(), Refusal>
+        ensures { found result ≡
+            constraint_refusal (λ kept. next_operand_breach kept instr.now need.now) instr.now
+            self.now.constraint }
+    {
+        let Some(constraint) = &self.constraint else {
+            return Ok(());
+        };
+        match constraint.admit_operands(instr, need) {
+            Ok(()) => Ok(()),
+            Err(_) => Err(breach(instr)),
+        }
+    }
+
+    /// Whether the attempt may touch these operands too, which are accessible.
+    pub fn admit_touches(&self, need: &Touches, prefix: Option<u32>) -> Result<(), Refusal>
+        requires prefix_in { IsTrue (is_prefix prefix) }
+        requires few { length need.now ≤ 2 }
+        requires accessible { All (IsAccessible prefix) need.now }
+        ensures { found result ≡ overflow_in self.now.nest
+            (touching (sets_of self.now.footprint) (absolute_ranges prefix need.now)) }
+    {
+        if self.nest.depth() == 0 {
+            return Ok(());
+        }
+        match self.footprint.fits(&need.absolute(prefix)) {
+            Ok(()) => Ok(()),
+            Err(Overflow::Fetch) => Err(Refusal::Because(Why::FetchOverflow)),
+            Err(Overflow::Store) => Err(Refusal::Because(Why::StoreOverflow)),
+        }
+    }
+
+    /// The byte that the attempt sees over `base`.
+    pub fn seen<V: Bytes>(&self, address: u64, base: &V) -> u8
+        requires { address < length (V.bytes base.now) }
+        ensures { result ≡
+            seen_through (stores_of self.now.stores).overlay (storage_of (V.bytes base.now)) address }
+    {
+        match self.stores.byte(address) {
+            Some(byte) => byte,
+            None => base.get(address),
+        }
+    }
+
+    /// Whether the same begins are open, the same was touched, and the same is asked by constraints.
+    pub fn same(&self, other: &Attempt) -> bool
+        ensures { IsTrue result ↔ AreSameParts self.now other.now }
+    {
+        if !self.nest.same(&other.nest) {
+            return false;
+        }
+        if !self.footprint.same(&other.footprint) {
+            return false;
+        }
+        are_same_constraints(&self.constraint, &other.constraint)
+    }
+
+    /// Ends the attempt: all its stores go into storage.
+    pub fn commit<V: Bytes>(&mut self, base: &mut V)
+        requires { length (V.bytes base.old) ≡ storage_size }
+        ensures rests { (c : Cpu) → progress self.new c ≡ resting c }
+        ensures bytes { storage_of (V.bytes base.new) ≡
+            seen_through (stores_of self.old.stores).overlay (storage_of (V.bytes base.old)) }
+        ensures size { length (V.bytes base.new) ≡ storage_size }
+    {
+        self.stores.commit(base);
+        self.nest = Nest::none();
+        self.footprint.clear();
+        self.constraint = None;
+        self.count = 0;
+        self.resumes_at = 0;
+    }
+
+    /// Ends the attempt: of its stores only what NTSTG stored goes into storage.
+    pub fn abort<V: Bytes>(&mut self, base: &mut V)
+        requires { length (V.bytes base.old) ≡ storage_size }
+        ensures rests { (c : Cpu) → progress self.new c ≡ resting c }
+        ensures bytes { storage_of (V.bytes base.new) ≡
+            seen_through (lasting_bytes (stores_of self.old.stores).lasting) (storage_of (V.bytes base.old)) }
+        ensures size { length (V.bytes base.new) ≡ storage_size }
+    {
+        self.stores.abort(base);
+        self.nest = Nest::none();
+        self.footprint.clear();
+        self.constraint = None;
+        self.count = 0;
+        self.resumes_at = 0;
+    }
+}

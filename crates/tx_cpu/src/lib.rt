@@ -1,0 +1,15 @@
+//! One CPU: its registers, its attempt, the block that is pending for it and the interruption that it has still
+//! to take. Each call is one equation with the definitions of tx_progress.
+#![tactic(auto)]
+
+mod attempt;
+mod interruption;
+mod one;
+mod pending;
+mod plan;
+mod refusal;
+mod storing;
+
+pub use one::Cpu;
+pub use plan::Plan;
+pub use tx_progress::done::Done;

@@ -1,0 +1,226 @@
+//! The CPU.
+ghost use Rattle.std.specs.Prelude.{◌≡◌, ◌<◌, ◌↔◌, IsTrue, IfOk, is_some, length, true, false};
+ghost use Rattle.z_regs.specs.Cpu.{cpu_of};
+ghost use Rattle.z_regs.specs.Prefix.{storage_size};
+ghost use Rattle.tx_footprint.specs.Touched.{sets_of};
+ghost use Rattle.tx_serial.specs.Remains.{pending_after as pends_after};
+ghost use Rattle.tx_progress.specs.Progress.{is_live, seen_through};
+ghost use Rattle.tx_progress.specs.Local.{settled, aborted, block_stored, interruption_taken};
+ghost use Rattle.tx_progress.specs.Doing.{stopped};
+ghost use Rattle.tx_progress.specs.Trial.{fate_by_progress};
+ghost use Rattle.std.specs.FinSet.{items};
+ghost use Rattle.tx_cpu.specs.Parts.{local_of, beside, storage_of};
+ghost use Rattle.tx_cpu.specs.Plans.{fate_of, levels_of, address_of, HasRoom};
+ghost use Rattle.tx_cpu.specs.Same.{AreSameAttempts};
+
+use crate::attempt::Attempt;
+use crate::interruption::{leave, load, store, waiting_after, waiting_with};
+use crate::pending::{Block, pending_after};
+use crate::plan::{Plan, next_plan};
+use crate::storing::put_all;
+use std::alloc::Global;
+use std::marker::Model;
+use tx_abort::block_of;
+use tx_control::{Exception, Why};
+use tx_footprint::Footprint;
+use tx_journal::Image;
+use z_effect::interrupt;
+use z_regs::{Bytes, CpuImage, NoMemory, Waiting};
+
+/// One CPU. Contracts speak of what is kept of it (`local_of`): the CPU as the history leaves it, its attempt,
+/// the block that is pending for it and the interruption that waits.
+#[derive(Drop)]
+pub struct Cpu {
+    image: CpuImage,
+    saved: CpuImage,
+    attempt: Attempt,
+    pending: Option<Block>,
+    waiting: Option<Waiting>,
+}
+
+impl Model for Cpu {
+    ghost use Rattle.z_regs.specs.Cpu.{cpu_of};
+    ghost use Rattle.tx_cpu.specs.Parts.{Parts, IsInside};
+
+    ghost Value = { Parts };
+
+    ghost use Rattle.tx_cpu.specs.Blocks.{pending_of};
+
+    ghost view = { λ c. record {
+      image = cpu_of c.image;
+      saved = cpu_of c.saved;
+      attempt = c.attempt;
+      pending = pending_of c.pending;
+      waiting = c.waiting;
+    } };
+
+    ghost invariant = { λ c. IsInside (pending_of c.pending) };
+}
+
+impl Cpu {
+    /// A CPU without an attempt, for which nothing is left to do.
+    pub fn open(alloc: Global, start: CpuImage) -> Result<Cpu, NoMemory>
+        ensures { IfOk result (λ cpu. local_of cpu ≡ settled (cpu_of start)) }
+    {
+        Ok(Cpu {
+            image: start,
+            saved: start,
+            attempt: Attempt::open(alloc)?,
+            pending: None,
+            waiting: None,
+        })
+    }
+
+    /// The CPU as it is now, in its attempt where one is live.
+    pub fn image(&self) -> &CpuImage
+        ensures { cpu_of result.now ≡ (local_of self.now).attempt.cpu }
+    {
+        &self.image
+    }
+
+    /// How many begins are open, and how many instructions the attempt has completed; None exactly where no
+    /// attempt is live.
+    pub fn live(&self) -> Option<(u32, u32)>
+        ensures { result ≡ levels_of (local_of self.now).attempt }
+    {
+        if !self.attempt.is_live() {
+            return None;
+        }
+        Some((self.attempt.nest().depth(), self.attempt.count()))
+    }
+
+    /// Whether a constrained attempt is live.
+    pub fn constrained(&self) -> bool
+        ensures { result ≡ is_some (local_of self.now).attempt.constraint }
+    {
+        self.attempt.is_constrained()
+    }
+
+    /// What the attempt has touched; nothing where none is live.
+    pub fn footprint(&self) -> &Footprint
+        ensures { sets_of result.now ≡ (local_of self.now).attempt.footprint }
+    {
+        self.attempt.footprint()
+    }
+
+    /// The real address of the block that is pending, where there is one.
+    pub fn pending(&self) -> Option<u64>
+        ensures { result ≡ address_of (local_of self.now).pending }
+    {
+        match &self.pending {
+            None => None,
+            Some(block) => Some(block.address),
+        }
+    }
+
+    /// The interruption that waits, where there is one.
+    pub fn waiting(&self) -> Option<Waiting>
+        ensures { result ≡ (local_of self.now).waiting }
+    {
+        self.waiting
+    }
+
+    /// What comes of the next instruction. Its bytes are read from the storage of the image, where they are as
+    /// long as the program runs.
+    pub fn prepare(&self, text: &Image) -> Plan
+        ensures { fate_of result ≡ fate_by_progress (items text.now.guard) (storage_of text.now.storage)
+            (local_of self.now).attempt }
+    {
+        let _count = text.cpu_count();
+        next_plan(&self.attempt, &self.image, &text.storage, &text.guard)
+    }
+
+    /// The byte that the CPU sees over `base` at an absolute address.
+    pub fn seen<V: Bytes>(&self, address: u64, base: &V) -> u8
+        requires { address < length (V.bytes base.now) }
+        ensures { result ≡
+            seen_through (local_of self.now).attempt.overlay (storage_of (V.bytes base.now)) address }
+    {
+        self.attempt.seen(address, base)
+    }
+
+    /// Whether both have the same open begins and the same footprint, and in constrained attempts the same
+    /// TBEGINC and the same octowords.
+    pub fn same_attempt(&self, other: &Cpu) -> bool
+        ensures { IsTrue result ↔
+            AreSameAttempts (local_of self.now).attempt (local_of other.now).attempt }
+    {
+        self.attempt.same(&other.attempt)
+    }
+
+    /// Outside transactions, an exception stops the program before anything has changed.
+    pub fn stop(&mut self, e: Exception)
+        requires { is_live (local_of self.old).attempt ≡ false }
+        ensures { local_of self.new ≡ stopped e (local_of self.old) }
+    {
+        self.attempt.is_sound();
+        interrupt(&mut self.image, e);
+        self.waiting = waiting_with(self.image.prefix, e.length, None);
+    }
+
+    /// Aborts the attempt by this cause; `at` is the address that the diagnostic block tells. Gives how many
+    /// instructions the attempt had completed.
+    pub fn abort<V: Bytes>(&mut self, why: Why, at: u64, base: &mut V) -> u32
+        requires live { is_live (local_of self.old).attempt ≡ true }
+        requires code { HasRoom why }
+        requires size { length (V.bytes base.old) ≡ storage_size }
+        ensures count { result ≡ (local_of self.old).attempt.count }
+        ensures value { beside self.new (V.bytes base.new) ≡
+            aborted why at (beside self.old (V.bytes base.old)) }
+        ensures size { length (V.bytes base.new) ≡ storage_size }
+    {
+        self.attempt.is_sound();
+        let count = self.attempt.count();
+        let nest = self.attempt.nest();
+        let block = block_of(why, nest, &self.image, at);
+        let mask = nest.mask();
+        self.pending = pending_after(nest.block(), block);
+        self.waiting = waiting_after(self.image.prefix, block, why);
+        leave(
+            &mut self.image,
+            &self.saved,
+            mask,
+            self.attempt.resumes_at(),
+            why,
+        );
+        self.attempt.abort(base);
+        count
+    }
+
+    /// Stores the block that is pending, where there is one.
+    pub fn store_block<V: Bytes>(&mut self, base: &mut V)
+        requires { length (V.bytes base.old) ≡ storage_size }
+        ensures value { beside self.new (V.bytes base.new) ≡
+            block_stored (beside self.old (V.bytes base.old)) }
+        ensures size { length (V.bytes base.new) ≡ storage_size }
+    {
+        let settled = self.attempt.settled(&self.saved, &self.image);
+        let prefix = settled.prefix;
+        match self.pending {
+            None => {}
+            Some(block) => {
+                put_all(&block.bytes, block.address, prefix, base);
+                self.pending = None;
+            }
+        }
+    }
+
+    /// Takes the interruption that waits, where there is one; no attempt is live.
+    pub fn take<V: Bytes>(&mut self, base: &mut V)
+        requires rests { is_live (local_of self.old).attempt ≡ false }
+        requires size { length (V.bytes base.old) ≡ storage_size }
+        ensures value { beside self.new (V.bytes base.new) ≡
+            interruption_taken (beside self.old (V.bytes base.old)) }
+        ensures size { length (V.bytes base.new) ≡ storage_size }
+    {
+        self.attempt.is_sound();
+        match self.waiting {
+            None => {}
+            Some(waiting) => {
+                store(&self.image, &waiting, base);
+                load(&mut self.image, base);
+                self.waiting = None;
+            }
+        }
+    }
+}

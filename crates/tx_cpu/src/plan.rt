@@ -1,0 +1,186 @@
+//! What comes of the next instruction.
+ghost use Rattle.std.specs.Prelude.{◌≡◌, length, map, Some, None, Err, Ok, [], ◌∷◌, MatchResult};
+ghost use Rattle.std.specs.FinSet.{items};
+ghost use Rattle.z_regs.specs.Cpu.{cpu_of};
+ghost use Rattle.z_regs.specs.Prefix.{storage_size};
+ghost use Rattle.z_instr.specs.Computing.{reading_of};
+ghost use Rattle.z_instr.specs.Layout.{length_by};
+ghost use Rattle.z_instr.specs.Operands.{unspecified, operation};
+ghost use Rattle.z_instr.specs.Table.{entry_at};
+ghost use Rattle.std.specs.Prelude.{slice_index};
+ghost use Rattle.tx_control.specs.declared.causes.Why.TheVariants as why;
+ghost use Rattle.tx_serial.specs.Fate.{aborts_where, is_restricted, first_refusal, operands as operands_of};
+ghost use Rattle.tx_serial.specs.Fate.{restricted_refusal, specified_refusal, depth_refusal, operand_refusal};
+ghost use Rattle.tx_serial.specs.Fate.{Excepts, excepted};
+ghost use Rattle.tx_progress.specs.Trial.{at_hand, text_refusal_by, place_refusal_by, overflow_refusal_by};
+ghost use Rattle.tx_progress.specs.Trial.{tests_by, tried as tried_by, fate_by_progress};
+ghost use Rattle.tx_serial.specs.Flat.{Storage};
+ghost use Rattle.tx_cpu.specs.Tracked.{progress};
+ghost use Rattle.tx_cpu.specs.Parts.{storage_of};
+ghost use Rattle.tx_cpu.specs.Plans.{fate_of};
+ghost use Rattle.tx_cpu.specs.Refused.{refusal_of, found};
+ghost use Rattle.std.specs.Prelude.{ℕ, List, ◌&&◌, nat_le, false};
+ghost use Rattle.z_instr.specs.Roles.{begins as is_begun};
+ghost use Rattle.tx_cpu.specs.Refused.{AreOperands};
+
+use crate::attempt::Attempt;
+use crate::refusal::{Refusal, after_refusal};
+use tx_control::codes::OPERATION;
+use tx_control::{Exception, MOST_LEVELS, Nest, Why};
+use z_decode::{decode, length_of};
+use z_instr::instr::Instr;
+use z_instr::laws::{operands_are_small, reading_computes};
+use z_instr::lookup::line;
+use z_instr::op::Op;
+use z_instr::roles::{begins, sets_access_register};
+use z_regs::{CpuImage, Guard, Touches};
+use z_touch::{fetchable, specified, touches};
+
+/// What the tests of the next instruction say.
+#[derive(Drop)]
+pub enum Plan {
+    /// It goes.
+    Go {
+        /// The instruction.
+        instr: Instr,
+        /// Its operands, by real addresses.
+        need: Touches,
+    },
+    /// It ends the transaction by this cause.
+    Ends(Why),
+    /// Outside transactions, it stops the program.
+    Stops(Exception),
+}
+
+/// The instruction that bytes read as.
+fn read(bytes: &[u8]) -> Option<Instr>
+    requires { length bytes.now ≡ length_by (slice_index bytes.now 0) }
+    ensures { result ≡ reading_of bytes.now }
+{
+    reading_computes();
+    match decode(bytes) {
+        Ok(instr) => Some(instr),
+        Err(_) => None,
+    }
+}
+
+/// The exception of bytes, as many as the first of them says, that read as no instruction.
+fn unreadable(length: u8) -> Refusal
+    ensures { refusal_of result ≡ Excepts (record { code = operation; fetch = false; length = length }) }
+{
+    Refusal::Excepts(Exception {
+        code: OPERATION,
+        fetch: false,
+        length,
+    })
+}
+
+/// Whether transactions allow an operation.
+fn allowed(nest: &Nest, op: Op) -> Result<(), Refusal>
+    ensures { found result ≡ aborts_where (is_restricted nest.now (entry_at op.number)) why.Restricted }
+{
+    if nest.depth() == 0 {
+        return Ok(());
+    }
+    if line(op).restricted {
+        return Err(Refusal::Because(Why::Restricted));
+    }
+    if sets_access_register(op) && !nest.effective_a() {
+        return Err(Refusal::Because(Why::Restricted));
+    }
+    Ok(())
+}
+
+/// Whether an instruction meets neither special operation nor specification.
+fn well_specified(instr: &Instr, image: &CpuImage, depth: u32) -> Result<(), Refusal>
+    ensures { found result ≡ excepted instr.now (unspecified instr.now image.now.general depth) }
+{
+    match specified(instr, image, depth) {
+        Ok(()) => Ok(()),
+        Err(e) => Err(Refusal::Excepts(e)),
+    }
+}
+
+/// Whether one more begin may be opened.
+fn not_too_deep(nest: &Nest, op: Op) -> Result<(), Refusal>
+    ensures { found result ≡
+        aborts_where (is_begun (entry_at op.number) && nat_le 16 (length nest.now)) why.Depth }
+{
+    if begins(op) && nest.depth() >= MOST_LEVELS as u32 {
+        return Err(Refusal::Because(Why::Depth));
+    }
+    Ok(())
+}
+
+/// The tests of an instruction that do not ask for its operands.
+fn admitted(attempt: &Attempt, image: &CpuImage, instr: &Instr) -> Result<(), Refusal>
+    ensures { (storage : Storage) → let q = progress attempt.now (cpu_of image.now) in
+        found result ≡ first_refusal (text_refusal_by q instr.now
+        ∷ restricted_refusal (at_hand storage q) instr.now
+        ∷ specified_refusal (at_hand storage q) instr.now
+        ∷ depth_refusal (at_hand storage q) instr.now ∷ []) }
+{
+    attempt.admit_text(instr, image.address)?;
+    allowed(attempt.nest(), instr.op)?;
+    well_specified(instr, image, attempt.nest().depth())?;
+    not_too_deep(attempt.nest(), instr.op)
+}
+
+/// The operands of an instruction that is well specified, or what the tests that ask for them find.
+fn operands(
+    attempt: &Attempt,
+    image: &CpuImage,
+    instr: &Instr,
+    guard: &Guard,
+) -> Result<Touches, Refusal>
+    requires { unspecified instr.now image.now.general (length attempt.now.nest) ≡ None }
+    ensures { (storage : Storage) → let q = progress attempt.now (cpu_of image.now) in
+        MatchResult result
+        (λ need. AreOperands need (first_refusal (operand_refusal (items guard.now) (at_hand storage q) instr.now
+        ∷ place_refusal_by q instr.now ∷ overflow_refusal_by q instr.now ∷ []))
+        (operands_of instr.now (cpu_of image.now)))
+        (λ refusal. first_refusal (operand_refusal (items guard.now) (at_hand storage q) instr.now
+        ∷ place_refusal_by q instr.now ∷ overflow_refusal_by q instr.now ∷ []) ≡ Some (refusal_of refusal)) }
+{
+    operands_are_small();
+    let need = match touches(instr, image, guard, attempt.nest().depth()) {
+        Ok(need) => need,
+        Err(e) => return Err(Refusal::Excepts(e)),
+    };
+    attempt.admit_operands(instr, &need)?;
+    attempt.admit_touches(&need, image.prefix)?;
+    Ok(need)
+}
+
+/// What comes of this instruction.
+fn tried(attempt: &Attempt, image: &CpuImage, instr: Instr, guard: &Guard) -> Plan
+    ensures { (storage : Storage) → let q = progress attempt.now (cpu_of image.now) in
+        fate_of result ≡ tried_by q instr (first_refusal (tests_by (items guard.now) storage q instr)) }
+{
+    let nest = attempt.nest();
+    match admitted(attempt, image, &instr) {
+        Err(refusal) => after_refusal(nest, refusal),
+        Ok(()) => match operands(attempt, image, &instr, guard) {
+            Err(refusal) => after_refusal(nest, refusal),
+            Ok(need) => Plan::Go { instr, need },
+        },
+    }
+}
+
+/// What comes of the next instruction, whose bytes are read from the storage of the text.
+pub fn next_plan(attempt: &Attempt, image: &CpuImage, text: &[u8], guard: &Guard) -> Plan
+    requires { length text.now ≡ storage_size }
+    ensures { fate_of result ≡ fate_by_progress (items guard.now) (storage_of text.now)
+        (progress attempt.now (cpu_of image.now)) }
+{
+    let bytes = attempt.text_bytes(image.address, image.prefix, text);
+    let length = length_of(bytes[0]);
+    let nest = attempt.nest();
+    match fetchable(image, guard, length) {
+        Err(e) => after_refusal(nest, Refusal::Excepts(e)),
+        Ok(()) => match read(&bytes[..length as usize]) {
+            None => after_refusal(nest, unreadable(length)),
+            Some(instr) => tried(attempt, image, instr, guard),
+        },
+    }
+}

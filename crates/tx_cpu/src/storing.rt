@@ -1,0 +1,33 @@
+//! Bytes of storage by real addresses.
+ghost use Rattle.std.specs.Prelude.{◌≡◌, ◌≤◌, ◌+◌, length, IsTrue};
+ghost use Rattle.z_regs.specs.Prefix.{is_prefix, storage_size};
+ghost use Rattle.tx_serial.specs.Flat.{bytes_seen, with_bytes_at};
+ghost use Rattle.tx_cpu.specs.Parts.{storage_of};
+
+use z_regs::{Bytes, place_of};
+
+/// Stores bytes from a real address on.
+pub fn put_all<V: Bytes>(bytes: &[u8], first: u64, prefix: Option<u32>, base: &mut V)
+    requires prefix_in { IsTrue (is_prefix prefix) }
+    requires end { first + length bytes.now ≤ storage_size }
+    requires size { length (V.bytes base.old) ≡ storage_size }
+    ensures value { storage_of (V.bytes base.new) ≡
+        with_bytes_at prefix first bytes.now (storage_of (V.bytes base.old)) }
+    ensures size { length (V.bytes base.new) ≡ storage_size }
+{
+    for k in 0..bytes.len() {
+        base.put(place_of(prefix, first + k as u64), bytes[k]);
+    }
+}
+
+/// Fetches bytes from a real address on.
+pub fn get_all<V: Bytes>(bytes: &mut [u8], first: u64, prefix: Option<u32>, base: &V)
+    requires prefix_in { IsTrue (is_prefix prefix) }
+    requires end { first + length bytes.old ≤ storage_size }
+    requires size { length (V.bytes base.now) ≡ storage_size }
+    ensures { bytes.new ≡ bytes_seen prefix (storage_of (V.bytes base.now)) first (length bytes.old) }
+{
+    for k in 0..bytes.len() {
+        bytes[k] = base.get(place_of(prefix, first + k as u64));
+    }
+}
