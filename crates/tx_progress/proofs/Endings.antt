@@ -1,6 +1,6 @@
 -- Attempts that end: by themselves, or from outside.
 use Rattle.std.proofs.Common.{◌≡◌, ℕ, suc, ◌+◌, ◌-◌, Bool, true, false, List, [], ◌∷◌, ◌++◌, Some}
-use Rattle.std.proofs.Common.{refl, sym, ap, subst, ◌∙◌, arith, length, take}
+use Rattle.std.proofs.Common.{refl, sym, ap, subst, ◌∙◌, arith, length, take, inl, inr}
 use Rattle.std.specs.Prelude.{if◌then◌else◌, ◌&&◌, ◌||◌, not, nat_lt}
 use Rattle.std.proofs.lemmas.Bool.{true≢false, or_left, or_right}
 use Rattle.z_regs.specs.Cpu.{Cpu}
@@ -22,15 +22,15 @@ use Rattle.tx_constraint.specs.Constraints.{Step}
 use Rattle.tx_journal.specs.declared.entries.Entry.TheVariants.{Abort}
 use Rattle.store_cache.specs.Overlay.{Store}
 use Rattle.tx_serial.specs.Apply.{apply, only_where}
-use Rattle.tx_serial.specs.Attempt.{Run, Open, Overflowed, last_step}
+use Rattle.tx_serial.specs.Attempt.{Run, Open, Overflowed, Missing, last_step}
 use Rattle.tx_serial.specs.Ending.{ending, ending_of, fate_cause, fits, is_cause, is_open}
 use Rattle.tx_serial.specs.Ending.{comes_from_outside, outcome_cause, overflow_cause, has_operands}
 use Rattle.tx_serial.specs.Fate.{Fate, Goes, Ends, fate, cause_in, step_of}
 use Rattle.tx_serial.specs.Flat.{Storage, FlatState, operand_stores, operand_bytes}
 use Rattle.tx_serial.specs.Remains.{remains, resumed_at, address_in}
-use Rattle.tx_serial.specs.Run.{run, nest_after, outcome_of, with_instruction, overflowed}
+use Rattle.tx_serial.specs.Run.{run, after, nest_after, outcome_of, with_instruction, overflowed}
 use Rattle.tx_serial.proofs.SameCauses.{one_cause}
-use Rattle.tx_progress.specs.Followed.{beside_in, Leaves}
+use Rattle.tx_progress.specs.Followed.{beside_in, Leaves, RunTells}
 use Rattle.tx_progress.specs.Local.{Local, flat_from, aborted}
 use Rattle.tx_progress.specs.Doing.{Executed, executed, inside, closed_by, stores_of, going_on}
 use Rattle.tx_progress.specs.Progress.{Progress, is_live, advanced}
@@ -44,7 +44,7 @@ use Rattle.tx_progress.proofs.Standing.{Stands, run_stands, is_begun_so}
 use Rattle.tx_progress.proofs.Parts.{left_at_rest, followed_fate, followed_outcome, live_follows}
 use Rattle.tx_progress.proofs.Alike.{its_footprint}
 use Rattle.tx_progress.proofs.Leaving.{remains_left, aborted_rests, its_address, abort_leaves}
-use Rattle.tx_progress.proofs.Moving.{executed_live, next_of}
+use Rattle.tx_progress.proofs.Moving.{executed_live, next_of, completed_tells}
 
 -- ---- an attempt ends by itself
 
@@ -200,6 +200,7 @@ over_leaves text storage locals i instr ranges c bytes why is live h came cause 
           ∙ ap (λ r. Some (remains f i r why)) longer
           ∙ ap Some (remains_left text storage locals i over next why at progress resumes told);
       followed = left_at_rest text locals i (aborted why at after) (aborted_rests why at after);
+      rests = ap (λ q. q.count) (aborted_rests why at after);
     }
 
 -- ---- what an instruction inside a transaction tells
@@ -249,6 +250,94 @@ ended_leaves text storage locals i instr ranges why is live h told =
     by (Aborts code) o t =
         undone_leaves text storage locals i instr ranges (Aborts code) why is live h o
         (ap (λ x. Some (cause_told why x)) t)
+
+-- ---- what the run shows
+
+overflow_shows : (text : List ℕ) (storage : Storage) (locals : ℕ → Local) (i : ℕ) (instr : Instr)
+    (ranges : List Range) (c : Cpu) (bytes : List ℕ)
+    → IsFollowed (flat_from text storage locals) i (locals i) → is_live (locals i).attempt ≡ true
+    → fate_by_progress text storage (locals i).attempt ≡ Goes instr ranges
+    → outcome_by storage instr ranges (locals i).attempt ≡ outcome.Overflowed c bytes
+    → let next : Run = run (flat_from text storage locals) i (suc (locals i).attempt.count) in
+    (next.mark ≡ Overflowed) × (ending text next ≡ Some
+    (cause_in (next_of (locals i) instr ranges c bytes).nest
+    (exception FIXED_POINT_OVERFLOW (length_of instr))))
+overflow_shows text storage locals i instr ranges c bytes is live h came =
+    let f = flat_from text storage locals in
+    let q = (locals i).attempt in
+    let p = run f i q.count in
+    let next = next_of (locals i) instr ranges c bytes in
+    let stores = operand_stores p.cpu.prefix ranges bytes in
+    let over = overflowed (with_instruction instr ranges c stores p) in
+    let longer : run f i (suc q.count) ≡ over =
+    run_after f i q.count instr ranges (outcome.Overflowed c bytes) is.opens
+    (followed_fate f i (locals i) is ∙ h) (live_follows f i q.count instr is.opens live)
+    (followed_outcome f i (locals i) instr ranges is ∙ came) in (
+      ap (λ r. r.mark) longer,
+      ap (ending text) longer ∙ over_ending text p instr ranges c stores
+          ∙ ap (λ nest. Some (cause_in nest (exception FIXED_POINT_OVERFLOW (length_of instr))))
+          (its_nest over next (over_progress p q instr ranges c bytes is.attempt)),
+    )
+
+undone_shows : (text : List ℕ) (storage : Storage) (locals : ℕ → Local) (i : ℕ) (instr : Instr)
+    (ranges : List Range) (o : Outcome) (why : Why)
+    → IsFollowed (flat_from text storage locals) i (locals i) → is_live (locals i).attempt ≡ true
+    → fate_by_progress text storage (locals i).attempt ≡ Goes instr ranges
+    → outcome_by storage instr ranges (locals i).attempt ≡ o
+    → outcome_cause (locals i).attempt.nest instr o ≡ Some why
+    → ((p : Run) → (after instr ranges p o).mark ≡ Missing)
+    → ((run (flat_from text storage locals) i (suc (locals i).attempt.count)).mark ≡ Missing)
+    × (ending text (run (flat_from text storage locals) i (locals i).attempt.count) ≡ Some why)
+undone_shows text storage locals i instr ranges o why is live h came cause none =
+    let f = flat_from text storage locals in
+    let q = (locals i).attempt in
+    let p = run f i q.count in
+    let goes : fate text p ≡ Goes instr ranges = followed_fate f i (locals i) is ∙ h in
+    let out : outcome_of instr ranges p ≡ o = followed_outcome f i (locals i) instr ranges is ∙ came in (
+      ap (λ r. r.mark) (run_after f i q.count instr ranges o is.opens goes
+          (live_follows f i q.count instr is.opens live) out) ∙ none p,
+      open_ending text p (Goes instr ranges) is.opens goes ∙ ap (outcome_cause p.nest instr) out
+          ∙ ap (λ n. outcome_cause n instr o) (its_nest p q is.attempt) ∙ cause,
+    )
+
+abbrev Told : List ℕ → Storage → (ℕ → Local) → ℕ → Executed → Type 0
+Told text storage locals i e =
+    RunTells text (run (flat_from text storage locals) i (locals i).attempt.count)
+    (run (flat_from text storage locals) i (suc (locals i).attempt.count)) (locals i).attempt.count e.after
+    e.told
+
+told_inside : (text : List ℕ) (storage : Storage) (locals : ℕ → Local) (i : ℕ) (instr : Instr)
+    (ranges : List Range) (o : Outcome)
+    → IsFollowed (flat_from text storage locals) i (locals i) → is_live (locals i).attempt ≡ true
+    → fate_by_progress text storage (locals i).attempt ≡ Goes instr ranges
+    → outcome_by storage instr ranges (locals i).attempt ≡ o
+    → Told text storage locals i (inside instr ranges (beside_in storage locals i) o)
+told_inside text storage locals i instr ranges (Did c bytes) is live h came =
+    completed_tells text storage locals i instr ranges c bytes is live h came
+told_inside text storage locals i instr ranges (outcome.Overflowed c bytes) is live h came =
+    let shows = overflow_shows text storage locals i instr ranges c bytes is live h came in
+    inl (shows.0, shows.1, refl)
+told_inside text storage locals i instr ranges Divides is live h came =
+    let shows = undone_shows text storage locals i instr ranges Divides _ is live h came refl (λ p. refl) in
+    inr (shows.0, shows.1, refl)
+told_inside text storage locals i instr ranges (Aborts code) is live h came =
+    let shows = undone_shows text storage locals i instr ranges (Aborts code) _ is live h came refl (λ p.
+    refl) in
+    inr (shows.0, shows.1, refl)
+
+pub run_tells : (text : List ℕ) (storage : Storage) (locals : ℕ → Local) (i : ℕ) (instr : Instr)
+    (ranges : List Range) → IsFollowed (flat_from text storage locals) i (locals i)
+    → is_live (locals i).attempt ≡ true
+    → fate_by_progress text storage (locals i).attempt ≡ Goes instr ranges
+    → RunTells text (run (flat_from text storage locals) i (locals i).attempt.count)
+    (run (flat_from text storage locals) i (suc (locals i).attempt.count)) (locals i).attempt.count
+    (executed instr ranges (beside_in storage locals i)).after
+    (executed instr ranges (beside_in storage locals i)).told
+run_tells text storage locals i instr ranges is live h =
+    subst (Told text storage locals i) (sym (executed_live instr ranges (beside_in storage locals i) live))
+    (told_inside text storage locals i instr ranges (outcome_by storage instr ranges (locals i).attempt) is
+    live h
+    refl)
 
 -- ---- from outside
 

@@ -111,12 +111,12 @@ constrained_so f i local is =
     (constrained_by (f.cpus i) p.cpu p.steps p.nest (stands_now f i local is))
 
 keeps_by : (c now : Cpu) (p : Run) (steps : List Step) (nest : List Begin) → Stands c now steps nest
-    → p.steps ≡ steps → is_constrained nest ≡ true → KeepsTo c (progress_of p)
+    → p.steps ≡ steps → p.nest ≡ nest → is_constrained nest ≡ true → KeepsTo c (progress_of p)
 unfolding progress_of
-keeps_by c now p [] [] h e constrained = absurd (true≢false (sym constrained))
-keeps_by c now p [] (b ∷ bs) h e constrained = absurd h
-keeps_by c now p (s ∷ ss) [] h e constrained = absurd h
-keeps_by c now p (s ∷ ss) (b ∷ bs) h e constrained =
+keeps_by c now p [] [] h e n constrained = absurd (true≢false (sym constrained))
+keeps_by c now p [] (b ∷ bs) h e n constrained = absurd h
+keeps_by c now p (s ∷ ss) [] h e n constrained = absurd h
+keeps_by c now p (s ∷ ss) (b ∷ bs) h e n constrained =
     let goes = h.goes_on constrained in
     let so : begins_constrained s.instruction ≡ true = sym (is_begun_so c s ss b bs h) ∙ constrained in
     let some = few_steps (attempt_of (s ∷ ss)) goes in
@@ -129,6 +129,7 @@ keeps_by c now p (s ∷ ss) (b ∷ bs) h e constrained =
       begin = h.at;
       counted = omega (arith, all);
       octowords = few_octowords (attempt_of (s ∷ ss)) goes;
+      single = ap length n ∙ ap (λ rest. length (b ∷ rest)) (h.single constrained);
     }
 
 pub keeps_constraints : (f : FlatState) (i : ℕ) (local : Local) → IsFollowed f i local
@@ -140,7 +141,7 @@ keeps_constraints f i local is constrained =
     ap (λ (q : Progress). is_constrained q.nest) is.attempt ∙ constrained in
     subst (λ c. KeepsTo c local.attempt) is.cpu
     (subst (KeepsTo (f.cpus i)) is.attempt
-    (keeps_by (f.cpus i) p.cpu p p.steps p.nest (stands_now f i local is) refl nest))
+    (keeps_by (f.cpus i) p.cpu p p.steps p.nest (stands_now f i local is) refl refl nest))
 
 -- ---- stored bytes
 

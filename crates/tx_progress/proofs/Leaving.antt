@@ -125,6 +125,7 @@ abort_leaves text storage locals i why is live fit =
           (resumes (f.cpus i) p.cpu p.steps p.nest (run_stands f i q.count is.opens)) told);
       followed = left_at_rest text locals i (aborted why at (beside_in storage locals i))
           (aborted_rests why at (beside_in storage locals i));
+      rests = ap (λ q. q.count) (aborted_rests why at (beside_in storage locals i));
     }
 
 -- ---- a block that is pending
@@ -173,6 +174,7 @@ block_leaves text storage locals i b is e =
           });
       followed = left_at_rest text locals i after
           (rests f i (locals i) is (quiet_with_block f i (locals i) b is e));
+      rests = ap (λ q. q.count) (rests f i (locals i) is (quiet_with_block f i (locals i) b is e));
     }
 
 -- ---- an interruption that waits
@@ -197,6 +199,7 @@ taken_leaves text storage locals i w none e =
             waiting = interruptions k;
           });
       followed = left_at_rest text locals i after refl;
+      rests = refl;
     }
 
 pub interruption_leaves : (text : List ℕ) (storage : Storage) (locals : ℕ → Local) (i : ℕ) (w : Waiting)
@@ -233,4 +236,5 @@ stop_leaves text storage locals i e is acts quiet h =
             waiting = interruptions k;
           });
       followed = left_at_rest text locals i record { local = left; storage = storage } refl;
+      rests = refl;
     }

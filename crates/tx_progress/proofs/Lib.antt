@@ -14,4 +14,5 @@ pub mod Moving
 pub mod Endings
 pub mod Facts
 pub mod Limits
+pub mod Quiet
 mod Examples

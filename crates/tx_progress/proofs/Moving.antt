@@ -18,7 +18,7 @@ use Rattle.tx_serial.specs.Attempt.{Open, Committed}
 use Rattle.tx_serial.specs.Fate.{Goes, fate}
 use Rattle.tx_serial.specs.Flat.{Storage, FlatState, at_put, laid_over, operand_stores, operand_bytes}
 use Rattle.tx_serial.specs.Run.{run, may_follow, mark_in, nest_after, outcome_of}
-use Rattle.tx_progress.specs.Followed.{Advances, beside_in, flat_after, Leaves, GoesOnAs}
+use Rattle.tx_progress.specs.Followed.{Advances, beside_in, flat_after, Leaves, GoesOnAs, RunTells}
 use Rattle.tx_progress.specs.Local.{Local, Beside, flat_from}
 use Rattle.tx_progress.specs.Doing.{Executed, executed, executed_where, outside, stores_of}
 use Rattle.tx_progress.specs.Doing.{inside, closed_by, committed, going_on}
@@ -147,6 +147,7 @@ step_leaves text storage locals i instr ranges is acts quiet plain h =
           ∙ ap Some (outside_flat text storage locals i instr ranges o rest);
       followed = left_at_rest text locals i (outside instr ranges b o)
           (outside_rests storage locals i instr ranges o rest);
+      rests = ap (λ q. q.count) (outside_rests storage locals i instr ranges o rest);
     }
 
 -- ---- one instruction more
@@ -186,9 +187,10 @@ one_more f i local instr ranges c bytes is h follows o =
 goes_on_as : (text : List ℕ) (storage : Storage) (locals : ℕ → Local) (i : ℕ) (next : Progress)
     → progress_of (run (flat_from text storage locals) i next.count) ≡ next
     → (run (flat_from text storage locals) i next.count).mark ≡ Open
-    → may_act (flat_from text storage locals) i ≡ true
+    → may_act (flat_from text storage locals) i ≡ true → next.count ≡ (locals i).attempt.count + 1
     → GoesOnAs text storage locals i (going_on next (beside_in storage locals i))
-goes_on_as text storage locals i next e opens acts =
+goes_on_as text storage locals i next e opens acts count =
+    let n : suc (locals i).attempt.count ≡ next.count = omega (arith, count) in
     let after = going_on next (beside_in storage locals i) in
     let same = same_flat text storage locals i after.local refl refl refl in
     record {
@@ -201,6 +203,8 @@ goes_on_as text storage locals i next e opens acts =
         opens = ap (λ g. (run g i next.count).mark) same ∙ opens;
         acts = λ live. ap (λ g. may_act g i) same ∙ acts;
       };
+      count = count;
+      mark = ap (λ m. (run (flat_from text storage locals) i m).mark) n ∙ opens;
     }
 
 -- ---- a transaction is begun, or goes on
@@ -235,7 +239,7 @@ begin_leaves text storage locals i instr ranges is acts quiet begin h =
     (sym (executed_is instr ranges b false true quiet begin ∙ ap (executed_where false true instr ranges b)
     d.is))
     (goes_on_as text storage locals i (next_of (locals i) instr ranges d.cpu d.bytes) more.progress
-    (more.mark ∙ opens) acts)
+    (more.mark ∙ opens) acts refl)
 
 pub going_leaves : (text : List ℕ) (storage : Storage) (locals : ℕ → Local) (i : ℕ) (instr : Instr)
     (ranges : List Range) → IsFollowed (flat_from text storage locals) i (locals i)
@@ -262,7 +266,7 @@ going_leaves text storage locals i instr ranges is live h told =
     closed c bytes [] more t = absurd (cc)
     closed c bytes (outermost ∷ inner) more t =
         goes_on_as text storage locals i (next_of (locals i) instr ranges c bytes) more.progress more.mark
-        (is.acts live)
+        (is.acts live) refl
 
     by : (o : Outcome) → may_follow (run (flat_from text storage locals) i (locals i).attempt.count).nest
         instr
@@ -312,6 +316,7 @@ commits text storage locals i n next e marked acts =
             waiting = interruptions k;
           });
       followed = left_at_rest text locals i after refl;
+      rests = refl;
     }
 
 pub commit_leaves : (text : List ℕ) (storage : Storage) (locals : ℕ → Local) (i n : ℕ) (instr : Instr)
@@ -354,3 +359,37 @@ commit_leaves text storage locals i n instr ranges is live h told =
     by (outcome.Overflowed c bytes) follows o t = absurd (cc)
     by Divides follows o t = absurd (cc)
     by (Aborts code) follows o t = absurd (cc)
+
+-- ---- what the run shows
+
+told_by : (text : List ℕ) (storage : Storage) (locals : ℕ → Local) (i : ℕ) (c : Cpu) (bytes : List ℕ)
+    (instr : Instr) (ranges : List Range) (nest : List Begin)
+    → Advances (run (flat_from text storage locals) i (next_of (locals i) instr ranges c bytes).count) instr
+    ranges c bytes (locals i).attempt (mark_in nest)
+    → let e : Executed = closed_by (next_of (locals i) instr ranges c bytes) nest (beside_in storage locals
+    i) in
+    RunTells text (run (flat_from text storage locals) i (locals i).attempt.count)
+    (run (flat_from text storage locals) i (suc (locals i).attempt.count)) (locals i).attempt.count e.after
+    e.told
+told_by text storage locals i c bytes instr ranges [] more =
+    let n : suc (locals i).attempt.count ≡ (locals i).attempt.count + 1 = omega arith in
+    (refl, ap (λ m. (run (flat_from text storage locals) i m).mark) n ∙ more.mark)
+told_by text storage locals i c bytes instr ranges (outermost ∷ inner) more =
+    let n : suc (locals i).attempt.count ≡ (locals i).attempt.count + 1 = omega arith in
+    ap (λ m. (run (flat_from text storage locals) i m).mark) n ∙ more.mark
+
+pub completed_tells : (text : List ℕ) (storage : Storage) (locals : ℕ → Local) (i : ℕ) (instr : Instr)
+    (ranges : List Range) (c : Cpu) (bytes : List ℕ)
+    → IsFollowed (flat_from text storage locals) i (locals i)
+    → is_live (locals i).attempt ≡ true
+    → fate_by_progress text storage (locals i).attempt ≡ Goes instr ranges
+    → outcome_by storage instr ranges (locals i).attempt ≡ Did c bytes
+    → let e : Executed = inside instr ranges (beside_in storage locals i) (Did c bytes) in
+    RunTells text (run (flat_from text storage locals) i (locals i).attempt.count)
+    (run (flat_from text storage locals) i (suc (locals i).attempt.count)) (locals i).attempt.count e.after
+    e.told
+completed_tells text storage locals i instr ranges c bytes is live h came =
+    let f = flat_from text storage locals in
+    told_by text storage locals i c bytes instr ranges (next_of (locals i) instr ranges c bytes).nest
+    (one_more f i (locals i) instr ranges c bytes is h
+    (live_follows f i (locals i).attempt.count instr is.opens live) came)

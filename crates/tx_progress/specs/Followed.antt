@@ -1,6 +1,6 @@
 -- What is said of runs that are followed: one instruction more, flat states that are the same to a CPU, and
 -- what an entry leaves.
-use Rattle.std.specs.Prelude.{◌≡◌, ℕ, ◌+◌, ◌/◌, ◌≤◌, true, ◌||◌, List, length, Some}
+use Rattle.std.specs.Prelude.{◌≡◌, ◌⊎◌, ℕ, suc, ◌+◌, ◌/◌, ◌≤◌, true, ◌||◌, List, length, Some}
 use Rattle.z_regs.specs.Cpu.{Cpu}
 use Rattle.z_regs.specs.declared.ranges.Range.{Range}
 use Rattle.z_instr.specs.declared.instr.Instr.{Instr}
@@ -11,11 +11,15 @@ use Rattle.tx_footprint.specs.declared.places.TheConstants.{LINE_SIZE}
 use Rattle.tx_journal.specs.declared.entries.Entry.{Entry}
 use Rattle.tx_serial.specs.Apply.{apply}
 use Rattle.tx_serial.specs.Flat.{FlatState, Storage, at_put}
-use Rattle.tx_serial.specs.Attempt.{Run, Mark}
+use Rattle.tx_serial.specs.Attempt.{Run, Mark, Open, Committed, Overflowed, Missing}
+use Rattle.tx_serial.specs.Ending.{ending}
+use Rattle.tx_serial.specs.Run.{run}
 use Rattle.tx_serial.specs.Text.{SameText}
 use Rattle.tx_progress.specs.Progress.{Progress, advanced}
 use Rattle.tx_progress.specs.Doing.{stores_of}
 use Rattle.tx_progress.specs.Local.{Local, Beside, flat_from}
+use Rattle.tx_progress.specs.declared.done.Done.{Done}
+use Rattle.tx_progress.specs.declared.done.Done.TheVariants as done
 use Rattle.tx_progress.specs.Reached.{progress_of, IsFollowed}
 
 -- the longer run, after an instruction that has left this CPU and these bytes
@@ -48,12 +52,28 @@ pub record Leaves (text : List ℕ) (storage : Storage) (locals : ℕ → Local)
     (after : Beside) : Type 0 where
   pub applied : apply (flat_from text storage locals) e ≡ Some (flat_after text locals i after)
   pub followed : IsFollowed (flat_after text locals i after) i after.local
+  pub rests : after.local.attempt.count ≡ 0
 
--- no entry, and storage stays; what is left of the CPU is followed
+-- no entry, and storage stays: the attempt goes on with one instruction more, and what is left of the CPU is
+-- followed
 pub record GoesOnAs (text : List ℕ) (storage : Storage) (locals : ℕ → Local) (i : ℕ) (after : Beside)
     : Type 0 where
   pub same : flat_after text locals i after ≡ flat_from text storage locals
   pub followed : IsFollowed (flat_after text locals i after) i after.local
+  pub count : after.local.attempt.count ≡ (locals i).attempt.count + 1
+  pub mark : (run (flat_from text storage locals) i (suc (locals i).attempt.count)).mark ≡ Open
+
+-- What a live attempt tells of an instruction that goes is what the run shows with one instruction more: it
+-- is open, it is committed, or there is a cause by which it ends, with that instruction or without it.
+abbrev pub RunTells : List ℕ → Run → Run → ℕ → Beside → Done → Type 0
+RunTells text p next n after done.Stepped = next.mark ≡ Open
+RunTells text p next n after (done.Committed m) = (m ≡ n + 1) × (next.mark ≡ Committed)
+RunTells text p next n after (done.Ended why) =
+    ((next.mark ≡ Overflowed) × (ending text next ≡ Some why) × (after.local.attempt.count ≡ n + 1))
+    ⊎ ((next.mark ≡ Missing) × (ending text p ≡ Some why) × (after.local.attempt.count ≡ n))
+RunTells text p next n after (done.Paused turns) = ⊥
+RunTells text p next n after done.Began = ⊥
+RunTells text p next n after (done.Interrupted code) = ⊥
 
 -- ---- constrained attempts
 
@@ -67,6 +87,7 @@ pub record KeepsTo (c : Cpu) (q : Progress) : Type 0 where
   pub begin : kept.begin ≡ c.address
   pub counted : q.count ≡ kept.count + 1
   pub octowords : length kept.octowords ≤ 4
+  pub single : length q.nest ≡ 1
 
 -- ---- limits
 

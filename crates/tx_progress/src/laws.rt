@@ -20,7 +20,7 @@ ghost use Rattle.tx_control.specs.declared.exceptions.Exception.{Exception};
 ghost use Rattle.line_table.specs.declared.table.TheConstants.{LINES};
 ghost use Rattle.tx_footprint.specs.declared.places.TheConstants.{LINE_SIZE, BLOCK_SIZE};
 ghost use Rattle.tx_journal.specs.declared.entries.Entry.TheVariants.{Step, Commit, Abort, Tdb, Interrupt};
-ghost use Rattle.tx_serial.specs.Alike.{touched_addresses, AreAlike};
+ghost use Rattle.tx_serial.specs.Alike.{track_of, touched_addresses, AreAlike};
 ghost use Rattle.tx_serial.specs.Apply.{may_act};
 ghost use Rattle.tx_serial.specs.Attempt.{Open, Overflowed, Missing, footprint};
 ghost use Rattle.tx_serial.specs.Ending.{fits};
@@ -29,7 +29,7 @@ ghost use Rattle.tx_serial.specs.Flat.{FlatState, Storage, Pending};
 ghost use Rattle.tx_serial.specs.Run.{run, may_follow, mark_in, nest_after, outcome_of};
 ghost use Rattle.tx_progress.specs.Doing.{executed, stopped};
 ghost use Rattle.tx_progress.specs.Followed.{Advances, AreSameTo, beside_in, Leaves, GoesOnAs, KeepsTo};
-ghost use Rattle.tx_progress.specs.Followed.{KeepsLimits};
+ghost use Rattle.tx_progress.specs.Followed.{KeepsLimits, RunTells};
 ghost use Rattle.tx_progress.specs.Local.{Local, flat_from, aborted, block_stored, interruption_taken};
 ghost use Rattle.tx_progress.specs.Progress.{resting, seen_through, is_live};
 ghost use Rattle.tx_progress.specs.Reached.{progress_of, IsFollowed};
@@ -75,6 +75,26 @@ pub fn others_stay_followed()
     ensures same { (f g : FlatState) (i : ℕ) (local : Local) → IsFollowed f i local
         → is_prefix (f.cpus i).prefix ≡ true → AreSameTo i local.attempt.footprint f g
         → IsFollowed g i local }
+    ensures run { (f g : FlatState) (i : ℕ) (local : Local) → IsFollowed f i local
+        → is_prefix (f.cpus i).prefix ≡ true → AreSameTo i local.attempt.footprint f g
+        → track_of (run g i local.attempt.count) ≡ track_of (run f i local.attempt.count) }
+    ensures fate { (f g : FlatState) (i : ℕ) (local : Local) → IsFollowed f i local
+        → is_prefix (f.cpus i).prefix ≡ true → AreSameTo i local.attempt.footprint f g
+        → fate_by_progress g.text g.storage local.attempt ≡ fate_by_progress f.text f.storage local.attempt }
+{}
+
+/// The fate of the next instruction of what is followed, and its outcome, are those of its run. A test ends
+/// an attempt only where one is live, and an exception stops the program only where none is.
+pub fn what_is_followed_has_the_fate_of_its_run()
+    ensures fate { (f : FlatState) (i : ℕ) (local : Local) → IsFollowed f i local
+        → fate f.text (run f i local.attempt.count) ≡ fate_by_progress f.text f.storage local.attempt }
+    ensures outcome { (f : FlatState) (i : ℕ) (local : Local) (instr : Instr) (ranges : List Range)
+        → IsFollowed f i local → outcome_of instr ranges (run f i local.attempt.count)
+        ≡ outcome_by f.storage instr ranges local.attempt }
+    ensures ends { (f : FlatState) (i : ℕ) (local : Local) (why : Why) → IsFollowed f i local
+        → fate_by_progress f.text f.storage local.attempt ≡ Ends why → is_live local.attempt ≡ true }
+    ensures stops { (f : FlatState) (i : ℕ) (local : Local) (e : Exception) → IsFollowed f i local
+        → fate_by_progress f.text f.storage local.attempt ≡ Stops e → is_live local.attempt ≡ false }
 {}
 
 /// What may come from outside fits, by what is followed of a live attempt: an interruption, a conflict on a
@@ -145,6 +165,14 @@ pub fn a_step_leaves_what_its_entry_does()
 /// nothing changed in flat storage; it is committed, as its entry says; or it has come to a cause, and the
 /// abort by that leaves what its entry says, with the address of this instruction.
 pub fn what_an_instruction_tells_is_so()
+    ensures tells { (text : List ℕ) (storage : Storage) (locals : ℕ → Local) (i : ℕ) (instr : Instr)
+        (ranges : List Range) → IsFollowed (flat_from text storage locals) i (locals i)
+        → is_live (locals i).attempt ≡ true
+        → fate_by_progress text storage (locals i).attempt ≡ Goes instr ranges
+        → RunTells text (run (flat_from text storage locals) i (locals i).attempt.count)
+        (run (flat_from text storage locals) i (suc (locals i).attempt.count)) (locals i).attempt.count
+        (executed instr ranges (beside_in storage locals i)).after
+        (executed instr ranges (beside_in storage locals i)).told }
     ensures stepped { (text : List ℕ) (storage : Storage) (locals : ℕ → Local) (i : ℕ) (instr : Instr)
         (ranges : List Range) → IsFollowed (flat_from text storage locals) i (locals i)
         → is_live (locals i).attempt ≡ true
