@@ -1,7 +1,7 @@
 -- The statements of a text, one after the other, each doing what its operation does.
 use Rattle.std.proofs.Common.{◌≡◌, ℕ, zero, suc, ◌+◌, ◌<◌, false, List, [], ◌∷◌}
 use Rattle.std.proofs.Common.{◌++◌, length, get_or, Option, Some, None, Result, Ok, Err, refl, sym, ap}
-use Rattle.std.proofs.Common.{subst, arith, inl, inr, ◌⊎◌}
+use Rattle.std.proofs.Common.{subst, arith, inl, inr, ◌⊎◌, ◌∙◌}
 use Rattle.std.specs.List.{Contains}
 use Rattle.z_text.specs.Line.{span}
 use Rattle.z_text.specs.Tokens.{tokens_of}
@@ -14,7 +14,7 @@ use Rattle.z_operands.specs.declared.fault.Kind.TheVariants.{BadDirective, Doubl
 use Rattle.z_operands.specs.declared.operation.Operation.{Operation}
 use Rattle.z_assemble.specs.Listing.{Plan, by_kind, said_line, named_line, operation_line, line_gives}
 use Rattle.z_assemble.specs.Listing.{is_bad_label, is_defined, label_in, operands_in, operation_in}
-use Rattle.z_assemble.specs.Machine.{tokens_in, tokens_or}
+use Rattle.z_assemble.specs.Machine.{tokens_in, tokens_or, end_of}
 use Rattle.z_assemble.specs.Statements.{Statement, said_by, said_with, said_on, said_from, behind}
 use Rattle.z_assemble.specs.Whole.{First}
 use Rattle.z_assemble.proofs.Passed.{unless_ok, same_ok}
@@ -25,6 +25,7 @@ pub record Acts (s : Statement) (p r : Plan) : Type 0 where
   pub here : s.here ≡ p.here
   pub labels : s.labels ≡ p.labels
   pub tokens : s.operands ≡ operands_in (tokens_in s.text)
+  pub end_is : s.end ≡ end_of (operation_in (tokens_in s.text))
   pub fine : is_bad_label s.operation s.label ≡ false
   pub new : is_defined s.label p.labels ≡ false
   pub known : IsInTable s.operation
@@ -43,11 +44,11 @@ Leaves [] p r = p ≡ r
 Leaves (s ∷ ss) p r = (ss ≡ []) × Acts s p r
 
 named_leaves : (m : Option Operation) (n : ℕ) (line : List ℕ) (ts : List Token) (o : Token) (p r : Plan) →
-    tokens_in line ≡ ts → IsAnyInTable m →
+    tokens_in line ≡ ts → operation_in ts ≡ Some o → IsAnyInTable m →
     named_line m n (label_in line ts) line o.end (operands_in ts) p ≡ Ok r →
     Leaves (said_by m n line ts o p) p r
-named_leaves None n line ts o p r same known e = absurd (cc)
-named_leaves (Some op) n line ts o p r same known e =
+named_leaves None n line ts o p r same found known e = absurd (cc)
+named_leaves (Some op) n line ts o p r same found known e =
     let a = unless_ok (is_bad_label op (label_in line ts)) _ r BadDirective e in
     let b = unless_ok (is_defined (label_in line ts) p.labels) _ r DoubleLabel a.1 in (
       refl,
@@ -55,6 +56,7 @@ named_leaves (Some op) n line ts o p r same known e =
         here = refl;
         labels = refl;
         tokens = ap operands_in (sym same);
+        end_is = sym (ap (λ q. end_of (operation_in q)) same ∙ ap end_of found);
         fine = a.0;
         new = b.0;
         known = known;
@@ -63,18 +65,18 @@ named_leaves (Some op) n line ts o p r same known e =
     )
 
 said_leaves : (n : ℕ) (line : List ℕ) (ts : List Token) (o : Option Token) (p r : Plan) →
-    tokens_in line ≡ ts →
+    tokens_in line ≡ ts → operation_in ts ≡ o →
     said_line n line ts o p ≡ Ok r → Leaves (said_with n line ts o p) p r
-said_leaves n line ts None p r same e = same_ok p r e
-said_leaves n line ts (Some o) p r same e =
+said_leaves n line ts None p r same found e = same_ok p r e
+said_leaves n line ts (Some o) p r same found e =
     let a = unless_ok p.ended _ r BadDirective e in
-    named_leaves (operation_named (span o.first o.end line)) n line ts o p r same
+    named_leaves (operation_named (span o.first o.end line)) n line ts o p r same found
     (operation_in_table (span o.first o.end line)) a.1
 
 split_leaves : (t : Result (List Token) TextFault) (n : ℕ) (line : List ℕ) (p r : Plan) →
     tokens_in line ≡ tokens_or t → (by_kind t >>= λ ts. said_line n line ts (operation_in ts) p) ≡ Ok r →
     Leaves (said_with n line (tokens_or t) (operation_in (tokens_or t)) p) p r
-split_leaves (Ok ts) n line p r same e = said_leaves n line ts (operation_in ts) p r same e
+split_leaves (Ok ts) n line p r same e = said_leaves n line ts (operation_in ts) p r same refl e
 split_leaves (Err k) n line p r same e = absurd (cc)
 
 tokens_are : (line : List ℕ) → tokens_in line ≡ tokens_or (tokens_of line)

@@ -92,7 +92,7 @@ pub record AreRead (p : Plan) (m : Machine) : Type 0 where
   pub low : (k : ℕ) → k < 8192 → get_or m.storage k 0 ≡ 0
   pub coded : All (IsCoded m.storage) p.tasks
 
-are_read : (p : Plan) (m : Machine) → IsPlan p → Second (known_in p) p.tasks (ready p) m → AreRead p m
+pub are_read : (p : Plan) (m : Machine) → IsPlan p → Second (known_in p) p.tasks (ready p) m → AreRead p m
 are_read p m i h =
     let same = ready_storage p.storage p.cpus in
     let size : length (ready p).storage ≡ 1048576 = ap length same ∙ i.size in

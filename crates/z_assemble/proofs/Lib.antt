@@ -15,3 +15,8 @@ pub mod Laid
 pub mod Lines
 pub mod Tasks
 pub mod Begun
+pub mod Effects
+pub mod Events
+pub mod Given
+pub mod Counted
+pub mod Entered

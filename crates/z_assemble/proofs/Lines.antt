@@ -16,14 +16,23 @@ use Rattle.z_operands.specs.declared.operation.Operation.TheVariants.{Instructio
 use Rattle.z_assemble.specs.Listing.{Plan, operands_in}
 use Rattle.z_assemble.specs.Machine.{Known, tokens_in}
 use Rattle.z_assemble.specs.Statements.{Statement, statements_of, IsNamed, HaveOtherLabels, Stand, IsPlaced}
+use Rattle.z_assemble.specs.Statements.{events_of, values_of, last_or, entry_of}
 use Rattle.z_assemble.specs.Statements.{Covers}
 use Rattle.z_assemble.specs.Statements.{AreApart, bytes_with, IsInstruction, IsStarted}
 use Rattle.z_assemble.specs.Text.{lines_of, copies}
-use Rattle.z_assemble.specs.Whole.{Stands, blank, ready, known_in, image_of, places_from}
+use Rattle.z_assemble.specs.Whole.{Stands, blank, ready, known_in, image_of, places_from, ready_for}
 use Rattle.z_assemble.proofs.Acted.{Walk, walk, first_is}
 use Rattle.z_assemble.proofs.Begun.{all_begun, place_there}
 use Rattle.z_assemble.proofs.Codes.{stays}
-use Rattle.z_assemble.proofs.Images.{ready_storage}
+use Rattle.z_assemble.proofs.Events.{events_are}
+use Rattle.z_assemble.proofs.Given.{registers_are, IsThere}
+use Rattle.z_assemble.proofs.Entered.{entries_again, entries_count, entries_of, all_entered}
+use Rattle.z_assemble.proofs.Counted.{all_counted}
+use Rattle.z_assemble.proofs.Images.{ready_storage, are_read}
+use Rattle.z_regs.specs.Cpu.{Cpu, started}
+use Rattle.std.proofs.Common.{replicate, map}
+use Rattle.std.proofs.lemmas.Grind.{same_number_lists}
+use Rattle.std.proofs.lemmas.List.{get_or-replicate, length-replicate, length-map, get_or-map}
 use Rattle.z_assemble.proofs.Laid.{all_laid, laid_once, LayApart, laid_with, LaysAt, Laid, IsClean, all_clean}
 use Rattle.z_assemble.proofs.Laid.{marks_from, IsInside}
 use Rattle.z_assemble.proofs.Named.{labels_from, labels_given, named_once}
@@ -326,3 +335,107 @@ starts_hold text image s at = (
       (all_begun (statements_of text) blank s.plan (walked text image s) blank_begins i.statement i.among
       i.instruction))),
 )
+
+-- ---- events
+
+no_events_first : (storage : List ℕ) (n : ℕ) → (ready_for storage n).schedule ≡ []
+unfolding ready_for
+no_events_first storage n = refl
+
+image_schedule : (text : List ℕ) (image : Content) (s : Stands text image) →
+    image.schedule ≡ s.machine.schedule
+unfolding image_of
+image_schedule text image s = ap (λ (i : Content). i.schedule) s.is
+
+pub events_hold : (text : List ℕ) (image : Content) → Stands text image →
+    image.schedule ≡ flat_map events_of (statements_of text)
+events_hold text image s =
+    image_schedule text image s
+    ∙ events_are (known_in s.plan) (statements_of text) blank s.plan s.plan.tasks (ready s.plan) s.machine
+    (walked text image s) (all_tasks text image s) s.second (no_events_first s.plan.storage s.plan.cpus)
+
+-- ---- registers
+
+image_cpus : (text : List ℕ) (image : Content) (s : Stands text image) → image.cpus ≡ s.machine.cpus
+unfolding image_of
+image_cpus text image s = ap (λ (i : Content). i.cpus) s.is
+
+ready_cpus : (storage : List ℕ) (n : ℕ) → (ready_for storage n).cpus ≡ replicate n (started 0)
+unfolding ready_for
+ready_cpus storage n = refl
+
+ready_general : (p : Plan) (cpu : ℕ) (d : Cpu) → cpu < p.cpus →
+    (get_or (ready p).cpus cpu d).general ≡ replicate 16 0
+ready_general p cpu d h =
+    ap (λ cs. (get_or cs cpu d).general) (ready_cpus p.storage p.cpus)
+    ∙ ap (λ (c : Cpu). c.general) (get_or-replicate p.cpus cpu (started 0) d h)
+
+ready_count : (p : Plan) → length (ready p).cpus ≡ p.cpus
+ready_count p = ap length (ready_cpus p.storage p.cpus) ∙ length-replicate p.cpus (started 0)
+
+-- as many CPUs as there were at first
+image_count : (text : List ℕ) (image : Content) (s : Stands text image) → length image.cpus ≡ s.plan.cpus
+image_count text image s =
+    ap length (image_cpus text image s)
+    ∙ (are_read s.plan s.machine (first_fits 1 (lines_of text) s.plan s.first) s.second).machine.cpus.count_is
+
+pub registers_hold : (text : List ℕ) (image : Content) (s : Stands text image) (cpu r : ℕ) (d : Cpu) →
+    cpu < length image.cpus → r < 16 →
+    get_or (get_or image.cpus cpu d).general r 0
+    ≡ last_or 0 (flat_map (values_of s.plan.labels cpu r) (statements_of text))
+registers_hold text image s cpu r d h l =
+    let n = image_count text image s in
+    let g = ready_general s.plan cpu d (omega arith) in
+    let c = ready_count s.plan in
+    let there : IsThere cpu r d (ready s.plan) =
+    record { there = omega arith; size = ap length g ∙ length-replicate {A = ℕ} 16 0 } in
+    ap (λ cs. get_or (get_or cs cpu d).general r 0) (image_cpus text image s)
+    ∙ registers_are cpu r d (known_in s.plan) (statements_of text) blank s.plan s.plan.tasks
+    (ready s.plan) s.machine
+    (walked text image s) (all_tasks text image s) s.second l there
+    (ap (λ q. get_or q r 0) g ∙ get_or-replicate 16 r 0 0 l)
+
+-- ---- CPUs
+
+no_cpus_first : blank.cpus ≡ 0
+unfolding blank
+no_cpus_first = refl
+
+none_entered : (storage : List ℕ) (n : ℕ) → (ready_for storage n).entered ≡ 0
+unfolding ready_for
+none_entered storage n = refl
+
+-- as many lines that are read again have a CPU enter as there are CPUs
+again_count : (text : List ℕ) (image : Content) (s : Stands text image) →
+    length (flat_map (entries_again (known_in s.plan)) s.plan.tasks) ≡ s.plan.cpus
+again_count text image s =
+    let ss = statements_of text in
+    let n = entries_count (known_in s.plan) ss s.plan.tasks (ready s.plan) s.machine
+    (all_tasks text image s) s.second in
+    let c = all_counted ss blank s.plan (walked text image s) in
+    let z = no_cpus_first in
+    omega (arith, n, c, z)
+
+pub entries_hold : (text : List ℕ) (image : Content) (s : Stands text image) →
+    map (λ (c : Cpu). c.address) image.cpus ≡ flat_map (entry_of s.plan.labels) (statements_of text)
+entries_hold text image s =
+    let k = known_in s.plan in
+    let m = ready s.plan in
+    let values = flat_map (entries_again k) s.plan.tasks in
+    let zero_first : m.entered ≡ 0 = none_entered s.plan.storage s.plan.cpus in
+    let n : length values ≡ s.plan.cpus = again_count text image s in
+    let c : length m.cpus ≡ s.plan.cpus = ready_count s.plan in
+    let a = all_entered k s.plan.tasks m s.machine s.second (omega arith) in
+    let count : length image.cpus ≡ s.plan.cpus = image_count text image s in
+    let size : length (map (λ (c : Cpu). c.address) image.cpus) ≡ length values =
+    length-map image.cpus (λ (c : Cpu). c.address) ∙ (omega arith) in
+    same_number_lists (map (λ (c : Cpu). c.address) image.cpus) values size
+    (λ i l.
+    let long : length (map (λ (c : Cpu). c.address) image.cpus) ≡ length image.cpus =
+    length-map image.cpus (λ (c : Cpu). c.address) in
+    let inside : i < length image.cpus = omega arith in
+    get_or-map (λ (c : Cpu). c.address) image.cpus i (started 0) 0 inside
+    ∙ ap (λ cs. (get_or cs i (started 0)).address) (image_cpus text image s)
+    ∙ a.there i i (started 0) (omega arith) (omega arith))
+    ∙ ap (flat_map (entries_again k)) (all_tasks text image s)
+    ∙ entries_of k (statements_of text) blank s.plan (walked text image s)

@@ -44,7 +44,7 @@ use Rattle.z_assemble.proofs.Passed.{then_ok, where_ok, same_ok, not_true, is_tr
 
 -- ---- one element changed
 
-change_length : {X : Type 0} (i : ℕ) (f : X → X) (xs : List X) → length (change_at i f xs) ≡ length xs
+pub change_length : {X : Type 0} (i : ℕ) (f : X → X) (xs : List X) → length (change_at i f xs) ≡ length xs
 change_length i f [] = refl
 change_length zero f (x ∷ xs) = refl
 change_length (suc i) f (x ∷ xs) = ap suc (change_length i f xs)
@@ -56,7 +56,7 @@ change_all P zero f (x ∷ xs) h a = All-cons P (f x) xs (h x (All-head P x xs a
 change_all P (suc i) f (x ∷ xs) h a = All-cons P x (change_at i f xs) (All-head P x xs a)
     (change_all P i f xs h (All-tail P x xs a))
 
-change_other : {X : Type 0} (i : ℕ) (f : X → X) (xs : List X) (k : ℕ) (d : X) → k ≢ i →
+pub change_other : {X : Type 0} (i : ℕ) (f : X → X) (xs : List X) (k : ℕ) (d : X) → k ≢ i →
     get_or (change_at i f xs) k d ≡ get_or xs k d
 change_other i f [] k d n = refl
 change_other zero f (x ∷ xs) zero d n = absurd (n refl)
@@ -64,7 +64,7 @@ change_other zero f (x ∷ xs) (suc k) d n = refl
 change_other (suc i) f (x ∷ xs) zero d n = refl
 change_other (suc i) f (x ∷ xs) (suc k) d n = change_other i f xs k d (λ e. n (ap suc e))
 
-change_same : {X : Type 0} (i : ℕ) (f : X → X) (xs : List X) (d : X) → i < length xs →
+pub change_same : {X : Type 0} (i : ℕ) (f : X → X) (xs : List X) (d : X) → i < length xs →
     get_or (change_at i f xs) i d ≡ f (get_or xs i d)
 change_same i f [] d h = absurd (omega arith)
 change_same zero f (x ∷ xs) d h = refl

@@ -34,8 +34,7 @@ pub record Task : Type 0 where
   pub operation : Operation
 
 -- what the lines so far have made: the location, the labels, the bytes, which of them are placed and at which
--- an instruction
--- starts, whether END was there, how many CPUs there are, and the lines that are read again
+-- an instruction starts, whether END was there, how many CPUs there are, and the lines that are read again
 pub record Plan : Type 0 where
   pub here : ℕ
   pub labels : Table

@@ -35,8 +35,7 @@ use Rattle.z_assemble.specs.declared.parameter.Parameter.{Parameter}
 use Rattle.z_assemble.specs.declared.parameter.Parameter.TheVariants.{Reject, Firm, Late, Starve, Stop, Delay}
 
 -- what the lines so far have made of the machine: storage, the CPUs and how many of them have their entries,
--- what is shown, the
--- schedule and whether there is one, and the numbers of the retry ladder
+-- what is shown, the schedule and whether there is one, and the numbers of the retry ladder
 pub record Machine : Type 0 where
   pub storage : List ℕ
   pub cpus : List Cpu

@@ -1,21 +1,26 @@
 -- What the lines of a text say, each line where it stands: what laws about whole texts speak of.
 use Rattle.std.specs.Prelude.{◌≡◌, ◌≢◌, ℕ, ℤ, pos, ◌+◌, ◌<◌, ◌≤◌, List, [], ◌∷◌, ◌++◌, length, Option, Some}
 use Rattle.std.specs.Prelude.{None}
-use Rattle.std.specs.Prelude.{Result, Ok, Err, slice_index}
-use Rattle.std.specs.List.{Contains}
+use Rattle.std.specs.Prelude.{Result, Ok, Err, slice_index, replicate, ◌&&◌, ◌==◌, if◌then◌else◌}
+use Rattle.std.specs.List.{Contains, flat_map}
 use Rattle.z_text.specs.Line.{span}
 use Rattle.z_text.specs.declared.token.Token.{Token}
+use Rattle.z_instr.specs.Reading.{modulo}
 use Rattle.z_instr.specs.Table.{entry_at}
 use Rattle.z_operands.specs.Chain.{◌>>=◌}
 use Rattle.z_operands.specs.Code.{code_for}
 use Rattle.z_operands.specs.Data.{data_of}
 use Rattle.z_operands.specs.Operations.{operation_named}
-use Rattle.z_operands.specs.Pieces.{without_end}
-use Rattle.z_operands.specs.Values.{Table, operands_on, one_in}
+use Rattle.z_operands.specs.Pieces.{without_end, pieces_by, shortened}
+use Rattle.z_operands.specs.Schedule.{run_of, event_of}
+use Rattle.z_operands.specs.Values.{Table, operands_on, one_in, three_in}
 use Rattle.z_operands.specs.declared.fault.Kind.{Kind}
 use Rattle.z_operands.specs.declared.fault.Kind.TheVariants.{BadDirective, WrongOperands}
 use Rattle.z_operands.specs.declared.operation.Operation.{Operation}
-use Rattle.z_operands.specs.declared.operation.Operation.TheVariants.{Instruction, Equ, Ds, Dc}
+use Rattle.z_operands.specs.declared.schedule.Run.{Run}
+use Rattle.tx_journal.specs.declared.events.Event.{Event}
+use Rattle.z_operands.specs.declared.operation.Operation.TheVariants.{Instruction, Equ, Ds, Dc, Cpu, Reg}
+use Rattle.z_operands.specs.declared.operation.Operation.TheVariants.{Sched}
 use Rattle.z_assemble.specs.Listing.{Plan, line_gives, label_in, operands_in, operation_in, field_behind}
 use Rattle.z_assemble.specs.Listing.{to_nat}
 use Rattle.z_assemble.specs.Machine.{tokens_in}
@@ -23,8 +28,7 @@ use Rattle.z_assemble.specs.Text.{lines_of, copies}
 use Rattle.z_assemble.specs.Whole.{blank}
 
 -- A line that says something: its number, its text, its location, the labels of the lines before it, its own
--- label
--- (empty where it has none), its operation, the place behind that, and the tokens of its operands.
+-- label (empty where it has none), its operation, the place behind that, and the tokens of its operands.
 pub record Statement : Type 0 where
   pub number : ℕ
   pub text : List ℕ
@@ -115,8 +119,7 @@ bytes_with Ds labels s = value_of s >>= λ n. Ok (copies (to_nat n) 0)
 bytes_with _ labels s = Ok []
 
 -- The bytes that a statement places at its location, by the values of all labels: the code of an instruction,
--- the data
--- of DC, zeros for DS, and none for another directive.
+-- the data of DC, zeros for DS, and none for another directive.
 abbrev pub bytes_of : Table → Statement → Result (List ℕ) Kind
 bytes_of labels s = bytes_with s.operation labels s
 
@@ -152,3 +155,58 @@ pub record IsStarted (ss : List Statement) (at : ℕ) : Type 0 where
   pub among : Contains ss statement
   pub instruction : IsInstruction statement.operation
   pub here : statement.here ≡ at
+
+-- ---- events
+
+abbrev pub events_of_run : Option Run → List Event
+events_of_run (Some r) = replicate r.count (event_of r.external r.cpu)
+events_of_run None = []
+
+-- the events of an item, which stands before its comma
+abbrev pub events_of_item : List ℕ → List Event
+events_of_item item = events_of_run (run_of (shortened item))
+
+-- the events of a field: its items have commas between them
+abbrev pub events_of_field : List ℕ → List Event
+events_of_field field = flat_map events_of_item (pieces_by 44 (field ++ 44 ∷ []))
+
+abbrev pub events_with : Operation → Statement → List Event
+events_with Sched s = events_of_field (field_behind s.end s.text)
+events_with _ s = []
+
+-- the events that a statement gives: those of SCHED
+abbrev pub events_of : Statement → List Event
+events_of s = events_with s.operation s
+
+-- ---- CPUs
+
+abbrev pub value_or_none : Result ℤ Kind → List ℕ
+value_or_none (Ok v) = to_nat v ∷ []
+value_or_none (Err k) = []
+
+abbrev pub entry_with : Operation → Table → Statement → List ℕ
+entry_with Cpu labels s = value_or_none (operands_on BadDirective s.text labels s.here s.operands >>= one_in)
+entry_with _ labels s = []
+
+-- the address where a statement has a CPU enter: that of CPU
+abbrev pub entry_of : Table → Statement → List ℕ
+entry_of labels s = entry_with s.operation labels s
+
+-- the value, where it is for this register of this CPU
+abbrev pub value_for : ℕ → ℕ → Result (ℤ × ℤ × ℤ) Kind → List ℕ
+value_for cpu r (Ok x) = if (to_nat x.0 == cpu) && (to_nat x.1 == r) then modulo 64 x.2 ∷ [] else []
+value_for cpu r (Err k) = []
+
+abbrev pub values_with : Operation → Table → ℕ → ℕ → Statement → List ℕ
+values_with Reg labels cpu r s =
+    value_for cpu r (operands_on BadDirective s.text labels s.here s.operands >>= three_in)
+values_with _ labels cpu r s = []
+
+-- the value that a statement gives to a general register of a CPU: that of REG
+abbrev pub values_of : Table → ℕ → ℕ → Statement → List ℕ
+values_of labels cpu r s = values_with s.operation labels cpu r s
+
+-- the last of them, or this one where there is none
+abbrev pub last_or : ℕ → List ℕ → ℕ
+last_or d [] = d
+last_or d (x ∷ xs) = last_or x xs

@@ -35,7 +35,8 @@ impl Model for Parts {
 
     ghost coded = { content_code };
 
-    ghost view = { λ i. content i.storage.items i.guard i.starts.items i.cpus.items i.shows.items i.schedule.items
+    ghost view = { λ i. content i.storage.items i.guard i.starts.items i.cpus.items i.shows.items
+        i.schedule.items
         i.scheduled i.parms };
 }
 

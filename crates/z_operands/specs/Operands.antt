@@ -100,8 +100,7 @@ with_operand (Some o) (Some os) = Some (o ∷ os)
 with_operand _ _ = None
 
 -- Operands with commas between them, if the parts are that. The first `skip` parts belong to the operand
--- before and the
--- comma behind it.
+-- before and the comma behind it.
 unfoldable pub operands_from : ℕ → List Atom → Option (List Operand)
 operands_from skip [] = Some []
 operands_from (suc k) (a ∷ rest) = operands_from k rest
@@ -271,8 +270,7 @@ fields_for None = no_fields
 fields_for (Some mask) = record no_fields { mask = mask }
 
 -- The fields of an instruction by its operands, or what is wrong with these: their form, a label, a range.
--- The mask is that
--- of an extended mnemonic.
+-- The mask is that of an extended mnemonic.
 unfoldable pub instruction_in : Entry → Option ℕ → ℕ → List Operand → Result Fields Kind
 instruction_in e mask here os =
     if not (has_form (slots_for e mask) os) then Err WrongOperands
