@@ -53,7 +53,7 @@ register_is n h = ap (λ b. if b then Some n else None) (lt-ltb n 16 h)
 displacement_is : (z : ℤ) → is_within long z ≡ true → displacement z ≡ Some z
 displacement_is z h = ap (λ b. if b then Some z else None) h
 
-immediate_is : (z : ℤ) → is_within (bounds (2 ^ 31) (2 ^ 32)) z ≡ true → immediate z ≡ Some z
+pub immediate_is : (z : ℤ) → is_within (bounds (2 ^ 31) (2 ^ 32)) z ≡ true → immediate z ≡ Some z
 immediate_is z h = ap (λ b. if b then Some z else None) h
 
 length_is : (z : ℤ) → is_within byte z ≡ true → length_code (pos (modulo 8 z + 1)) ≡ Some z
@@ -115,7 +115,7 @@ jump_is here z low near =
             ≡ negsuc (n + n + 1 - here) = omega (arith, ints) in
             ap (is_within (bounds (2 ^ 33) (2 ^ 33))) sum ∙ lt-ltb (n + n + 1 - here) (2 ^ 33) (omega arith)
 
-abbrev fields : ℕ → ℕ → ℕ → ℕ → ℕ → ℤ → ℕ → ℤ → ℤ → ℕ → Fields
+abbrev pub fields : ℕ → ℕ → ℕ → ℕ → ℕ → ℤ → ℕ → ℤ → ℤ → ℕ → Fields
 fields r1 r2 r3 x b d b2 d2 imm mask =
     record { r1 = r1; r2 = r2; r3 = r3; x = x; b = b; d = d; b2 = b2; d2 = d2; imm = imm; mask = mask }
 
@@ -181,17 +181,17 @@ second_ones RIEc s m o = refl
 -- ---- one operand after the other
 
 module _ (here : ℕ) where
-  goes : (s : Slot) (ss : List Slot) (o : read.Operand) (os : List read.Operand) (f g : Fields)
+  pub goes : (s : Slot) (ss : List Slot) (o : read.Operand) (os : List read.Operand) (f g : Fields)
       → with_slot here s o f ≡ Some g
       → fields_from here (s ∷ ss) (o ∷ os) f ≡ fields_from here ss os g
   unfolding fields_from
   goes s ss o os f g e = ap (λ r. r >>= fields_from here ss os) e
 
-  ends : (f : Fields) → fields_from here [] [] f ≡ Some f
+  pub ends : (f : Fields) → fields_from here [] [] f ≡ Some f
   unfolding fields_from
   ends f = refl
 
-  first_slot : (n : ℕ) (f : Fields) → n < 16
+  pub first_slot : (n : ℕ) (f : Fields) → n < 16
       → with_slot here slot.First (Plain (Some (pos n))) f ≡ Some (record f { r1 = n })
   first_slot n f h = ap (λ r. r >>= λ v. Some (record f { r1 = v })) (register_is n h)
 
@@ -207,7 +207,7 @@ module _ (here : ℕ) where
       → with_slot here slot.Mask (Plain (Some (pos n))) f ≡ Some (record f { mask = n })
   mask_slot n f h = ap (λ r. r >>= λ v. Some (record f { mask = v })) (register_is n h)
 
-  immediate_slot : (z : ℤ) (f : Fields) → immediate z ≡ Some z
+  pub immediate_slot : (z : ℤ) (f : Fields) → immediate z ≡ Some z
       → with_slot here slot.Immediate (Plain (Some z)) f ≡ Some (record f { imm = z })
   immediate_slot z f h = ap (λ r. r >>= λ v. Some (record f { imm = v })) h
 

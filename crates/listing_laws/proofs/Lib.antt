@@ -8,3 +8,12 @@ pub mod Given
 pub mod Few
 pub mod Printed
 pub mod Assembled
+pub mod Placed
+pub mod Terms
+pub mod Codes
+pub mod Again
+pub mod Texts
+pub mod Generated
+pub mod Programs
+pub mod Stand
+pub mod Listings

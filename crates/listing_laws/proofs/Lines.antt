@@ -8,7 +8,8 @@ use Rattle.std.specs.Prelude.{◌==◌, if◌then◌else◌, Ok, Err}
 use Rattle.std.specs.List.{prefix_len, list_all, list_any}
 use Rattle.std.specs.Char.{to_ascii_uppercase, is_ascii_uppercase, is_ascii_digit}
 use Rattle.std.proofs.lemmas.List.{drop_at, append-nil}
-use Rattle.std.proofs.lemmas.Bool.{and_parts, and_from, not-true}
+use Rattle.std.proofs.lemmas.Bool.Decides.{nat_tests}
+use Rattle.std.proofs.lemmas.Bool.{ne_eqb, and_parts, and_from, not-true}
 use Rattle.z_text.specs.Line.{as_read, span, past, is_blank, is_inked, is_letter_or_digit, fields_of}
 use Rattle.z_text.specs.Line.{says_nothing, is_name}
 use Rattle.z_text.specs.Line.{keeps_operands_whole, is_printed}
@@ -21,7 +22,9 @@ use Rattle.z_text.specs.declared.token.TokenKind.TheVariants.{Name}
 use Rattle.z_text.specs.declared.token.TextFault.TheVariants.{LineTooLong, BadNumber}
 use Rattle.listing_laws.proofs.Words.{Word, text_of, tokens_for, pieces_for, AreCut, Lie, span_is, they_lie}
 use Rattle.listing_laws.proofs.Words.{good_numbers, pieces_are, tokens_are, none_bad, all_capital}
-use Rattle.listing_laws.proofs.Words.{all_inked, map_over}
+use Rattle.listing_laws.proofs.Words.{all_inked, all_visible, map_over}
+use Rattle.std.proofs.Common.{nat_lt}
+use Rattle.listing_laws.proofs.Words.{all_over}
 
 -- operands behind a blank, nothing where there are none
 abbrev pub field : List Word → List ℕ
@@ -154,7 +157,7 @@ fields_for label op ws = record {
   operands_end = words_at label op ws + length (text_of ws);
 }
 
-abbrev token_at : ℕ → ℕ → Token
+abbrev pub token_at : ℕ → ℕ → Token
 token_at first end = record { first = first; end = end; kind = Name }
 
 -- the tokens of the label, where there is one, and of the operation
@@ -367,3 +370,54 @@ module _ (label op : List ℕ) (ws : List Word) (said : IsSaid label op ws) wher
       ∙ ap (with_numbers line) split_is
       ∙ ap (λ b. if b then Ok ts else Err BadNumber) (good_heads (tokens_for (words_at label op ws) ws)
       (good_numbers ws line (words_at label op ws) said.words words_lie))
+
+-- ---- bytes that a line has
+
+visible_name : (xs : List ℕ) → is_name xs ≡ true → list_all (λ b. nat_lt 31 b) xs ≡ true
+visible_name [] h = refl
+visible_name (x ∷ xs) h =
+    let parts = and_parts (is_ascii_uppercase x) (nat_le (length xs) 15 && list_all is_letter_or_digit xs) h
+    in
+    let rest = and_parts (nat_le (length xs) 15) (list_all is_letter_or_digit xs) parts.1 in
+    and_from _ _ (visible_letter x (upper_is_letter x parts.0)) (visible_letters xs rest.1)
+  where
+    visible_letter : (b : ℕ) → is_letter_or_digit b ≡ true → nat_lt 31 b ≡ true
+    visible_letter b h = grind (arith, nat_tests)
+
+    visible_letters : (ys : List ℕ) → list_all is_letter_or_digit ys ≡ true → list_all (λ b. nat_lt 31 b) ys
+        ≡ true
+    visible_letters [] h = refl
+    visible_letters (y ∷ ys) h =
+        let parts = and_parts (is_letter_or_digit y) (list_all is_letter_or_digit ys) h in
+        and_from _ _ (visible_letter y parts.0) (visible_letters ys parts.1)
+
+visible_label : (l : List ℕ) → is_label l ≡ true → list_all (λ b. nat_lt 31 b) l ≡ true
+visible_label [] h = refl
+visible_label (x ∷ xs) h = visible_name (x ∷ xs) h
+
+visible_field : (ws : List Word) → AreCut ws → list_all (λ b. nat_lt 31 b) (field ws) ≡ true
+visible_field [] cut = refl
+visible_field (w ∷ ws) cut = all_visible (w ∷ ws) cut
+
+module _ (label op : List ℕ) (ws : List Word) (said : IsSaid label op ws) where
+  -- the line has no line end
+  pub visible_line : list_all (λ b. nat_lt 31 b) (line_with label op ws) ≡ true
+  visible_line = all_over (λ b. nat_lt 31 b) label (32 ∷ (op ++ field ws)) (visible_label label
+      said.label_named)
+      (all_over (λ b. nat_lt 31 b) op (field ws) (visible_name op said.named) (visible_field ws said.words))
+
+  pub capital_line : as_read (line_with label op ws) ≡ line_with label op ws
+  capital_line = as_is label op ws said
+
+-- ---- the parts of a line in its tokens
+
+long_label : (b : ℕ) (bs : List ℕ) → (length (b ∷ bs) == 0) ≡ false
+long_label b bs = ne_eqb (length (b ∷ bs)) 0 (λ e. omega arith)
+
+pub named_heads : (b : ℕ) (bs op : List ℕ) (ts : List Token)
+    → heads (b ∷ bs) op ++ ts ≡ token_at 0 (length (b ∷ bs)) ∷ token_at (op_at (b ∷ bs)) (op_end (b ∷ bs) op)
+    ∷ ts
+named_heads b bs op ts =
+    ap (λ c. (if c then token_at (op_at (b ∷ bs)) (op_end (b ∷ bs) op) ∷ []
+    else token_at 0 (length (b ∷ bs)) ∷ token_at (op_at (b ∷ bs)) (op_end (b ∷ bs) op) ∷ []) ++ ts)
+    (long_label b bs)

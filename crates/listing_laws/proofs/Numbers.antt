@@ -25,23 +25,23 @@ use Rattle.listing_laws.proofs.Lines.{prefix_to}
 
 -- ---- digits
 
-abbrev AreDigits : List ℕ → Type 0
+abbrev pub AreDigits : List ℕ → Type 0
 AreDigits ds = (i : ℕ) → i < length ds → IsInRange 48 57 (get_or ds i 0)
 
 own : IsNumeralModel AreDigits (digits_value 10)
 own = numerals_by_value _ tells_by_index
 
-digits_are : (n : ℕ) → n < 2 ^ 64 → AreDigits (decimal n)
+pub digits_are : (n : ℕ) → n < 2 ^ 64 → AreDigits (decimal n)
 digits_are n small = digits_decimal own n small
 
-record IsDigitByte (b : ℕ) : Type 0 where
-  digit : is_ascii_digit b ≡ true
-  tenth : is_digit b 10 ≡ true
-  capital : to_ascii_uppercase b ≡ b
-  goes_on : continues_number b ≡ true
-  inked : is_inked b ≡ true
+pub record IsDigitByte (b : ℕ) : Type 0 where
+  pub digit : is_ascii_digit b ≡ true
+  pub tenth : is_digit b 10 ≡ true
+  pub capital : to_ascii_uppercase b ≡ b
+  pub goes_on : continues_number b ≡ true
+  pub inked : is_inked b ≡ true
 
-digit_byte : (b : ℕ) → IsInRange 48 57 b → IsDigitByte b
+pub digit_byte : (b : ℕ) → IsInRange 48 57 b → IsDigitByte b
 digit_byte b (low, high) =
     let digit : is_ascii_digit b ≡ true = and_from _ _ (le-leb 48 b low) (le-leb b 57 high) in
     record {
@@ -52,13 +52,13 @@ digit_byte b (low, high) =
       inked = grind (arith, nat_tests);
     }
 
-all_by : (p : ℕ → Bool) → ((b : ℕ) → IsInRange 48 57 b → p b ≡ true) → (ds : List ℕ) → AreDigits ds
+pub all_by : (p : ℕ → Bool) → ((b : ℕ) → IsInRange 48 57 b → p b ≡ true) → (ds : List ℕ) → AreDigits ds
     → list_all p ds ≡ true
 all_by p h [] are = refl
 all_by p h (d ∷ ds) are = and_from _ _ (h d (are 0 (omega arith))) (all_by p h ds (λ i below. are (suc i)
     (omega arith)))
 
-capitals : (ds : List ℕ) → AreDigits ds → map to_ascii_uppercase ds ≡ ds
+pub capitals : (ds : List ℕ) → AreDigits ds → map to_ascii_uppercase ds ≡ ds
 capitals [] are = refl
 capitals (d ∷ ds) are = ap₂ (λ (b : ℕ) (bs : List ℕ). b ∷ bs) (digit_byte d (are 0 (omega arith))).capital
     (capitals ds (λ i below. are (suc i) (omega arith)))
@@ -106,6 +106,7 @@ number_cut n rest small stops =
       number = ap is_some (number_is n small);
       capital = capitals (decimal n) are;
       inked = all_by is_inked (λ b h. (digit_byte b h).inked) (decimal n) are;
+      visible = all_by (λ b. nat_lt 31 b) (λ b h. lt-ltb 31 b (omega (arith, h.0))) (decimal n) are;
     }
 
 -- ---- signs and marks
@@ -139,6 +140,7 @@ plus_cut rest = record {
   capital
       = refl;
   inked = refl;
+  visible = refl;
 }
 
 pub minus_cut : (rest : List ℕ) → IsCut minus rest
@@ -152,6 +154,7 @@ minus_cut rest = record {
   capital
       = refl;
   inked = refl;
+  visible = refl;
 }
 
 pub opening_cut : (rest : List ℕ) → IsCut opening rest
@@ -164,6 +167,7 @@ opening_cut rest = record {
   number = refl;
   capital = refl;
   inked = refl;
+  visible = refl;
 }
 
 pub closing_cut : (rest : List ℕ) → IsCut closing rest
@@ -176,6 +180,7 @@ closing_cut rest = record {
   number = refl;
   capital = refl;
   inked = refl;
+  visible = refl;
 }
 
 pub comma_cut : (rest : List ℕ) → IsCut comma rest
@@ -189,6 +194,7 @@ comma_cut rest = record {
   capital
       = refl;
   inked = refl;
+  visible = refl;
 }
 
 pub star_cut : (rest : List ℕ) → IsCut star rest
@@ -202,4 +208,5 @@ star_cut rest = record {
   capital
       = refl;
   inked = refl;
+  visible = refl;
 }

@@ -4,7 +4,7 @@ use Rattle.std.proofs.Common.{List, [], ◌∷◌, ◌++◌}
 use Rattle.std.proofs.Common.{length, take, drop, map, Option, Some, is_some, refl, sym, ap}
 use Rattle.std.proofs.Common.{ap₂, ◌∙◌}
 use Rattle.std.proofs.Common.{arith, append_assoc, add-zero, length-append}
-use Rattle.std.specs.Prelude.{slice_index, ◌==◌}
+use Rattle.std.specs.Prelude.{nat_lt, slice_index, ◌==◌}
 use Rattle.std.specs.List.{list_all, list_any}
 use Rattle.std.specs.Char.{to_ascii_uppercase}
 use Rattle.std.proofs.lemmas.List.{take_at, drop_at}
@@ -48,6 +48,7 @@ pub record IsCut (w : Word) (rest : List ℕ) : Type 0 where
   pub number : (not (is_numeric w.kind) || is_some (number_of w.kind w.text)) ≡ true
   pub capital : map to_ascii_uppercase w.text ≡ w.text
   pub inked : list_all (λ b. not (b == 32)) w.text ≡ true
+  pub visible : list_all (λ b. nat_lt 31 b) w.text ≡ true
 
 abbrev pub AreCut : List Word → Type 0
 AreCut [] = Unit {0}
@@ -176,3 +177,8 @@ all_over p (x ∷ xs) ys e k =
 pub all_inked : (ws : List Word) → AreCut ws → list_all (λ b. not (b == 32)) (text_of ws) ≡ true
 all_inked [] cut = refl
 all_inked (w ∷ ws) cut = all_over (λ b. not (b == 32)) w.text (text_of ws) cut.0.inked (all_inked ws cut.1)
+
+pub all_visible : (ws : List Word) → AreCut ws → list_all (λ b. nat_lt 31 b) (text_of ws) ≡ true
+all_visible [] cut = refl
+all_visible (w ∷ ws) cut = all_over (λ b. nat_lt 31 b) w.text (text_of ws) cut.0.visible (all_visible ws
+    cut.1)
