@@ -28,7 +28,7 @@ use Rattle.tx_serial.specs.Ending.{comes_from_outside, outcome_cause, overflow_c
 use Rattle.tx_serial.specs.Fate.{Fate, Goes, Ends, fate, cause_in, step_of}
 use Rattle.tx_serial.specs.Flat.{Storage, FlatState, operand_stores, operand_bytes}
 use Rattle.tx_serial.specs.Remains.{remains, resumed_at, address_in}
-use Rattle.tx_serial.specs.Run.{run, after, nest_after, outcome_of, with_instruction, overflowed}
+use Rattle.tx_serial.specs.Run.{run, may_follow, after, nest_after, outcome_of, with_instruction, overflowed}
 use Rattle.tx_serial.proofs.SameCauses.{one_cause}
 use Rattle.tx_progress.specs.Followed.{beside_in, Leaves, RunTells}
 use Rattle.tx_progress.specs.Local.{Local, flat_from, aborted}
@@ -278,6 +278,18 @@ overflow_shows text storage locals i instr ranges c bytes is live h came =
           ∙ ap (λ nest. Some (cause_in nest (exception FIXED_POINT_OVERFLOW (length_of instr))))
           (its_nest over next (over_progress p q instr ranges c bytes is.attempt)),
     )
+
+-- the progress of the run with it
+pub longer_progress : (f : FlatState) (i : ℕ) (local : Local) (instr : Instr) (ranges : List Range) (c : Cpu)
+    (bytes : List ℕ) → IsFollowed f i local
+    → fate_by_progress f.text f.storage local.attempt ≡ Goes instr ranges
+    → may_follow (run f i local.attempt.count).nest instr ≡ true
+    → outcome_by f.storage instr ranges local.attempt ≡ outcome.Overflowed c bytes
+    → progress_of (run f i (suc local.attempt.count)) ≡ next_of local instr ranges c bytes
+longer_progress f i local instr ranges c bytes is h follows came =
+    ap progress_of (run_after f i local.attempt.count instr ranges (outcome.Overflowed c bytes) is.opens
+    (followed_fate f i local is ∙ h) follows (followed_outcome f i local instr ranges is ∙ came))
+    ∙ over_progress (run f i local.attempt.count) local.attempt instr ranges c bytes is.attempt
 
 undone_shows : (text : List ℕ) (storage : Storage) (locals : ℕ → Local) (i : ℕ) (instr : Instr)
     (ranges : List Range) (o : Outcome) (why : Why)

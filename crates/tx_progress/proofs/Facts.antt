@@ -159,7 +159,7 @@ one_store overlay s rest size a false h none more =
     (more (ap (λ x. if x then Some s.byte else overlay a) h ∙ none))
 
 -- a byte that an overlay has was stored
-has_store : (overlay : Overlay) (stores : List Store) (size a byte : ℕ)
+pub has_store : (overlay : Overlay) (stores : List Store) (size a byte : ℕ)
     → laying overlay stores a ≡ Some byte → overlay a ≡ None
     → has_store_in size stores (a / size) ≡ true
 has_store overlay [] size a byte e none = let n : None ≡ Some byte = sym none ∙ e in absurd (cc)

@@ -15,4 +15,6 @@ pub mod Endings
 pub mod Facts
 pub mod Limits
 pub mod Quiet
+pub mod Touching
+pub mod Changing
 mod Examples

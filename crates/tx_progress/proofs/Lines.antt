@@ -37,7 +37,7 @@ use Rattle.tx_progress.proofs.OneMore.{went, open_is_there}
 abbrev pub seen_test : Option ℕ → (ℕ → Bool) → ℕ → Bool
 seen_test prefix test a = test (absolute_of prefix a)
 
-abbrev any_there : (ℕ → Bool) → List Range → Bool
+abbrev pub any_there : (ℕ → Bool) → List Range → Bool
 any_there test ranges = list_any (λ r. list_any test (addresses_of r)) ranges
 
 up_is_range : (n a : ℕ) → from_up a n ≡ range_with_len a n
@@ -58,7 +58,7 @@ any_flat test (r ∷ rs) =
     list_any-append test (addresses_of r) (flat_map addresses_of rs)
     ∙ ap (λ b. list_any test (addresses_of r) || b) (any_flat test rs)
 
-range_there : (test : ℕ → Bool) (prefix : Option ℕ) (r : Range) → is_prefix prefix ≡ true
+pub range_there : (test : ℕ → Bool) (prefix : Option ℕ) (r : Range) → is_prefix prefix ≡ true
     → r.length ≤ area_size
     → list_any (seen_test prefix test) (from_up r.first r.length) ≡ any_there test (absolute_range prefix r)
 range_there test prefix r ok small =
@@ -69,7 +69,7 @@ range_there test prefix r ok small =
 
 -- ---- all operands of an instruction
 
-abbrev AreSmall : List Range → Type 0
+abbrev pub AreSmall : List Range → Type 0
 AreSmall [] = Unit {0}
 AreSmall (r ∷ rs) = (r.length ≤ area_size) × AreSmall rs
 
@@ -81,7 +81,7 @@ all_small (s ∷ ss) h =
     let small : s.length ≤ area_size = omega (arith, most) in
     (small, all_small ss (All-tail IsSmall s ss h))
 
-small_operands : (i : Instr) (c : Cpu) → AreSmall (operands i c)
+pub small_operands : (i : Instr) (c : Cpu) → AreSmall (operands i c)
 small_operands i c =
     all_small (spans i c.general c.condition) (sizes (entry_at i.op.number).operands i c.general c.condition)
 

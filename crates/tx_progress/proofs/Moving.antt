@@ -108,7 +108,7 @@ outside_rests storage locals i instr ranges Divides rest = refl
 outside_rests storage locals i instr ranges (Aborts code) rest = rest
 
 -- what is executed, where it is known whether an attempt is live and whether it is a begin
-executed_is : (instr : Instr) (ranges : List Range) (b : Beside) (live begin : Bool)
+pub executed_is : (instr : Instr) (ranges : List Range) (b : Beside) (live begin : Bool)
     → is_live b.local.attempt ≡ live → begins (entry_at instr.op.number) ≡ begin
     → executed instr ranges b
     ≡ executed_where live begin instr ranges b (outcome_by b.storage instr ranges b.local.attempt)
@@ -209,7 +209,7 @@ goes_on_as text storage locals i next e opens acts count =
 
 -- ---- a transaction is begun, or goes on
 
-begin_follows : (f : FlatState) (i : ℕ) (instr : Instr) → begins (entry_at instr.op.number) ≡ true
+pub begin_follows : (f : FlatState) (i : ℕ) (instr : Instr) → begins (entry_at instr.op.number) ≡ true
     → may_follow (run f i 0).nest instr ≡ true
 unfolding run
 begin_follows f i instr h = h

@@ -1,10 +1,12 @@
 -- What is said of runs that are followed: one instruction more, flat states that are the same to a CPU, and
 -- what an entry leaves.
-use Rattle.std.specs.Prelude.{◌≡◌, ◌⊎◌, ℕ, suc, ◌+◌, ◌/◌, ◌≤◌, true, ◌||◌, List, length, Some}
+use Rattle.std.specs.Prelude.{◌≡◌, ◌⊎◌, ℕ, suc, ◌+◌, ◌/◌, ◌≤◌, true, ◌||◌, List, length, Some, Bool, false}
 use Rattle.z_regs.specs.Cpu.{Cpu}
+use Rattle.z_regs.specs.Absolute.{absolute_ranges}
 use Rattle.z_regs.specs.declared.ranges.Range.{Range}
 use Rattle.z_instr.specs.declared.instr.Instr.{Instr}
 use Rattle.tx_constraint.specs.Kept.{Kept}
+use Rattle.tx_footprint.specs.Places.{stores, fetches}
 use Rattle.tx_footprint.specs.Touched.{Sets, line_count, block_count}
 use Rattle.tx_footprint.specs.declared.footprint.TheConstants.{MOST_LINES, MOST_BLOCKS}
 use Rattle.tx_footprint.specs.declared.places.TheConstants.{LINE_SIZE}
@@ -15,7 +17,7 @@ use Rattle.tx_serial.specs.Attempt.{Run, Mark, Open, Committed, Overflowed, Miss
 use Rattle.tx_serial.specs.Ending.{ending}
 use Rattle.tx_serial.specs.Run.{run}
 use Rattle.tx_serial.specs.Text.{SameText}
-use Rattle.tx_progress.specs.Progress.{Progress, advanced}
+use Rattle.tx_progress.specs.Progress.{Progress, advanced, seen_through}
 use Rattle.tx_progress.specs.Doing.{stores_of}
 use Rattle.tx_progress.specs.Local.{Local, Beside, flat_from}
 use Rattle.tx_progress.specs.declared.done.Done.{Done}
@@ -95,3 +97,26 @@ pub record KeepsTo (c : Cpu) (q : Progress) : Type 0 where
 pub record KeepsLimits (touched : Sets) : Type 0 where
   pub lines : line_count touched ≤ MOST_LINES
   pub blocks : block_count touched ≤ MOST_BLOCKS
+
+-- ---- what changes
+
+-- only bytes in some lines change
+abbrev pub ChangesIn : (ℕ → Bool) → Storage → Storage → Type 0
+ChangesIn lines storage after = (a : ℕ) → lines (a / LINE_SIZE) ≡ false → after a ≡ storage a
+
+-- the lines that an attempt has stored into, with those of some operands
+abbrev pub stored_lines : Progress → List Range → ℕ → Bool
+stored_lines q ranges line = q.footprint.stored line || stores (absolute_ranges q.cpu.prefix ranges) line
+
+-- Storage changes in lines that the attempt has stored into or that its operands are stored into, and there
+-- alone; so it would if what outlives an abort went into it; and what is left of the attempt has touched no
+-- other line.
+pub record TouchesMore (q : Progress) (storage : Storage) (ranges : List Range) (after : Beside)
+    : Type 0 where
+  pub bytes : ChangesIn (stored_lines q ranges) storage after.storage
+  pub stored : (line : ℕ) → after.local.attempt.footprint.stored line ≡ true
+      → stored_lines q ranges line ≡ true
+  pub fetched : (line : ℕ) → after.local.attempt.footprint.fetched line ≡ true
+      → (q.footprint.fetched line || fetches (absolute_ranges q.cpu.prefix ranges) line) ≡ true
+  pub lasting : ChangesIn (stored_lines q ranges) storage
+      (seen_through after.local.attempt.lasting after.storage)

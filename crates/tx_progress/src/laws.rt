@@ -1,9 +1,12 @@
 //! Laws of progress and of what is kept of a CPU. Each law is the contract of a function that does nothing.
-ghost use Rattle.std.specs.Prelude.{◌≡◌, ◌≢◌, ℕ, ◌/◌, ◌<◌, suc, true, false, ◌||◌, nat_eq, is_some, List, []};
-ghost use Rattle.std.specs.Prelude.{◌∷◌, Some, None};
+ghost use Rattle.std.specs.Prelude.{◌≡◌, ◌≢◌, ℕ, ◌/◌, ◌<◌, ◌≤◌, suc, true, false, ◌||◌, nat_eq, is_some};
+ghost use Rattle.std.specs.Prelude.{List, []};
+ghost use Rattle.std.specs.Prelude.{◌∷◌, Some, None, Option, length};
 ghost use Rattle.std.specs.List.{list_any};
 ghost use Rattle.z_regs.specs.Cpu.{Cpu};
-ghost use Rattle.z_regs.specs.Prefix.{absolute_of, is_prefix};
+ghost use Rattle.z_regs.specs.Prefix.{absolute_of, is_prefix, area_size};
+ghost use Rattle.z_regs.specs.Absolute.{absolute_ranges};
+ghost use Rattle.tx_footprint.specs.Places.{stores};
 ghost use Rattle.z_regs.specs.declared.image.RunState.TheVariants.{Running};
 ghost use Rattle.z_regs.specs.declared.ranges.Range.{Range};
 ghost use Rattle.z_regs.specs.declared.waiting.Waiting.{Waiting};
@@ -25,11 +28,11 @@ ghost use Rattle.tx_serial.specs.Apply.{may_act};
 ghost use Rattle.tx_serial.specs.Attempt.{Open, Overflowed, Missing, footprint};
 ghost use Rattle.tx_serial.specs.Ending.{fits};
 ghost use Rattle.tx_serial.specs.Fate.{Goes, Ends, Stops, fate};
-ghost use Rattle.tx_serial.specs.Flat.{FlatState, Storage, Pending};
+ghost use Rattle.tx_serial.specs.Flat.{FlatState, Storage, Pending, with_bytes_at};
 ghost use Rattle.tx_serial.specs.Run.{run, may_follow, mark_in, nest_after, outcome_of};
 ghost use Rattle.tx_progress.specs.Doing.{executed, stopped};
 ghost use Rattle.tx_progress.specs.Followed.{Advances, AreSameTo, beside_in, Leaves, GoesOnAs, KeepsTo};
-ghost use Rattle.tx_progress.specs.Followed.{KeepsLimits, RunTells};
+ghost use Rattle.tx_progress.specs.Followed.{KeepsLimits, RunTells, TouchesMore, ChangesIn};
 ghost use Rattle.tx_progress.specs.Local.{Local, flat_from, aborted, block_stored, interruption_taken};
 ghost use Rattle.tx_progress.specs.Progress.{resting, seen_through, is_live};
 ghost use Rattle.tx_progress.specs.Reached.{progress_of, IsFollowed};
@@ -240,4 +243,26 @@ pub fn footprints_keep_the_limits()
         → is_prefix local.cpu.prefix ≡ true
         → (local.attempt.footprint.fetched line || local.attempt.footprint.stored line) ≡ true
         → line < LINES }
+{}
+
+/// An instruction that goes changes bytes of storage only in lines that its attempt has stored into or that
+/// its operands are stored into, and what is left of the attempt has touched no other line than these and
+/// those that it had touched. Bytes that go to a real address, as those of a block, change the lines of their
+/// places alone.
+pub fn changes_lie_in_stored_lines()
+    ensures executed { (text : List ℕ) (storage : Storage) (locals : ℕ → Local) (i : ℕ) (instr : Instr)
+        (ranges : List Range) → IsFollowed (flat_from text storage locals) i (locals i)
+        → is_prefix (locals i).cpu.prefix ≡ true
+        → fate_by_progress text storage (locals i).attempt ≡ Goes instr ranges
+        → TouchesMore (locals i).attempt storage ranges
+        (executed instr ranges (beside_in storage locals i)).after }
+    ensures placed { (prefix : Option ℕ) (r : Range) (bytes : List ℕ) (storage : Storage)
+        → is_prefix prefix ≡ true → r.length ≡ length bytes → r.length ≤ area_size → r.store ≡ true
+        → ChangesIn (stores (absolute_ranges prefix (r ∷ []))) storage
+        (with_bytes_at prefix r.first bytes storage) }
+    ensures block { (storage : Storage) (locals : ℕ → Local) (i : ℕ) (b : Pending) (r : Range)
+        → is_prefix (locals i).cpu.prefix ≡ true → (locals i).pending ≡ Some b → r.first ≡ b.address
+        → r.length ≡ length b.bytes → r.length ≤ area_size → r.store ≡ true
+        → ChangesIn (stores (absolute_ranges (locals i).cpu.prefix (r ∷ []))) storage
+        (block_stored (beside_in storage locals i)).storage }
 {}
