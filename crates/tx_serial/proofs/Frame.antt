@@ -109,14 +109,14 @@ no_wrong : (b : Bool) (code : ℕ) (o : Option ℕ) → where_wrong b code o ≡
 no_wrong true code o h = grind (arith, h)
 no_wrong false code o h = h
 
-fetched_text : (accessible text : List ℕ) (a n : ℕ) → unfetched accessible text a n ≡ None
+pub fetched_text : (accessible text : List ℕ) (a n : ℕ) → unfetched accessible text a n ≡ None
     → (x : ℕ) → list_any (nat_eq x) (from_up a n) ≡ true → lies_in text x ≡ true
 unfolding unfetched
 fetched_text accessible text a n h =
     all_in_text accessible text (from_up a n) (no_wrong (nat_eq (a % 2) 1) specification _ h)
 
 -- an instruction has a byte
-length_some : (x y : Bool) → (m : ℕ) × ((if x then 2 else if y then 4 else 6) ≡ suc m)
+pub length_some : (x y : Bool) → (m : ℕ) × ((if x then 2 else if y then 4 else 6) ≡ suc m)
 length_some true y = (1, refl)
 length_some false true = (3, refl)
 length_some false false = (5, refl)
@@ -129,7 +129,7 @@ blocked_by accessible text a m code e =
     ap (λ o. where_wrong (nat_eq (a % 2) 1) specification
     (first_some (o ∷ map (byte_unfetched accessible text) (from_up (suc a) m)))) e
 
-blocked : (accessible text : List ℕ) (a byte code : ℕ) → byte_unfetched accessible text a ≡ Some code
+pub blocked : (accessible text : List ℕ) (a byte code : ℕ) → byte_unfetched accessible text a ≡ Some code
     → unfetched accessible text a (length_by byte) ≡ where_wrong (nat_eq (a % 2) 1) specification (Some code)
 blocked accessible text a byte code e =
     let some = length_some (nat_lt byte 64) (nat_lt byte 192) in

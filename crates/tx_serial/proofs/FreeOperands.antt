@@ -6,6 +6,7 @@ use Rattle.std.specs.Prelude.{◌&&◌, ◌||◌, not, map, cond, nat_eq, nat_le
 use Rattle.std.specs.List.{list_any, list_all, All}
 use Rattle.std.proofs.lemmas.Bool.{and_parts, and_from, lt-ltb, le-leb, true≢false}
 use Rattle.std.proofs.lemmas.List.Elements.{All-head, All-tail}
+use Rattle.z_regs.specs.Cpu.{Cpu}
 use Rattle.z_regs.specs.Prefix.{absolute_of, is_prefix, is_accessible}
 use Rattle.z_regs.specs.declared.ranges.Range.{Range}
 use Rattle.z_instr.specs.declared.instr.Instr.{Instr}
@@ -17,7 +18,7 @@ use Rattle.z_instr.specs.declared.operand.Demand.TheVariants.{BeginConstrained, 
 use Rattle.z_instr.specs.Table.{Entry, entry_at}
 use Rattle.z_instr.specs.declared.table.TheConstants.{ROWS}
 use Rattle.z_instr.specs.Facts.{is_begin}
-use Rattle.z_instr.specs.Roles.{may_name_block, block_named}
+use Rattle.z_instr.specs.Roles.{may_name_block, block_named, begins}
 use Rattle.z_instr.specs.Operands.{Span, span, IsSmall, spans, spans_in, is_inside, is_stored_into}
 use Rattle.z_instr.specs.Operands.{tested_spans}
 use Rattle.z_instr.specs.Operands.{where_wrong, addressing, protection, inaccessible_in, inaccessible}
@@ -29,7 +30,7 @@ use Rattle.z_instr.proofs.SmallOperands.{sizes}
 use Rattle.z_touch.specs.Refusals.{range_of}
 use Rattle.z_touch.proofs.SmallRanges.{inside_ends, inside_without}
 use Rattle.z_touch.proofs.StoredText.{stored_text}
-use Rattle.tx_control.specs.declared.begins.Begin as begins
+use Rattle.tx_control.specs.declared.begins.Begin as opened
 use Rattle.tx_serial.specs.Attempt.{Run}
 use Rattle.tx_serial.specs.Fate.{Refusal, first_refusal, tests, operand_refusal, excepted, operands}
 use Rattle.tx_serial.specs.Fate.{text_refusal, restricted_refusal, specified_refusal, depth_refusal}
@@ -47,7 +48,7 @@ found_none : (o : Option Refusal) (rest : List (Option Refusal)) → first_refus
 found_none None rest h = refl
 found_none (Some r) rest h = absurd (cc)
 
-no_operand_refusal : (text : List ℕ) (p : Run) (i : Instr) → first_refusal (tests text p i) ≡ None
+pub no_operand_refusal : (text : List ℕ) (p : Run) (i : Instr) → first_refusal (tests text p i) ≡ None
     → operand_refusal text p i ≡ None
 no_operand_refusal text p i h =
     found_none (operand_refusal text p i) (place_refusal p i ∷ overflow_refusal p i ∷ [])
@@ -181,19 +182,43 @@ free_spans prefix text (s ∷ ss) ok small inside apart =
       free_spans prefix text ss ok (All-tail IsSmall s ss small) in_all.1 in_none.1,
     )
 
+-- where the test of operands finds nothing, all of them pass
+operands_pass : (text : List ℕ) (p : Run) (i : Instr) → operand_refusal text p i ≡ None
+    → ArePassed (accessible_pages p.cpu.prefix) (text_pages p.cpu.prefix text)
+    (spans i p.cpu.general p.cpu.condition)
+operands_pass text p i h =
+    let c = p.cpu in
+    let e = entry_at i.op.number in
+    spans_pass e.demand e.operands i c.general c.condition (length p.nest) (accessible_pages c.prefix)
+    (text_pages c.prefix text) (all_begin_bare i.op.number i.op.known)
+    (tested_pass e i c.general c.condition (length p.nest) (accessible_pages c.prefix) (text_pages c.prefix
+    text)
+    (not_excepted i _ h))
+
+pub operands_inside : (text : List ℕ) (p : Run) (i : Instr) → operand_refusal text p i ≡ None
+    → list_all (is_inside (accessible_pages p.cpu.prefix)) (spans i p.cpu.general p.cpu.condition) ≡ true
+operands_inside text p i h = (operands_pass text p i h).inside
+
+-- a begin has no operand
+pub begin_bare : (i : Instr) (c : Cpu) → begins (entry_at i.op.number) ≡ true → operands i c ≡ []
+begin_bare i c h =
+    let e = entry_at i.op.number in
+    ap (map range_of)
+    (no_spans e.operands i c.general c.condition
+    (absent e.operands (right_of (is_begin e.demand) (is_absent e.operands) (all_begin_bare i.op.number
+    i.op.known) h)))
+  where
+    right_of : (a b : Bool) → (not a || b) ≡ true → a ≡ true → b ≡ true
+    right_of true b g h = g
+    right_of false b g h = absurd (cc)
+
 pub free_operands : (text : List ℕ) (p : Run) (i : Instr) → is_prefix p.cpu.prefix ≡ true
     → first_refusal (tests text p i) ≡ None → AreFree p.cpu.prefix text (operands i p.cpu)
 free_operands text p i ok h =
     let c = p.cpu in
-    let e = entry_at i.op.number in
-    let passed = spans_pass e.demand e.operands i c.general c.condition (length p.nest) (accessible_pages
-    c.prefix)
-    (text_pages c.prefix text) (all_begin_bare i.op.number i.op.known)
-    (tested_pass e i c.general c.condition (length p.nest) (accessible_pages c.prefix) (text_pages c.prefix
-    text)
-    (not_excepted i _ (no_operand_refusal text p i h))) in
-    free_spans c.prefix text (spans i c.general c.condition) ok (sizes e.operands i c.general c.condition)
-    passed.inside passed.apart
+    let passed = operands_pass text p i (no_operand_refusal text p i h) in
+    free_spans c.prefix text (spans i c.general c.condition) ok
+    (sizes (entry_at i.op.number).operands i c.general c.condition) passed.inside passed.apart
 
 -- ---- the block that an outermost begin names
 
@@ -233,7 +258,7 @@ free_block text p i a ok outside h names k below =
     let tested = tested_pass e i c.general c.condition (length p.nest) accessible pages
     (not_excepted i _ (no_operand_refusal text p i h)) in
     let is_block : tested_spans e.demand ss i c.general (length p.nest) ≡ s ∷ [] =
-    ap (λ (nest : List begins.Begin). tested_spans e.demand ss i c.general (length nest)) outside
+    ap (λ (nest : List opened.Begin). tested_spans e.demand ss i c.general (length nest)) outside
     ∙ block_tested e.demand ss i c.general n.0 n.1 in
     let passed = subst (ArePassed accessible pages) is_block tested in
     let in_all = and_parts (is_inside accessible s) true passed.inside in

@@ -19,16 +19,16 @@ use Rattle.tx_serial.specs.Flat.{Storage, at_put, bytes_below, bytes_of, operand
 use Rattle.tx_serial.specs.Flat.{stores_at, operand_stores, laid_over}
 use Rattle.tx_serial.proofs.Copies.{laid_twice}
 
-length-bytes_below : (n : ℕ) (storage : Storage) → length (bytes_below n storage) ≡ n
+pub length-bytes_below : (n : ℕ) (storage : Storage) → length (bytes_below n storage) ≡ n
 unfolding bytes_below
 length-bytes_below n storage = length-map-range_with_len storage 0 n
 
-bytes_below_at : (n : ℕ) (storage : Storage) (a : ℕ) → a < n → get_or (bytes_below n storage) a 0 ≡ storage a
+pub bytes_below_at : (n : ℕ) (storage : Storage) (a : ℕ) → a < n → get_or (bytes_below n storage) a 0 ≡ storage a
 unfolding bytes_below
 bytes_below_at n storage a h = get_or-map-range_with_len storage 0 n a a 0 h (omega arith)
 
 -- some bytes of a list, by what stands at each place
-taken : (n : ℕ) (a : ℕ) (s : List ℕ) (f : ℕ → ℕ)
+pub taken : (n : ℕ) (a : ℕ) (s : List ℕ) (f : ℕ → ℕ)
     → ((x : ℕ) → x < length s → get_or s x 0 ≡ f x) → a + n ≤ length s
     → take n (drop a s) ≡ map f (from_up a n)
 taken zero a s f at h = refl

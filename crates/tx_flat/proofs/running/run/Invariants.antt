@@ -1,0 +1,7 @@
+use Rattle.std.specs.FinSet.{items}
+use Rattle.z_regs.specs.Cpu.{cpu_of}
+use Rattle.tx_flat.specs.Shows.{IsRunOf}
+use Rattle.tx_flat.proofs.running.run.Given as goal
+
+abbrev pub invariant-loop-k : goal.invariant-loop-k
+invariant-loop-k l = IsRunOf l.storage (items l.guard) (cpu_of l.image) l._k l.a

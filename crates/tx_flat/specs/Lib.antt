@@ -1,0 +1,8 @@
+-- What the machine's parts show.
+pub mod Bytes
+pub mod Done
+pub mod Reading
+pub mod Shows
+pub mod Refused
+pub mod Coming
+pub mod Moved

@@ -1,0 +1,13 @@
+//! Private runs computed: what one CPU does alone from its outermost begin on, and how such an attempt ends,
+//! on plain copies of storage. The definitions are those of `tx_serial`.
+#![tactic(auto)]
+
+mod advance;
+pub mod attempt;
+mod coming;
+pub mod ending;
+mod execution;
+mod reading;
+mod refusals;
+pub mod running;
+mod storing;
