@@ -7,7 +7,7 @@ use Rattle.interrogate.specs.declared.kinds.Answer.TheVariants.{Yields, Rejects,
 use Rattle.interrogate.specs.Replies as interrogate
 use Rattle.tx_meaning.specs.Limits.{Setting}
 use Rattle.tx_meaning.specs.declared.asking.Need.{Need}
-use Rattle.tx_meaning.specs.State.{State, is_live, cpus_of}
+use Rattle.tx_meaning.specs.State.{is_live, cpus_of}
 use Rattle.tx_meaning.specs.Changes.{granting}
 use Rattle.tx_meaning.specs.declared.asking.Reject.{Reject}
 use Rattle.tx_meaning.specs.Asking.{is_there}

@@ -1,5 +1,5 @@
 -- The machine that keeps, over events; and what joins it with the meaning.
-use Rattle.std.specs.Prelude.{◌≡◌, ◌≢◌, ℕ, ◌<◌, ◌≤◌, true, List, [], ◌∷◌, Option, Some, None, is_some}
+use Rattle.std.specs.Prelude.{◌≡◌, ℕ, ◌≤◌, true, List, [], ◌∷◌, Some, None, is_some}
 use Rattle.line_table.specs.declared.table.Mode.TheVariants.{Exclusive}
 use Rattle.line_table.specs.Holders.{IsSound}
 use Rattle.tx_ladder.specs.Rungs.{Standing}
@@ -7,7 +7,7 @@ use Rattle.tx_journal.specs.declared.events.Event.{Event}
 use Rattle.tx_serial.specs.History.{replay}
 use Rattle.tx_progress.specs.Reached.{IsFollowed}
 use Rattle.tx_meaning.specs.Limits.{Setting}
-use Rattle.tx_meaning.specs.State.{State, is_live, standing_of, cpus_of}
+use Rattle.tx_meaning.specs.State.{is_live, standing_of, cpus_of}
 use Rattle.tx_keeping.specs.Kept.{Kept, kept_beginning, kept_flat}
 use Rattle.tx_keeping.specs.Turn.{k_happen}
 

@@ -9,7 +9,7 @@ use Rattle.tx_ladder.specs.Rungs.{Standing, begun, rejecting, rejected, after_co
 use Rattle.tx_journal.specs.declared.entries.Entry.TheVariants as entry
 use Rattle.line_table.specs.declared.table.Mode.{Mode}
 use Rattle.tx_progress.specs.Local.{Beside, aborted, block_stored, interruption_taken}
-use Rattle.tx_meaning.specs.State.{State, is_live}
+use Rattle.tx_meaning.specs.State.{is_live}
 use Rattle.tx_meaning.specs.Changes.{asking, rejecting_one, rejected_once, yielding, aborting}
 use Rattle.tx_meaning.specs.Changes.{starting, continuing, committing, with_entry}
 use Rattle.tx_keeping.specs.Kept.{Kept, with_state, with_standing, beside, with_beside}

@@ -1,6 +1,5 @@
 -- One turn of the machine that keeps, and an external interruption.
 use Rattle.std.specs.Prelude.{ℕ, Bool, true, false, ◌&&◌, nat_lt, List, Option, Some, None}
-use Rattle.z_regs.specs.declared.image.RunState.{RunState}
 use Rattle.z_regs.specs.declared.ranges.Range.{Range}
 use Rattle.z_regs.specs.declared.waiting.Waiting.{Waiting}
 use Rattle.z_instr.specs.declared.instr.Instr.{Instr}
@@ -29,7 +28,7 @@ use Rattle.tx_meaning.specs.Turn.{outcome_of_abort, is_tick, to_tail}
 use Rattle.tx_keeping.specs.Kept.{Kept, text_of, kept_finished, with_state, with_beside, beside}
 use Rattle.tx_keeping.specs.Moves.{k_aborting, k_starting, k_continuing, k_committing, k_stepping, k_storing}
 use Rattle.tx_keeping.specs.Moves.{k_taking}
-use Rattle.tx_keeping.specs.Asking.{KAsked, k_get_lines}
+use Rattle.tx_keeping.specs.Asking.{k_get_lines}
 
 -- what is kept after an event, what came of it, and the reject in it, where there was one
 pub record KTurned : Type 0 where

@@ -60,7 +60,7 @@ pub open_ending : (text : List ℕ) (p : Run) (o : Fate) → p.mark ≡ Open →
 unfolding ending
 open_ending text p o opens e = ap (λ m. ending_of m text p) opens ∙ ap (fate_cause p) e
 
-its_nest : (p : Run) (q : Progress) → progress_of p ≡ q → p.nest ≡ q.nest
+pub its_nest : (p : Run) (q : Progress) → progress_of p ≡ q → p.nest ≡ q.nest
 unfolding progress_of
 its_nest p q e = ap (λ (x : Progress). x.nest) e
 
@@ -133,14 +133,14 @@ same_nest i general nest c now bytes given depth o =
     plain false true h = absurd (true≢false h)
     plain false false h = refl
 
-over_ending : (text : List ℕ) (p : Run) (i : Instr) (ranges : List Range) (c : Cpu) (stores : List Store)
+pub over_ending : (text : List ℕ) (p : Run) (i : Instr) (ranges : List Range) (c : Cpu) (stores : List Store)
     → ending text (overflowed (with_instruction i ranges c stores p))
     ≡ Some (cause_in (nest_after i p.cpu.general p.nest) (exception FIXED_POINT_OVERFLOW (length_of i)))
 unfolding ending
 over_ending text p i ranges c stores =
     ap (overflow_cause (nest_after i p.cpu.general p.nest)) (last_is p.steps (step_of i ranges p.cpu))
 
-over_progress : (p : Run) (q : Progress) (i : Instr) (ranges : List Range) (c : Cpu) (bytes : List ℕ)
+pub over_progress : (p : Run) (q : Progress) (i : Instr) (ranges : List Range) (c : Cpu) (bytes : List ℕ)
     → progress_of p ≡ q
     → progress_of (overflowed (with_instruction i ranges c (operand_stores p.cpu.prefix ranges bytes) p))
     ≡ advanced i ranges c (stores_of ranges bytes q) q

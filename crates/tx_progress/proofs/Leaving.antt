@@ -146,7 +146,7 @@ no_some : {A : Type 0} (b : Pending) → None ≡ Some b → A
 no_some b e = absurd (cc)
 
 -- while a block is pending nothing is live
-quiet_with_block : (f : FlatState) (i : ℕ) (local : Local) (b : Pending) → IsFollowed f i local
+pub quiet_with_block : (f : FlatState) (i : ℕ) (local : Local) (b : Pending) → IsFollowed f i local
     → local.pending ≡ Some b → is_live local.attempt ≡ false
 quiet_with_block f i local b is e =
     not_true (is_live local.attempt)

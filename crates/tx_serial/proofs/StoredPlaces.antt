@@ -31,10 +31,10 @@ use Rattle.tx_serial.proofs.StoredBytes.{stored_size, Fills, one_fills, length-o
 use Rattle.tx_serial.proofs.TextStays.{has_prefix}
 
 -- some store goes to an address that passes a test, and some stored range has one
-abbrev goes_there : (ℕ → Bool) → List Store → Bool
+abbrev pub goes_there : (ℕ → Bool) → List Store → Bool
 goes_there test stores = list_any (λ s. test s.address) stores
 
-abbrev has_there : (ℕ → Bool) → List Range → Bool
+abbrev pub has_there : (ℕ → Bool) → List Range → Bool
 has_there test ranges = list_any (λ r. r.store && list_any test (addresses_of r)) ranges
 
 -- ---- stores of one operand
@@ -105,7 +105,7 @@ range_there test (Some p) r = parts_there test p r (nat_le r.length (to_edge r.f
 
 -- ---- all operands of an instruction
 
-abbrev AreSmall : List Range → Type 0
+abbrev pub AreSmall : List Range → Type 0
 AreSmall [] = Unit {0}
 AreSmall (r ∷ rs) = (r.length ≤ area_size) × AreSmall rs
 
@@ -142,7 +142,7 @@ either_there test prefix r rs bytes true ok small enough rest =
     (rest (drop r.length bytes) others)
 either_there test prefix r rs bytes false ok small enough rest = rest bytes (omega (arith, enough))
 
-operands_there : (test : ℕ → Bool) (prefix : Option ℕ) (ranges : List Range) → is_prefix prefix ≡ true
+pub operands_there : (test : ℕ → Bool) (prefix : Option ℕ) (ranges : List Range) → is_prefix prefix ≡ true
     → AreSmall ranges → (bytes : List ℕ) → stored_size ranges ≤ length bytes
     → goes_there test (operand_stores prefix ranges bytes) ≡ has_there test (absolute_ranges prefix ranges)
 operands_there test prefix [] ok small bytes enough = refl
@@ -186,7 +186,7 @@ same_after test p i ranges Divides ok small enough old = old
 same_after test p i ranges (Aborts code) ok small enough old = old
 
 -- an instruction that goes has small operands, and a byte for each place of the stored ones
-small_operands : (i : Instr) (p : Run) → AreSmall (operands i p.cpu)
+pub small_operands : (i : Instr) (p : Run) → AreSmall (operands i p.cpu)
 small_operands i p =
     all_small (spans i p.cpu.general p.cpu.condition)
     (sizes (entry_at i.op.number).operands i p.cpu.general p.cpu.condition)

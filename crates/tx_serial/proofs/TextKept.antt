@@ -255,7 +255,7 @@ area_apart text first a bytes ok free h =
         let m = moves first x (area first ok).low in
         m.first low ∙ (let e : x + first ≡ first + x = omega arith in e)
 
-psw_size : (c : Cpu) → length (psw_of c) ≡ 16
+pub psw_size : (c : Cpu) → length (psw_of c) ≡ 16
 unfolding psw_of
 psw_size c = let e = length-bytes_high_first 8 c.address in omega (arith, e)
 

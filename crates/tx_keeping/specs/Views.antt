@@ -1,0 +1,38 @@
+-- What is said of the machine over all events: what an event leaves of a live attempt, and what is kept of it.
+use Rattle.std.specs.Prelude.{◌≡◌, ℕ, ◌/◌, ◌<◌, true, ◌||◌, List, ◌++◌, All}
+use Rattle.tx_footprint.specs.declared.places.TheConstants.{LINE_SIZE}
+use Rattle.tx_journal.specs.Image.{cpu_of_event}
+use Rattle.tx_journal.specs.declared.entries.Entry.{Entry}
+use Rattle.tx_journal.specs.declared.events.Event.{Event}
+use Rattle.tx_serial.specs.Alike.{track_of}
+use Rattle.tx_serial.specs.Attempt.{Run, footprint}
+use Rattle.tx_meaning.specs.Limits.{Setting}
+use Rattle.tx_meaning.specs.State.{State, is_live, attempt_of, cpus_of}
+use Rattle.tx_meaning.specs.Turn.{Turned}
+use Rattle.tx_keeping.specs.Turn.{KTurned}
+
+-- the events are of CPUs that there are
+abbrev pub AreKnown : Setting → List Event → Type 0
+AreKnown m events = All (λ e. cpu_of_event e < cpus_of m) events
+
+-- what is kept after an event, as the meaning tells it
+abbrev pub turned_of : KTurned → Turned
+turned_of q = record { state = q.kept.state; outcome = q.outcome; reject = q.reject }
+
+-- a history goes on with more entries
+pub record GoesOnWith (history after : List Entry) : Type 0 where
+  pub more : List Entry
+  pub is : history ++ more ≡ after
+
+-- two runs show the same: the CPU, the stores, the open begins, all that they touched and all their steps, and
+-- the same byte at each absolute address in a line that they touched
+pub record IsSameView (p q : Run) : Type 0 where
+  pub shows : track_of q ≡ track_of p
+  pub bytes : (a : ℕ) → ((footprint p).fetched (a / LINE_SIZE) || (footprint p).stored (a / LINE_SIZE)) ≡ true
+      → q.copy a ≡ p.copy a
+
+-- each attempt that is live, and has completed as many instructions after an event as before it, sees the same
+abbrev pub KeepsViews : Setting → State → State → Type 0
+KeepsViews m before after =
+    (i : ℕ) → is_live before i ≡ true → (after.numbers i).completed ≡ (before.numbers i).completed
+    → IsSameView (attempt_of m before i) (attempt_of m after i)
