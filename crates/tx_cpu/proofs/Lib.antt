@@ -4,3 +4,6 @@ pub mod Resting
 pub mod Ends
 pub mod Reached
 pub mod Tests
+pub mod Fetching
+pub mod Effects
+pub mod SmallCodes

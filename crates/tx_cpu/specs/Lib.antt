@@ -5,3 +5,4 @@ pub mod Same
 pub mod Plans
 pub mod Blocks
 pub mod Refused
+pub mod Performed

@@ -26,3 +26,9 @@ levels_of q = if is_live q then Some (length q.nest, q.count) else None
 abbrev pub address_of : Option Pending → Option ℕ
 address_of None = None
 address_of (Some b) = Some b.address
+
+-- the same of a plan that ends the transaction
+abbrev pub HasPlanRoom : Plan → Type 0
+HasPlanRoom (plan.Go instr need) = Unit {0}
+HasPlanRoom (plan.Ends why) = HasRoom why
+HasPlanRoom (plan.Stops e) = Unit {0}

@@ -6,6 +6,7 @@ mod attempt;
 mod interruption;
 mod one;
 mod pending;
+mod performing;
 mod plan;
 mod refusal;
 mod storing;

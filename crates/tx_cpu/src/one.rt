@@ -10,7 +10,7 @@ ghost use Rattle.tx_progress.specs.Doing.{stopped};
 ghost use Rattle.tx_progress.specs.Trial.{fate_by_progress};
 ghost use Rattle.std.specs.FinSet.{items};
 ghost use Rattle.tx_cpu.specs.Parts.{local_of, beside, storage_of};
-ghost use Rattle.tx_cpu.specs.Plans.{fate_of, levels_of, address_of, HasRoom};
+ghost use Rattle.tx_cpu.specs.Plans.{fate_of, levels_of, address_of, HasRoom, HasPlanRoom};
 ghost use Rattle.tx_cpu.specs.Same.{AreSameAttempts};
 
 use crate::attempt::Attempt;
@@ -123,8 +123,9 @@ impl Cpu {
     /// What comes of the next instruction. Its bytes are read from the storage of the image, where they are as
     /// long as the program runs.
     pub fn prepare(&self, text: &Image) -> Plan
-        ensures { fate_of result ≡ fate_by_progress (items text.now.guard) (storage_of text.now.storage)
+        ensures value { fate_of result ≡ fate_by_progress (items text.now.guard) (storage_of text.now.storage)
             (local_of self.now).attempt }
+        ensures code { HasPlanRoom result }
     {
         let _count = text.cpu_count();
         next_plan(&self.attempt, &self.image, &text.storage, &text.guard)

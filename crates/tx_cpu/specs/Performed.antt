@@ -1,0 +1,72 @@
+-- What performing an instruction tells, and what it leaves.
+use Rattle.std.specs.Prelude.{ℕ, ◌+◌, ◌<◌, ◌≡◌, cond, get_or, List, [], ◌∷◌, take, drop, Result, Ok, Err}
+use Rattle.std.specs.Prelude.{if◌then◌else◌, nat_eq, map, Option, Bool, true, false}
+use Rattle.z_regs.specs.Cpu.{Cpu}
+use Rattle.z_regs.specs.Prefix.{absolute_of}
+use Rattle.z_regs.specs.declared.ranges.Range.{Range}
+use Rattle.z_instr.specs.declared.instr.Instr.{Instr}
+use Rattle.z_touch.specs.Refusals.{span_of}
+use Rattle.z_effect.specs.After.{cpu_after, storage_after}
+use Rattle.z_effect.specs.Outcome.{Outcome, Did, Overflowed, Divides, Aborts}
+use Rattle.z_effect.specs.Outcome as outcome
+use Rattle.z_effect.specs.declared.kind.Kind.{Kind}
+use Rattle.z_effect.specs.declared.kind.Kind.TheVariants as kind
+use Rattle.z_effect.specs.declared.kind.Transaction.{Transaction}
+use Rattle.z_effect.specs.declared.kind.Transaction.TheVariants.{StoreLasting}
+use Rattle.tx_control.specs.declared.codes.TheConstants.{FIXED_POINT_DIVIDE}
+use Rattle.tx_control.specs.declared.exceptions.Exception.{Exception}
+use Rattle.tx_serial.specs.Flat.{Storage}
+use Rattle.tx_cpu.specs.declared.performing.Ended.{Ended}
+use Rattle.tx_cpu.specs.declared.performing.Ended.TheVariants as ended
+
+-- how it ended
+abbrev pub ended_of : Outcome → Ended
+ended_of (Did c bytes) = ended.Completed
+ended_of (Overflowed c bytes) = ended.Exceeded
+ended_of Divides = ended.Suppressed
+ended_of (Aborts code) = ended.Aborting code
+
+-- what the answer of a call says of that
+abbrev pub ended_in : Result (Unit {0}) Exception → Ended
+ended_in (Ok u) = ended.Completed
+ended_in (Err e) = if nat_eq e.code FIXED_POINT_DIVIDE then ended.Suppressed else ended.Exceeded
+
+-- a call tells how the instruction ended, and leaves the CPU and what it sees of storage
+pub record IsLeft (o : Outcome) (ranges : List Range) (old new : Cpu) (s t : List ℕ) (e : Ended) : Type 0 where
+  pub told : e ≡ ended_of o
+  pub image : new ≡ cpu_after old o
+  pub view : t ≡ storage_after (map span_of ranges) s o
+
+-- an outcome with the first n stored bytes
+abbrev pub trimmed : ℕ → Outcome → Outcome
+trimmed n (Did c bytes) = Did c (take n bytes)
+trimmed n (Overflowed c bytes) = outcome.Overflowed c (take n bytes)
+trimmed n Divides = outcome.Divides
+trimmed n (Aborts code) = outcome.Aborts code
+
+-- the outcome of that end, which leaves this CPU and these bytes
+abbrev pub outcome_from : Ended → Cpu → List ℕ → Outcome
+outcome_from ended.Completed c bytes = Did c bytes
+outcome_from ended.Exceeded c bytes = outcome.Overflowed c bytes
+outcome_from ended.Suppressed c bytes = outcome.Divides
+outcome_from (ended.Aborting code) c bytes = outcome.Aborts code
+
+-- how many bytes the first operand stores
+abbrev pub first_size : List Range → ℕ
+first_size [] = 0
+first_size (r ∷ rs) = cond r.store r.length 0
+
+-- each byte of a range is that of storage, by real addresses
+abbrev pub IsFetched : Option ℕ → Storage → List ℕ → Range → Type 0
+IsFetched prefix s t r = (k : ℕ) → k < r.length → get_or t (r.first + k) 0 ≡ s (absolute_of prefix (r.first + k))
+
+abbrev pub is_transaction : Kind → Bool
+is_transaction (kind.Transaction t) = true
+is_transaction (kind.General g) = false
+is_transaction (kind.Storage s) = false
+is_transaction (kind.Branch b) = false
+
+-- how many bytes a transaction instruction stores
+abbrev pub lasting_size : Transaction → ℕ
+lasting_size StoreLasting = 8
+lasting_size _ = 0
