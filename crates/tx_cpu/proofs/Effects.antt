@@ -1,7 +1,7 @@
 -- What the calls of the instruction crates tell and leave, as outcomes.
-use Rattle.std.proofs.Common.{◌≡◌, ℕ, ◌<◌, ◌≤◌, Bool, true, false, List, [], ◌∷◌, ◌++◌, take, drop, length, refl, sym}
-use Rattle.std.proofs.Common.{ap, subst, ◌∙◌, arith, lit≤}
-use Rattle.std.specs.Prelude.{map, Result, Ok, Err, if◌then◌else◌, nat_eq}
+use Rattle.std.proofs.Common.{◌≡◌, ℕ, ◌≤◌, Bool, true, false, List, [], ◌∷◌, ◌++◌, take, drop, length, refl, sym}
+use Rattle.std.proofs.Common.{ap, subst, ◌∙◌, arith}
+use Rattle.std.specs.Prelude.{map, Result, Ok, Err}
 use Rattle.std.proofs.lemmas.List.{take-append-le, take_all}
 use Rattle.byteorder.specs.Endian.{big_bytes}
 use Rattle.byteorder.specs.Numbers.{length-bytes_high_first}
@@ -12,8 +12,8 @@ use Rattle.z_instr.specs.Operands.{Span, first_address}
 use Rattle.z_touch.specs.Refusals.{span_of, range_of}
 use Rattle.z_effect.specs.Registers.{register}
 use Rattle.z_effect.specs.One.{one, length_of}
-use Rattle.z_effect.specs.After.{Ending, Done, Raises, AbortsWith, answer_of, told, exception, Executes, Leaves}
-use Rattle.z_effect.specs.After.{AreInside, touched, ranges_of, cpu_after, storage_after}
+use Rattle.z_effect.specs.After.{Raises, answer_of, told, exception, Executes, Leaves}
+use Rattle.z_effect.specs.After.{touched, ranges_of, cpu_after}
 use Rattle.z_effect.specs.Outcome.{Outcome, Did, Overflowed, Divides, Aborts}
 use Rattle.z_effect.specs.TransactionEffect.{transaction_effect}
 use Rattle.z_effect.specs.declared.kind.Transaction.{Transaction}
@@ -23,7 +23,6 @@ use Rattle.tx_control.specs.declared.codes.TheConstants.{FIXED_POINT_OVERFLOW, F
 use Rattle.tx_control.specs.declared.exceptions.Exception.{Exception}
 use Rattle.tx_serial.specs.Fate.{operands}
 use Rattle.tx_cpu.specs.declared.performing.Ended.{Ended}
-use Rattle.tx_cpu.specs.declared.performing.Ended.TheVariants.{Suppressed, Exceeded}
 use Rattle.tx_cpu.specs.Performed.{ended_of, ended_in, IsLeft, lasting_size}
 
 -- operands as ranges and back

@@ -1,7 +1,7 @@
 -- The codes of exceptions that tests find are small, so an interruption code has room for one bit more.
-use Rattle.std.proofs.Common.{◌≡◌, ℕ, ◌+◌, ◌<◌, Bool, true, false, List, [], ◌∷◌, Option, Some, None, refl, sym}
-use Rattle.std.proofs.Common.{ap, subst, ◌∙◌, lit<, length, arith}
-use Rattle.std.specs.Prelude.{◌||◌, ◌&&◌, not, map, nat_eq, nat_lt, nat_le, ◌%◌, ◌/◌, if◌then◌else◌, Result, Ok, Err}
+use Rattle.std.proofs.Common.{◌≡◌, ℕ, ◌<◌, Bool, true, false, List, [], ◌∷◌, Option, Some, None, sym}
+use Rattle.std.proofs.Common.{subst, lit<, length, arith}
+use Rattle.std.specs.Prelude.{◌&&◌, not, map, nat_eq, nat_le, ◌%◌, if◌then◌else◌, Result, Ok, Err}
 use Rattle.std.specs.List.{list_any, list_all}
 use Rattle.z_instr.specs.declared.instr.Instr.{Instr}
 use Rattle.z_instr.specs.declared.operand.Operands.{Operands}
@@ -9,19 +9,16 @@ use Rattle.z_instr.specs.declared.operand.Demand.{Demand}
 use Rattle.z_instr.specs.declared.operand.Demand.TheVariants.{Nothing, EvenPair, Boundary, AbortCode, Begin}
 use Rattle.z_instr.specs.declared.operand.Demand.TheVariants.{BeginConstrained, ServiceZero}
 use Rattle.z_instr.specs.Table.{Entry, entry_at}
-use Rattle.z_instr.specs.Reading.{modulo}
 use Rattle.z_instr.specs.Operands.{where_wrong, unspecified_in, inaccessible_in, unspecified, inaccessible}
-use Rattle.z_instr.specs.Operands.{first_address, boundary, specification, special_operation, addressing}
+use Rattle.z_instr.specs.Operands.{specification, special_operation, addressing}
 use Rattle.z_instr.specs.Operands.{protection, operation, tested_spans, spans_in, is_inside, is_stored_into}
 use Rattle.z_instr.specs.Operands.{is_refused_service, from_up}
 use Rattle.z_instr.specs.Access.{accessible_pages, text_pages, unfetched, byte_unfetched, first_some, lies_in}
-use Rattle.z_touch.specs.Refusals.{refused, at_fetch}
+use Rattle.z_touch.specs.Refusals.{at_fetch}
 use Rattle.tx_control.specs.Filtering.{class, filters}
 use Rattle.tx_control.specs.Nesting.{effective_pifc}
 use Rattle.tx_control.specs.declared.begins.Begin as begins
-use Rattle.tx_control.specs.declared.codes.TheConstants.{TRANSACTION_CONSTRAINT}
 use Rattle.tx_control.specs.declared.exceptions.Exception.{Exception}
-use Rattle.tx_control.specs.declared.causes.Why.{Why}
 use Rattle.tx_control.specs.declared.causes.Why.TheVariants.{Program, Filtered, Restricted, Depth}
 use Rattle.tx_constraint.specs.Kept.{Kept}
 use Rattle.tx_footprint.specs.declared.footprint.Overflow.{Overflow}

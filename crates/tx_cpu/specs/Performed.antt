@@ -1,10 +1,9 @@
 -- What performing an instruction tells, and what it leaves.
-use Rattle.std.specs.Prelude.{ℕ, ◌+◌, ◌<◌, ◌≡◌, cond, get_or, List, [], ◌∷◌, take, drop, Result, Ok, Err}
+use Rattle.std.specs.Prelude.{ℕ, ◌+◌, ◌<◌, ◌≡◌, cond, get_or, List, [], ◌∷◌, take, Result, Ok, Err}
 use Rattle.std.specs.Prelude.{if◌then◌else◌, nat_eq, map, Option, Bool, true, false}
 use Rattle.z_regs.specs.Cpu.{Cpu}
 use Rattle.z_regs.specs.Prefix.{absolute_of}
 use Rattle.z_regs.specs.declared.ranges.Range.{Range}
-use Rattle.z_instr.specs.declared.instr.Instr.{Instr}
 use Rattle.z_touch.specs.Refusals.{span_of}
 use Rattle.z_effect.specs.After.{cpu_after, storage_after}
 use Rattle.z_effect.specs.Outcome.{Outcome, Did, Overflowed, Divides, Aborts}

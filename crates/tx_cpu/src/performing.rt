@@ -110,7 +110,12 @@ pub fn fetch<V: Bytes>(
 }
 
 /// Executes an instruction that is not about transactions.
-fn execute_plain(instr: &Instr, need: &Touches, image: &mut CpuImage, scratch: &mut Storage) -> Ended
+fn execute_plain(
+    instr: &Instr,
+    need: &Touches,
+    image: &mut CpuImage,
+    scratch: &mut Storage,
+) -> Ended
     requires plain { is_transaction (kind_at instr.now.op.number) ≡ false }
     requires need { need.now ≡ operands instr.now (cpu_of image.old) }
     requires inside { AreInside (map span_of need.now) scratch.old }

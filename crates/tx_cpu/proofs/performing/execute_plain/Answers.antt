@@ -1,5 +1,5 @@
 -- Each call executes the instruction on the bytes of its operands.
-use Rattle.std.proofs.Common.{ℕ, List, subst}
+use Rattle.std.proofs.Common.{List, subst}
 use Rattle.z_regs.specs.Cpu.{cpu_of}
 use Rattle.z_instr.specs.Operands.{Span}
 use Rattle.z_effect.specs.After.{AreInside}

@@ -1,5 +1,5 @@
 -- What each transaction instruction leaves.
-use Rattle.std.proofs.Common.{◌≡◌, refl, ap, sym, ◌∙◌, take, List, ℕ}
+use Rattle.std.proofs.Common.{◌≡◌, ap, ◌∙◌, take, List, ℕ}
 use Rattle.z_regs.specs.Cpu.{cpu_of}
 use Rattle.z_effect.specs.One.{length_of}
 use Rattle.z_effect.specs.Outcome.{Did}

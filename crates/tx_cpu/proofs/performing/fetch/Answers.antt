@@ -1,9 +1,8 @@
 -- One operand more is fetched.
-use Rattle.std.proofs.Common.{◌≡◌, ℕ, ◌+◌, ◌<◌, length, get_or, sym, subst, below_more}
+use Rattle.std.proofs.Common.{◌+◌, ◌<◌, get_or, sym, subst, below_more}
 use Rattle.std.proofs.lemmas.Option.{get_or_from_slice_get, slice_get_within}
 use Rattle.std.proofs.Common.{arith}
 use Rattle.z_regs.specs.Absolute.{IsAccessible}
-use Rattle.z_regs.specs.declared.ranges.Range.{Range}
 use Rattle.store_cache.specs.Entries.{stores_of}
 use Rattle.tx_serial.specs.Flat.{Storage}
 use Rattle.tx_progress.specs.Progress.{seen_through}

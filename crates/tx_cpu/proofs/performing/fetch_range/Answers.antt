@@ -31,4 +31,3 @@ loop-k-preserved g c =
           (ap (λ (s : List ℕ). get_or s a 0) put
           ∙ put-true c.loop-k.scratch f a c.seen-byte.result a within byte refl);
     }
-

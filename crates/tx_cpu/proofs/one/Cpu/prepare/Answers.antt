@@ -1,7 +1,4 @@
 -- The codes of exceptions are small.
-use Rattle.std.proofs.Common.{◌≡◌, sym, subst}
-use Rattle.std.specs.FinSet.{items}
-use Rattle.tx_cpu.specs.Parts.{storage_of, local_of}
 use Rattle.tx_cpu.proofs.SmallCodes.{planned-room}
 use Rattle.tx_cpu.proofs.one.Cpu.prepare.Goals as goal
 
