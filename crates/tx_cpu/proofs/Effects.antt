@@ -1,5 +1,6 @@
 -- What the calls of the instruction crates tell and leave, as outcomes.
-use Rattle.std.proofs.Common.{◌≡◌, ℕ, ◌≤◌, Bool, true, false, List, [], ◌∷◌, ◌++◌, take, drop, length, refl, sym}
+use Rattle.std.proofs.Common.{◌≡◌, ℕ, ◌≤◌, Bool, true, false, List, [], ◌∷◌, ◌++◌, take, drop, length, refl}
+use Rattle.std.proofs.Common.{sym}
 use Rattle.std.proofs.Common.{ap, subst, ◌∙◌, arith}
 use Rattle.std.specs.Prelude.{map, Result, Ok, Err}
 use Rattle.std.proofs.lemmas.List.{take-append-le, take_all}
@@ -17,7 +18,8 @@ use Rattle.z_effect.specs.After.{touched, ranges_of, cpu_after}
 use Rattle.z_effect.specs.Outcome.{Outcome, Did, Overflowed, Divides, Aborts}
 use Rattle.z_effect.specs.TransactionEffect.{transaction_effect}
 use Rattle.z_effect.specs.declared.kind.Transaction.{Transaction}
-use Rattle.z_effect.specs.declared.kind.Transaction.TheVariants.{Begin, BeginConstrained, End, Abort, ExtractDepth}
+use Rattle.z_effect.specs.declared.kind.Transaction.TheVariants.{Begin, BeginConstrained, End, Abort}
+use Rattle.z_effect.specs.declared.kind.Transaction.TheVariants.{ExtractDepth}
 use Rattle.z_effect.specs.declared.kind.Transaction.TheVariants.{StoreLasting, Assist}
 use Rattle.tx_control.specs.declared.codes.TheConstants.{FIXED_POINT_OVERFLOW, FIXED_POINT_DIVIDE}
 use Rattle.tx_control.specs.declared.exceptions.Exception.{Exception}
@@ -52,7 +54,8 @@ pub plain-left : (depth : ℕ) (i : Instr) (need : List Range) (old new : Cpu) (
     (r : Result (Unit {0}) Exception) (e : Ended) → need ≡ operands i old → Executes depth i old new s t r
     → e ≡ ended_in r → IsLeft (one i old depth (touched (map span_of need) s)) need old new s t e
 plain-left depth i need old new s t r e en executes ee =
-    let left : Leaves (one i old depth (touched (map span_of need) s)) (length_of i) (map span_of need) old new s
+    let left : Leaves (one i old depth (touched (map span_of need) s)) (length_of i) (map span_of need) old
+    new s
     t r = subst (λ (ss : List Span). Leaves (one i old depth (touched ss s)) (length_of i) ss old new s t r)
     (sym (operand-spans i old need en)) executes in
     record {
@@ -87,7 +90,8 @@ pub lasting-value : (k : Transaction) (n : ℕ) (i : Instr) (c new : Cpu) (depth
     → Did new (take (lasting_size k) (big_bytes 8 value ++ drop 8 old)) ≡ transaction_effect k n i c depth
 lasting-value k n i c new depth value old ek ev en =
     subst (λ (t : Transaction). new ≡ cpu_after c (transaction_effect t n i c depth)
-    → Did new (take (lasting_size t) (big_bytes 8 value ++ drop 8 old)) ≡ transaction_effect t n i c depth) (sym
+    → Did new (take (lasting_size t) (big_bytes 8 value ++ drop 8 old)) ≡ transaction_effect t n i c depth)
+    (sym
     ek) (lasting-by n i c new depth value old ev) en
 
 abbrev pub has_no_store : Transaction → Bool

@@ -93,7 +93,8 @@ unfolding block_stored
 unstored-is p old ep =
     λ i. record {
       local = record (local_of p) { pending = ep i };
-      storage = ap (λ (o : Option Pending). storage_with (local_of p).cpu.prefix o (storage_of old)) (sym ep) i;
+      storage = ap (λ (o : Option Pending). storage_with (local_of p).cpu.prefix o (storage_of old)) (sym ep)
+      i;
     }
 
 -- ---- a waiting interruption

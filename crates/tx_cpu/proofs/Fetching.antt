@@ -57,7 +57,8 @@ touched-fetched prefix s [] t inside h = refl
 touched-fetched prefix s (r ∷ rs) t inside h =
     touched-first (span_of r) (map span_of rs) t
     ∙ ap (λ bs. bs ++ touched (map span_of rs) t)
-    (taken-at r.length r.first t (λ a. s (absolute_of prefix a)) (All-head (IsFetched prefix s t) r rs h) inside.0)
+    (taken-at r.length r.first t (λ a. s (absolute_of prefix a)) (All-head (IsFetched prefix s t) r rs h)
+    inside.0)
     ∙ ap (λ bs. map (λ a. s (absolute_of prefix a)) (from_up r.first r.length) ++ bs)
     (touched-fetched prefix s rs t inside.1 (All-tail (IsFetched prefix s t) r rs h))
 

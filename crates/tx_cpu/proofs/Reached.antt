@@ -1,4 +1,5 @@
--- Places that an instruction reaches: those of accessible operands are in storage, and behind the end of storage
+-- Places that an instruction reaches: those of accessible operands are in storage, and behind the end of
+-- storage
 -- there is nothing.
 use Rattle.std.proofs.Common.{◌≡◌, ℕ, ◌+◌, ◌-◌, ◌≤◌, true, List, [], ◌∷◌, Option, Some, None}
 use Rattle.std.proofs.Common.{sym, ap, subst, ◌∙◌, arith, length, get_or, inl, inr}

@@ -25,11 +25,13 @@ use Rattle.tx_footprint.specs.declared.footprint.Overflow.{Overflow}
 use Rattle.tx_footprint.specs.declared.footprint.Overflow.TheVariants.{Fetch, Store}
 use Rattle.tx_footprint.specs.Touched.{Sets, fit_of}
 use Rattle.tx_serial.specs.Flat.{Storage}
-use Rattle.tx_serial.specs.Fate.{Fate, Goes, Ends, Stops, Refusal, Excepts, Because, cause_in, fate_after, excepted}
+use Rattle.tx_serial.specs.Fate.{Fate, Goes, Ends, Stops, Refusal, Excepts, Because, cause_in, fate_after}
+use Rattle.tx_serial.specs.Fate.{excepted}
 use Rattle.tx_serial.specs.Fate.{aborts_where, first_refusal, fetch_refusal, instruction_at, unreadable}
 use Rattle.tx_serial.specs.Fate.{overflow_of, overflow_in, operands}
 use Rattle.tx_progress.specs.Progress.{Progress}
-use Rattle.tx_progress.specs.Trial.{at_hand, breach_refusal, constraint_refusal, tried, fetched, fate_by_progress}
+use Rattle.tx_progress.specs.Trial.{at_hand, breach_refusal, constraint_refusal, tried, fetched}
+use Rattle.tx_progress.specs.Trial.{fate_by_progress}
 use Rattle.tx_progress.specs.Trial.{tests_by, text_refusal_by, place_refusal_by, overflow_refusal_by}
 use Rattle.tx_serial.specs.Fate.{restricted_refusal, specified_refusal, depth_refusal, operand_refusal}
 use Rattle.tx_serial.specs.Fate.{is_restricted}
@@ -127,7 +129,8 @@ overflow-modest (outermost ∷ inner) sets = by (fit_of sets)
     by (Err Fetch) = tt
     by (Err Store) = tt
 
-first-modest : (o : Option Refusal) (rest : List (Option Refusal)) → IsModest o → IsModest (first_refusal rest)
+first-modest : (o : Option Refusal) (rest : List (Option Refusal)) → IsModest o → IsModest (first_refusal
+    rest)
     → IsModest (first_refusal (o ∷ rest))
 first-modest None rest h k = k
 first-modest (Some r) rest h k = h
@@ -176,20 +179,24 @@ tests-modest text storage q i =
     first-modest t1 (t2 ∷ t3 ∷ t4 ∷ t5 ∷ t6 ∷ t7 ∷ [])
     (constraint-modest (λ kept. next_text_breach kept i c.address) i q.constraint)
     (first-modest t2 (t3 ∷ t4 ∷ t5 ∷ t6 ∷ t7 ∷ []) (restricted-modest (is_restricted q.nest e))
-    (first-modest t3 (t4 ∷ t5 ∷ t6 ∷ t7 ∷ []) (excepted-modest i specified (unspecified-small e.demand e.operands i
+    (first-modest t3 (t4 ∷ t5 ∷ t6 ∷ t7 ∷ []) (excepted-modest i specified (unspecified-small e.demand
+    e.operands i
     c.general (length q.nest)))
     (first-modest t4 (t5 ∷ t6 ∷ t7 ∷ []) (depth-modest (begins_one e && nat_le 16 (length q.nest)))
-    (first-modest t5 (t6 ∷ t7 ∷ []) (excepted-modest i accessible (inaccessible-small e i c.general c.condition
+    (first-modest t5 (t6 ∷ t7 ∷ []) (excepted-modest i accessible (inaccessible-small e i c.general
+    c.condition
     (length q.nest) (accessible_pages c.prefix) (text_pages c.prefix text)))
     (first-modest t6 (t7 ∷ []) (constraint-modest (λ kept. next_operand_breach kept i (operands i c)) i
     q.constraint)
-    (first-modest t7 [] (overflow-modest q.nest (touching q.footprint (absolute_ranges c.prefix (operands i c))))
+    (first-modest t7 [] (overflow-modest q.nest (touching q.footprint (absolute_ranges c.prefix (operands i
+    c))))
     tt))))))
 
 fetched-room : (text : List ℕ) (storage : Storage) (q : Progress) (o : Option ℕ) (i : Option Instr)
     → IsSmall o → IsRoomy (fetched text storage q o i)
 fetched-room text storage q (Some code) i h = after-room q.nest (Excepts (at_fetch code)) h
-fetched-room text storage q None None h = after-room q.nest (Excepts (unreadable (at_hand storage q))) (lit< tt)
+fetched-room text storage q None None h = after-room q.nest (Excepts (unreadable (at_hand storage q))) (lit<
+    tt)
 fetched-room text storage q None (Some i) h = tried-room q i (first_refusal (tests_by text storage q i))
     (tests-modest text storage q i)
 

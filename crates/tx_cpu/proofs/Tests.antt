@@ -1,5 +1,6 @@
 -- Tests in order: the first that finds something decides.
-use Rattle.std.proofs.Common.{◌≡◌, ℕ, Bool, true, false, take, length, List, [], ◌∷◌, ◌++◌, Option, Some, None, refl, sym, ap, subst, ◌∙◌}
+use Rattle.std.proofs.Common.{◌≡◌, ℕ, Bool, true, false, take, length, List, [], ◌∷◌, ◌++◌, Option, Some}
+use Rattle.std.proofs.Common.{None, refl, sym, ap, subst, ◌∙◌}
 use Rattle.std.specs.Prelude.{All, Ok, Err, if◌then◌else◌, nat_lt}
 use Rattle.z_regs.specs.Cpu.{Cpu}
 use Rattle.z_regs.specs.Absolute.{IsAccessible}
@@ -119,7 +120,8 @@ pub planned-unfetched : (text : List ℕ) (storage : Storage) (q : Progress) (e 
     → fate_after q.nest (Excepts e) ≡ fate_by_progress text storage q
 unfolding fate_by_progress
 planned-unfetched text storage q e h =
-    unfetched-at text storage q e (fetch_refusal text (at_hand storage q)) (instruction_at (at_hand storage q)) h
+    unfetched-at text storage q e (fetch_refusal text (at_hand storage q)) (instruction_at (at_hand storage
+    q)) h
 
 pub fetched-none : (o : Option ℕ) (u : Unit {0}) → Ok u ≡ fetch_answer o → o ≡ None
 fetched-none None u h = refl
@@ -155,7 +157,8 @@ pub bytes_seen-taken : (prefix : Option ℕ) (s : Storage) (a b : ℕ)
     → take (length_by b) (bytes_seen prefix s a 6) ≡ bytes_seen prefix s a (length_by b)
 bytes_seen-taken prefix s a b = taken_by prefix s a (nat_lt b 64) (nat_lt b 192)
 
-pub specified-heads : (storage : Storage) (q : Progress) (i : Instr) → None ≡ first_refusal (heads storage q i)
+pub specified-heads : (storage : Storage) (q : Progress) (i : Instr) → None ≡ first_refusal (heads storage q
+    i)
     → unspecified i q.cpu.general (length q.nest) ≡ None
 specified-heads storage q i h =
     let a = text_refusal_by q i in

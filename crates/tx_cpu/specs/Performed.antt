@@ -31,7 +31,8 @@ ended_in (Ok u) = ended.Completed
 ended_in (Err e) = if nat_eq e.code FIXED_POINT_DIVIDE then ended.Suppressed else ended.Exceeded
 
 -- a call tells how the instruction ended, and leaves the CPU and what it sees of storage
-pub record IsLeft (o : Outcome) (ranges : List Range) (old new : Cpu) (s t : List ℕ) (e : Ended) : Type 0 where
+pub record IsLeft (o : Outcome) (ranges : List Range) (old new : Cpu) (s t : List ℕ) (e : Ended) : Type 0
+    where
   pub told : e ≡ ended_of o
   pub image : new ≡ cpu_after old o
   pub view : t ≡ storage_after (map span_of ranges) s o
@@ -57,7 +58,8 @@ first_size (r ∷ rs) = cond r.store r.length 0
 
 -- each byte of a range is that of storage, by real addresses
 abbrev pub IsFetched : Option ℕ → Storage → List ℕ → Range → Type 0
-IsFetched prefix s t r = (k : ℕ) → k < r.length → get_or t (r.first + k) 0 ≡ s (absolute_of prefix (r.first + k))
+IsFetched prefix s t r = (k : ℕ) → k < r.length → get_or t (r.first + k) 0 ≡ s (absolute_of prefix (r.first +
+    k))
 
 abbrev pub is_transaction : Kind → Bool
 is_transaction (kind.Transaction t) = true

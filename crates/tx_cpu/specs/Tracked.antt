@@ -43,7 +43,8 @@ pub record IsAtRest (t : Tracked) : Type 0 where
   pub resumes_at : t.resumes_at ≡ 0
 
 -- An attempt that has completed an instruction has an open begin, and before that there is nothing. Stores
--- lie in storage, in blocks of the footprint. A constrained transaction has no other inside it, and at most 32
+-- lie in storage, in blocks of the footprint. A constrained transaction has no other inside it, and at most
+-- 32
 -- instructions. The block that the outermost begin names lies in storage.
 pub record IsSound (t : Tracked) : Type 0 where
   pub rests : t.count ≡ 0 → IsAtRest t

@@ -1,5 +1,6 @@
 //! The attempt of a CPU.
-ghost use Rattle.std.specs.Prelude.{◌≡◌, ◌<◌, ◌≤◌, ◌+◌, ℕ, IfOk, nat_lt, length, is_some, unwrap_or, slice_index};
+ghost use Rattle.std.specs.Prelude.{◌≡◌, ◌<◌, ◌≤◌, ◌+◌, ℕ, IfOk, nat_lt, length, is_some, unwrap_or};
+ghost use Rattle.std.specs.Prelude.{slice_index};
 ghost use Rattle.std.specs.Prelude.{true, Some};
 ghost use Rattle.z_regs.specs.Cpu.{Cpu};
 ghost use Rattle.z_regs.specs.Prefix.{storage_size};
@@ -155,12 +156,14 @@ impl Attempt {
 
     /// The CPU as the history leaves it: as it was saved where an attempt is live.
     pub fn settled<'a>(&self, saved: &'a CpuImage, image: &'a CpuImage) -> &'a CpuImage
-        ensures { cpu_of result.now ≡ (if nat_lt 0 self.now.count then cpu_of saved.now else cpu_of image.now) }
+        ensures { cpu_of result.now ≡ (if nat_lt 0 self.now.count then cpu_of saved.now else cpu_of
+        image.now) }
     {
         if self.count > 0 { saved } else { image }
     }
 
-    /// The byte of the program `k` bytes behind an address, as the attempt sees it over the text's storage; zero
+    /// The byte of the program `k` bytes behind an address, as the attempt sees it over the text's storage;
+    /// zero
     /// where there is none.
     fn text_byte(&self, first: u64, k: u8, prefix: Option<u32>, text: &[u8]) -> u8
         requires prefix_in { IsTrue (is_prefix prefix) }

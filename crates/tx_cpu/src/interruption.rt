@@ -2,7 +2,8 @@
 ghost use Rattle.std.specs.Prelude.{◌≡◌, length, IsTrue};
 ghost use Rattle.z_regs.specs.Cpu.{cpu_of};
 ghost use Rattle.z_regs.specs.Prefix.{is_prefix, storage_size};
-ghost use Rattle.tx_serial.specs.Remains.{waiting_with as waits, waiting_after as waits_after, interrupted_after};
+ghost use Rattle.tx_serial.specs.Remains.{waiting_with as waits, waiting_after as waits_after};
+ghost use Rattle.tx_serial.specs.Remains.{interrupted_after};
 ghost use Rattle.tx_serial.specs.Apply.{interruption_code, identified as identified_by, with_block};
 ghost use Rattle.tx_serial.specs.Apply.{with_stored_interruption, with_new_psw};
 ghost use Rattle.tx_abort.specs.Causes.{cause_of};

@@ -1,4 +1,5 @@
-//! One CPU: its registers, its attempt, the block that is pending for it and the interruption that it has still
+//! One CPU: its registers, its attempt, the block that is pending for it and the interruption that it has
+//! still
 //! to take. Each call is one equation with the definitions of tx_progress.
 #![tactic(auto)]
 

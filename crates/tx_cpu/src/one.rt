@@ -27,7 +27,8 @@ use tx_journal::Image;
 use z_effect::interrupt;
 use z_regs::{Bytes, CpuImage, NoMemory, Waiting};
 
-/// One CPU. Contracts speak of what is kept of it (`local_of`): the CPU as the history leaves it, its attempt,
+/// One CPU. Contracts speak of what is kept of it (`local_of`): the CPU as the history leaves it, its
+/// attempt,
 /// the block that is pending for it and the interruption that waits.
 #[derive(Drop)]
 pub struct Cpu {
@@ -120,7 +121,8 @@ impl Cpu {
         self.waiting
     }
 
-    /// What comes of the next instruction. Its bytes are read from the storage of the image, where they are as
+    /// What comes of the next instruction. Its bytes are read from the storage of the image, where they are
+    /// as
     /// long as the program runs.
     pub fn prepare(&self, text: &Image) -> Plan
         ensures value { fate_of result ≡ fate_by_progress (items text.now.guard) (storage_of text.now.storage)

@@ -1,5 +1,6 @@
 //! Instructions performed on the bytes of their operands.
-ghost use Rattle.std.specs.Prelude.{◌≡◌, ◌≤◌, ◌<◌, ◌+◌, ℕ, List, length, map, take, IsTrue, All, false, true, get_or};
+ghost use Rattle.std.specs.Prelude.{◌≡◌, ◌≤◌, ◌<◌, ◌+◌, ℕ, List, length, map, take, IsTrue, All, false, true};
+ghost use Rattle.std.specs.Prelude.{get_or};
 ghost use Rattle.z_regs.specs.Cpu.{cpu_of};
 ghost use Rattle.z_regs.specs.Prefix.{is_prefix, storage_size, absolute_of};
 ghost use Rattle.z_regs.specs.Absolute.{IsAccessible};
@@ -12,7 +13,8 @@ ghost use Rattle.tx_serial.specs.Flat.{operand_bytes};
 ghost use Rattle.tx_serial.specs.Fate.{operands};
 ghost use Rattle.tx_progress.specs.Progress.{seen_through};
 ghost use Rattle.tx_cpu.specs.Parts.{storage_of};
-ghost use Rattle.tx_cpu.specs.Performed.{ended_in, IsLeft, trimmed, outcome_from, first_size, IsFetched, ended_of};
+ghost use Rattle.tx_cpu.specs.Performed.{ended_in, IsLeft, trimmed, outcome_from, first_size, IsFetched};
+ghost use Rattle.tx_cpu.specs.Performed.{ended_of};
 ghost use Rattle.tx_cpu.specs.Performed.{is_transaction, lasting_size};
 ghost use Rattle.z_effect.specs.One.{length_of};
 ghost use Rattle.z_effect.specs.TransactionEffect.{transaction_effect};
@@ -75,10 +77,12 @@ fn fetch_range<V: Bytes>(
     requires scratch { length scratch.old ≡ storage_size }
     requires size { length (V.bytes base.now) ≡ storage_size }
     ensures fetched { IsFetched prefix
-        (seen_through (stores_of attempt.now.stores).overlay (storage_of (V.bytes base.now))) scratch.new range }
+        (seen_through (stores_of attempt.now.stores).overlay (storage_of (V.bytes base.now))) scratch.new
+        range }
     ensures stays { (x : ℕ) → get_or scratch.old x 0 ≡ seen_through (stores_of attempt.now.stores).overlay
         (storage_of (V.bytes base.now)) (absolute_of prefix x) → get_or scratch.new x 0 ≡
-        seen_through (stores_of attempt.now.stores).overlay (storage_of (V.bytes base.now)) (absolute_of prefix x) }
+        seen_through (stores_of attempt.now.stores).overlay (storage_of (V.bytes base.now)) (absolute_of
+        prefix x) }
     ensures scratch { length scratch.new ≡ storage_size }
 {
     for k in 0..range.length {
@@ -120,7 +124,8 @@ fn execute_plain(
     requires need { need.now ≡ operands instr.now (cpu_of image.old) }
     requires inside { AreInside (map span_of need.now) scratch.old }
     ensures { (depth : ℕ) → IsLeft (one instr.now (cpu_of image.old) depth
-        (touched (map span_of need.now) scratch.old)) need.now (cpu_of image.old) (cpu_of image.new) scratch.old
+        (touched (map span_of need.now) scratch.old)) need.now (cpu_of image.old) (cpu_of image.new)
+        scratch.old
         scratch.new result }
 {
     let _size = scratch.as_slice();

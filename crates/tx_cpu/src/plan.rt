@@ -136,7 +136,8 @@ fn operands(
     requires { unspecified instr.now image.now.general (length attempt.now.nest) ≡ None }
     ensures { (storage : Storage) → let q = progress attempt.now (cpu_of image.now) in
         MatchResult result
-        (λ need. AreOperands need (first_refusal (operand_refusal (items guard.now) (at_hand storage q) instr.now
+        (λ need. AreOperands need (first_refusal (operand_refusal (items guard.now) (at_hand storage q)
+        instr.now
         ∷ place_refusal_by q instr.now ∷ overflow_refusal_by q instr.now ∷ []))
         (operands_of instr.now (cpu_of image.now)))
         (λ refusal. first_refusal (operand_refusal (items guard.now) (at_hand storage q) instr.now

@@ -9,7 +9,8 @@ use Rattle.tx_cpu.proofs.performing.execute_plain.Goals as goal
 pub execute-requires-clause-inside : goal.execute-requires-clause-inside
 execute-requires-clause-inside c =
     subst (λ (ss : List Span). AreInside ss c.args.scratch.now)
-    (operand-spans c.args.instr.now (cpu_of c.args.image.now) c.args.need.now c.requires.need) c.requires.inside
+    (operand-spans c.args.instr.now (cpu_of c.args.image.now) c.args.need.now c.requires.need)
+    c.requires.inside
 
 pub returns-then-is_mine : goal.returns-then-is_mine
 returns-then-is_mine c depth =

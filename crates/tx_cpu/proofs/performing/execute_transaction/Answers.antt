@@ -24,7 +24,8 @@ returns-in-StoreLasting-clause-value c =
     c.length_in-length.ensures ∙ ap (λ (e : Entry). format_length e.format) c.line.ensures.row in
     let left : cpu_of c.transact.new.image ≡ cpu_after cpu
     (transaction_effect c.args.kind (length_of i) i cpu c.args.depth) =
-    c.transact.ensures ∙ ap (λ n. cpu_after cpu (transaction_effect c.args.kind n i cpu c.args.depth)) length in
+    c.transact.ensures ∙ ap (λ n. cpu_after cpu (transaction_effect c.args.kind n i cpu c.args.depth)) length
+    in
     ap (λ (bs : List ℕ). Did (cpu_of c.transact.new.image) (take (lasting_size c.args.kind) bs))
     c.write_u64.ensures
     ∙ lasting-value c.args.kind (length_of c.args.instr.now) c.args.instr.now (cpu_of c.args.image.now)
@@ -39,7 +40,8 @@ returns-in-Begin-clause-value c =
     c.length_in-length.ensures ∙ ap (λ (e : Entry). format_length e.format) c.line.ensures.row in
     let left : cpu_of c.transact.new.image ≡ cpu_after cpu
     (transaction_effect c.args.kind (length_of i) i cpu c.args.depth) =
-    c.transact.ensures ∙ ap (λ n. cpu_after cpu (transaction_effect c.args.kind n i cpu c.args.depth)) length in
+    c.transact.ensures ∙ ap (λ n. cpu_after cpu (transaction_effect c.args.kind n i cpu c.args.depth)) length
+    in
     completed-value c.args.kind (length_of c.args.instr.now) c.args.instr.now (cpu_of c.args.image.now)
     (cpu_of c.transact.new.image) c.args.depth c.args.stored.now (ap has_no_store c.in-Begin.is) left
 
@@ -51,9 +53,11 @@ returns-in-BeginConstrained-clause-value c =
     c.length_in-length.ensures ∙ ap (λ (e : Entry). format_length e.format) c.line.ensures.row in
     let left : cpu_of c.transact.new.image ≡ cpu_after cpu
     (transaction_effect c.args.kind (length_of i) i cpu c.args.depth) =
-    c.transact.ensures ∙ ap (λ n. cpu_after cpu (transaction_effect c.args.kind n i cpu c.args.depth)) length in
+    c.transact.ensures ∙ ap (λ n. cpu_after cpu (transaction_effect c.args.kind n i cpu c.args.depth)) length
+    in
     completed-value c.args.kind (length_of c.args.instr.now) c.args.instr.now (cpu_of c.args.image.now)
-    (cpu_of c.transact.new.image) c.args.depth c.args.stored.now (ap has_no_store c.in-BeginConstrained.is) left
+    (cpu_of c.transact.new.image) c.args.depth c.args.stored.now (ap has_no_store c.in-BeginConstrained.is)
+    left
 
 pub returns-in-End-clause-value : goal.returns-in-End-clause-value
 returns-in-End-clause-value c =
@@ -63,7 +67,8 @@ returns-in-End-clause-value c =
     c.length_in-length.ensures ∙ ap (λ (e : Entry). format_length e.format) c.line.ensures.row in
     let left : cpu_of c.transact.new.image ≡ cpu_after cpu
     (transaction_effect c.args.kind (length_of i) i cpu c.args.depth) =
-    c.transact.ensures ∙ ap (λ n. cpu_after cpu (transaction_effect c.args.kind n i cpu c.args.depth)) length in
+    c.transact.ensures ∙ ap (λ n. cpu_after cpu (transaction_effect c.args.kind n i cpu c.args.depth)) length
+    in
     completed-value c.args.kind (length_of c.args.instr.now) c.args.instr.now (cpu_of c.args.image.now)
     (cpu_of c.transact.new.image) c.args.depth c.args.stored.now (ap has_no_store c.in-End.is) left
 
@@ -75,7 +80,8 @@ returns-in-ExtractDepth-clause-value c =
     c.length_in-length.ensures ∙ ap (λ (e : Entry). format_length e.format) c.line.ensures.row in
     let left : cpu_of c.transact.new.image ≡ cpu_after cpu
     (transaction_effect c.args.kind (length_of i) i cpu c.args.depth) =
-    c.transact.ensures ∙ ap (λ n. cpu_after cpu (transaction_effect c.args.kind n i cpu c.args.depth)) length in
+    c.transact.ensures ∙ ap (λ n. cpu_after cpu (transaction_effect c.args.kind n i cpu c.args.depth)) length
+    in
     completed-value c.args.kind (length_of c.args.instr.now) c.args.instr.now (cpu_of c.args.image.now)
     (cpu_of c.transact.new.image) c.args.depth c.args.stored.now (ap has_no_store c.in-ExtractDepth.is) left
 
@@ -87,6 +93,7 @@ returns-in-Assist-clause-value c =
     c.length_in-length.ensures ∙ ap (λ (e : Entry). format_length e.format) c.line.ensures.row in
     let left : cpu_of c.transact.new.image ≡ cpu_after cpu
     (transaction_effect c.args.kind (length_of i) i cpu c.args.depth) =
-    c.transact.ensures ∙ ap (λ n. cpu_after cpu (transaction_effect c.args.kind n i cpu c.args.depth)) length in
+    c.transact.ensures ∙ ap (λ n. cpu_after cpu (transaction_effect c.args.kind n i cpu c.args.depth)) length
+    in
     completed-value c.args.kind (length_of c.args.instr.now) c.args.instr.now (cpu_of c.args.image.now)
     (cpu_of c.transact.new.image) c.args.depth c.args.stored.now (ap has_no_store c.in-Assist.is) left

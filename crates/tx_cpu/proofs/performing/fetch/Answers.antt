@@ -23,7 +23,8 @@ pub loop-j-preserved : goal.loop-j-preserved
 loop-j-preserved g c =
     let need = c.args.need.now in
     let r = c.at.result in
-    let seen : Storage = seen_through (stores_of c.args.attempt.now.stores).overlay (storage_of (g.V.Bytes.bytes
+    let seen : Storage = seen_through (stores_of c.args.attempt.now.stores).overlay (storage_of
+    (g.V.Bytes.bytes
     c.args.base.now)) in
     record {
       size = c.fetch_range.ensures.scratch;
@@ -38,7 +39,8 @@ loop-j-preserved g c =
 pub returns-clause-fetched : goal.returns-clause-fetched
 returns-clause-fetched g c =
     let need = c.args.need.now in
-    let seen : Storage = seen_through (stores_of c.args.attempt.now.stores).overlay (storage_of (g.V.Bytes.bytes
+    let seen : Storage = seen_through (stores_of c.args.attempt.now.stores).overlay (storage_of
+    (g.V.Bytes.bytes
     c.args.base.now)) in
     touched-fetched c.args.prefix seen need c.loop-j.scratch
     (all-inside c.args.prefix need c.loop-j.scratch c.loop-j.invariant.size c.requires.accessible)

@@ -15,7 +15,8 @@ use Rattle.tx_progress.specs.Progress.{seen_through}
 use Rattle.tx_progress.specs.Trial.{at_hand}
 use Rattle.tx_cpu.specs.Tracked.{progress}
 use Rattle.tx_cpu.specs.Parts.{storage_of}
-use Rattle.tx_cpu.proofs.Tests.{planned-unfetched, planned-read, planned-unread, fetched-none, bytes_seen-taken}
+use Rattle.tx_cpu.proofs.Tests.{planned-unfetched, planned-read, planned-unread, fetched-none}
+use Rattle.tx_cpu.proofs.Tests.{bytes_seen-taken}
 use Rattle.tx_cpu.proofs.plan.next_plan.Goals as goal
 
 pub returns-in-Err : goal.returns-in-Err

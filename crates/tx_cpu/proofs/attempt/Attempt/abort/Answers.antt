@@ -20,7 +20,8 @@ pub returns-clause-bytes : goal.returns-clause-bytes
 returns-clause-bytes g c =
     rw (← c.self.view_is)
     (ap storage_of c.abort.ensures.bytes
-    ∙ storage_of-bytes_through (lasting_bytes (stores_of (the_view c.self.inside).stores).lasting) (g.V.Bytes.bytes c.args.base.now)
+    ∙ storage_of-bytes_through (lasting_bytes (stores_of (the_view c.self.inside).stores).lasting)
+    (g.V.Bytes.bytes c.args.base.now)
     (λ a h. c.self.invariant.lasts a (subst (λ n. n ≤ a) c.requires h)))
 
 pub returns-clause-size : goal.returns-clause-size

@@ -19,7 +19,8 @@ pub returns-clause-bytes : goal.returns-clause-bytes
 returns-clause-bytes g c =
     rw (← c.self.view_is)
     (ap storage_of c.commit.ensures.bytes
-    ∙ storage_of-bytes_through ((stores_of (the_view c.self.inside).stores).overlay) (g.V.Bytes.bytes c.args.base.now)
+    ∙ storage_of-bytes_through ((stores_of (the_view c.self.inside).stores).overlay) (g.V.Bytes.bytes
+    c.args.base.now)
     (λ a h. c.self.invariant.inside a (subst (λ n. n ≤ a) c.requires h)))
 
 pub returns-clause-size : goal.returns-clause-size

@@ -12,7 +12,8 @@ use Rattle.tx_cpu.proofs.attempt.Attempt.text_bytes.Goals as goal
 pub loop-k-preserved : goal.loop-k-preserved
 loop-k-preserved c =
     let k = c.loop-k.k in
-    let seen : Storage = seen_through (stores_of c.args.self.now.stores).overlay (storage_of c.args.text.now) in
+    let seen : Storage = seen_through (stores_of c.args.self.now.stores).overlay (storage_of c.args.text.now)
+    in
     let here : k < length c.loop-k.bytes = omega (arith, c.loop-k.invariant.size) in
     record {
       read = take_more_set c.loop-k.bytes k c.text_byte.result here
@@ -24,7 +25,8 @@ loop-k-preserved c =
 
 pub returns : goal.returns
 returns c =
-    let seen : Storage = seen_through (stores_of c.args.self.now.stores).overlay (storage_of c.args.text.now) in
+    let seen : Storage = seen_through (stores_of c.args.self.now.stores).overlay (storage_of c.args.text.now)
+    in
     let all : c.loop-k.k ≡ 6 = omega arith in
     sym (take_all c.loop-k.k c.loop-k.bytes (omega (arith, c.loop-k.invariant.size)))
     ∙ c.loop-k.invariant.read ∙ ap (bytes_seen c.args.prefix seen c.args.first) all

@@ -23,7 +23,8 @@ returns-clause-value g c =
     c.mask-mask.ensures ∙ ap outermost_mask nest in
     let told : c.block_of-block.result ≡ block c.args.why c.self.inside.attempt.nest
     c.self.inside.image.general c.args.at =
-    c.block_of-block.ensures ∙ ap (λ (n : List Begin). block c.args.why n c.self.inside.image.general c.args.at)
+    c.block_of-block.ensures ∙ ap (λ (n : List Begin). block c.args.why n c.self.inside.image.general
+    c.args.at)
     nest in
     let named = c.block.ensures ∙ ap outermost_block nest in
     rw (← c.self.view_is)

@@ -4,4 +4,5 @@ use Rattle.tx_cpu.proofs.Resting.{settled-rests}
 use Rattle.tx_cpu.proofs.one.Cpu.open.Goals as goal
 
 pub returns : goal.returns
-returns c = settled-rests (cpu_of c.args.start) (cpu_of c.args.start) c.in_ok-open.field-0 c.in_ok-open.ensures
+returns c = settled-rests (cpu_of c.args.start) (cpu_of c.args.start) c.in_ok-open.field-0
+    c.in_ok-open.ensures
