@@ -94,7 +94,7 @@ unstored-is p old ep =
     λ i. record {
       local = record (local_of p) { pending = ep i };
       storage = ap (λ (o : Option Pending). storage_with (local_of p).cpu.prefix o (storage_of old)) (sym ep)
-      i;
+          i;
     }
 
 -- ---- a waiting interruption

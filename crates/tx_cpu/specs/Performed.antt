@@ -32,10 +32,10 @@ ended_in (Err e) = if nat_eq e.code FIXED_POINT_DIVIDE then ended.Suppressed els
 
 -- a call tells how the instruction ended, and leaves the CPU and what it sees of storage
 pub record IsLeft (o : Outcome) (ranges : List Range) (old new : Cpu) (s t : List ℕ) (e : Ended) : Type 0
-    where
-  pub told : e ≡ ended_of o
-  pub image : new ≡ cpu_after old o
-  pub view : t ≡ storage_after (map span_of ranges) s o
+  where
+    pub told : e ≡ ended_of o
+    pub image : new ≡ cpu_after old o
+    pub view : t ≡ storage_after (map span_of ranges) s o
 
 -- an outcome with the first n stored bytes
 abbrev pub trimmed : ℕ → Outcome → Outcome

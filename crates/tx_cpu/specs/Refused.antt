@@ -15,6 +15,6 @@ found (Err refusal) = Some (refusal_of refusal)
 
 -- these are the operands, and no test has found anything wrong
 pub record AreOperands (need : List Range) (refusal : Option fate.Refusal) (ranges : List Range) : Type 0
-    where
-  pub passed : refusal ≡ None
-  pub touches : need ≡ ranges
+  where
+    pub passed : refusal ≡ None
+    pub touches : need ≡ ranges

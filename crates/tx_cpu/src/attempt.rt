@@ -157,7 +157,7 @@ impl Attempt {
     /// The CPU as the history leaves it: as it was saved where an attempt is live.
     pub fn settled<'a>(&self, saved: &'a CpuImage, image: &'a CpuImage) -> &'a CpuImage
         ensures { cpu_of result.now ≡ (if nat_lt 0 self.now.count then cpu_of saved.now else cpu_of
-        image.now) }
+            image.now) }
     {
         if self.count > 0 { saved } else { image }
     }
