@@ -54,6 +54,8 @@ use Rattle.tx_progress.proofs.Rows.{any_row}
 use Rattle.tx_progress.proofs.Standing.{tests_find_nothing}
 use Rattle.tx_progress.proofs.Lines.{run_there, seen_test, either_way}
 use Rattle.tx_progress.proofs.Alike.{its_footprint}
+use Rattle.tx_progress.proofs.Facts.{stored_line, lasting_line}
+use Rattle.std.proofs.lemmas.Bool.{or_right}
 
 -- ---- a begin has no operand
 
@@ -277,3 +279,24 @@ footprint_lines f i line local is ok h =
     run_lines f i n line (ap (λ (c : Cpu). is_prefix c.prefix) is.cpu ∙ ok)
     (open_is_there (run f i n).mark is.opens)
     (ap (λ sets. sets.fetched line || sets.stored line) (its_footprint f i local is) ∙ h)
+
+-- ---- stored bytes
+
+line_inside : (a : ℕ) → a / LINE_SIZE < LINES → a < storage_size
+line_inside a h = omega (arith, h)
+
+pub stored_inside : (f : FlatState) (i a byte : ℕ) (local : Local) → IsFollowed f i local
+    → is_prefix local.cpu.prefix ≡ true → local.attempt.overlay a ≡ Some byte → a < storage_size
+stored_inside f i a byte local is ok h =
+    line_inside a (footprint_lines f i (a / LINE_SIZE) local is ok
+    (or_right (local.attempt.footprint.fetched (a / LINE_SIZE)) (local.attempt.footprint.stored (a /
+    LINE_SIZE))
+    (stored_line f i a byte local is ok h)))
+
+pub lasting_inside : (f : FlatState) (i a byte : ℕ) (local : Local) → IsFollowed f i local
+    → is_prefix local.cpu.prefix ≡ true → local.attempt.lasting a ≡ Some byte → a < storage_size
+lasting_inside f i a byte local is ok h =
+    line_inside a (footprint_lines f i (a / LINE_SIZE) local is ok
+    (or_right (local.attempt.footprint.fetched (a / LINE_SIZE)) (local.attempt.footprint.stored (a /
+    LINE_SIZE))
+    (lasting_line f i a byte local is ok h)))

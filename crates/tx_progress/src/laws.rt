@@ -4,7 +4,7 @@ ghost use Rattle.std.specs.Prelude.{List, []};
 ghost use Rattle.std.specs.Prelude.{◌∷◌, Some, None, Option, length};
 ghost use Rattle.std.specs.List.{list_any};
 ghost use Rattle.z_regs.specs.Cpu.{Cpu};
-ghost use Rattle.z_regs.specs.Prefix.{absolute_of, is_prefix, area_size};
+ghost use Rattle.z_regs.specs.Prefix.{absolute_of, is_prefix, area_size, storage_size};
 ghost use Rattle.z_regs.specs.Absolute.{absolute_ranges};
 ghost use Rattle.tx_footprint.specs.Places.{stores};
 ghost use Rattle.z_regs.specs.declared.image.RunState.TheVariants.{Running};
@@ -235,7 +235,9 @@ pub fn stored_bytes_lie_in_the_footprint()
         → local.attempt.footprint.stored (a / LINE_SIZE) ≡ true }
 {}
 
-/// The footprint of an attempt keeps the limits, and its lines are lines of storage.
+/// The footprint of an attempt keeps the limits, and its lines are lines of storage; so every byte that it
+/// has
+/// stored is one of storage.
 pub fn footprints_keep_the_limits()
     ensures limits { (f : FlatState) (i : ℕ) (local : Local) → IsFollowed f i local
         → KeepsLimits local.attempt.footprint }
@@ -243,6 +245,10 @@ pub fn footprints_keep_the_limits()
         → is_prefix local.cpu.prefix ≡ true
         → (local.attempt.footprint.fetched line || local.attempt.footprint.stored line) ≡ true
         → line < LINES }
+    ensures stored { (f : FlatState) (i a byte : ℕ) (local : Local) → IsFollowed f i local
+        → is_prefix local.cpu.prefix ≡ true → local.attempt.overlay a ≡ Some byte → a < storage_size }
+    ensures lasting { (f : FlatState) (i a byte : ℕ) (local : Local) → IsFollowed f i local
+        → is_prefix local.cpu.prefix ≡ true → local.attempt.lasting a ≡ Some byte → a < storage_size }
 {}
 
 /// An instruction that goes changes bytes of storage only in lines that its attempt has stored into or that
