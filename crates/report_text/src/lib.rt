@@ -1,0 +1,19 @@
+//! The texts of a report and of a short summary, from what they tell as plain data.
+#![tactic(auto)]
+
+mod block;
+mod digits;
+mod laws;
+mod lines;
+mod processors;
+mod storage;
+#[cfg(test)]
+mod tests;
+mod totals;
+mod whole;
+
+pub use laws::a_block_shows_what_ended_the_attempt;
+pub use processors::{Attempt, Counts, Processor};
+pub use storage::SharedBytes;
+pub use totals::summary;
+pub use whole::{report, status};
