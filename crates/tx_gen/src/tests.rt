@@ -24,6 +24,29 @@ static DRAWN: [&str; 16] = [
     "89:66304 93:66304 / 776",
 ];
 
+/// The sums by which the listings of 0 to 15 are known whole (`sum_of`).
+static SUMS: [u64; 16] = [
+    0xCA2A2DAC2BECB782,
+    0xC514E33D1B0F9B3F,
+    0x42E1DE4CBE6459A5,
+    0x6704F381EF5A97D3,
+    0x212B66692574DD9D,
+    0x7079F38547C3028E,
+    0x6A0998D2FE722358,
+    0x14DEAD02E465348F,
+    0x8D6A405AEC8E9C30,
+    0x429767DF62688B3A,
+    0x7A485F26E04E756A,
+    0xDBA8EA8CE91A9037,
+    0x9ECFFB718726DEDD,
+    0x8284F7C17F145269,
+    0x150303912474E794,
+    0x8879A208E132BC99,
+];
+
+/// The sum of the listing of the greatest number.
+const GREATEST: u64 = 0xF381A80FFF87368B;
+
 /// The whole listing of 0.
 static LISTING: [&str; 38] = [
     " CPU P0",
@@ -95,6 +118,26 @@ fn numbers_drawn(rt: HostRuntime) -> Result<(), Fail> {
         let drawn = drawn_in(rt.alloc(), listing.as_str())?;
         assert_eq!(rt; drawn.as_str(), DRAWN[number as usize]);
     }
+    Ok(())
+}
+
+/// The 64 bits of FNV-1a over a text: another byte or another length changes them.
+fn sum_of(text: &[u8]) -> u64 {
+    let mut sum: u64 = 0xCBF2_9CE4_8422_2325;
+    for byte in text {
+        sum = (sum ^ u64::from(*byte)).wrapping_mul(0x0000_0100_0000_01B3);
+    }
+    sum
+}
+
+#[test]
+fn whole_listings(rt: HostRuntime) -> Result<(), Fail> {
+    for number in 0..16u64 {
+        let text = generate(rt.alloc(), number)?;
+        assert_eq!(rt; sum_of(text.as_slice()), SUMS[number as usize]);
+    }
+    let last = generate(rt.alloc(), u64::MAX)?;
+    assert_eq!(rt; sum_of(last.as_slice()), GREATEST);
     Ok(())
 }
 
