@@ -70,6 +70,7 @@ pub record ActOk (m : Setting) (i : ℕ) (k : Kept) (t : Turned) (q : KTurned) :
   pub is : t ≡ turned_of q
   pub good : IsGood m q.kept
   pub grows : Grows k q.kept
+  pub held : q.kept.state.held ≡ k.state.held
   pub others : (x : ℕ) → x ≢ i → Keeps k q.kept x
   pub own : is_live k.state i ≡ true → (q.kept.state.numbers i).completed ≡ (k.state.numbers i).completed
       → Keeps k q.kept i
@@ -90,6 +91,7 @@ module _ (m : Setting) (s : IsSetting m) where
     is = is;
     good = e.good;
     grows = e.grows;
+    held = e.held;
     others = λ x ne. keeps_untouched k q.kept x (e.others x ne);
     own = λ live same. gone (k.state.numbers i).completed (q.kept.state.numbers i).completed live e.completed same;
   }
@@ -280,6 +282,7 @@ module _ (m : Setting) (s : IsSetting m) where
           holds = after_holds m k next i ranges after g has more refl refl;
         };
         grows = grows_not k next refl;
+        held = refl;
         others = λ x ne. keeps_untouched k next x (others x ne);
         own = λ live now. gone_on (k.state.numbers i).completed (next.state.numbers i).completed same now;
       }
@@ -318,6 +321,7 @@ module _ (m : Setting) (s : IsSetting m) where
           holds = after_holds m k next i ranges after g has more refl refl;
         };
         grows = grows_not k next refl;
+        held = refl;
         others = λ x ne. keeps_untouched k next x (others x ne);
         own = λ live now. absurd (let e : false ≡ true = sym off ∙ live in cc);
       }

@@ -22,10 +22,14 @@ use Rattle.tx_meaning.specs.Meaning.{IsSetting, meaning, meaning_from}
 use Rattle.tx_meaning.specs.State.{State, beginning, attempt_of, cpus_of}
 use Rattle.tx_meaning.specs.Turn.{Turned, happen}
 use Rattle.tx_keeping.specs.Kept.{Kept, kept_beginning, kept_flat, kept_footprint}
-use Rattle.tx_keeping.specs.Keeping.{keeping, keeping_from}
+use Rattle.tx_keeping.specs.Keeping.{keeping, keeping_from, IsHeld}
 use Rattle.tx_keeping.specs.Turn.{k_happen}
-use Rattle.tx_keeping.specs.Views.{AreKnown, turned_of, GoesOnWith, IsSameView, KeepsViews}
+use Rattle.tx_keeping.specs.Views.{AreKnown, turned_of, GoesOnWith, IsSameView, KeepsViews, HoldsTouched}
 use Rattle.tx_keeping.proofs.Truth.{TrueAt, Truth, attempt_is, footprint_is}
+use Rattle.bit_set.proofs.Counts.{count_none}
+use Rattle.std.proofs.Common.{arith}
+use Rattle.line_table.specs.declared.table.TheConstants.{LINES}
+use Rattle.tx_keeping.proofs.Room.{AllWithin}
 use Rattle.tx_keeping.proofs.Holding.{Holds}
 use Rattle.tx_keeping.proofs.Moves.{IsGood}
 use Rattle.tx_keeping.proofs.Asking.{Keeps, Grows, grows_not, grows_then}
@@ -86,12 +90,13 @@ pub record EventsOk (m : Setting) (k after : Kept) (s : State) : Type 0 where
   pub is : s ≡ after.state
   pub good : IsGood m after
   pub grows : Grows k after
+  pub within : AllWithin k.state.held → AllWithin after.state.held
 
 module _ (m : Setting) (s : IsSetting m) where
   pub events_ok : (events : List Event) (k : Kept) → IsGood m k → AreKnown m events
       → EventsOk m k (keeping_from m events k) (meaning_from m events k.state)
   unfolding meaning_from keeping_from
-  events_ok [] k g known = record { is = refl; good = g; grows = grows_not k k refl }
+  events_ok [] k g known = record { is = refl; good = g; grows = grows_not k k refl; within = λ most. most }
   events_ok (e ∷ rest) k g known =
       let one = happen_ok m s e k g (All-head (λ e. cpu_of_event e < cpus_of m) e rest known) in
       let next = (k_happen m e k).kept in
@@ -100,6 +105,7 @@ module _ (m : Setting) (s : IsSetting m) where
         is = ap (λ (t : Turned). meaning_from m rest t.state) one.is ∙ all.is;
         good = all.good;
         grows = grows_then k next (keeping_from m rest next) one.grows all.grows;
+        within = λ most. all.within (one.within most);
       }
 
   whole : (events : List Event) → AreKnown m events
@@ -185,3 +191,33 @@ module _ (m : Setting) (s : IsSetting m) where
       view_kept k after i g.truth one.good.truth (one.keeps i live same) in
       subst (λ t. KeepsViews m t (happen m e t).state) (sym (keeping_is events known))
       (subst (λ (t : Turned). KeepsViews m k.state t.state) (sym one.is) kept)
+
+  -- ---- what is held
+
+  begins_within : AllWithin (kept_beginning m).state.held
+  unfolding kept_beginning
+  begins_within cpu = let none = count_none LINES (λ line. false) (λ k lt. refl) in omega (arith, none)
+
+  pub held_so : (events : List Event) → AreKnown m events → IsHeld m (keeping m events)
+  held_so events known =
+      let g = keeping_good events known in
+      record {
+        sound = record { alone = g.holds.alone; within = (whole events known).within begins_within };
+        stored = g.holds.stored;
+        fetched = g.holds.fetched;
+        known = g.holds.known;
+      }
+
+  holds_by : (k : Kept) → Truth m k → IsHeld m k → HoldsTouched m k.state
+  holds_by k t h = record {
+    sound = h.sound;
+    stored = λ i line is. h.stored i line
+        (ap (λ (sets : Sets). sets.stored line) (sym (footprint_is m k t i)) ∙ is);
+    fetched = λ i line is. h.fetched i line
+        (ap (λ (sets : Sets). sets.fetched line) (sym (footprint_is m k t i)) ∙ is);
+  }
+
+  pub touched_held : (events : List Event) → AreKnown m events → HoldsTouched m (meaning m events)
+  touched_held events known =
+      subst (HoldsTouched m) (sym (keeping_is events known))
+      (holds_by (keeping m events) (keeping_good events known).truth (held_so events known))

@@ -9,6 +9,7 @@ use Rattle.line_table.specs.declared.table.Mode.{Mode}
 use Rattle.line_table.specs.declared.table.Mode.TheVariants.{Shared, Exclusive}
 use Rattle.line_table.specs.Holders.{Holders, against, is_against}
 use Rattle.line_table.proofs.Against.{against-rising, from_against, in_against}
+use Rattle.tx_progress.specs.Local.{Local}
 use Rattle.tx_meaning.specs.declared.asking.Need.{Need}
 use Rattle.tx_meaning.specs.declared.asking.Reject.{Reject}
 use Rattle.tx_meaning.specs.Limits.{Setting}
@@ -25,6 +26,7 @@ use Rattle.tx_keeping.proofs.Holding.{granting_holds, is_granted, there_now}
 use Rattle.tx_keeping.proofs.Moves.{IsGood, restated, same_numbers}
 use Rattle.tx_keeping.proofs.Asking.{state_of, AskKeeps, asks_none, asks_then, asks_restated, AllAsked, all_asked}
 use Rattle.tx_keeping.proofs.Asking.{AreAgainst}
+use Rattle.tx_keeping.proofs.Room.{AllWithin, HasRoom, shrinks_within, granting_within}
 
 -- a need is one of a list
 abbrev pub Among : Need → List Need → Type 0
@@ -90,6 +92,8 @@ pub record LineGot (m : Setting) (i : ℕ) (needs : List Need) (need : Need) (k 
   pub good : IsGood m q.kept
   pub keeps : AskKeeps i k q.kept
   pub there : q.reject ≡ None → is_there need.mode (q.kept.state.held i need.line) ≡ true
+  pub within : HasRoom (kept_footprint k i) needs → is_needed needs need.line ≡ true → AllWithin k.state.held
+      → AllWithin q.kept.state.held
   pub stays : StaysThere i needs k.state.held q.kept.state.held
 
 there_more : (asked mode : Mode) (h : Option Mode) → is_there mode h ≡ false → is_there asked h ≡ true
@@ -143,6 +147,9 @@ take_on m i needs need k q None none g within off all =
       good = granting_good m i needs need q.kept all.good within off' (none_left m i need k q g all none);
       keeps = asks_then i k q.kept (k_granting i needs need q.kept) all.keeps
           (asks_restated i q.kept (record q.kept.state { held = granting i sets needs need held }) refl (λ x. refl));
+      within = λ room needed most.
+          granting_within held i sets needs need (shrinks_within k.state.held held all.shrinks most)
+          (subst (λ (l : Local). HasRoom l.attempt.footprint needs) (sym all.keeps.own.local) room) needed;
       there = λ e. ap (is_there need.mode) got.here ∙ there_now need.mode;
       stays = λ n among on. granting_stays i sets needs need held off' n among
           (ap (is_there n.mode) (own n.line) ∙ on);
@@ -150,6 +157,7 @@ take_on m i needs need k q None none g within off all =
 take_on m i needs need k q (Some r) some g within off all = record {
   good = all.good;
   keeps = all.keeps;
+  within = λ room needed most. shrinks_within k.state.held q.kept.state.held all.shrinks most;
   there = λ e. let n : Some r ≡ None = e in absurd (cc);
   stays = λ n among on. ap (is_there n.mode) (own_held m i need k q n.line all) ∙ on;
 }
@@ -171,7 +179,13 @@ line_by : (m : Setting) (s : IsSetting m) (i : ℕ) (needs : List Need) (need : 
     → LineIs m i needs need k (get_unless b m i needs need k.state) (k_get_unless b m i needs need k)
 line_by m s i needs need k true g within there = record {
   is = refl;
-  got = record { good = g; keeps = asks_none i k; there = λ e. there; stays = λ n among on. on };
+  got = record {
+    good = g;
+    keeps = asks_none i k;
+    there = λ e. there;
+    within = λ room needed most. most;
+    stays = λ n among on. on;
+  };
 }
 line_by m s i needs need k false g within off =
     let js = against (cpus_of m) k.state.held i need.line need.mode in
@@ -198,6 +212,7 @@ pub record LinesGot (m : Setting) (i : ℕ) (needs rest : List Need) (k : Kept) 
   pub keeps : AskKeeps i k q.kept
   pub there : q.reject ≡ None → (n : Need) → Among n rest
       → is_there n.mode (q.kept.state.held i n.line) ≡ true
+  pub within : HasRoom (kept_footprint k i) needs → AllWithin k.state.held → AllWithin q.kept.state.held
   pub stays : StaysThere i needs k.state.held q.kept.state.held
 
 lines_on : (m : Setting) (i : ℕ) (needs : List Need) (need : Need) (rest : List Need) (k : Kept) (q : KAsked)
@@ -211,6 +226,9 @@ lines_on m i needs need rest k q None none among one all = record {
       ∙ ap (λ r. unless_rejected r q.kept.state (get_each m i needs rest)) none ∙ all.is;
   good = all.good;
   keeps = asks_then i k q.kept _ one.got.keeps all.keeps;
+  within = λ room most. all.within
+      (subst (λ (l : Local). HasRoom l.attempt.footprint needs) (sym one.got.keeps.own.local) room)
+      (one.got.within room (among_needed needs need among) most);
   there = λ e n h. by_way h
       (λ same. all.stays n (subst (λ n. Among n needs) (sym same) among)
       (ap (λ (n : Need). is_there n.mode (q.kept.state.held i n.line)) same ∙ one.got.there none))
@@ -222,6 +240,7 @@ lines_on m i needs need rest k q (Some r) some among one all = record {
       ∙ ap (λ r. unless_rejected r q.kept.state (get_each m i needs rest)) some;
   good = one.got.good;
   keeps = one.got.keeps;
+  within = λ room most. one.got.within room (among_needed needs need among) most;
   there = λ e n h. let x : Some r ≡ None = e in absurd (cc);
   stays = one.got.stays;
 }
@@ -234,6 +253,7 @@ lines_got m s i needs [] k g within sub = record {
   is = refl;
   good = g;
   keeps = asks_none i k;
+  within = λ room most. most;
   there = λ e n h. absurd h;
   stays = λ n h on. on;
 }

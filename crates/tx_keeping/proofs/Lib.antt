@@ -8,8 +8,10 @@ pub mod Holding
 pub mod Moves
 pub mod Endings
 pub mod Asking
+pub mod Room
 pub mod Getting
 pub mod Needing
+pub mod Few
 pub mod Acting
 pub mod Turning
 pub mod Events

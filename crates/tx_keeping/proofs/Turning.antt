@@ -70,6 +70,9 @@ use Rattle.tx_keeping.proofs.Asking.{Keeps, keeps_then, keeps_restated, Grows, g
 use Rattle.tx_keeping.proofs.Asking.{live_aborting_is, asks_restated}
 use Rattle.tx_keeping.proofs.Getting.{lines_got}
 use Rattle.tx_keeping.proofs.Needing.{HasLines, has_lines}
+use Rattle.std.proofs.Common.{arith}
+use Rattle.tx_keeping.proofs.Room.{AllWithin, HasRoom}
+use Rattle.tx_keeping.proofs.Few.{instruction_room, resting_room, small_interruption, few_interruption}
 use Rattle.tx_keeping.proofs.Acting.{ActOk, ended_act, ended_restated, step_moved, executing_act}
 use Rattle.tx_keeping.proofs.Acting.{stepping_act, rests_cpu, none_completed}
 
@@ -80,6 +83,7 @@ pub record TurnOk (m : Setting) (k : Kept) (t : Turned) (q : KTurned) : Type 0 w
   pub is : t ≡ turned_of q
   pub good : IsGood m q.kept
   pub grows : Grows k q.kept
+  pub within : AllWithin k.state.held → AllWithin q.kept.state.held
   pub keeps : (x : ℕ) → is_live k.state x ≡ true
       → (q.kept.state.numbers x).completed ≡ (k.state.numbers x).completed → Keeps k q.kept x
 
@@ -90,11 +94,12 @@ no_more n mid after live same gone kept =
 
 -- first lines, then what is done
 pub then_act : (m : Setting) (i : ℕ) (k mid : Kept) (t : Turned) (q : KTurned) → AskKeeps i k mid
-    → ActOk m i mid t q → TurnOk m k t q
-then_act m i k mid t q asks act = record {
+    → (AllWithin k.state.held → AllWithin mid.state.held) → ActOk m i mid t q → TurnOk m k t q
+then_act m i k mid t q asks within act = record {
   is = act.is;
   good = act.good;
   grows = grows_then k mid q.kept asks.grows act.grows;
+  within = λ most. subst AllWithin (sym act.held) (within most);
   keeps = λ x live same. by_way (cases_eq x i)
       (λ own. subst (Keeps k q.kept) (sym own)
       (let live' : is_live k.state i ≡ true = ap (is_live k.state) (sym own) ∙ live in
@@ -110,16 +115,18 @@ then_act m i k mid t q asks act = record {
 }
 
 pub act_only : (m : Setting) (i : ℕ) (k : Kept) (t : Turned) (q : KTurned) → ActOk m i k t q → TurnOk m k t q
-act_only m i k t q act = then_act m i k k t q (asks_restated i k k.state refl (λ x. refl)) act
+act_only m i k t q act = then_act m i k k t q (asks_restated i k k.state refl (λ x. refl)) (λ most. most) act
 
 -- behind a change of the state alone
 pub behind : (m : Setting) (k : Kept) (s : State) (t : Turned) (q : KTurned) → s.history ≡ k.state.history
+    → s.held ≡ k.state.held
     → ((x : ℕ) → (s.numbers x).completed ≡ (k.state.numbers x).completed)
     → TurnOk m (with_state s k) t q → TurnOk m k t q
-behind m k s t q history numbers ok = record {
+behind m k s t q history held numbers ok = record {
   is = ok.is;
   good = ok.good;
   grows = grows_then k (with_state s k) q.kept (grows_not k (with_state s k) history) ok.grows;
+  within = λ most. ok.within (subst AllWithin (sym held) most);
   keeps = λ x live same. keeps_then k (with_state s k) q.kept x (keeps_restated k s x (numbers x))
       (ok.keeps x (ap (nat_lt 0) (numbers x) ∙ live) (same ∙ sym (numbers x)));
 }
@@ -137,6 +144,7 @@ restated_act m i k s o r g history held numbers = record {
     holds = subst (λ h. Holds (cpus_of m) h (kept_footprint k)) (sym held) g.holds;
   };
   grows = grows_not k (with_state s k) history;
+  held = held;
   others = λ x ne. keeps_restated k s x (numbers x).completed;
   own = λ live same. keeps_restated k s i (numbers i).completed;
 }
@@ -213,6 +221,7 @@ module _ (m : Setting) (s : IsSetting m) where
         is = ap (λ (t : Turned). record t { reject = Some r }) act.is;
         good = act.good;
         grows = act.grows;
+        held = act.held;
         others = act.others;
         own = act.own;
       }
@@ -246,11 +255,12 @@ module _ (m : Setting) (s : IsSetting m) where
       → (is_live k.state i ≡ true → (reject : Reject)
       → (k_get_lines m i (operand_needs prefix ranges) k).reject ≡ Some reject
       → has_operands (fate_by_progress (text_of m) k.storage (k.locals i).attempt) ≡ true)
+      → HasRoom (kept_footprint k i) (operand_needs prefix ranges)
       → ((mid : Kept) → IsGood m mid → Keeps k mid i → HasLines (mid.state.held i) (absolute_ranges prefix ranges)
       → ActOk m i mid (next mid.state) (k_next mid))
       → TurnOk m k (with_lines m i (operand_needs prefix ranges) k.state next)
       (k_with_lines m i (operand_needs prefix ranges) k k_next)
-  lines_act i k prefix ranges next k_next g within asks act =
+  lines_act i k prefix ranges next k_next g within asks room act =
       let needs = operand_needs prefix ranges in
       let q = k_get_lines m i needs k in
       let got = lines_got m s i needs needs k g within (λ n h. h) in
@@ -258,7 +268,7 @@ module _ (m : Setting) (s : IsSetting m) where
       let is : with_lines m i needs k.state next ≡ once_given m i q.reject mid.state next =
       ap (λ (a : Asked). once_given m i a.reject a.state next) got.is in
       subst (λ t. TurnOk m k t (k_with_lines m i needs k k_next)) (sym is)
-      (then_act m i k mid (once_given m i q.reject mid.state next) (k_once_given i q.reject mid k_next) got.keeps
+      (then_act m i k mid (once_given m i q.reject mid.state next) (k_once_given i q.reject mid k_next) got.keeps (got.within room)
       (given_act i q q.reject next k_next refl got.good
       (λ live reject e. ap has_operands (own_fate k mid i g.truth got.good.truth got.keeps.own)
       ∙ asks (sym (ap (nat_lt 0) got.keeps.own.completed) ∙ live) reject e)
@@ -305,6 +315,7 @@ module _ (m : Setting) (s : IsSetting m) where
       (sym (cpu_is m k g.truth i))
       (lines_act i k prefix ranges (executing m i instr) (k_executing i instr ranges) g within
       (λ live reject e. ap has_operands goes ∙ no_ranges i k prefix ranges instr reject e)
+      (instruction_room m k i instr ranges g goes)
       (λ mid good keeps has. executing_act m s mid i instr ranges good (same_act k mid i keeps ∙ acts)
       (own_fate k mid i g.truth good.truth keeps ∙ goes)
       (subst (λ (l : Local). HasLines (mid.state.held i) (absolute_ranges l.attempt.cpu.prefix ranges))
@@ -375,6 +386,7 @@ module _ (m : Setting) (s : IsSetting m) where
       (k_storing_block m i b k)) (sym (cpu_is m k g.truth i))
       (lines_act i k prefix ranges next (λ t. k_turned (k_storing i t) outcome.Executed) g within
       (λ live reject e. absurd (let x : false ≡ true = sym off ∙ live in cc))
+      (resting_room m k i prefix ranges g off (omega arith, tt) (omega arith))
       (λ mid good keeps has.
       let kept = kept_is m s mid good.truth in
       let there : (mid.locals i).pending ≡ Some b = ap (λ (l : Local). l.pending) keeps.local ∙ is in
@@ -399,6 +411,7 @@ module _ (m : Setting) (s : IsSetting m) where
       (k_taking_interruption m i w k)) (sym (cpu_is m k g.truth i))
       (lines_act i k prefix ranges next (λ t. k_turned (k_taking i t) outcome.Executed) g within
       (λ live reject e. absurd (let x : false ≡ true = sym off ∙ live in cc))
+      (resting_room m k i prefix ranges g off (small_interruption w.block) (few_interruption w.block))
       (λ mid good keeps has.
       let kept = kept_is m s mid good.truth in
       let there : (mid.locals i).waiting ≡ Some w = ap (λ (l : Local). l.waiting) keeps.local ∙ is in
@@ -526,7 +539,7 @@ module _ (m : Setting) (s : IsSetting m) where
       let counted = with_event (event.Turn i) (counting_turn i k.state) in
       let n = record (k.state.numbers i) { turns = (k.state.numbers i).turns + 1 } in
       let same = one_number k.state.numbers i n record { completed = refl; given = refl; refused = refl } in
-      behind m k counted _ _ refl (λ x. (same x).completed)
+      behind m k counted _ _ refl refl (λ x. (same x).completed)
       (counted_ok i (with_state counted k)
       (record { truth = restated m k counted g.truth refl same; holds = g.holds }) within (not_finished i k e))
 
@@ -544,6 +557,6 @@ module _ (m : Setting) (s : IsSetting m) where
   happen_ok (event.Turn i) k g within = turn_ok i k g within
   happen_ok (event.External i) k g within =
       let told = with_event (event.External i) k.state in
-      behind m k told _ _ refl (λ x. refl)
+      behind m k told _ _ refl refl (λ x. refl)
       (external_ok i (with_state told k)
       (record { truth = restated m k told g.truth refl (λ x. same_numbers (k.state.numbers x)); holds = g.holds }))

@@ -1,5 +1,7 @@
 -- What is said of the machine over all events: what an event leaves of a live attempt, and what is kept of it.
-use Rattle.std.specs.Prelude.{◌≡◌, ℕ, ◌/◌, ◌<◌, true, ◌||◌, List, ◌++◌, All}
+use Rattle.std.specs.Prelude.{◌≡◌, ℕ, ◌/◌, ◌<◌, true, ◌||◌, List, ◌++◌, All, Some, is_some}
+use Rattle.line_table.specs.declared.table.Mode.TheVariants.{Exclusive}
+use Rattle.line_table.specs.Holders.{IsSound}
 use Rattle.tx_footprint.specs.declared.places.TheConstants.{LINE_SIZE}
 use Rattle.tx_journal.specs.Image.{cpu_of_event}
 use Rattle.tx_journal.specs.declared.entries.Entry.{Entry}
@@ -7,7 +9,7 @@ use Rattle.tx_journal.specs.declared.events.Event.{Event}
 use Rattle.tx_serial.specs.Alike.{track_of}
 use Rattle.tx_serial.specs.Attempt.{Run, footprint}
 use Rattle.tx_meaning.specs.Limits.{Setting}
-use Rattle.tx_meaning.specs.State.{State, is_live, attempt_of, cpus_of}
+use Rattle.tx_meaning.specs.State.{State, is_live, attempt_of, footprint_of, cpus_of}
 use Rattle.tx_meaning.specs.Turn.{Turned}
 use Rattle.tx_keeping.specs.Turn.{KTurned}
 
@@ -36,3 +38,10 @@ abbrev pub KeepsViews : Setting → State → State → Type 0
 KeepsViews m before after =
     (i : ℕ) → is_live before i ≡ true → (after.numbers i).completed ≡ (before.numbers i).completed
     → IsSameView (attempt_of m before i) (attempt_of m after i)
+
+-- holders are sound, and hold what live attempts have touched, by their private runs: what is stored exclusively,
+-- what is fetched at least shared
+pub record HoldsTouched (m : Setting) (s : State) : Type 0 where
+  pub sound : IsSound s.held
+  pub stored : (i line : ℕ) → (footprint_of m s i).stored line ≡ true → s.held i line ≡ Some Exclusive
+  pub fetched : (i line : ℕ) → (footprint_of m s i).fetched line ≡ true → is_some (s.held i line) ≡ true

@@ -8,9 +8,9 @@ ghost use Rattle.tx_meaning.specs.Limits.{Setting};
 ghost use Rattle.tx_meaning.specs.Meaning.{IsSetting, meaning};
 ghost use Rattle.tx_meaning.specs.State.{cpus_of};
 ghost use Rattle.tx_meaning.specs.Turn.{happen};
-ghost use Rattle.tx_keeping.specs.Keeping.{keeping, IsTrue_to};
+ghost use Rattle.tx_keeping.specs.Keeping.{keeping, IsTrue_to, IsHeld};
 ghost use Rattle.tx_keeping.specs.Turn.{k_happen};
-ghost use Rattle.tx_keeping.specs.Views.{AreKnown, turned_of, GoesOnWith, KeepsViews};
+ghost use Rattle.tx_keeping.specs.Views.{AreKnown, turned_of, GoesOnWith, KeepsViews, HoldsTouched};
 
 /// The machine that keeps says what the meaning of the events says: after all of them it has the same state, and
 /// with each event that comes then the same outcome and the same reject. What it keeps is true: storage and the
@@ -41,4 +41,13 @@ pub fn no_live_attempt_sees_a_mixed_state()
     ensures { (m : Setting) (events : List Event) (e : Event) → IsSetting m → AreKnown m events
         → cpu_of_event e < cpus_of m
         → KeepsViews m (meaning m events) (happen m e (meaning m events)).state }
+{}
+
+/// After all events the holders are sound: an exclusive holder of a line is alone, and no CPU holds more lines than
+/// it may. What a live attempt has stored is held exclusively, and what it has fetched at least shared.
+pub fn what_live_attempts_touch_is_held()
+    ensures meant { (m : Setting) (events : List Event) → IsSetting m → AreKnown m events
+        → HoldsTouched m (meaning m events) }
+    ensures kept { (m : Setting) (events : List Event) → IsSetting m → AreKnown m events
+        → IsHeld m (keeping m events) }
 {}
