@@ -1,0 +1,2 @@
+-- Worked runs of several events.
+mod Examples
