@@ -1,8 +1,9 @@
--- Worked runs of the machine that keeps, of several events each: programs at 4000 in hexadecimal, in text page 4.
+-- Worked runs of the machine that keeps, of several events each: programs at 4000 in hexadecimal, in text
+-- page 4.
 -- The expected values are those of an independent model of the machine.
-use Rattle.std.proofs.Common.{◌≡◌, refl, ap, sym, ◌∙◌, subst, ℕ, ◌+◌, ◌-◌, Bool, true, false, List, [], ◌∷◌, ◌++◌}
+use Rattle.std.proofs.Common.{◌≡◌, refl, ap, sym, ◌∙◌, ℕ, ◌+◌, ◌-◌, Bool, true, false, List, [], ◌∷◌}
 use Rattle.std.proofs.Common.{length, get_or, Option, Some, None}
-use Rattle.std.specs.Prelude.{◌&&◌, nat_lt, nat_le, if◌then◌else◌, is_some, take, drop}
+use Rattle.std.specs.Prelude.{◌&&◌, nat_lt, nat_le, if◌then◌else◌}
 use Rattle.std.specs.FinSet.{FinSet, items}
 use Rattle.std.specs.Ordering.{nat_cmp}
 use Rattle.bit_set.specs.Counts.{count_below}
@@ -22,7 +23,6 @@ use Rattle.z_effect.specs.GeneralEffect.{general_effect}
 use Rattle.z_effect.specs.BranchEffect.{branch_effect}
 use Rattle.z_effect.specs.StorageEffect.{storage_effect}
 use Rattle.z_effect.specs.TransactionEffect.{transaction_effect}
-use Rattle.tx_control.specs.declared.exceptions.Exception.{Exception}
 use Rattle.tx_control.specs.declared.causes.Why.TheVariants.{External, FetchConflict, StoreConflict, Tabort}
 use Rattle.tx_constraint.specs.Kept.{next_text_breach, next_operand_breach}
 use Rattle.tx_constraint.specs.Octowords.{with_octowords}
@@ -54,7 +54,8 @@ use Rattle.tx_keeping.specs.Kept.{Kept, text_of, with_state}
 use Rattle.tx_keeping.specs.Moves.{k_aborting}
 use Rattle.tx_keeping.specs.Asking.{k_reply, k_ask_one, k_ask_each, k_granting, k_get_line, k_get_each}
 use Rattle.tx_keeping.specs.Turn.{KTurned, k_turned, k_attempting, k_storing_block, k_taking_interruption}
-use Rattle.tx_keeping.specs.Turn.{k_external, k_idle, k_turn, k_counted_turn, k_happen, k_ends_by, k_executing}
+use Rattle.tx_keeping.specs.Turn.{k_external, k_idle, k_turn, k_counted_turn, k_happen, k_ends_by}
+use Rattle.tx_keeping.specs.Turn.{k_executing}
 use Rattle.tx_keeping.specs.Turn.{k_acting, k_by_rules, k_turn_where}
 use Rattle.tx_keeping.specs.Keeping.{keeping_from}
 
@@ -77,7 +78,8 @@ counted_by text m i k =
 
 abbrev turn_by : List ℕ → Option Outcome → Setting → ℕ → Kept → KTurned
 turn_by text (Some o) m i k = k_turned k o
-turn_by text None m i k = counted_by text m i (with_state (with_event (event.Turn i) (counting_turn i k.state)) k)
+turn_by text None m i k = counted_by text m i (with_state (with_event (event.Turn i) (counting_turn i
+    k.state)) k)
 
 abbrev event_by : List ℕ → Setting → Event → Kept → KTurned
 event_by text m (event.Turn i) k = turn_by text (k_idle m k i) m i k
@@ -169,7 +171,8 @@ seen k = (
   k.state.history,
   k.state.events,
   k.state.queue,
-  counts_of k.state 0 ∷ counts_of k.state 1 ∷ [])
+  counts_of k.state 0 ∷ counts_of k.state 1 ∷ [],
+)
 
 abbrev turns : List ℕ → List Event
 turns [] = []
@@ -216,11 +219,14 @@ adding =
 
 -- four instructions, and a turn behind the end
 four_steps : ShowsByText (started 0x4000 ∷ []) (usual) (program adding)
-    (turns (0 ∷ 0 ∷ 0 ∷ 0 ∷ 0 ∷ []))
-    (Step 0 ∷ Step 0 ∷ Step 0 ∷ Step 0 ∷ [],
-    turns (0 ∷ 0 ∷ 0 ∷ 0 ∷ []),
-    [], (4 ∷ 0 ∷ 0 ∷ []) ∷ (0 ∷ 0 ∷ 0 ∷ []) ∷ [])
-unfolding events_by k_idle k_external k_executing k_ends_by k_aborting k_get_line k_get_each k_ask_each k_ask_one
+    (turns (0 ∷ 0 ∷ 0 ∷ 0 ∷ 0 ∷ [])) (
+      Step 0 ∷ Step 0 ∷ Step 0 ∷ Step 0 ∷ [],
+      turns (0 ∷ 0 ∷ 0 ∷ 0 ∷ []),
+      [],
+      (4 ∷ 0 ∷ 0 ∷ []) ∷ (0 ∷ 0 ∷ 0 ∷ []) ∷ [],
+    )
+unfolding events_by k_idle k_external k_executing k_ends_by k_aborting k_get_line k_get_each k_ask_each
+    k_ask_one
     k_reply k_granting reply against granting needs_of with_number aborting fate_by_progress executed stopped
     aborted block_stored interruption_taken cause_in laid_over reading_of row_number entry_at table
     accessible_pages text_pages unfetched spans_in unspecified_in inaccessible_in kind_at kind_named combined
@@ -232,17 +238,22 @@ four_steps guard = refl
 -- TBEGIN 0,X'FF00'; STG 1,X'9000'; TEND; SVC 0, and at 4012 the same with LG 2,X'9000'
 abbrev racing : List ℕ
 racing =
-    0xE5 ∷ 0x60 ∷ 0x00 ∷ 0x00 ∷ 0xFF ∷ 0x00 ∷ 0xE3 ∷ 0x10 ∷ 0x00 ∷ 0x00 ∷ 0x09 ∷ 0x24 ∷ 0xB2 ∷ 0xF8 ∷ 0x00 ∷ 0x00 ∷
-    0x0A ∷ 0x00 ∷ 0xE5 ∷ 0x60 ∷ 0x00 ∷ 0x00 ∷ 0xFF ∷ 0x00 ∷ 0xE3 ∷ 0x20 ∷ 0x00 ∷ 0x00 ∷ 0x09 ∷ 0x04 ∷ 0xB2 ∷ 0xF8 ∷
+    0xE5 ∷ 0x60 ∷ 0x00 ∷ 0x00 ∷ 0xFF ∷ 0x00 ∷ 0xE3 ∷ 0x10 ∷ 0x00 ∷ 0x00 ∷ 0x09 ∷ 0x24 ∷ 0xB2 ∷ 0xF8 ∷ 0x00 ∷
+    0x00 ∷
+    0x0A ∷ 0x00 ∷ 0xE5 ∷ 0x60 ∷ 0x00 ∷ 0x00 ∷ 0xFF ∷ 0x00 ∷ 0xE3 ∷ 0x20 ∷ 0x00 ∷ 0x00 ∷ 0x09 ∷ 0x04 ∷ 0xB2 ∷
+    0xF8 ∷
     0x00 ∷ 0x00 ∷ 0x0A ∷ 0x00 ∷ []
 
 -- one reject, and then an abort
 rejected_once : ShowsByText (both_at 0x4000 0x4012) (with_reject 1) (program racing)
-    (turns (0 ∷ 0 ∷ 1 ∷ 1 ∷ 1 ∷ 0 ∷ 1 ∷ []))
-    (Abort 0 2 (StoreConflict 144) ∷ Commit 1 3 ∷ [],
-    turns (0 ∷ 0 ∷ 1 ∷ 1 ∷ 1 ∷ 0 ∷ 1 ∷ []),
-    [], (3 ∷ 1 ∷ 1 ∷ []) ∷ (4 ∷ 2 ∷ 1 ∷ []) ∷ [])
-unfolding events_by k_idle k_external k_executing k_ends_by k_aborting k_get_line k_get_each k_ask_each k_ask_one
+    (turns (0 ∷ 0 ∷ 1 ∷ 1 ∷ 1 ∷ 0 ∷ 1 ∷ [])) (
+      Abort 0 2 (StoreConflict 144) ∷ Commit 1 3 ∷ [],
+      turns (0 ∷ 0 ∷ 1 ∷ 1 ∷ 1 ∷ 0 ∷ 1 ∷ []),
+      [],
+      (3 ∷ 1 ∷ 1 ∷ []) ∷ (4 ∷ 2 ∷ 1 ∷ []) ∷ [],
+    )
+unfolding events_by k_idle k_external k_executing k_ends_by k_aborting k_get_line k_get_each k_ask_each
+    k_ask_one
     k_reply k_granting reply against granting needs_of with_number aborting fate_by_progress executed stopped
     aborted block_stored interruption_taken cause_in laid_over reading_of row_number entry_at table
     accessible_pages text_pages unfetched spans_in unspecified_in inaccessible_in kind_at kind_named combined
@@ -253,11 +264,14 @@ rejected_once guard = refl
 
 -- no reject
 rejected_never : ShowsByText (both_at 0x4000 0x4012) (with_reject 0) (program racing)
-    (turns (0 ∷ 0 ∷ 1 ∷ 1 ∷ 1 ∷ 0 ∷ 1 ∷ []))
-    (Abort 0 2 (StoreConflict 144) ∷ Commit 1 3 ∷ Step 0 ∷ Step 1 ∷ [],
-    turns (0 ∷ 0 ∷ 1 ∷ 1 ∷ 1 ∷ 0 ∷ 1 ∷ []),
-    [], (3 ∷ 1 ∷ 0 ∷ []) ∷ (4 ∷ 1 ∷ 0 ∷ []) ∷ [])
-unfolding events_by k_idle k_external k_executing k_ends_by k_aborting k_get_line k_get_each k_ask_each k_ask_one
+    (turns (0 ∷ 0 ∷ 1 ∷ 1 ∷ 1 ∷ 0 ∷ 1 ∷ [])) (
+      Abort 0 2 (StoreConflict 144) ∷ Commit 1 3 ∷ Step 0 ∷ Step 1 ∷ [],
+      turns (0 ∷ 0 ∷ 1 ∷ 1 ∷ 1 ∷ 0 ∷ 1 ∷ []),
+      [],
+      (3 ∷ 1 ∷ 0 ∷ []) ∷ (4 ∷ 1 ∷ 0 ∷ []) ∷ [],
+    )
+unfolding events_by k_idle k_external k_executing k_ends_by k_aborting k_get_line k_get_each k_ask_each
+    k_ask_one
     k_reply k_granting reply against granting needs_of with_number aborting fate_by_progress executed stopped
     aborted block_stored interruption_taken cause_in laid_over reading_of row_number entry_at table
     accessible_pages text_pages unfetched spans_in unspecified_in inaccessible_in kind_at kind_named combined
@@ -269,16 +283,20 @@ rejected_never guard = refl
 -- TBEGINC 0,X'FF00'; LG 1,X'9000'; TEND; SVC 0, and at 4012 STG 2,X'9000'; SVC 0
 abbrev stopping : List ℕ
 stopping =
-    0xE5 ∷ 0x61 ∷ 0x00 ∷ 0x00 ∷ 0xFF ∷ 0x00 ∷ 0xE3 ∷ 0x10 ∷ 0x00 ∷ 0x00 ∷ 0x09 ∷ 0x04 ∷ 0xB2 ∷ 0xF8 ∷ 0x00 ∷ 0x00 ∷
+    0xE5 ∷ 0x61 ∷ 0x00 ∷ 0x00 ∷ 0xFF ∷ 0x00 ∷ 0xE3 ∷ 0x10 ∷ 0x00 ∷ 0x00 ∷ 0x09 ∷ 0x04 ∷ 0xB2 ∷ 0xF8 ∷ 0x00 ∷
+    0x00 ∷
     0x0A ∷ 0x00 ∷ 0xE3 ∷ 0x20 ∷ 0x00 ∷ 0x00 ∷ 0x09 ∷ 0x24 ∷ 0x0A ∷ 0x00 ∷ []
 
 -- the first conflict abort stops the other CPU, whose turn is idle, until the transaction is committed
 stopped_once : ShowsByText (both_at 0x4000 0x4012) (with_stop 1) (program stopping)
-    (turns (0 ∷ 0 ∷ 1 ∷ 1 ∷ 0 ∷ 0 ∷ 0 ∷ 1 ∷ []))
-    (Abort 0 2 (FetchConflict 144) ∷ Step 1 ∷ Commit 0 3 ∷ Step 1 ∷ [],
-    turns (0 ∷ 0 ∷ 1 ∷ 0 ∷ 0 ∷ 0 ∷ 1 ∷ []),
-    [], (5 ∷ 1 ∷ 0 ∷ []) ∷ (2 ∷ 1 ∷ 0 ∷ []) ∷ [])
-unfolding events_by k_idle k_external k_executing k_ends_by k_aborting k_get_line k_get_each k_ask_each k_ask_one
+    (turns (0 ∷ 0 ∷ 1 ∷ 1 ∷ 0 ∷ 0 ∷ 0 ∷ 1 ∷ [])) (
+      Abort 0 2 (FetchConflict 144) ∷ Step 1 ∷ Commit 0 3 ∷ Step 1 ∷ [],
+      turns (0 ∷ 0 ∷ 1 ∷ 0 ∷ 0 ∷ 0 ∷ 1 ∷ []),
+      [],
+      (5 ∷ 1 ∷ 0 ∷ []) ∷ (2 ∷ 1 ∷ 0 ∷ []) ∷ [],
+    )
+unfolding events_by k_idle k_external k_executing k_ends_by k_aborting k_get_line k_get_each k_ask_each
+    k_ask_one
     k_reply k_granting reply against granting needs_of with_number aborting fate_by_progress executed stopped
     aborted block_stored interruption_taken cause_in laid_over reading_of row_number entry_at table
     accessible_pages text_pages unfetched spans_in unspecified_in inaccessible_in kind_at kind_named combined
@@ -290,16 +308,20 @@ stopped_once guard = refl
 -- LGFI 5,X'9000'; TBEGIN 0(5),X'FF00'; TABORT 257; SVC 0
 abbrev telling : List ℕ
 telling =
-    0xC0 ∷ 0x51 ∷ 0x00 ∷ 0x00 ∷ 0x90 ∷ 0x00 ∷ 0xE5 ∷ 0x60 ∷ 0x50 ∷ 0x00 ∷ 0xFF ∷ 0x00 ∷ 0xB2 ∷ 0xFC ∷ 0x01 ∷ 0x01 ∷
+    0xC0 ∷ 0x51 ∷ 0x00 ∷ 0x00 ∷ 0x90 ∷ 0x00 ∷ 0xE5 ∷ 0x60 ∷ 0x50 ∷ 0x00 ∷ 0xFF ∷ 0x00 ∷ 0xB2 ∷ 0xFC ∷ 0x01 ∷
+    0x01 ∷
     0x0A ∷ 0x00 ∷ []
 
 -- the pending block is stored in a turn of its own
 block_stored_next : ShowsByText (started 0x4000 ∷ []) (usual) (program telling)
-    (turns (0 ∷ 0 ∷ 0 ∷ 0 ∷ []))
-    (Step 0 ∷ Abort 0 1 (Tabort 257) ∷ Tdb 0 ∷ [],
-    turns (0 ∷ 0 ∷ 0 ∷ 0 ∷ []),
-    [], (4 ∷ 0 ∷ 0 ∷ []) ∷ (0 ∷ 0 ∷ 0 ∷ []) ∷ [])
-unfolding events_by k_idle k_external k_executing k_ends_by k_aborting k_get_line k_get_each k_ask_each k_ask_one
+    (turns (0 ∷ 0 ∷ 0 ∷ 0 ∷ [])) (
+      Step 0 ∷ Abort 0 1 (Tabort 257) ∷ Tdb 0 ∷ [],
+      turns (0 ∷ 0 ∷ 0 ∷ 0 ∷ []),
+      [],
+      (4 ∷ 0 ∷ 0 ∷ []) ∷ (0 ∷ 0 ∷ 0 ∷ []) ∷ [],
+    )
+unfolding events_by k_idle k_external k_executing k_ends_by k_aborting k_get_line k_get_each k_ask_each
+    k_ask_one
     k_reply k_granting reply against granting needs_of with_number aborting fate_by_progress executed stopped
     aborted block_stored interruption_taken cause_in laid_over reading_of row_number entry_at table
     accessible_pages text_pages unfetched spans_in unspecified_in inaccessible_in kind_at kind_named combined
@@ -310,11 +332,14 @@ block_stored_next guard = refl
 
 -- an external interruption aborts the attempt, and the line is free of conflicts then
 interrupted_once : ShowsByText (both_at 0x4000 0x4012) usual (program stopping)
-    (event.Turn 0 ∷ event.Turn 0 ∷ event.External 0 ∷ event.Turn 1 ∷ [])
-    (Abort 0 2 External ∷ Step 1 ∷ [],
-    event.Turn 0 ∷ event.Turn 0 ∷ event.External 0 ∷ event.Turn 1 ∷ [],
-    [], (2 ∷ 0 ∷ 0 ∷ []) ∷ (1 ∷ 1 ∷ 0 ∷ []) ∷ [])
-unfolding events_by k_idle k_external k_executing k_ends_by k_aborting k_get_line k_get_each k_ask_each k_ask_one
+    (event.Turn 0 ∷ event.Turn 0 ∷ event.External 0 ∷ event.Turn 1 ∷ []) (
+      Abort 0 2 External ∷ Step 1 ∷ [],
+      event.Turn 0 ∷ event.Turn 0 ∷ event.External 0 ∷ event.Turn 1 ∷ [],
+      [],
+      (2 ∷ 0 ∷ 0 ∷ []) ∷ (1 ∷ 1 ∷ 0 ∷ []) ∷ [],
+    )
+unfolding events_by k_idle k_external k_executing k_ends_by k_aborting k_get_line k_get_each k_ask_each
+    k_ask_one
     k_reply k_granting reply against granting needs_of with_number aborting fate_by_progress executed stopped
     aborted block_stored interruption_taken cause_in laid_over reading_of row_number entry_at table
     accessible_pages text_pages unfetched spans_in unspecified_in inaccessible_in kind_at kind_named combined
@@ -333,7 +358,8 @@ dividing =
 interruption_taken_next : ShowsByText (record (started 0x4000) { prefix = Some 0xa000 } ∷ []) usual dividing
     (turns (0 ∷ 0 ∷ 0 ∷ []))
     (Step 0 ∷ Interrupt 0 ∷ Step 0 ∷ [], turns (0 ∷ 0 ∷ 0 ∷ []), [], (3 ∷ 0 ∷ 0 ∷ []) ∷ (0 ∷ 0 ∷ 0 ∷ []) ∷ [])
-unfolding events_by k_idle k_external k_executing k_ends_by k_aborting k_get_line k_get_each k_ask_each k_ask_one
+unfolding events_by k_idle k_external k_executing k_ends_by k_aborting k_get_line k_get_each k_ask_each
+    k_ask_one
     k_reply k_granting reply against granting needs_of with_number aborting fate_by_progress executed stopped
     aborted block_stored interruption_taken cause_in laid_over reading_of row_number entry_at table
     accessible_pages text_pages unfetched spans_in unspecified_in inaccessible_in kind_at kind_named combined

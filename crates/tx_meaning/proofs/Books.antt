@@ -66,11 +66,11 @@ module _ (events : List Event) (turns : ℕ → ℕ) where
       record { recorded = after.recorded; counted = after.counted }
 
   books_kept : (m : Setting) (i : ℕ)
-      → Walk m i (Booked events turns) (Booked events turns) (Booked events turns)
+      → Walk m i (Booked events turns) (Booked events turns) (λ o s. Booked events turns s)
   books_kept m i = record {
     asks = λ s b. renumbered i (record (s.numbers i) { asked = (s.numbers i).asked + 1 }) s refl b;
     holds = λ s held b. record { recorded = b.recorded; counted = b.counted };
-    rejects = λ s j known other live b.
+    rejects = λ s j known other live head b.
         let t = rejecting_one j (standing_of m s j) s in
         let c : Booked events turns t =
         renumbered j (record (s.numbers j) { given = (rejecting (standing_of m s j)).rejects_given }) s refl b
@@ -78,8 +78,8 @@ module _ (events : List Event) (turns : ℕ → ℕ) where
         renumbered i _ t refl c;
     aborts = λ s j line stored known other live b.
         abort_booked j (standing_of m s j) (s.numbers j).completed (conflict_on stored line) s b;
-    refused = λ s b. b;
-    starved = λ s live b. abort_booked i (standing_of m s i) (s.numbers i).completed Starved s b;
+    refused = λ r s b. b;
+    starved = λ r s live b. abort_booked i (standing_of m s i) (s.numbers i).completed Starved s b;
     nothing = λ s b. b;
     ends = λ s n w b. abort_booked i (standing_of m s i) n w s b;
     steps = λ s b. record { recorded = b.recorded; counted = b.counted };
@@ -120,7 +120,7 @@ pub turn_booked : (m : Setting) (i : ℕ) (s : State) → idle m s i ≡ None
 turn_booked m i s e =
     let events = s.events ++ event.Turn i ∷ [] in
     let turns = one_turn_more i s in
-    in_a_turn m i (Booked events turns) (Booked events turns) (Booked events turns)
+    in_a_turn m i (Booked events turns) (Booked events turns) (λ o s. Booked events turns s)
     (books_kept events turns m i)
     s (λ o is. let n : Some o ≡ None = sym is ∙ e in cc)
     (λ _. record { recorded = refl; counted = λ x. refl })
@@ -132,7 +132,7 @@ unfolding happen
 external_booked m i s =
     let events = s.events ++ event.External i ∷ [] in
     let turns = λ (x : ℕ). (s.numbers x).turns in
-    externally m i (Booked events turns) (Booked events turns) (Booked events turns)
+    externally m i (Booked events turns) (Booked events turns) (λ o s. Booked events turns s)
     (books_kept events turns m i)
     (with_event (event.External i) s) (record { recorded = refl; counted = λ x. refl })
 

@@ -2,6 +2,7 @@
 pub mod Replies
 pub mod Walk
 pub mod Queues
+pub mod Heads
 pub mod Books
 pub mod Room
 pub mod Needs

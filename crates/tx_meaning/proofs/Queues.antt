@@ -82,15 +82,16 @@ unfolding aborting
 interruption_moves before i standing n s p = goes_last before s.queue i p
 
 walked : (m : Setting) (i : ℕ) (before : List ℕ)
-    → Walk m i (λ s. JoinedBy before s.queue) (λ s. JoinedBy before s.queue) (λ s. QueueMoves before s.queue)
+    → Walk m i (λ s. JoinedBy before s.queue) (λ s. JoinedBy before s.queue) (λ o s. QueueMoves before
+    s.queue)
 walked m i before = record {
   asks = λ s p. p;
   holds = λ s held p. p;
-  rejects = λ s j known other live p. p;
+  rejects = λ s j known other live head p. p;
   aborts = λ s j line stored known other live p.
       abort_joins before j (standing_of m s j) (s.numbers j).completed line stored s p;
-  refused = λ s p. stays before s.queue p;
-  starved = λ s live p. abort_moves before i (standing_of m s i) (s.numbers i).completed Starved s p;
+  refused = λ r s p. stays before s.queue p;
+  starved = λ r s live p. abort_moves before i (standing_of m s i) (s.numbers i).completed Starved s p;
   nothing = λ s p. stays before s.queue p;
   ends = λ s n w p. abort_moves before i (standing_of m s i) n w s p;
   steps = λ s p. stays before s.queue p;
@@ -113,12 +114,12 @@ pub queue_moves : (m : Setting) (e : Event) (s : State) → QueueMoves s.queue (
 unfolding happen
 queue_moves m (event.Turn i) s =
     in_a_turn m i (λ t. JoinedBy s.queue t.queue) (λ t. JoinedBy s.queue t.queue)
-    (λ t. QueueMoves s.queue t.queue) (walked m i s.queue) s
+    (λ o t. QueueMoves s.queue t.queue) (walked m i s.queue) s
     (λ o e. stays s.queue s.queue (nobody_joined s.queue))
     (λ e. nobody_joined s.queue)
 queue_moves m (event.External i) s =
     externally m i (λ t. JoinedBy s.queue t.queue) (λ t. JoinedBy s.queue t.queue)
-    (λ t. QueueMoves s.queue t.queue) (walked m i s.queue) (with_event (event.External i) s)
+    (λ o t. QueueMoves s.queue t.queue) (walked m i s.queue) (with_event (event.External i) s)
     (nobody_joined s.queue)
 
 -- ---- who has turns

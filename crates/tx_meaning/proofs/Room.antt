@@ -126,13 +126,13 @@ module _ (m : Setting) (i : ℕ) (known : i < cpus_of m) (most : ℕ) where
   fewer_still : (s t : State) → t.history ≡ s.history → t.numbers ≡ s.numbers → Few s → Fewer t
   fewer_still s t h e few = let same = same_places (cpus_of m) s t h e in omega arith
 
-  few_walk : Walk m i Few Few Fewer
+  few_walk : Walk m i Few Few (λ o s. Fewer s)
   few_walk = record {
     asks = λ s few. few_renumbered i (record (s.numbers i) { asked = (s.numbers i).asked + 1 }) s known refl
         few;
     holds = λ s held few. let same = same_places (cpus_of m) s (record s { held = held }) refl refl in omega
         arith;
-    rejects = λ s j lo other live few.
+    rejects = λ s j lo other live head few.
         let t = rejecting_one j (standing_of m s j) s in
         let c : Few t =
         few_renumbered j (record (s.numbers j) { given = (rejecting (standing_of m s j)).rejects_given }) s lo
@@ -141,8 +141,8 @@ module _ (m : Setting) (i : ℕ) (known : i < cpus_of m) (most : ℕ) where
         few_renumbered i _ t known refl c;
     aborts = λ s j line stored lo other live few.
         few_aborted j (standing_of m s j) (s.numbers j).completed (conflict_on stored line) s lo live few;
-    refused = λ s few. omega arith;
-    starved = λ s live few. fewer_aborted (standing_of m s i) (s.numbers i).completed Starved s few;
+    refused = λ r s few. omega arith;
+    starved = λ r s live few. fewer_aborted (standing_of m s i) (s.numbers i).completed Starved s few;
     nothing = λ s few. omega arith;
     ends = λ s n w few. fewer_aborted (standing_of m s i) n w s few;
     steps = λ s few. fewer_entry (entry.Step i) s few;
@@ -191,7 +191,8 @@ room_turned m i s known room =
     refl in
     let also = same_places (cpus_of m) (counting_turn i s) t refl refl in
     omega arith in
-    let after = in_a_turn m i (Few m i known most) (Few m i known most) (Fewer m i known most)
+    let after = in_a_turn m i (Few m i known most) (Few m i known most)
+    (λ o s. Fewer m i known most s)
     (few_walk m i known most) s (λ o is. let n : Some o ≡ None = sym is ∙ none in cc) (λ _. start) in
     let recorded = ap length (turn_booked m i s none).recorded ∙ length-append s.events (event.Turn i ∷ []) in
     omega arith)
@@ -204,7 +205,8 @@ room_external m i s known room =
     let t = with_event (event.External i) s in
     let also = same_places (cpus_of m) s t refl refl in
     let start : places (cpus_of m) t ≤ most = omega arith in
-    let after = externally m i (Few m i known most) (Few m i known most) (Fewer m i known most)
+    let after = externally m i (Few m i known most) (Few m i known most)
+    (λ o s. Fewer m i known most s)
     (few_walk m i known most) t start in
     let recorded = ap length (external_booked m i s).recorded ∙ length-append s.events (event.External i ∷ [])
     in

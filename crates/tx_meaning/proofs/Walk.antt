@@ -4,7 +4,7 @@ use Rattle.std.proofs.Common.{◌++◌}
 use Rattle.std.proofs.Common.{Option, Some, None, refl, sym, ap, ◌∙◌, arith}
 use Rattle.std.specs.Prelude.{◌&&◌, ◌==◌, not, nat_lt, if◌then◌else◌}
 use Rattle.std.specs.List.{filter, range_with_len}
-use Rattle.std.proofs.lemmas.Bool.{eqb-true, eqb-false}
+use Rattle.std.proofs.lemmas.Bool.{eqb-true, eqb-false, and_parts, not-true}
 use Rattle.z_regs.specs.declared.image.RunState.{RunState}
 use Rattle.z_regs.specs.declared.image.RunState.TheVariants.{Running, Halted, Interrupted}
 use Rattle.z_regs.specs.declared.waiting.Waiting.{Waiting}
@@ -16,7 +16,7 @@ use Rattle.tx_control.specs.declared.causes.Why.{Why}
 use Rattle.tx_control.specs.declared.causes.Why.TheVariants.{External, Program, FetchConflict}
 use Rattle.tx_control.specs.declared.causes.Why.TheVariants.{StoreConflict, FetchOverflow, StoreOverflow}
 use Rattle.tx_control.specs.declared.causes.Why.TheVariants.{Restricted, Filtered, Depth, Starved, Tabort}
-use Rattle.tx_ladder.specs.Rungs.{Standing, is_starved, next_rung}
+use Rattle.tx_ladder.specs.Rungs.{Standing, is_starved, next_rung, may_reject}
 use Rattle.tx_ladder.specs.declared.ladder.Next.{Next}
 use Rattle.tx_ladder.specs.declared.ladder.Next.TheVariants as rung
 use Rattle.tx_journal.specs.declared.entries.Entry.TheVariants as entry
@@ -24,7 +24,8 @@ use Rattle.tx_journal.specs.declared.events.Event.TheVariants as event
 use Rattle.line_table.specs.declared.table.Mode.{Mode}
 use Rattle.line_table.specs.Holders.{Holders, is_against, against}
 use Rattle.interrogate.specs.declared.kinds.Answer.{Answer}
-use Rattle.interrogate.specs.Replies.{cause_at}
+use Rattle.interrogate.specs.declared.kinds.Asker.{Asker}
+use Rattle.interrogate.specs.Replies.{cause_at, may_hold_out}
 use Rattle.tx_serial.specs.Flat.{Pending, at_put}
 use Rattle.tx_serial.specs.Attempt.{Run, Mark, Open, Committed, Overflowed, Missing}
 use Rattle.tx_serial.specs.Fate.{Fate, Goes, Ends, Stops, fate}
@@ -34,7 +35,7 @@ use Rattle.tx_progress.specs.Doing.{delay_given}
 use Rattle.tx_meaning.specs.declared.outcome.Outcome.{Outcome}
 use Rattle.tx_meaning.specs.Limits.{Setting}
 use Rattle.tx_meaning.specs.Needs.{operand_needs, block_needs, interruption_needs}
-use Rattle.tx_meaning.specs.State.{Numbers, State, is_live, flat_of, attempt_of, cpu_of, standing_of}
+use Rattle.tx_meaning.specs.State.{Numbers, State, is_live, is_head, flat_of, attempt_of, cpu_of, standing_of}
 use Rattle.tx_meaning.specs.State.{footprint_of, cpus_of}
 use Rattle.tx_meaning.specs.Changes.{asking, rejecting_one, rejected_once, yielding, granting, aborting}
 use Rattle.tx_meaning.specs.Changes.{with_entry, with_event, counting_turn, waiting_turn, delaying, starting}
@@ -71,10 +72,18 @@ pub at_put_kept : {A B : Type 0} (f : A → B) (table : ℕ → A) (i : ℕ) (v 
 at_put_kept f table i v same j =
     at_put_case (λ n. f n ≡ f (table j)) table i v j (λ e. same ∙ ap (λ k. f (table k)) (sym e)) (λ n. refl)
 
-live_asking : (i : ℕ) (s : State) (j : ℕ) → is_live (asking i s) j ≡ is_live s j
+pub live_asking : (i : ℕ) (s : State) (j : ℕ) → is_live (asking i s) j ≡ is_live s j
 live_asking i s j =
     at_put_kept (λ (n : Numbers). nat_lt 0 n.completed) s.numbers i
     (record (s.numbers i) { asked = (s.numbers i).asked + 1 }) refl j
+
+-- nobody rejects the head of the stop queue
+pub not_the_head : (standing : Standing) (asker : Asker) → may_hold_out standing asker ≡ true → asker.head ≡
+    false
+not_the_head standing asker h =
+    let late = asker.late && not standing.constrained in
+    let others = and_parts (may_reject standing) (not asker.head && not late) h in
+    not-true asker.head (and_parts (not asker.head) (not late) others.1).0
 
 -- ---- what is kept
 
@@ -87,28 +96,29 @@ abbrev pub conflict_on : Bool → ℕ → Why
 conflict_on stored line = if stored then StoreConflict line else FetchConflict line
 
 -- in a turn of a CPU: P holds while it asks, Q behind a reject, and F at the end
-pub record Walk (m : Setting) (i : ℕ) (P Q F : State → Type 0) : Type 0 where
-  pub asks : (s : State) → P s → P (asking i s)
-  pub holds : (s : State) (held : Holders) → P s → P (record s { held = held })
-  pub rejects : (s : State) (j : ℕ) → j < cpus_of m → j ≢ i → is_live s j ≡ true → P s
-      → Q (rejected_once i (is_live s i) (standing_of m s i) (rejecting_one j (standing_of m s j) s))
-  pub aborts : (s : State) (j line : ℕ) (stored : Bool) → j < cpus_of m → j ≢ i → is_live s j ≡ true → P s
-      → P (aborting_live m j (conflict_on stored line) s)
-  pub refused : (s : State) → Q s → F s
-  pub starved : (s : State) → is_live s i ≡ true → Q s → F (aborting_live m i Starved s)
-  pub nothing : (s : State) → P s → F s
-  pub ends : (s : State) (n : ℕ) (w : Why) → P s → F (aborting i (standing_of m s i) n w s)
-  pub steps : (s : State) → P s → F (with_entry (entry.Step i) s)
-  pub pauses : (s : State) (turns : ℕ) → P s → F (delaying i turns (with_entry (entry.Step i) s))
-  pub stores : (s : State) → P s → F (with_entry (entry.Tdb i) s)
-  pub takes : (s : State) → P s → F (with_entry (entry.Interrupt i) s)
-  pub starts : (s : State) → is_live s i ≡ false → P s → F (starting i s)
-  pub continues : (s : State) → is_live s i ≡ true → P s → F (continuing i s)
-  pub commits : (s : State) (constrained : Bool) (n : ℕ) → is_live s i ≡ true → P s
-      → F (committing i constrained n s)
-  pub waits : (s : State) → P s → F (waiting_turn i s)
-  pub interrupted : (s : State) → is_live s i ≡ true → P s → F (to_tail i (aborting_live m i External s))
-  pub unmet : (s : State) → P s → F (to_tail i s)
+pub record Walk (m : Setting) (i : ℕ) (P Q : State → Type 0) (F : Option Reject → State → Type 0) : Type 0
+  where
+    pub asks : (s : State) → P s → P (asking i s)
+    pub holds : (s : State) (held : Holders) → P s → P (record s { held = held })
+    pub rejects : (s : State) (j : ℕ) → j < cpus_of m → j ≢ i → is_live s j ≡ true → is_head s i ≡ false → P s
+        → Q (rejected_once i (is_live s i) (standing_of m s i) (rejecting_one j (standing_of m s j) s))
+    pub aborts : (s : State) (j line : ℕ) (stored : Bool) → j < cpus_of m → j ≢ i → is_live s j ≡ true → P s
+        → P (aborting_live m j (conflict_on stored line) s)
+    pub refused : (r : Reject) (s : State) → Q s → F (Some r) s
+    pub starved : (r : Reject) (s : State) → is_live s i ≡ true → Q s → F (Some r) (aborting_live m i Starved s)
+    pub nothing : (s : State) → P s → F None s
+    pub ends : (s : State) (n : ℕ) (w : Why) → P s → F None (aborting i (standing_of m s i) n w s)
+    pub steps : (s : State) → P s → F None (with_entry (entry.Step i) s)
+    pub pauses : (s : State) (turns : ℕ) → P s → F None (delaying i turns (with_entry (entry.Step i) s))
+    pub stores : (s : State) → P s → F None (with_entry (entry.Tdb i) s)
+    pub takes : (s : State) → P s → F None (with_entry (entry.Interrupt i) s)
+    pub starts : (s : State) → is_live s i ≡ false → P s → F None (starting i s)
+    pub continues : (s : State) → is_live s i ≡ true → P s → F None (continuing i s)
+    pub commits : (s : State) (constrained : Bool) (n : ℕ) → is_live s i ≡ true → P s
+        → F None (committing i constrained n s)
+    pub waits : (s : State) → P s → F None (waiting_turn i s)
+    pub interrupted : (s : State) → is_live s i ≡ true → P s → F None (to_tail i (aborting_live m i External s))
+    pub unmet : (s : State) → P s → F None (to_tail i s)
 
 -- ---- questions
 
@@ -124,7 +134,8 @@ and_then : (P Q : State → Type 0) (o : Option Reject) (s : State) (next : Stat
 and_then P Q None s next p go = go s p
 and_then P Q (Some r) s next q go = q
 
-module _ (m : Setting) (i : ℕ) (P Q F : State → Type 0) (w : Walk m i P Q F) where
+module _ (m : Setting) (i : ℕ) (P Q : State → Type 0) (F : Option Reject → State → Type 0)
+    (w : Walk m i P Q F) where
   one_asked : (need : Need) (j : ℕ) (s : State) → j < cpus_of m → j ≢ i → P s
       → IsBehind P Q (ask_one m i need j s)
   unfolding reply
@@ -137,7 +148,8 @@ module _ (m : Setting) (i : ℕ) (P Q F : State → Type 0) (w : Walk m i P Q F)
       lines.stored
       (standing_of m s j) need.line need.mode (asker_of m s i)
       (w.holds t (yielding j need.line need.mode t).held q)
-      (λ live _. w.rejects t j known other (live_then live) q)
+      (λ live holds.
+      w.rejects t j known other (live_then live) (not_the_head (standing_of m s j) (asker_of m s i) holds) q)
       (λ live _.
       let u = aborting_live m j (cause_at lines.stored need.line) t in
       w.holds u (yielding j need.line need.mode u).held
@@ -199,42 +211,46 @@ module _ (m : Setting) (i : ℕ) (P Q F : State → Type 0) (w : Walk m i P Q F)
   -- ---- what the turn does
 
   turned_away : (starved live : Bool) (r : Reject) (s : State) → is_live s i ≡ live → Q s
-      → F (refused_turn (live && starved) m i r s).state
-  turned_away true true r s e q = w.starved s e q
-  turned_away false true r s e q = w.refused s q
-  turned_away starved false r s e q = w.refused s q
+      → F (refused_turn (live && starved) m i r s).reject (refused_turn (live && starved) m i r s).state
+  turned_away true true r s e q = w.starved r s e q
+  turned_away false true r s e q = w.refused r s q
+  turned_away starved false r s e q = w.refused r s q
 
   given_then : (o : Option Reject) (s : State) (next : State → Turned) → Behind P Q o s
-      → ((t : State) → P t → F (next t).state) → F (once_given m i o s next).state
+      → ((t : State) → P t → F (next t).reject (next t).state) → F (once_given m i o s next).reject
+      (once_given m i o s next).state
   given_then None s next p go = go s p
   given_then (Some r) s next q go = turned_away (is_starved (standing_of m s i)) (is_live s i) r s refl q
 
   lines_then : (needs : List Need) (s : State) (next : State → Turned) → P s
-      → ((t : State) → P t → F (next t).state) → F (with_lines m i needs s next).state
+      → ((t : State) → P t → F (next t).reject (next t).state) → F (with_lines m i needs s next).reject
+      (with_lines m i needs s next).state
   lines_then needs s next p go =
       let a = get_lines m i needs s in
       given_then a.reject a.state next (lines_got needs needs s p) go
 
   paused : (b : Bool) (turns : ℕ) (s : State) → P s
-      → F (delaying_where b i turns (with_entry (entry.Step i) s))
+      → F None (delaying_where b i turns (with_entry (entry.Step i) s))
   paused true turns s p = w.pauses s turns p
   paused false turns s p = w.steps s p
 
   step_told : (turns : ℕ) (state : RunState) (s : State) → P s
-      → F (stepped i turns state (with_entry (entry.Step i) s)).state
+      → F (stepped i turns state (with_entry (entry.Step i) s)).reject (stepped i turns state (with_entry
+      (entry.Step i) s)).state
   step_told turns Running s p = paused (nat_lt 0 turns) turns s p
   step_told turns Halted s p = paused (nat_lt 0 turns) turns s p
   step_told turns (Interrupted code) s p = w.steps s p
 
-  step_made : (turns : ℕ) (s : State) → P s → F (stepping m i turns s).state
+  step_made : (turns : ℕ) (s : State) → P s → F (stepping m i turns s).reject (stepping m i turns s).state
   step_made turns s p = step_told turns (cpu_of m (with_entry (entry.Step i) s) i).state s p
 
-  ended_where : (n : ℕ) (o : Option Why) (s : State) → P s → F (ends_where m i n o s).state
+  ended_where : (n : ℕ) (o : Option Why) (s : State) → P s → F (ends_where m i n o s).reject (ends_where m i
+      n o s).state
   ended_where n None s p = w.nothing s p
   ended_where n (Some why) s p = w.ends s n why p
 
   marked : (s : State) (before after : Run) (mark : Mark) → is_live s i ≡ true → P s
-      → F (by_mark m i s before after mark).state
+      → F (by_mark m i s before after mark).reject (by_mark m i s before after mark).state
   marked s before after Open live p = w.continues s live p
   marked s before after Committed live p =
       w.commits s (is_constrained before.nest) ((s.numbers i).completed + 1) live p
@@ -244,17 +260,18 @@ module _ (m : Setting) (i : ℕ) (P Q F : State → Type 0) (w : Walk m i P Q F)
       ended_where (s.numbers i).completed (ending (flat_of m s).text before) s p
 
   executed_where : (live begin : Bool) (instr : Instr) (s : State) → is_live s i ≡ live → P s
-      → F (executing_where live begin m i instr s).state
+      → F (executing_where live begin m i instr s).reject (executing_where live begin m i instr s).state
   executed_where true begin instr s e p =
       let after = run (flat_of m s) i (suc (s.numbers i).completed) in
       marked s (attempt_of m s i) after after.mark e p
   executed_where false true instr s e p = w.starts s e p
   executed_where false false instr s e p = step_made (delay_given instr (cpu_of m s i)) s p
 
-  instruction_done : (instr : Instr) (s : State) → P s → F (executing m i instr s).state
+  instruction_done : (instr : Instr) (s : State) → P s → F (executing m i instr s).reject (executing m i
+      instr s).state
   instruction_done instr s p = executed_where (is_live s i) (begins (entry_at instr.op.number)) instr s refl p
 
-  attempted : (s : State) (f : Fate) → P s → F (attempting m i s f).state
+  attempted : (s : State) (f : Fate) → P s → F (attempting m i s f).reject (attempting m i s f).state
   attempted s (Goes instr ranges) p =
       lines_then (operand_needs (cpu_of m s i).prefix ranges) s (executing m i instr) p
       (instruction_done instr)
@@ -262,7 +279,7 @@ module _ (m : Setting) (i : ℕ) (P Q F : State → Type 0) (w : Walk m i P Q F)
   attempted s (Stops e) p = step_made 0 s p
 
   acted : (s : State) (block : Option Pending) (waiting : Option Waiting) → P s
-      → F (acting m i s block waiting).state
+      → F (acting m i s block waiting).reject (acting m i s block waiting).state
   acted s (Some b) waiting p =
       lines_then (block_needs (cpu_of m s i).prefix b) s _ p (λ t q. w.stores t q)
   acted s None (Some v) p =
@@ -271,29 +288,33 @@ module _ (m : Setting) (i : ℕ) (P Q F : State → Type 0) (w : Walk m i P Q F)
 
   -- ---- the event
 
-  interrupted_where : (live : Bool) (s : State) → is_live s i ≡ live → P s → F (interrupting live m i s).state
+  interrupted_where : (live : Bool) (s : State) → is_live s i ≡ live → P s → F (interrupting live m i
+      s).reject (interrupting live m i s).state
   interrupted_where true s e p = w.interrupted s e p
   interrupted_where false s e p = w.unmet s p
 
-  pub externally : (s : State) → P s → F (external m i s).state
+  pub externally : (s : State) → P s → F (external m i s).reject (external m i s).state
   externally s p = interrupted_where (is_live s i) s refl p
 
-  ruled : (tick waits : Bool) (s : State) → P s → F (by_rules tick waits m i s).state
+  ruled : (tick waits : Bool) (s : State) → P s → F (by_rules tick waits m i s).reject (by_rules tick waits m
+      i s).state
   ruled true waits s p = externally s p
   ruled false true s p = w.waits s p
   ruled false false s p = acted s ((flat_of m s).pending i) ((flat_of m s).waiting i) p
 
   turned_where : (o : Option Outcome) (s : State) → idle m s i ≡ o
-      → ((o : Outcome) → idle m s i ≡ Some o → F s)
-      → (idle m s i ≡ None → P (with_event (event.Turn i) (counting_turn i s))) → F (turn_where o m i s).state
+      → ((o : Outcome) → idle m s i ≡ Some o → F None s)
+      → (idle m s i ≡ None → P (with_event (event.Turn i) (counting_turn i s))) → F (turn_where o m i
+      s).reject (turn_where o m i s).state
   turned_where (Some o) s e f p = f o e
   turned_where None s e f p =
       let t = with_event (event.Turn i) (counting_turn i s) in
       ruled (is_tick m.limits (t.numbers i).turns) (nat_lt 0 (t.numbers i).delay) t (p e)
 
   -- an idle turn changes nothing; another one is counted and recorded first
-  pub in_a_turn : (s : State) → ((o : Outcome) → idle m s i ≡ Some o → F s)
-      → (idle m s i ≡ None → P (with_event (event.Turn i) (counting_turn i s))) → F (turn m i s).state
+  pub in_a_turn : (s : State) → ((o : Outcome) → idle m s i ≡ Some o → F None s)
+      → (idle m s i ≡ None → P (with_event (event.Turn i) (counting_turn i s))) → F (turn m i s).reject (turn
+      m i s).state
   unfolding turn
   in_a_turn s f p = turned_where (idle m s i) s refl f p
 

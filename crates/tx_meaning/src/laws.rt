@@ -7,6 +7,7 @@ ghost use Rattle.std.specs.Prelude.{
   ◌*◌,
   ◌<◌,
   ◌≤◌,
+  true,
   false,
   ◌||◌,
   if◌then◌else◌,
@@ -14,7 +15,7 @@ ghost use Rattle.std.specs.Prelude.{
   ◌∷◌,
   All,
 };
-ghost use Rattle.std.specs.Prelude.{AllPairs, length, count_by};
+ghost use Rattle.std.specs.Prelude.{AllPairs, length, count_by, None};
 ghost use Rattle.tx_journal.specs.Image.{cpu_of_event};
 ghost use Rattle.tx_journal.specs.declared.events.Event.{Event};
 ghost use Rattle.tx_journal.specs.declared.events.Event.TheVariants.{Turn};
@@ -29,7 +30,7 @@ ghost use Rattle.tx_meaning.specs.Needs.{needs_of};
 ghost use Rattle.tx_meaning.specs.Queues.{QueueMoves};
 ghost use Rattle.tx_meaning.specs.Room.{live_attempts, is_turn, is_turn_of};
 ghost use Rattle.tx_meaning.specs.Schedules.{AreReadyTurns, IsComplete, drawn, round};
-ghost use Rattle.tx_meaning.specs.State.{State, beginning, cpus_of};
+ghost use Rattle.tx_meaning.specs.State.{State, beginning, cpus_of, is_head};
 ghost use Rattle.tx_meaning.specs.Stretches.{bound};
 ghost use Rattle.tx_meaning.specs.Turn.{happen};
 ghost use Rattle.tx_meaning.specs.declared.asking.Need.{Need};
@@ -42,6 +43,11 @@ pub fn the_queue_changes_at_its_ends()
     ensures event { (m : Setting) (s : State) (e : Event) → QueueMoves s.queue (happen m e s).state.queue }
     ensures head { (m : Setting) (s : State) (i head : ℕ) (rest : List ℕ) → s.queue ≡ head ∷ rest → i ≢ head
         → is_ready m s i ≡ false }
+{}
+
+/// The head of the stop queue is never rejected.
+pub fn nobody_rejects_the_head()
+    ensures { (m : Setting) (s : State) (i : ℕ) → is_head s i ≡ true → (happen m (Turn i) s).reject ≡ None }
 {}
 
 /// An idle turn changes nothing, and so is neither counted nor recorded.
