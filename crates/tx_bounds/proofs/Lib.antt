@@ -3,3 +3,4 @@ mod Examples
 pub mod Walk
 pub mod Stopping
 pub mod Stopped
+pub mod Meant
