@@ -1,9 +1,11 @@
 //! Listings with their images or first faults, by values from outside.
+mod faults;
 mod lines;
 mod machines;
 mod programs;
 
 use crate::{AssembleFault, ListingFault, MOST_BYTES, MOST_LINES, SIZE, assemble, fault_line};
+use faults::PRINTED_FAULTS;
 use lines::{DATA_AND_OPERANDS, OPERANDS_OF_INSTRUCTIONS, TEXTS_AND_TOKENS};
 use machines::{MACHINE_LINES, PARAMETERS_AND_PREFIXES, SCHEDULES};
 use programs::{MORE_WHOLE_PROGRAMS, WHOLE_PROGRAMS};
@@ -174,6 +176,22 @@ fn parameters_and_prefixes(rt: HostRuntime) -> Result<(), Fail> {
     check(&rt, &PARAMETERS_AND_PREFIXES)
 }
 
+fn printed(alloc: Global, text: &[u8]) -> Result<String, AllocError> {
+    match assemble(alloc, text) {
+        Err(AssembleFault::Listing(fault)) => fault_line(alloc, fault),
+        _ => String::from_str(alloc, "no fault"),
+    }
+}
+
+#[test]
+fn printed_faults(rt: HostRuntime) -> Result<(), Fail> {
+    for (text, wanted) in &PRINTED_FAULTS {
+        let answer = printed(rt.alloc(), text.as_bytes())?;
+        assert_eq!(rt; answer.as_str(), *wanted, "at {text}");
+    }
+    Ok(())
+}
+
 #[test]
 fn texts_that_are_too_long(rt: HostRuntime) -> Result<(), Fail> {
     let bytes = vec![in rt.alloc(); b' '; MOST_BYTES + 1]?;
@@ -182,6 +200,9 @@ fn texts_that_are_too_long(rt: HostRuntime) -> Result<(), Fail> {
     let lines = vec![in rt.alloc(); b'\n'; MOST_LINES + 1]?;
     assert_eq!(rt; told(rt.alloc(), &lines)?.as_str(), "0 2");
     assert_eq!(rt; told(rt.alloc(), &lines[1..])?.as_str(), "0 13");
+    let both = vec![in rt.alloc(); b'\n'; MOST_BYTES + 1]?;
+    assert_eq!(rt; told(rt.alloc(), &both)?.as_str(), "0 1");
+    assert_eq!(rt; told(rt.alloc(), &both[1..])?.as_str(), "0 2");
     let outside = told(rt.alloc(), b" CPU 1\n DC \xE9")?;
     assert_eq!(rt; outside.as_str(), "2 3");
     Ok(())
