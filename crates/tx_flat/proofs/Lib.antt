@@ -11,3 +11,4 @@ pub mod Going
 pub mod Ready
 pub mod Resting
 pub mod Ended
+pub mod Applied

@@ -6,3 +6,4 @@ pub mod Shows
 pub mod Refused
 pub mod Coming
 pub mod Moved
+pub mod Slots

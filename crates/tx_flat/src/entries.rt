@@ -1,0 +1,76 @@
+//! Entries of one CPU applied to storage.
+ghost use Rattle.std.specs.Prelude.{◌≡◌, ◌≤◌, ◌+◌, ℕ, List, Some, length};
+ghost use Rattle.std.specs.FinSet.{items};
+ghost use Rattle.z_regs.specs.Cpu.{cpu_of};
+ghost use Rattle.z_regs.specs.Prefix.{storage_size};
+ghost use Rattle.tx_serial.specs.Apply.{apply};
+ghost use Rattle.tx_journal.specs.declared.entries.Entry.TheVariants as entry;
+ghost use Rattle.tx_flat.specs.Slots.{IsApplied, acts, commits, pending_of};
+ghost use Rattle.tx_flat.specs.declared.slot.Block.{Block};
+ghost use Rattle.tx_flat.specs.Shows.{mark_of};
+
+use crate::attempt::Mark;
+use crate::running::run;
+use crate::slot::{ApplyFault, Slot};
+use crate::storing::{exchanged, store_bytes};
+use std::alloc::Global;
+use z_regs::{Guard, RunState, Storage};
+
+/// Whether a CPU runs, and nothing is pending for it.
+fn may_act(slot: &Slot) -> bool
+    ensures { result ≡ acts (cpu_of slot.now.image).state (pending_of slot.now.pending) }
+{
+    matches!(slot.image.state, RunState::Running) && slot.pending.is_none()
+}
+
+/// Whether a transaction is committed.
+fn is_committed(mark: Mark) -> bool
+    ensures { result ≡ commits (mark_of mark) }
+{
+    matches!(mark, Mark::Committed)
+}
+
+/// A transaction of so many instructions is committed, where it is. Nothing changes where it is not, and for
+/// want of memory.
+pub fn commit(
+    alloc: Global,
+    storage: &mut Storage,
+    guard: &Guard,
+    slot: &mut Slot,
+    n: u32,
+) -> Result<(), ApplyFault>
+    requires { length storage.old ≡ storage_size }
+    ensures { IsApplied (λ f i. apply f (entry.Commit i n)) (items guard.now) storage.old storage.new slot.old
+        slot.new result }
+{
+    if !may_act(slot) {
+        return Err(ApplyFault::Misfit);
+    }
+    let Ok(a) = run(alloc, storage, &slot.image, guard, n) else {
+        return Err(ApplyFault::Memory);
+    };
+    if !is_committed(a.mark) {
+        return Err(ApplyFault::Misfit);
+    }
+    let Ok(new) = exchanged(alloc, &a.seen, slot.image.prefix) else {
+        return Err(ApplyFault::Memory);
+    };
+    *storage = new;
+    slot.image = a.image;
+    Ok(())
+}
+
+/// The block that is pending is stored, where there is one.
+pub fn store_block(storage: &mut Storage, slot: &mut Slot) -> Result<(), ApplyFault>
+    requires size { length storage.old ≡ storage_size }
+    requires placed { (b : Block) → slot.old.pending ≡ Some b → b.address + 256 ≤ storage_size }
+    ensures { (text : List ℕ) → IsApplied (λ f i. apply f (entry.Tdb i)) text storage.old storage.new slot.old
+        slot.new result }
+{
+    let Some(block) = slot.pending else {
+        return Err(ApplyFault::Misfit);
+    };
+    store_bytes(storage, slot.image.prefix, block.address, &block.bytes);
+    slot.pending = None;
+    Ok(())
+}
