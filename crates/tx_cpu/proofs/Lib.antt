@@ -7,3 +7,4 @@ pub mod Tests
 pub mod Fetching
 pub mod Effects
 pub mod SmallCodes
+pub mod Agreeing

@@ -5,6 +5,7 @@
 
 mod attempt;
 mod interruption;
+pub mod laws;
 mod one;
 mod pending;
 mod performing;
