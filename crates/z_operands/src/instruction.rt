@@ -247,6 +247,49 @@ fn jump(here: usize, value: i128) -> Option<i64>
     immediate(halfwords)
 }
 
+/// The fields with a displacement, an index and a base.
+fn with_indexed(operand: Operand, fields: Fields) -> Option<Fields>
+    ensures { result ≡ with_slot 0 Slot.Indexed operand fields }
+{
+    let d = displacement(outer(operand))?;
+    let x = register(inner(operand))?;
+    let b = register(innermost(operand))?;
+    Some(Fields { d, x, b, ..fields })
+}
+
+/// The fields with a displacement and a base.
+fn with_based(operand: Operand, fields: Fields) -> Option<Fields>
+    ensures { result ≡ with_slot 0 Slot.Based operand fields }
+{
+    let d = displacement(outer(operand))?;
+    let b = register(inner(operand))?;
+    Some(Fields { d, b, ..fields })
+}
+
+/// The fields with a displacement, a length and a base.
+fn with_counted(operand: Operand, fields: Fields) -> Option<Fields>
+    ensures { result ≡ with_slot 0 Slot.Counted operand fields }
+{
+    let d = displacement(outer(operand))?;
+    let imm = length_code(inner(operand))?;
+    let b = register(innermost(operand))?;
+    Some(Fields {
+        d,
+        imm,
+        b,
+        ..fields
+    })
+}
+
+/// The fields with the second displacement and its base.
+fn with_second_based(operand: Operand, fields: Fields) -> Option<Fields>
+    ensures { result ≡ with_slot 0 Slot.SecondBased operand fields }
+{
+    let d2 = displacement(outer(operand))?;
+    let b2 = register(inner(operand))?;
+    Some(Fields { d2, b2, ..fields })
+}
+
 /// The fields with those of one more operand, where its values are in range.
 fn with_slot(here: usize, slot: Slot, operand: Operand, fields: Fields) -> Option<Fields>
     requires { here ≤ 1048576 }
@@ -281,33 +324,10 @@ fn with_slot(here: usize, slot: Slot, operand: Operand, fields: Fields) -> Optio
             let imm = jump(here, outer(operand))?;
             Some(Fields { imm, ..fields })
         }
-        Slot::Indexed => {
-            let d = displacement(outer(operand))?;
-            let x = register(inner(operand))?;
-            let b = register(innermost(operand))?;
-            Some(Fields { d, x, b, ..fields })
-        }
-        Slot::Based => {
-            let d = displacement(outer(operand))?;
-            let b = register(inner(operand))?;
-            Some(Fields { d, b, ..fields })
-        }
-        Slot::Counted => {
-            let d = displacement(outer(operand))?;
-            let imm = length_code(inner(operand))?;
-            let b = register(innermost(operand))?;
-            Some(Fields {
-                d,
-                imm,
-                b,
-                ..fields
-            })
-        }
-        Slot::SecondBased => {
-            let d2 = displacement(outer(operand))?;
-            let b2 = register(inner(operand))?;
-            Some(Fields { d2, b2, ..fields })
-        }
+        Slot::Indexed => with_indexed(operand, fields),
+        Slot::Based => with_based(operand, fields),
+        Slot::Counted => with_counted(operand, fields),
+        Slot::SecondBased => with_second_based(operand, fields),
     }
 }
 
