@@ -4,3 +4,4 @@ pub mod Walk
 pub mod Stopping
 pub mod Stopped
 pub mod Meant
+pub mod Again

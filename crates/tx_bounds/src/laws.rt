@@ -1,5 +1,5 @@
 //! Laws of the retry ladder. Each law is the contract of a function that does nothing.
-ghost use Rattle.std.specs.Prelude.{◌≡◌, ◌≢◌, ◌↔◌, ℕ, ◌≤◌, true, List, AllPairs};
+ghost use Rattle.std.specs.Prelude.{◌≡◌, ◌≢◌, ◌↔◌, ℕ, ◌≤◌, true, List, [], AllPairs};
 ghost use Rattle.tx_journal.specs.declared.events.Event.{Event};
 ghost use Rattle.tx_keeping.specs.Views.{AreKnown};
 ghost use Rattle.tx_ladder.specs.Waiting.{waits_in};
@@ -7,6 +7,15 @@ ghost use Rattle.tx_meaning.specs.Hits.{hits};
 ghost use Rattle.tx_meaning.specs.Limits.{Setting};
 ghost use Rattle.tx_meaning.specs.Meaning.{IsSetting, meaning};
 ghost use Rattle.tx_meaning.specs.State.{is_live, is_head};
+ghost use Rattle.tx_serial.specs.Alike.{AgreeInText};
+ghost use Rattle.tx_serial.specs.Attempt.{at_rest};
+ghost use Rattle.tx_serial.specs.Fate.{Goes, fate};
+ghost use Rattle.tx_serial.specs.Flat.{Storage};
+ghost use Rattle.z_instr.specs.Table.{entry_at};
+ghost use Rattle.z_instr.specs.declared.instr.Instr.{Instr};
+ghost use Rattle.z_instr.specs.declared.operand.Demand.TheVariants.{BeginConstrained};
+ghost use Rattle.z_regs.specs.Cpu.{Cpu};
+ghost use Rattle.z_regs.specs.declared.ranges.Range.{Range};
 
 /// After every list of events the history counts for no CPU more conflict aborts than the number at which it
 /// joins
@@ -24,4 +33,16 @@ pub fn conflict_aborts_lead_to_the_stop_queue()
     ensures head { (m : Setting) (events : List Event) (i : ℕ) → IsSetting m → AreKnown m events
         → waits_in (meaning m events).queue i ≡ true → is_live (meaning m events) i ≡ true
         → is_head (meaning m events) i ≡ true }
+{}
+
+/// Whether a constrained begin goes, outside transactions, depends on the text, on the prefix and on the
+/// address
+/// alone, and not on registers, condition code, mask or other storage. So the begin of a constrained
+/// transaction that
+/// is aborted, and goes on at its begin, always goes again.
+pub fn a_constrained_begin_goes_again()
+    ensures { (text : List ℕ) (s t : Storage) (c d : Cpu) (i : Instr) (ranges : List Range)
+        → (entry_at i.op.number).demand ≡ BeginConstrained → d.prefix ≡ c.prefix → d.address ≡ c.address
+        → AgreeInText c.prefix text s t → fate text (at_rest s c) ≡ Goes i ranges
+        → fate text (at_rest t d) ≡ Goes i [] }
 {}
