@@ -35,11 +35,9 @@ pub fn conflict_aborts_lead_to_the_stop_queue()
         → is_head (meaning m events) i ≡ true }
 {}
 
-/// Whether a constrained begin goes, outside transactions, depends on the text, on the prefix and on the
-/// address
-/// alone, and not on registers, condition code, mask or other storage. So the begin of a constrained
-/// transaction that
-/// is aborted, and goes on at its begin, always goes again.
+/// Whether a constrained begin goes, outside transactions, depends on the text, on the prefix and on the address
+/// alone, and not on registers, condition code, mask or other storage: where it has gone once, it goes again on a
+/// CPU with that prefix at that address, over storage with that text.
 pub fn a_constrained_begin_goes_again()
     ensures { (text : List ℕ) (s t : Storage) (c d : Cpu) (i : Instr) (ranges : List Range)
         → (entry_at i.op.number).demand ≡ BeginConstrained → d.prefix ≡ c.prefix → d.address ≡ c.address
