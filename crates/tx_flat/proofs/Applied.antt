@@ -1,27 +1,26 @@
 -- States that hold what is kept of a CPU, and entries of that CPU.
-use Rattle.std.proofs.Common.{◌≡◌, ◌≢◌, ℕ, Bool, true, false, List, Option, Some, None, refl, sym, ap, subst}
+use Rattle.std.proofs.Common.{◌≡◌, ◌≢◌, ℕ, Bool, true, false, List, Option, Some, None, refl, sym, ap}
 use Rattle.std.proofs.Common.{◌∙◌, arith}
 use Rattle.std.proofs.Common.{length}
 use Rattle.std.specs.Prelude.{◌==◌, if◌then◌else◌, ◌&&◌, is_none}
 use Rattle.z_regs.specs.Cpu.{Cpu, cpu_of}
-use Rattle.z_regs.specs.Prefix.{storage_size, is_prefix}
+use Rattle.z_regs.specs.Prefix.{is_prefix}
 use Rattle.z_regs.specs.Seen.{seen_by}
-use Rattle.z_regs.specs.declared.image.RunState.{RunState}
 use Rattle.z_regs.specs.declared.waiting.Waiting.{Waiting}
 use Rattle.z_regs.proofs.Exchange.{seen_twice}
-use Rattle.tx_journal.specs.declared.entries.Entry.TheVariants.{Step, Commit, Abort, Tdb, Interrupt}
+use Rattle.tx_journal.specs.declared.entries.Entry.TheVariants.{Commit, Tdb, Interrupt}
 use Rattle.tx_serial.specs.Flat.{Storage, FlatState, Pending, at_put, bytes_of, with_bytes_at}
 use Rattle.tx_serial.specs.Attempt.{Run}
 use Rattle.tx_serial.specs.Attempt as run
 use Rattle.tx_serial.specs.Run.{run as runs}
 use Rattle.tx_serial.specs.Apply.{apply, only_where, may_act, is_running, after_commit, after_block}
+use Rattle.tx_serial.specs.Apply.{after_interruption, with_stored_interruption, with_new_psw}
 use Rattle.tx_serial.proofs.Copies.{run_prefix}
 use Rattle.tx_flat.specs.Bytes.{function_of}
 use Rattle.tx_flat.specs.declared.attempt.Attempt.{Attempt}
-use Rattle.tx_flat.specs.declared.attempt.Mark.{Mark}
 use Rattle.tx_flat.specs.declared.slot.Slot.{Slot}
 use Rattle.tx_flat.specs.declared.slot.Block.{Block}
-use Rattle.tx_flat.specs.Shows.{Shows, IsRun, IsRunOf, EndsInTime, mark_of}
+use Rattle.tx_flat.specs.Shows.{Shows, IsRunOf, mark_of}
 use Rattle.tx_flat.specs.Slots.{Holds, holding, pending_of, acts, commits}
 use Rattle.tx_flat.proofs.Laid.{read_as, length-bytes}
 
@@ -159,3 +158,39 @@ block_stored f i bytes text t s new b h there stored image pending waiting =
     (put_back f.cpus i (cpu_of new.image) (h.cpu ∙ ap cpu_of (sym image)))
     (ap (λ o. at_put f.pending i (pending_of o)) pending)
     (put_back f.waiting i new.waiting (h.waiting ∙ sym waiting)))
+
+-- ---- an interruption that is taken
+
+pub none_taken : (f : FlatState) (i : ℕ) (b : Pending) → f.pending i ≡ Some b → apply f (Interrupt i) ≡ None
+unfolding apply
+none_taken f i b h = ap (λ o. after_interruption f i o (f.waiting i)) h
+
+pub none_waits : (f : FlatState) (i : ℕ) → f.pending i ≡ None → f.waiting i ≡ None
+    → apply f (Interrupt i) ≡ None
+unfolding apply
+none_waits f i h k = ap (λ o. after_interruption f i o (f.waiting i)) h ∙ ap (after_interruption f i None) k
+
+pub taken : (f : FlatState) (i : ℕ) (bytes text t : List ℕ) (s new : Slot) (w : Waiting)
+    → Holds f i bytes text s
+    → s.pending ≡ None → s.waiting ≡ Some w
+    → function_of t ≡ with_stored_interruption (cpu_of s.image) w (function_of bytes)
+    → cpu_of new.image ≡ with_new_psw (cpu_of s.image) (function_of t) → new.pending ≡ None
+    → new.waiting ≡ None
+    → apply f (Interrupt i) ≡ Some (holding f i t new)
+unfolding apply
+taken f i bytes text t s new w h none there stored image pending waiting =
+    let c = f.cpus i in
+    let storage = with_stored_interruption c w f.storage in
+    let same : function_of t ≡ storage =
+    stored ∙ ap (with_stored_interruption (cpu_of s.image) w) (sym h.storage)
+    ∙ ap (λ (d : Cpu). with_stored_interruption d w f.storage) (sym h.cpu) in
+    ap (λ o. after_interruption f i o (f.waiting i)) (h.pending ∙ ap pending_of none)
+    ∙ ap (after_interruption f i None) (h.waiting ∙ there)
+    ∙ ap (λ x. Some x)
+    (held f i t new storage (at_put f.cpus i (with_new_psw c storage)) f.pending (at_put f.waiting i None)
+    same
+    (ap (λ (d : Cpu). at_put f.cpus i d)
+    (image ∙ ap (with_new_psw (cpu_of s.image)) same ∙ ap (λ (d : Cpu). with_new_psw d storage) (sym h.cpu)))
+    (put_back f.pending i (pending_of new.pending)
+    (h.pending ∙ ap pending_of none ∙ sym (ap pending_of pending)))
+    (ap (λ o. at_put f.waiting i o) waiting))

@@ -8,6 +8,7 @@ mod coming;
 pub mod ending;
 pub mod entries;
 mod execution;
+pub mod interruption;
 mod reading;
 mod refusals;
 pub mod running;
