@@ -1,5 +1,5 @@
 -- What a CPU does once its lines are there: as the meaning has it, and all that is kept stays true.
-use Rattle.std.proofs.Common.{◌≡◌, ◌≢◌, ℕ, zero, suc, ◌+◌, Bool, true, false, List}
+use Rattle.std.proofs.Common.{◌≡◌, ◌≢◌, ℕ, suc, ◌+◌, Bool, true, false, List}
 use Rattle.std.proofs.Common.{Some, is_some, refl, sym, ap, subst, ◌∙◌, arith, inl, inr}
 use Rattle.std.specs.Prelude.{◌||◌, nat_lt, if◌then◌else◌}
 use Rattle.std.proofs.lemmas.Bool.{or_cases}
@@ -30,6 +30,7 @@ use Rattle.tx_serial.specs.Run.{run}
 use Rattle.tx_serial.proofs.Entries.{at_put_same, at_put_other}
 use Rattle.tx_progress.specs.Progress.{Progress}
 use Rattle.tx_progress.specs.Progress as progress
+use Rattle.tx_progress.proofs.Parts.{not_live}
 use Rattle.tx_progress.specs.Local.{Local, Beside, aborted}
 use Rattle.tx_progress.specs.Doing.{executed, executed_where, told_of, delay_given}
 use Rattle.tx_progress.specs.Trial.{fate_by_progress, outcome_by}
@@ -119,11 +120,6 @@ module _ (m : Setting) (s : IsSetting m) where
 
 -- ---- outside transactions
 
-pub none_completed : (n : ℕ) → nat_lt 0 n ≡ false → n ≡ 0
-none_completed zero h = refl
-none_completed (suc n) h =
-    let e : nat_lt 0 (suc n) ≡ true = grind (arith) in absurd (let x : false ≡ true = sym h ∙ e in cc)
-
 -- an entry that counts no conflict
 pub step_moved : (m : Setting) (k : Kept) (i : ℕ) (e : Entry) (b : Beside) (lines : ℕ → Bool) → IsGood m k
     → is_live k.state i ≡ false → cpu_of_entry e ≡ i → Leaves (text_of m) k.storage k.locals i e b
@@ -144,7 +140,7 @@ step_moved m k i e b lines g off of leaves changes exclusive plain =
       numbers = λ x ne. refl;
       standings = λ x ne. refl;
       held = refl;
-      completed = none_completed (k.state.numbers i).completed off;
+      completed = not_live (k.state.numbers i).completed off;
       parms = t.parms;
       aborts = t.aborts ∙ sym (plain (hits m.image k.state.history i))
           ∙ sym (hits_with m.image i k.state.history e (kept_flat m k) g.truth.replayed);
@@ -300,7 +296,7 @@ module _ (m : Setting) (s : IsSetting m) where
       let n = record old { completed = 1; attempts = old.attempts + 1; given = 0; refused = 0 } in
       let st = begun (is_constrained after.local.attempt.nest) (k.standings i) in
       let t = g.truth.each i in
-      let none = none_completed (k.state.numbers i).completed off in
+      let none = not_live (k.state.numbers i).completed off in
       let others = goes_others k next i after n goes.flat refl refl (λ x ne. at_put_other k.standings i st x ne) in
       let count : 1 ≡ after.local.attempt.count =
       sym (goes.count ∙ ap (λ c. c + 1) (sym t.count ∙ none)) in
@@ -521,7 +517,7 @@ module _ (m : Setting) (s : IsSetting m) where
       let cpu : cpu_of m k.state i ≡ (k.locals i).cpu =
       cpu_is m k g.truth i
       ∙ rests_cpu (kept_flat m k) i (k.locals i) h
-      (sym (g.truth.each i).count ∙ none_completed (k.state.numbers i).completed off) in
+      (sym (g.truth.each i).count ∙ not_live (k.state.numbers i).completed off) in
       subst (λ (c : Cpu). ActOk m i k (stepping m i (delay_given instr c) k.state) (k_outside i e.after k e.told))
       (sym cpu)
       (subst (λ told. ActOk m i k (stepping m i turns k.state) (k_outside i e.after k told))

@@ -26,6 +26,7 @@ use Rattle.tx_serial.specs.Flat.{at_put}
 use Rattle.tx_serial.specs.Run.{run}
 use Rattle.tx_serial.proofs.Entries.{at_put_same, at_put_other}
 use Rattle.tx_progress.specs.Progress.{Progress}
+use Rattle.tx_progress.proofs.Parts.{not_live}
 use Rattle.tx_progress.specs.Local.{Local}
 use Rattle.tx_progress.specs.Reached.{IsFollowed, progress_of}
 use Rattle.tx_meaning.specs.declared.asking.Need.{Need}
@@ -189,15 +190,11 @@ clear_untouched sets line mode e = record {
   not_fetched = λ x s. let n : false ≡ true = sym (ap (λ (s : Sets). s.fetched line) e) ∙ s in cc;
 }
 
-count_none : (n : ℕ) → nat_lt 0 n ≡ false → n ≡ 0
-count_none zero h = refl
-count_none (suc n) h = let e : nat_lt 0 (suc n) ≡ true = grind (arith) in absurd (let x : false ≡ true = sym h ∙ e in cc)
-
 pub not_live_untouched : (m : Setting) (k : Kept) (j : ℕ) → Truth m k → is_live k.state j ≡ false
     → kept_footprint k j ≡ untouched
 not_live_untouched m k j t off =
     rests_untouched (kept_flat m k) j (k.locals j) (t.each j).followed
-    (sym (t.each j).count ∙ count_none (k.state.numbers j).completed off)
+    (sym (t.each j).count ∙ not_live (k.state.numbers j).completed off)
 
 no_conflict_clear : (m : Setting) (k : Kept) (j line : ℕ) (mode : Mode) (b : Bool) → Truth m k
     → is_live k.state j ≡ b

@@ -1,7 +1,7 @@
 -- The abort of a live attempt: the machine that keeps leaves what the meaning does.
-use Rattle.std.proofs.Common.{◌≡◌, ◌≢◌, ℕ, Bool, true, false, eqb, List, [], ◌∷◌, ◌++◌, Some}
+use Rattle.std.proofs.Common.{◌≡◌, ◌≢◌, ℕ, Bool, true, List, [], ◌∷◌, ◌++◌, Some}
 use Rattle.std.proofs.Common.{refl, sym, ap, subst, ◌∙◌}
-use Rattle.std.specs.Prelude.{◌&&◌, if◌then◌else◌}
+use Rattle.std.specs.Prelude.{◌&&◌}
 use Rattle.std.proofs.lemmas.Bool.{or_right, and_from}
 use Rattle.tx_control.specs.declared.causes.Why.{Why}
 use Rattle.tx_ladder.specs.Rungs.{Standing}
@@ -10,9 +10,9 @@ use Rattle.tx_journal.specs.declared.entries.Entry.TheVariants.{Abort}
 use Rattle.line_table.specs.declared.table.Mode.TheVariants.{Exclusive}
 use Rattle.tx_serial.specs.Attempt.{Run, Open}
 use Rattle.tx_serial.specs.Ending.{fits, is_open, comes_from_outside, is_cause, ending}
-use Rattle.tx_serial.specs.Flat.{at_put}
 use Rattle.tx_serial.specs.Run.{run}
 use Rattle.tx_serial.proofs.Entries.{at_put_same, at_put_other}
+use Rattle.tx_progress.proofs.Parts.{put_twice}
 use Rattle.tx_progress.specs.Local.{Local, Beside, aborted}
 use Rattle.tx_meaning.specs.Limits.{Setting}
 use Rattle.tx_meaning.specs.Meaning.{IsSetting}
@@ -36,13 +36,6 @@ ended_by i why at after k =
 pub aborting_is : (i : ℕ) (why : Why) (at : ℕ) (k : Kept) → k_aborting i why at k ≡ ended_by i why at (beside k i) k
 unfolding k_aborting
 aborting_is i why at k = refl
-
-put_twice : {A : Type 0} (table : ℕ → A) (i : ℕ) (u v : A) → at_put (at_put table i u) i v ≡ at_put table i v
-put_twice {A} table i u v k x = same (eqb x i) k
-  where
-    same : (b : Bool) → (if b then v else (if b then u else table x)) ≡ (if b then v else table x)
-    same true = refl
-    same false = refl
 
 beside_same : (i : ℕ) (after : Beside) (k : Kept) → beside (with_beside i after k) i ≡ after
 beside_same i after k n = record { local = at_put_same k.locals i after.local n; storage = after.storage }

@@ -1,9 +1,9 @@
 -- The lines that a turn needs are few: with all that a live attempt has touched no more than a CPU may hold.
-use Rattle.std.proofs.Common.{◌≡◌, ◌≢◌, ℕ, zero, suc, ◌+◌, ◌-◌, ◌*◌, ◌/◌, ◌<◌, ◌≤◌, Bool, true, false, eqb, List, []}
+use Rattle.std.proofs.Common.{◌≡◌, ◌≢◌, ℕ, ◌+◌, ◌-◌, ◌*◌, ◌/◌, ◌<◌, ◌≤◌, Bool, true, false, eqb, List, []}
 use Rattle.std.proofs.Common.{◌∷◌, ◌++◌, Option, Some, None, refl, sym, ap, subst, ◌∙◌, arith, length, map}
 use Rattle.std.specs.Prelude.{◌||◌, ◌&&◌, not, nat_le, cond, All, Result, Ok, Err}
-use Rattle.std.specs.List.{list_any, range_with_len}
-use Rattle.std.proofs.lemmas.Bool.{or_cases, or_left, or_right, cases_eq, eq-eqb, eqb-true, and_parts, leb-false}
+use Rattle.std.specs.List.{list_any}
+use Rattle.std.proofs.lemmas.Bool.{or_cases, or_left, or_right, cases_eq, eq-eqb, and_parts, leb-false}
 use Rattle.std.proofs.lemmas.List.Folds.{list_any-append}
 use Rattle.std.proofs.lemmas.List.Elements.{All-head, All-tail}
 use borrow.Enum.Arm.{by_way}
@@ -51,23 +51,10 @@ use Rattle.tx_keeping.specs.Kept.{Kept, kept_flat, kept_footprint, text_of}
 use Rattle.tx_keeping.proofs.Truth.{live_is}
 use Rattle.tx_keeping.proofs.Moves.{IsGood}
 use Rattle.tx_keeping.proofs.Asking.{not_live_untouched}
+use Rattle.tx_keeping.proofs.Needing.{spot}
 use Rattle.tx_keeping.proofs.Room.{HasRoom}
 
 -- ---- the lines of one range
-
-record Spot (a n line : ℕ) : Type 0 where
-  at : ℕ
-  low : a ≤ at
-  high : at < a + n
-  there : at / LINE_SIZE ≡ line
-
-spot : (a n line : ℕ) → list_any (λ x. eqb (x / LINE_SIZE) line) (range_with_len a n) ≡ true → Spot a n line
-spot a zero line h = absurd (let e : false ≡ true = h in cc)
-spot a (suc n) line h =
-    by_way (or_cases (eqb (a / LINE_SIZE) line) (list_any (λ x. eqb (x / LINE_SIZE) line) (range_with_len (a + 1) n)) h)
-    (λ here. record { at = a; low = omega arith; high = omega arith; there = eqb-true (a / LINE_SIZE) line here })
-    (λ later. let s = spot (a + 1) n line later in
-    record { at = s.at; low = omega (arith, s.low); high = omega (arith, s.high); there = s.there })
 
 -- at most 256 bytes lie in two lines
 two_lines : (r : Range) (line : ℕ) → r.length ≤ 256 → has_place LINE_SIZE r line ≡ true

@@ -79,13 +79,13 @@ in_map f x (y ∷ ys) (inr h) = inr (in_map f x ys h)
 -- ---- the lines of a range
 
 -- an address of a line
-record Spot (a n line : ℕ) : Type 0 where
-  at : ℕ
-  low : a ≤ at
-  high : at < a + n
-  there : at / LINE_SIZE ≡ line
+pub record Spot (a n line : ℕ) : Type 0 where
+  pub at : ℕ
+  pub low : a ≤ at
+  pub high : at < a + n
+  pub there : at / LINE_SIZE ≡ line
 
-spot : (a n line : ℕ) → list_any (λ x. eqb (x / LINE_SIZE) line) (range_with_len a n) ≡ true → Spot a n line
+pub spot : (a n line : ℕ) → list_any (λ x. eqb (x / LINE_SIZE) line) (range_with_len a n) ≡ true → Spot a n line
 spot a zero line h = absurd (let e : false ≡ true = h in cc)
 spot a (suc n) line h =
     by_way (or_cases (eqb (a / LINE_SIZE) line) (list_any (λ x. eqb (x / LINE_SIZE) line) (range_with_len (a + 1) n)) h)

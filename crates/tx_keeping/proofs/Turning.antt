@@ -32,6 +32,7 @@ use Rattle.tx_serial.specs.Run.{run}
 use Rattle.tx_serial.specs.Attempt.{Run, Open}
 use Rattle.tx_serial.proofs.SameCauses.{one_cause}
 use Rattle.tx_progress.specs.Progress.{Progress}
+use Rattle.tx_progress.proofs.Parts as parts
 use Rattle.tx_progress.specs.Local.{Local, Beside, block_stored, interruption_taken}
 use Rattle.tx_progress.specs.Doing.{stopped, told_of}
 use Rattle.tx_progress.specs.Trial.{fate_by_progress}
@@ -74,7 +75,7 @@ use Rattle.std.proofs.Common.{arith}
 use Rattle.tx_keeping.proofs.Room.{AllWithin, HasRoom}
 use Rattle.tx_keeping.proofs.Few.{instruction_room, resting_room, small_interruption, few_interruption}
 use Rattle.tx_keeping.proofs.Acting.{ActOk, ended_act, ended_restated, step_moved, executing_act}
-use Rattle.tx_keeping.proofs.Acting.{stepping_act, rests_cpu, none_completed}
+use Rattle.tx_keeping.proofs.Acting.{stepping_act, rests_cpu}
 
 -- ---- the statement
 
@@ -373,7 +374,7 @@ module _ (m : Setting) (s : IsSetting m) where
       → (k.locals i).attempt.cpu ≡ (k.locals i).cpu
   own_prefix i k t off =
       rests_cpu (kept_flat m k) i (k.locals i) (t.each i).followed
-      (sym (t.each i).count ∙ none_completed (k.state.numbers i).completed off)
+      (sym (t.each i).count ∙ parts.not_live (k.state.numbers i).completed off)
 
   storing_ok : (i : ℕ) (k : Kept) (b : Pending) → IsGood m k → i < cpus_of m → (k.locals i).pending ≡ Some b
       → TurnOk m k (storing_block m i b k.state) (k_storing_block m i b k)
