@@ -42,8 +42,10 @@ use Rattle.tx_meaning.specs.Hits.{hits, hits_after, tries_constrained}
 use Rattle.tx_meaning.specs.Limits.{Setting}
 use Rattle.tx_meaning.specs.Meaning.{IsSetting}
 use Rattle.tx_meaning.specs.State.{State, Numbers, is_live, cpus_of, attempt_of, cpu_of}
-use Rattle.tx_meaning.specs.Changes.{with_entry, delaying, starting, continuing, committing, aborting, without_attempt}
-use Rattle.tx_meaning.specs.Turn.{Turned, turned, ends_by, ends_where, by_mark, step_inside, stepped, stepping}
+use Rattle.tx_meaning.specs.Changes.{with_entry, delaying, starting, continuing, committing, aborting}
+use Rattle.tx_meaning.specs.Changes.{without_attempt}
+use Rattle.tx_meaning.specs.Turn.{Turned, turned, ends_by, ends_where, by_mark, step_inside, stepped}
+use Rattle.tx_meaning.specs.Turn.{stepping}
 use Rattle.tx_meaning.specs.Turn.{delaying_where, executing_where, executing, outcome_of_abort}
 use Rattle.tx_keeping.specs.Kept.{Kept, kept_flat, kept_footprint, text_of, with_state, with_beside}
 use Rattle.tx_keeping.specs.Kept.{beside}
@@ -94,7 +96,8 @@ module _ (m : Setting) (s : IsSetting m) where
     grows = e.grows;
     held = e.held;
     others = λ x ne. keeps_untouched k q.kept x (e.others x ne);
-    own = λ live same. gone (k.state.numbers i).completed (q.kept.state.numbers i).completed live e.completed same;
+    own = λ live same. gone (k.state.numbers i).completed
+        (q.kept.state.numbers i).completed live e.completed same;
   }
 
   -- the state alone changes behind it
@@ -169,7 +172,8 @@ module _ (m : Setting) (s : IsSetting m) where
       (λ x ne. at_put_other next.state.numbers i n x ne) e)
   delayed i turns false k after is e = ended_act m s i k _ _ refl e
 
-  told_is : (i turns : ℕ) (state : RunState) (k : Kept) (after : Beside) → Ended m s k (k_stepping i after k) i
+  told_is : (i turns : ℕ) (state : RunState) (k : Kept) (after : Beside)
+      → Ended m s k (k_stepping i after k) i
       → ActOk m i k (stepped i turns state (k_stepping i after k).state)
       (k_outside i after k (told_of state turns))
   told_is i turns (Interrupted code) k after e = ended_act m s i k _ _ refl e
@@ -271,7 +275,8 @@ module _ (m : Setting) (s : IsSetting m) where
                     ∙ sym (kind_is (kept_flat m k) i (k.locals i) t.followed
                     (sym (live_is m k g.truth i) ∙ live))
                     ∙ ap (λ f. tries_constrained f i) (sym goes.flat)
-                    ∙ kind_is (kept_flat m next) i after.local goes.followed (sym (ap (nat_lt 0) count) ∙ now);
+                    ∙ kind_is (kept_flat m next) i after.local goes.followed (sym (ap (nat_lt 0) count)
+                    ∙ now);
                 given = t.given;
                 refused = t.refused;
               });
@@ -297,7 +302,8 @@ module _ (m : Setting) (s : IsSetting m) where
       let st = begun (is_constrained after.local.attempt.nest) (k.standings i) in
       let t = g.truth.each i in
       let none = not_live (k.state.numbers i).completed off in
-      let others = goes_others k next i after n goes.flat refl refl (λ x ne. at_put_other k.standings i st x ne) in
+      let others = goes_others k next i after n goes.flat refl refl
+      (λ x ne. at_put_other k.standings i st x ne) in
       let count : 1 ≡ after.local.attempt.count =
       sym (goes.count ∙ ap (λ c. c + 1) (sym t.count ∙ none)) in
       record {
@@ -324,14 +330,17 @@ module _ (m : Setting) (s : IsSetting m) where
 
   -- ---- a commit
 
-  commit_moved : (k : Kept) (i n : ℕ) (after : Beside) (lines : ℕ → Bool) → IsGood m k → is_live k.state i ≡ true
-      → Leaves (text_of m) k.storage k.locals i (entry.Commit i n) after → ChangesIn lines k.storage after.storage
+  commit_moved : (k : Kept) (i n : ℕ) (after : Beside) (lines : ℕ → Bool) → IsGood m k
+      → is_live k.state i ≡ true
+      → Leaves (text_of m) k.storage k.locals i (entry.Commit i n) after
+      → ChangesIn lines k.storage after.storage
       → ((line : ℕ) → lines line ≡ true → k.state.held i line ≡ Some Exclusive)
       → Moved m k (k_committing i n after k) i (entry.Commit i n) after lines
   commit_moved k i n after lines g live leaves changes exclusive =
       let old = k.standings i in
       let st = if old.constrained then descended old else old in
-      let ends = ends_queued i k.state (without_attempt i k.state) (committing i old.constrained n k.state).queue
+      let ends = ends_queued i k.state (without_attempt i k.state)
+      (committing i old.constrained n k.state).queue
       (ends_without i k.state) in
       let same = same_descended old.constrained old in
       let own = at_put_same k.standings i st in
@@ -351,7 +360,8 @@ module _ (m : Setting) (s : IsSetting m) where
         parms = ap (λ (st : Standing). st.parms) own ∙ same.parms ∙ t.parms;
         aborts = ap (λ (st : Standing). st.aborts) own ∙ commit_hits m s k i n g.truth live;
         given = ap (λ (st : Standing). st.rejects_given) own ∙ same.given ∙ t.given ∙ sym ends.given;
-        refused = ap (λ (st : Standing). st.requests_rejected) own ∙ same.refused ∙ t.refused ∙ sym ends.refused;
+        refused = ap (λ (st : Standing). st.requests_rejected) own ∙ same.refused ∙ t.refused
+            ∙ sym ends.refused;
       }
 
 -- ---- inside a transaction
@@ -368,7 +378,8 @@ marked_is m i k t =
 
 -- the end of an attempt by its instruction, as the meaning has it
 ends_marked : (m : Setting) (i : ℕ) (k : Kept) (why : Why) (after : Beside) (q : Run) → Truth m k
-    → AttemptEnds (text_of m) (run (kept_flat m k) i (k.locals i).attempt.count) q (k.locals i).attempt.count after why
+    → AttemptEnds (text_of m) (run (kept_flat m k) i (k.locals i).attempt.count) q
+    (k.locals i).attempt.count after why
     → marked m i k q ≡ ends_by m i after.local.attempt.count why k.state
 ends_marked m i k why after q t (inl (mark, ends, count)) =
     ap (by_mark m i k.state (attempt_of m k.state i) q) mark
@@ -380,7 +391,8 @@ ends_marked m i k why after q t (inr (mark, ends, count)) =
     ap (by_mark m i k.state (attempt_of m k.state i) q) mark
     ∙ ap (λ (f : FlatState). ends_where m i (k.state.numbers i).completed
     (ending f.text (attempt_of m k.state i)) k.state) (flat_is m k t)
-    ∙ ap (λ p. ends_where m i (k.state.numbers i).completed (ending (text_of m) p) k.state) (attempt_is m k t i)
+    ∙ ap (λ p. ends_where m i (k.state.numbers i).completed (ending (text_of m) p) k.state)
+    (attempt_is m k t i)
     ∙ ap (λ o. ends_where m i (k.state.numbers i).completed o k.state) ends
     ∙ ap (λ n. ends_by m i n why k.state) ((t.each i).count ∙ sym count)
 
@@ -397,7 +409,8 @@ module _ (m : Setting) (s : IsSetting m) where
       let absolute = absolute_ranges (k.locals i).attempt.cpu.prefix ranges in
       let lines : ℕ → Bool = λ line. (kept_footprint k i).stored line || stores absolute line in
       let next = ended_by i why at after k in
-      let e = moved_ended m s k next i (entry.Abort i after.local.attempt.count why) (aborted why at after) lines g
+      let e = moved_ended m s k next i (entry.Abort i after.local.attempt.count why)
+      (aborted why at after) lines g
       (ended_moved m s k i why at after lines g live ends.leaves more.lasting
       (all_exclusive m k i absolute g has)) in
       let is : marked m i k q ≡ turned_of (k_turned next (outcome_of_abort why)) =
@@ -421,14 +434,16 @@ module _ (m : Setting) (s : IsSetting m) where
       let t = g.truth.each i in
       ended_act m s i k (marked m i k q) (k_turned next outcome.Executed)
       (ap (by_mark m i k.state (attempt_of m k.state i) q) commits.mark
-      ∙ ap (λ (nest : List Begin). turned (committing i (is_constrained nest) ((k.state.numbers i).completed + 1)
+      ∙ ap (λ (nest : List Begin). turned (committing i (is_constrained nest)
+      ((k.state.numbers i).completed + 1)
       k.state) outcome.Executed) (nest_is m k g.truth i)
       ∙ ap (λ b. turned (committing i b ((k.state.numbers i).completed + 1) k.state) outcome.Executed)
       (sym (t.kind live))
       ∙ ap (λ n. turned (committing i (k.standings i).constrained n k.state) outcome.Executed)
       (ap (λ n. n + 1) t.count ∙ sym commits.count))
       (moved_ended m s k next i (entry.Commit i n) after lines g
-      (commit_moved m s k i n after lines g live commits.leaves more.bytes (all_exclusive m k i absolute g has)))
+      (commit_moved m s k i n after lines g live commits.leaves more.bytes
+      (all_exclusive m k i absolute g has)))
 
   inside_act : (k : Kept) (i : ℕ) (ranges : List Range) (after : Beside) (told : Done) → IsGood m k
       → is_live k.state i ≡ true
@@ -443,10 +458,12 @@ module _ (m : Setting) (s : IsSetting m) where
       (k_turned (k_continuing i after k) outcome.Executed)) (sym goes.mark)
       (continuing_act m s k i ranges after q g live has more goes)
   inside_act k i ranges after (done.Committed n) g live has more commits =
-      committing_act k i n ranges after (run (kept_flat m k) i (suc (k.locals i).attempt.count)) g live has more
+      committing_act k i n ranges after (run (kept_flat m k) i (suc
+      (k.locals i).attempt.count)) g live has more
       commits
   inside_act k i ranges after (done.Ended why) g live has more ends =
-      ending_act k i ranges after why (run (kept_flat m k) i (suc (k.locals i).attempt.count)) g live has more ends
+      ending_act k i ranges after why (run (kept_flat m k) i (suc
+      (k.locals i).attempt.count)) g live has more ends
   inside_act k i ranges after done.Began g live has more never = absurd never
   inside_act k i ranges after (done.Paused turns) g live has more never = absurd never
   inside_act k i ranges after (done.Interrupted code) g live has more never = absurd never
@@ -463,10 +480,12 @@ module _ (m : Setting) (s : IsSetting m) where
       ∙ ap (λ begin. (executed_where false begin instr ranges b
       (outcome_by b.storage instr ranges b.local.attempt)).told) begin
 
-  told_outside : (instr : Instr) (ranges : List Range) (b : Beside) (live begin : Bool) → live ≡ false → begin ≡ false
+  told_outside : (instr : Instr) (ranges : List Range) (b : Beside) (live begin : Bool) → live ≡ false
+      → begin ≡ false
       → (executed_where live begin instr ranges b (outcome_by b.storage instr ranges b.local.attempt)).told
       ≡ told_of (executed_where live begin instr ranges b
-      (outcome_by b.storage instr ranges b.local.attempt)).after.local.cpu.state (delay_given instr b.local.cpu)
+      (outcome_by b.storage instr ranges b.local.attempt)).after.local.cpu.state
+      (delay_given instr b.local.cpu)
   told_outside instr ranges b true begin e f = absurd (cc)
   told_outside instr ranges b false true e f = absurd (cc)
   told_outside instr ranges b false false e f = refl
@@ -477,18 +496,21 @@ module _ (m : Setting) (s : IsSetting m) where
       ≡ told_of (executed instr ranges b).after.local.cpu.state (delay_given instr b.local.cpu)
   unfolding executed
   told_done instr ranges b off plain =
-      told_outside instr ranges b (progress.is_live b.local.attempt) (begins (entry_at instr.op.number)) off plain
+      told_outside instr ranges b (progress.is_live b.local.attempt) (begins
+      (entry_at instr.op.number)) off plain
 
   executing_by : (k : Kept) (i : ℕ) (instr : Instr) (ranges : List Range) (live begin : Bool) → IsGood m k
       → may_act (kept_flat m k) i ≡ true
       → fate_by_progress (text_of m) k.storage (k.locals i).attempt ≡ Goes instr ranges
       → HasLines (k.state.held i) (absolute_ranges (k.locals i).attempt.cpu.prefix ranges)
       → is_live k.state i ≡ live → begins (entry_at instr.op.number) ≡ begin
-      → ActOk m i k (executing_where live begin m i instr k.state) (k_done live i (executed instr ranges (beside k i)) k)
+      → ActOk m i k (executing_where live begin m i instr k.state) (k_done live i (executed instr ranges
+      (beside k i)) k)
   executing_by k i instr ranges true begin g acts goes has live is =
       let e = executed instr ranges (beside k i) in
       let h = (g.truth.each i).followed in
-      subst (λ t. ActOk m i k t (k_inside i (next_address k i) e.after k e.told)) (sym (marked_is m i k g.truth))
+      subst (λ t. ActOk m i k t (k_inside i (next_address k i) e.after k e.told)) (sym
+      (marked_is m i k g.truth))
       (inside_act k i ranges e.after e.told g live has
       (executed_touches (text_of m) k.storage k.locals i instr ranges (kept_is m s k g.truth) h goes)
       (executed_inside (text_of m) k.storage k.locals i instr ranges (kept_is m s k g.truth) h
@@ -501,24 +523,28 @@ module _ (m : Setting) (s : IsSetting m) where
       (sym (told_began instr ranges (beside k i) off' begin))
       (starting_act m s k i ranges e.after (run (kept_flat m k) i (suc (k.locals i).attempt.count)) g off has
       (executed_touches (text_of m) k.storage k.locals i instr ranges (kept_is m s k g.truth) h goes)
-      (executed_begins (text_of m) k.storage k.locals i instr ranges (kept_is m s k g.truth) h off' acts goes begin))
+      (executed_begins (text_of m) k.storage k.locals i instr ranges
+      (kept_is m s k g.truth) h off' acts goes begin))
   executing_by k i instr ranges false false g acts goes has off plain =
       let e = executed instr ranges (beside k i) in
       let h = (g.truth.each i).followed in
       let off' = sym (live_is m k g.truth i) ∙ off in
-      let more = executed_touches (text_of m) k.storage k.locals i instr ranges (kept_is m s k g.truth) h goes in
+      let more = executed_touches (text_of m) k.storage k.locals i instr ranges
+      (kept_is m s k g.truth) h goes in
       let absolute = absolute_ranges (k.locals i).attempt.cpu.prefix ranges in
       let lines : ℕ → Bool = λ line. (kept_footprint k i).stored line || stores absolute line in
       let turns = delay_given instr (k.locals i).cpu in
       let end = moved_ended m s k (k_stepping i e.after k) i (entry.Step i) e.after lines g
       (step_moved m k i (entry.Step i) e.after lines g off refl
-      (executed_outside (text_of m) k.storage k.locals i instr ranges (kept_is m s k g.truth) h off' acts goes plain)
+      (executed_outside (text_of m) k.storage k.locals i instr ranges
+      (kept_is m s k g.truth) h off' acts goes plain)
       more.bytes (all_exclusive m k i absolute g has) (λ n. refl)) in
       let cpu : cpu_of m k.state i ≡ (k.locals i).cpu =
       cpu_is m k g.truth i
       ∙ rests_cpu (kept_flat m k) i (k.locals i) h
       (sym (g.truth.each i).count ∙ not_live (k.state.numbers i).completed off) in
-      subst (λ (c : Cpu). ActOk m i k (stepping m i (delay_given instr c) k.state) (k_outside i e.after k e.told))
+      subst (λ (c : Cpu). ActOk m i k (stepping m i (delay_given instr c) k.state)
+      (k_outside i e.after k e.told))
       (sym cpu)
       (subst (λ told. ActOk m i k (stepping m i turns k.state) (k_outside i e.after k told))
       (sym (told_done instr ranges (beside k i) off' plain))
@@ -531,4 +557,5 @@ module _ (m : Setting) (s : IsSetting m) where
       → ActOk m i k (executing m i instr k.state) (k_executing i instr ranges k)
   unfolding k_executing
   executing_act k i instr ranges g acts goes has =
-      executing_by k i instr ranges (is_live k.state i) (begins (entry_at instr.op.number)) g acts goes has refl refl
+      executing_by k i instr ranges (is_live k.state i) (begins
+      (entry_at instr.op.number)) g acts goes has refl refl

@@ -134,7 +134,8 @@ asker_is m k i false t live =
 
 reply_by : (b : Bool) (fetched stored : Lines) (st other : Standing) (line : ℕ) (mode : Mode) (asker : Asker)
     → (b ≡ true → st ≡ other)
-    → interrogate.reply b fetched stored st line mode asker ≡ interrogate.reply b fetched stored other line mode asker
+    → interrogate.reply b fetched stored st line mode asker ≡ interrogate.reply b fetched stored other line
+    mode asker
 unfolding interrogate.reply
 reply_by true fetched stored st other line mode asker same =
     ap (λ st. interrogate.reply true fetched stored st line mode asker) (same refl)
@@ -153,7 +154,8 @@ reply_is m k j line mode i t =
 
 reply_parts : (k : Kept) (j line : ℕ) (mode : Mode) (i : ℕ)
     → k_reply k j line mode i
-    ≡ answer_of (conflicts (is_live k.state j) (kept_footprint k j).fetched (kept_footprint k j).stored line mode)
+    ≡ answer_of (conflicts (is_live k.state j) (kept_footprint k j).fetched
+    (kept_footprint k j).stored line mode)
     (may_hold_out (k.standings j) (kept_asker k i)) (kept_footprint k j).stored line
 unfolding k_reply interrogate.reply
 reply_parts k j line mode i = refl
@@ -267,13 +269,15 @@ yielding_clears held j line mode =
     ap (is_against mode) (holding_here held j line (left_to mode)) ∙ left_not_against mode
 
 yields_ok : (m : Setting) (i j : ℕ) (need : Need) (k : Kept) → IsGood m k
-    → IsClear (kept_footprint k j) need.line need.mode → is_against need.mode (k.state.held j need.line) ≡ true
+    → IsClear (kept_footprint k j) need.line need.mode
+    → is_against need.mode (k.state.held j need.line) ≡ true
     → AskOk m i j need k (record { kept = k_yielding j need.line need.mode k; reject = None })
 yields_ok m i j need k g clear against = record {
   good = record {
     truth = restated m k (yielding j need.line need.mode k.state) g.truth refl
         (λ x. same_numbers (k.state.numbers x));
-    holds = yielding_holds (cpus_of m) k.state.held (kept_footprint k) j need.line need.mode g.holds clear against;
+    holds = yielding_holds (cpus_of m) k.state.held
+        (kept_footprint k) j need.line need.mode g.holds clear against;
   };
   keeps = asks_restated i k (yielding j need.line need.mode k.state) refl (λ x. refl);
   clears = λ e. yielding_clears k.state.held j need.line need.mode;
@@ -282,7 +286,8 @@ yields_ok m i j need k g clear against = record {
 }
 
 -- the holder rejects
-pub rejecting_good : (m : Setting) (s : IsSetting m) (k : Kept) (j : ℕ) → IsGood m k → IsGood m (k_rejecting j k)
+pub rejecting_good : (m : Setting) (s : IsSetting m) (k : Kept) (j : ℕ) → IsGood m k
+    → IsGood m (k_rejecting j k)
 rejecting_good m s k j g =
     let st = rejecting (k.standings j) in
     let n = record (k.state.numbers j) { given = st.rejects_given } in
@@ -309,7 +314,11 @@ rejecting_good m s k j g =
 
 abbrev refused_numbers : Bool → Standing → Numbers → Numbers
 refused_numbers live st n =
-    record n { rejected = n.rejected + 1; refused = if live then (rejected st).requests_rejected else n.refused }
+    record n {
+      rejected = n.rejected + 1;
+      refused = if live then
+          (rejected st).requests_rejected else n.refused;
+    }
 
 rejected_true : (m : Setting) (k after : Kept) (i : ℕ) (live : Bool) → TrueAt m k i
     → kept_flat m after ≡ kept_flat m k → after.state.history ≡ k.state.history
@@ -334,7 +343,8 @@ rejected_true m k after i false t flat history = record {
   refused = t.refused;
 }
 
-pub rejected_good : (m : Setting) (s : IsSetting m) (k : Kept) (i : ℕ) → IsGood m k → IsGood m (k_rejected i k)
+pub rejected_good : (m : Setting) (s : IsSetting m) (k : Kept) (i : ℕ) → IsGood m k
+    → IsGood m (k_rejected i k)
 rejected_good m s k i g =
     let live = is_live k.state i in
     let st = if live then rejected (k.standings i) else k.standings i in
@@ -381,7 +391,8 @@ rejects_ok m s i j need k g =
     }
 
 -- the attempt of the holder is aborted
-pub ended_keeps : (m : Setting) (s : IsSetting m) (i : ℕ) (k after : Kept) (j : ℕ) → j ≢ i → Ended m s k after j
+pub ended_keeps : (m : Setting) (s : IsSetting m) (i : ℕ) (k after : Kept) (j : ℕ) → j ≢ i
+    → Ended m s k after j
     → AskKeeps i k after
 ended_keeps m s i k after j ne e = record {
   own = keeps_untouched k after i (e.others i (λ same. ne (sym same)));
@@ -402,14 +413,16 @@ aborts_ok : (m : Setting) (s : IsSetting m) (i j : ℕ) (need : Need) (k : Kept)
 aborts_ok m s i j need k g ne against live touched =
     let why = cause_at (kept_footprint k j).stored need.line in
     let mid = k_aborting j why (k.locals j).attempt.cpu.address k in
-    let e = abort_ended m s k j why g live (outside_fits m k j why g.truth (cause_comes m k j need.line g.truth touched)) in
+    let e = abort_ended m s k j why g live (outside_fits m k j why g.truth
+    (cause_comes m k j need.line g.truth touched)) in
     let off : is_live mid.state j ≡ false = ap (nat_lt 0) e.completed in
     let y = yields_ok m i j need mid e.good
     (clear_untouched (kept_footprint mid j) need.line need.mode (not_live_untouched m mid j e.good.truth off))
     (ap (λ (h : Holders). is_against need.mode (h j need.line)) e.held ∙ against) in
     record {
       good = y.good;
-      keeps = asks_then i k mid (k_yielding j need.line need.mode mid) (ended_keeps m s i k mid j ne e) y.keeps;
+      keeps = asks_then i k mid (k_yielding j need.line need.mode mid)
+          (ended_keeps m s i k mid j ne e) y.keeps;
       clears = y.clears;
       others = λ x apart line. y.others x apart line ∙ ap (λ (h : Holders). h x line) e.held;
       shrinks = λ x line is. ap (λ (h : Holders). is_some (h x line)) (sym e.held) ∙ y.shrinks x line is;
@@ -434,12 +447,15 @@ rejects_is m i j k t ne live =
     (standing_is m k t j live)
     ∙ refused_is i (is_live k.state i) (standing_of m k.state i) (k.standings i)
     (rejecting_one j (k.standings j) k.state) (standing_is m k t i)
-    ∙ ap (λ n. rejected_once i (nat_lt 0 n.completed) (k.standings i) (rejecting_one j (k.standings j) k.state))
+    ∙ ap (λ n. rejected_once i (nat_lt 0 n.completed) (k.standings i) (rejecting_one j
+    (k.standings j) k.state))
     (sym (at_put_other k.state.numbers j n i apart))
-    ∙ ap (λ st. rejected_once i (is_live (k_rejecting j k).state i) st (rejecting_one j (k.standings j) k.state))
+    ∙ ap (λ st. rejected_once i (is_live (k_rejecting j k).state i) st (rejecting_one j
+    (k.standings j) k.state))
     (sym (at_put_other k.standings j st i apart))
 
-pub live_aborting_is : (m : Setting) (j : ℕ) (why : Why) (at : ℕ) (k : Kept) → Truth m k → is_live k.state j ≡ true
+pub live_aborting_is : (m : Setting) (j : ℕ) (why : Why) (at : ℕ) (k : Kept) → Truth m k
+    → is_live k.state j ≡ true
     → aborting j (standing_of m k.state j) (k.state.numbers j).completed why k.state
     ≡ (k_aborting j why at k).state
 live_aborting_is m j why at k t live =
@@ -447,7 +463,8 @@ live_aborting_is m j why at k t live =
     ∙ ap (λ n. aborting j (k.standings j) n why k.state) (t.each j).count
     ∙ sym (ap (λ (k : Kept). k.state) (aborting_is j why at k))
 
-answered_is : (m : Setting) (i j : ℕ) (need : Need) (k : Kept) (c below : Bool) (stored : Lines) → Truth m k → j ≢ i
+answered_is : (m : Setting) (i j : ℕ) (need : Need) (k : Kept) (c below : Bool) (stored : Lines) → Truth m k
+    → j ≢ i
     → (c ≡ true → is_live k.state j ≡ true)
     → by_answer m i need j k.state (answer_of c below stored need.line)
     ≡ state_of (k_by_answer i need j k (answer_of c below stored need.line))
@@ -459,9 +476,11 @@ answered_is m i j need k true false stored t ne live =
     ap (λ s. record { state = yielding j need.line need.mode s; reject = None })
     (live_aborting_is m j (cause_at stored need.line) (k.locals j).attempt.cpu.address k t (live refl))
 
-answered_ok : (m : Setting) (s : IsSetting m) (i j : ℕ) (need : Need) (k : Kept) (c below : Bool) → IsGood m k → j ≢ i
+answered_ok : (m : Setting) (s : IsSetting m) (i j : ℕ) (need : Need) (k : Kept) (c below : Bool)
+    → IsGood m k → j ≢ i
     → is_against need.mode (k.state.held j need.line) ≡ true
-    → conflicts (is_live k.state j) (kept_footprint k j).fetched (kept_footprint k j).stored need.line need.mode ≡ c
+    → conflicts (is_live k.state j) (kept_footprint k j).fetched
+    (kept_footprint k j).stored need.line need.mode ≡ c
     → AskOk m i j need k (k_by_answer i need j k (answer_of c below (kept_footprint k j).stored need.line))
 answered_ok m s i j need k false below g ne against h =
     yields_ok m i j need k g
@@ -469,7 +488,8 @@ answered_ok m s i j need k false below g ne against h =
 answered_ok m s i j need k true true g ne against h = rejects_ok m s i j need k g
 answered_ok m s i j need k true false g ne against h =
     aborts_ok m s i j need k g ne against
-    (conflict_live (is_live k.state j) (kept_footprint k j).fetched (kept_footprint k j).stored need.line need.mode h)
+    (conflict_live (is_live k.state j) (kept_footprint k j).fetched
+    (kept_footprint k j).stored need.line need.mode h)
     (conflict_touched (is_live k.state j) (kept_footprint k j).fetched (kept_footprint k j).stored need.line
     need.mode h)
 
@@ -494,17 +514,20 @@ pub record OneAsked (m : Setting) (i j : ℕ) (need : Need) (k : Kept) (q : KAsk
   pub is : ask_one m i need j k.state ≡ state_of q
   pub ok : AskOk m i j need k q
 
-ask_by : (m : Setting) (s : IsSetting m) (i j : ℕ) (need : Need) (k : Kept) (a : Answer) (c below : Bool) → IsGood m k
+ask_by : (m : Setting) (s : IsSetting m) (i j : ℕ) (need : Need) (k : Kept) (a : Answer) (c below : Bool)
+    → IsGood m k
     → j ≢ i → is_against need.mode (k.state.held j need.line) ≡ true
     → reply m k.state j need.line need.mode i ≡ a
     → a ≡ answer_of c below (kept_footprint k j).stored need.line
-    → conflicts (is_live k.state j) (kept_footprint k j).fetched (kept_footprint k j).stored need.line need.mode ≡ c
+    → conflicts (is_live k.state j) (kept_footprint k j).fetched
+    (kept_footprint k j).stored need.line need.mode ≡ c
     → OneAsked m i j need k (k_by_answer i need j (k_asking i k) a)
 ask_by m s i j need k a c below g ne against is parts h =
     let mid = k_asking i k in
     let good = asking_good m i k g in
     let live = asking_live i j k in
-    let h' : conflicts (is_live mid.state j) (kept_footprint k j).fetched (kept_footprint k j).stored need.line
+    let h' : conflicts (is_live mid.state j) (kept_footprint k j).fetched
+    (kept_footprint k j).stored need.line
     need.mode ≡ c = ap (λ b. conflicts b (kept_footprint k j).fetched (kept_footprint k j).stored need.line
     need.mode) live ∙ h in
     let ok = answered_ok m s i j need mid c below good ne against h' in
@@ -529,7 +552,8 @@ pub one_asked : (m : Setting) (s : IsSetting m) (i j : ℕ) (need : Need) (k : K
 unfolding k_ask_one
 one_asked m s i j need k g ne against =
     ask_by m s i j need k (k_reply k j need.line need.mode i)
-    (conflicts (is_live k.state j) (kept_footprint k j).fetched (kept_footprint k j).stored need.line need.mode)
+    (conflicts (is_live k.state j) (kept_footprint k j).fetched
+    (kept_footprint k j).stored need.line need.mode)
     (may_hold_out (k.standings j) (kept_asker k i)) g ne against
     (reply_is m k j need.line need.mode i g.truth) (reply_parts k j need.line need.mode i) refl
 

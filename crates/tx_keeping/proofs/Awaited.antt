@@ -1,6 +1,7 @@
 -- In every state that a history leaves, a CPU that is interrupted has an interruption to take, where it has a
 -- prefix, and a CPU that runs has none.
-use Rattle.std.proofs.Common.{◌≡◌, ℕ, zero, suc, Bool, true, false, List, [], ◌∷◌, Option, Some, None, is_some}
+use Rattle.std.proofs.Common.{◌≡◌, ℕ, zero, suc, Bool, true, false, List, [], ◌∷◌, Option, Some, None}
+use Rattle.std.proofs.Common.{is_some}
 use Rattle.std.proofs.Common.{refl, sym, ap, subst, ◌∙◌}
 use Rattle.std.specs.Prelude.{◌&&◌, not, All, nat_lt, is_none}
 use Rattle.std.proofs.lemmas.Bool.{cases_eq, and_parts}
@@ -33,7 +34,8 @@ use Rattle.tx_serial.specs.Changes.{cpu_of_entry}
 use Rattle.tx_serial.specs.Fate.{Fate, Goes, Ends, Stops, fate}
 use Rattle.tx_serial.specs.Run.{run, outcome_of}
 use Rattle.tx_serial.specs.Remains.{remains, waiting_with, interrupted_after, waiting_after}
-use Rattle.tx_serial.specs.Apply.{apply, only_where, may_act, is_running, after_step, with_outcome, after_commit}
+use Rattle.tx_serial.specs.Apply.{apply, only_where, may_act, is_running, after_step, with_outcome}
+use Rattle.tx_serial.specs.Apply.{after_commit}
 use Rattle.tx_serial.specs.Apply.{after_block, after_interruption}
 use Rattle.tx_serial.specs.Ending.{fits}
 use Rattle.tx_serial.specs.History.{start_of, replay, replay_from, cpu_at}
@@ -99,7 +101,8 @@ at_one f i c w a =
     (subst (Awaits c) (sym (at_put_same f.waiting i w)) a)
 
 -- where the CPU alone changes
-at_cpu : (f : FlatState) (i : ℕ) (c : Cpu) → Awaits c (f.waiting i) → Awaits (at_put f.cpus i c i) (f.waiting i)
+at_cpu : (f : FlatState) (i : ℕ) (c : Cpu) → Awaits c (f.waiting i)
+    → Awaits (at_put f.cpus i c i) (f.waiting i)
 at_cpu f i c a = subst (λ c. Awaits c (f.waiting i)) (sym (at_put_same f.cpus i c)) a
 
 record Acts (f : FlatState) (i : ℕ) : Type 0 where
@@ -116,7 +119,8 @@ still_quiet : (f : FlatState) (i : ℕ) (c : Cpu) → Acts f i → is_interrupte
     → Awaits (at_put f.cpus i c i) (f.waiting i)
 still_quiet f i c acts h = at_cpu f i c (subst (Awaits c) (sym acts.none) (quiet c h))
 
-outcome_left : (f : FlatState) (i : ℕ) (instr : Instr) (ranges : List Range) (o : Outcome) → AllAwait f → Acts f i
+outcome_left : (f : FlatState) (i : ℕ) (instr : Instr) (ranges : List Range) (o : Outcome) → AllAwait f
+    → Acts f i
     → o ≡ outcome_of instr ranges (run f i 0)
     → Left i (Some (with_outcome f i instr ranges o))
 unfolding run
@@ -222,12 +226,14 @@ after_one : (rest : List Entry) (after : FlatState) (o : Option FlatState)
 after_one rest after None more h = absurd (let n : None ≡ Some after = sym (replay_none rest) ∙ h in cc)
 after_one rest after (Some g) more h = more g refl h
 
-after_entries : (history : List Entry) (f after : FlatState) → AllAwait f → replay_from history (Some f) ≡ Some after
+after_entries : (history : List Entry) (f after : FlatState) → AllAwait f
+    → replay_from history (Some f) ≡ Some after
     → AllAwait after
 unfolding replay_from
 after_entries [] f after all h = let same : f ≡ after = cc in subst AllAwait same all
 after_entries (e ∷ rest) f after all h =
-    after_one rest after (apply f e) (λ g some more. after_entries rest g after (entry_awaits f g e all some) more) h
+    after_one rest after (apply f e) (λ g some more. after_entries rest g after
+    (entry_awaits f g e all some) more) h
 
 pub replay_awaits : (image : Content) (history : List Entry) (f : FlatState) → IsImage image
     → replay image history ≡ Some f → AllAwait f

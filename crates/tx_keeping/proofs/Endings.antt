@@ -33,7 +33,8 @@ ended_by i why at after k =
     (with_beside i (aborted why at after)
     (with_state (aborting i (k.standings i) after.local.attempt.count why k.state) k))
 
-pub aborting_is : (i : ℕ) (why : Why) (at : ℕ) (k : Kept) → k_aborting i why at k ≡ ended_by i why at (beside k i) k
+pub aborting_is : (i : ℕ) (why : Why) (at : ℕ) (k : Kept)
+    → k_aborting i why at k ≡ ended_by i why at (beside k i) k
 unfolding k_aborting
 aborting_is i why at k = refl
 
@@ -63,7 +64,8 @@ module _ (m : Setting) (s : IsSetting m) where
       → Leaves (text_of m) k.storage k.locals i (Abort i after.local.attempt.count why) (aborted why at after)
       → ChangesIn lines k.storage (aborted why at after).storage
       → ((line : ℕ) → lines line ≡ true → k.state.held i line ≡ Some Exclusive)
-      → Moved m k (ended_by i why at after k) i (Abort i after.local.attempt.count why) (aborted why at after) lines
+      → Moved m k (ended_by i why at after k) i (Abort i after.local.attempt.count why)
+      (aborted why at after) lines
   unfolding aborting
   ended_moved k i why at after lines g live leaves changes exclusive =
       let st = k.standings i in
@@ -87,7 +89,8 @@ module _ (m : Setting) (s : IsSetting m) where
         aborts = ap (λ (st : Standing). st.aborts) own
             ∙ abort_hits m s k i after.local.attempt.count why g.truth live;
         given = ap (λ (st : Standing). st.rejects_given) own ∙ same.given ∙ t.given ∙ sym ends.given;
-        refused = ap (λ (st : Standing). st.requests_rejected) own ∙ same.refused ∙ t.refused ∙ sym ends.refused;
+        refused = ap (λ (st : Standing). st.requests_rejected) own ∙ same.refused ∙ t.refused
+            ∙ sym ends.refused;
       }
 
   -- what an abort leaves of the machine
@@ -139,4 +142,5 @@ pub outside_fits : (m : Setting) (k : Kept) (i : ℕ) (why : Why) → Truth m k
     → comes_from_outside (text_of m) (run (kept_flat m k) i (k.locals i).attempt.count) why ≡ true
     → fits (text_of m) (run (kept_flat m k) i (k.locals i).attempt.count) why ≡ true
 outside_fits m k i why t comes =
-    fits_outside (text_of m) (run (kept_flat m k) i (k.locals i).attempt.count) why (t.each i).followed.opens comes
+    fits_outside (text_of m) (run (kept_flat m k) i (k.locals i).attempt.count) why
+    (t.each i).followed.opens comes

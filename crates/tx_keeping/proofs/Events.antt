@@ -37,7 +37,8 @@ use Rattle.tx_keeping.proofs.Turning.{happen_ok, own_stays}
 
 -- ---- the start
 
-begins_followed : (m : Setting) (i : ℕ) → IsFollowed (kept_flat m (kept_beginning m)) i ((kept_beginning m).locals i)
+begins_followed : (m : Setting) (i : ℕ)
+    → IsFollowed (kept_flat m (kept_beginning m)) i ((kept_beginning m).locals i)
 unfolding kept_beginning run progress_of
 begins_followed m i = record {
   cpu = refl;
@@ -65,7 +66,8 @@ begins_replayed : (m : Setting)
 unfolding kept_beginning replay_from start_of
 begins_replayed m = refl
 
-begins_held : (m : Setting) → Holds (cpus_of m) (kept_beginning m).state.held (kept_footprint (kept_beginning m))
+begins_held : (m : Setting)
+    → Holds (cpus_of m) (kept_beginning m).state.held (kept_footprint (kept_beginning m))
 unfolding kept_beginning
 begins_held m = record {
   alone = λ i other line e ne. refl;

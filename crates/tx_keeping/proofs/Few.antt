@@ -26,8 +26,10 @@ use Rattle.tx_meaning.specs.Needs.{needs_of, operand_needs, interruption_ranges}
 use Rattle.tx_meaning.specs.Changes.{is_needed}
 use Rattle.tx_meaning.proofs.Needs.{needed_lines}
 use Rattle.std.proofs.Math.ListN.{length-map}
-use Rattle.z_instr.specs.declared.operand.Operands.TheVariants.{Absent, Fetched, Stored, FetchedMany, StoredMany}
-use Rattle.z_instr.specs.declared.operand.Operands.TheVariants.{FetchedSelected, StoredSelected, StoredAndFetched}
+use Rattle.z_instr.specs.declared.operand.Operands.TheVariants.{Absent, Fetched, Stored, FetchedMany}
+use Rattle.z_instr.specs.declared.operand.Operands.TheVariants.{StoredMany}
+use Rattle.z_instr.specs.declared.operand.Operands.TheVariants.{FetchedSelected, StoredSelected}
+use Rattle.z_instr.specs.declared.operand.Operands.TheVariants.{StoredAndFetched}
 use Rattle.z_instr.specs.declared.operand.Operands.TheVariants.{BothFetched}
 use Rattle.z_instr.proofs.SmallOperands.{sizes}
 use Rattle.z_touch.specs.Refusals.{range_of}
@@ -85,10 +87,17 @@ AreShort (r ∷ rs) = (r.length ≤ 256) × AreShort rs
 abbrev in_any : List Range → ℕ → Bool
 in_any ranges line = list_any (λ r. has_place LINE_SIZE r line) ranges
 
-any_count : (n : ℕ) (ranges : List Range) → AreShort ranges → count_below n (in_any ranges) ≤ 2 * length ranges
+any_count : (n : ℕ) (ranges : List Range) → AreShort ranges
+    → count_below n (in_any ranges) ≤ 2 * length ranges
 any_count n [] short = omega (arith, count_none n (λ line. false) (λ k lt. refl))
 any_count n (r ∷ rs) short =
-    omega (arith, count_or n (has_place LINE_SIZE r) (in_any rs), range_count n r short.0, any_count n rs short.1)
+    omega (
+      arith,
+      count_or n (has_place LINE_SIZE r)
+          (in_any rs),
+      range_count n r short.0,
+      any_count n rs short.1,
+    )
 
 -- by absolute addresses
 record AreParts (n : ℕ) (parts : List Range) : Type 0 where
@@ -152,14 +161,16 @@ touched_any ranges line h =
 
 -- ---- a CPU that has touched nothing
 
-pub untouched_room : (sets : Sets) (prefix : Option ℕ) (ranges : List Range) → sets ≡ untouched → AreShort ranges
+pub untouched_room : (sets : Sets) (prefix : Option ℕ) (ranges : List Range) → sets ≡ untouched
+    → AreShort ranges
     → length ranges ≤ 96 → HasRoom sets (operand_needs prefix ranges)
 untouched_room sets prefix ranges none short few =
     let abs = absolute_ranges prefix ranges in
     let le = count_le LINES (λ line. (sets.fetched line || sets.stored line) || is_needed (needs_of abs) line)
     (in_any abs) (λ line lt h. touched_any abs line
     (sym (needed_lines abs line)
-    ∙ ap (λ (s : Sets). (s.fetched line || s.stored line) || is_needed (needs_of abs) line) (sym none) ∙ h)) in
+    ∙ ap (λ (s : Sets). (s.fetched line || s.stored line) || is_needed (needs_of abs) line) (sym none)
+    ∙ h)) in
     record { few = omega (arith, le, absolute_count LINES prefix ranges short, few) }
 
 pub small_interruption : (block : Option (List ℕ)) → AreShort (interruption_ranges block)
@@ -179,7 +190,8 @@ four false true false d = refl
 four false false c d = refl
 
 pub fitting_room : (sets : Sets) (prefix : Option ℕ) (ranges : List Range)
-    → fit_of (touching sets (absolute_ranges prefix ranges)) ≡ Ok tt → HasRoom sets (operand_needs prefix ranges)
+    → fit_of (touching sets (absolute_ranges prefix ranges)) ≡ Ok tt
+    → HasRoom sets (operand_needs prefix ranges)
 fitting_room sets prefix ranges fits =
     let abs = absolute_ranges prefix ranges in
     let most = (fits_from (touching sets abs) fits).0 in
@@ -252,9 +264,11 @@ goes_so f i local instr ranges h goes =
           (sizes (entry_at instr.op.number).operands instr p.cpu.general p.cpu.condition));
       few = subst (λ rs. length rs ≤ 96) (sym pass.touches) few;
       fits = λ some.
-          subst (λ rs. fit_of (touching local.attempt.footprint (absolute_ranges local.attempt.cpu.prefix rs)) ≡ Ok tt)
+          subst (λ rs. fit_of (touching local.attempt.footprint
+          (absolute_ranges local.attempt.cpu.prefix rs)) ≡ Ok tt)
           (sym pass.touches)
-          (subst (λ (q : Progress). fit_of (touching q.footprint (absolute_ranges q.cpu.prefix (operands instr p.cpu)))
+          (subst (λ (q : Progress). fit_of (touching q.footprint (absolute_ranges q.cpu.prefix
+          (operands instr p.cpu)))
           ≡ Ok tt) h.attempt
           (fits_in p.nest (touching (footprint p) (absolute_ranges p.cpu.prefix (operands instr p.cpu)))
           (λ none. some (ap (λ (q : Progress). q.nest) (sym h.attempt) ∙ none)) nothing.overflow));

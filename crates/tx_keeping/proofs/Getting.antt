@@ -19,12 +19,14 @@ use Rattle.tx_meaning.specs.Changes.{granting, is_needed}
 use Rattle.tx_meaning.specs.Asking.{Asked, is_there, unless_rejected, take_line, get_unless, get_line}
 use Rattle.tx_meaning.specs.Asking.{get_each}
 use Rattle.tx_keeping.specs.Kept.{Kept, kept_footprint}
-use Rattle.tx_keeping.specs.Asking.{KAsked, k_ask_each, k_unless_rejected, k_granting, k_take_line, k_get_unless}
+use Rattle.tx_keeping.specs.Asking.{KAsked, k_ask_each, k_unless_rejected, k_granting, k_take_line}
+use Rattle.tx_keeping.specs.Asking.{k_get_unless}
 use Rattle.tx_keeping.specs.Asking.{k_get_line, k_get_each}
 use Rattle.tx_keeping.proofs.Truth.{Truth, footprint_is}
 use Rattle.tx_keeping.proofs.Holding.{granting_holds, is_granted, there_now}
 use Rattle.tx_keeping.proofs.Moves.{IsGood, restated, same_numbers}
-use Rattle.tx_keeping.proofs.Asking.{state_of, AskKeeps, asks_none, asks_then, asks_restated, AllAsked, all_asked}
+use Rattle.tx_keeping.proofs.Asking.{state_of, AskKeeps, asks_none, asks_then, asks_restated, AllAsked}
+use Rattle.tx_keeping.proofs.Asking.{all_asked}
 use Rattle.tx_keeping.proofs.Asking.{AreAgainst}
 use Rattle.tx_keeping.proofs.Room.{AllWithin, HasRoom, shrinks_within, granting_within}
 
@@ -36,7 +38,8 @@ Among n (x ∷ rest) = (n ≡ x) ⊎ Among n rest
 pub among_needed : (needs : List Need) (n : Need) → Among n needs → is_needed needs n.line ≡ true
 among_needed [] n h = absurd h
 among_needed (x ∷ rest) n (inl e) =
-    or_left (eqb x.line n.line) (is_needed rest n.line) (eq-eqb x.line n.line (ap (λ (n : Need). n.line) (sym e)))
+    or_left (eqb x.line n.line) (is_needed rest n.line) (eq-eqb x.line n.line (ap (λ (n : Need). n.line)
+    (sym e)))
 among_needed (x ∷ rest) n (inr h) =
     or_right (eqb x.line n.line) (is_needed rest n.line) (among_needed rest n h)
 
@@ -62,21 +65,28 @@ none_left m i need k q g all none x ne =
     let js = against (cpus_of m) k.state.held i need.line need.mode in
     by_way (cases_lt x (cpus_of m))
     (λ lt. by_way (cases_Bool (is_against need.mode (k.state.held x need.line)))
-    (λ stands. all.clears none x (in_against (cpus_of m) k.state.held i need.line need.mode x (lt, ne, stands)))
+    (λ stands. all.clears none x (in_against (cpus_of m) k.state.held i need.line need.mode x
+    (lt, ne, stands)))
     (λ off. ap (is_against need.mode) (all.others x
-    (λ c. let n : false ≡ true = sym off ∙ (from_against (cpus_of m) k.state.held i need.line need.mode x c).2 in
+    (λ c. let n : false ≡ true = sym off
+    ∙ (from_against (cpus_of m) k.state.held i need.line need.mode x c).2 in
     cc) need.line) ∙ off))
-    (λ far. unknown_not_against need.mode (q.kept.state.held x need.line) (all.good.holds.known x need.line far))
+    (λ far. unknown_not_against need.mode (q.kept.state.held x need.line)
+    (all.good.holds.known x need.line far))
 
 -- ---- a line is granted
 
-pub granting_good : (m : Setting) (i : ℕ) (needs : List Need) (need : Need) (k : Kept) → IsGood m k → i < cpus_of m
+pub granting_good : (m : Setting) (i : ℕ) (needs : List Need) (need : Need) (k : Kept) → IsGood m k
+    → i < cpus_of m
     → is_there need.mode (k.state.held i need.line) ≡ false
     → ((x : ℕ) → x ≢ i → is_against need.mode (k.state.held x need.line) ≡ false)
     → IsGood m (k_granting i needs need k)
 unfolding k_granting
 granting_good m i needs need k g within off none = record {
-  truth = restated m k (record k.state { held = granting i (kept_footprint k i) needs need k.state.held }) g.truth
+  truth = restated m k (record k.state {
+    held = granting i
+        (kept_footprint k i) needs need k.state.held;
+  }) g.truth
       refl (λ x. same_numbers (k.state.numbers x));
   holds = granting_holds (cpus_of m) k.state.held (kept_footprint k) i needs need g.holds within off none;
 }
@@ -86,9 +96,11 @@ granting_good m i needs need k g within off none = record {
 -- what is there stays there
 abbrev pub StaysThere : ℕ → List Need → Holders → Holders → Type 0
 StaysThere i needs held after =
-    (n : Need) → Among n needs → is_there n.mode (held i n.line) ≡ true → is_there n.mode (after i n.line) ≡ true
+    (n : Need) → Among n needs → is_there n.mode (held i n.line) ≡ true
+    → is_there n.mode (after i n.line) ≡ true
 
-pub record LineGot (m : Setting) (i : ℕ) (needs : List Need) (need : Need) (k : Kept) (q : KAsked) : Type 0 where
+pub record LineGot (m : Setting) (i : ℕ) (needs : List Need) (need : Need) (k : Kept)
+    (q : KAsked) : Type 0 where
   pub good : IsGood m q.kept
   pub keeps : AskKeeps i k q.kept
   pub there : q.reject ≡ None → is_there need.mode (q.kept.state.held i need.line) ≡ true
@@ -141,12 +153,14 @@ take_on m i needs need k q None none g within off all =
     let held = q.kept.state.held in
     let sets = kept_footprint q.kept i in
     let own : (line : ℕ) → held i line ≡ k.state.held i line = λ line. own_held m i need k q line all in
-    let off' : is_there need.mode (held i need.line) ≡ false = ap (is_there need.mode) (own need.line) ∙ off in
+    let off' : is_there need.mode (held i need.line) ≡ false = ap (is_there need.mode) (own need.line)
+    ∙ off in
     let got = is_granted held i sets needs need in
     record {
       good = granting_good m i needs need q.kept all.good within off' (none_left m i need k q g all none);
       keeps = asks_then i k q.kept (k_granting i needs need q.kept) all.keeps
-          (asks_restated i q.kept (record q.kept.state { held = granting i sets needs need held }) refl (λ x. refl));
+          (asks_restated i q.kept (record q.kept.state { held = granting i sets needs need held }) refl
+          (λ x. refl));
       within = λ room needed most.
           granting_within held i sets needs need (shrinks_within k.state.held held all.shrinks most)
           (subst (λ (l : Local). HasRoom l.attempt.footprint needs) (sym all.keeps.own.local) room) needed;
@@ -169,7 +183,8 @@ take_on_is : (m : Setting) (i : ℕ) (needs : List Need) (need : Need) (q : KAsk
 take_on_is m i needs need q None t = take_is m i needs need q.kept t
 take_on_is m i needs need q (Some r) t = refl
 
-pub record LineIs (m : Setting) (i : ℕ) (needs : List Need) (need : Need) (k : Kept) (asked : Asked) (q : KAsked)
+pub record LineIs (m : Setting) (i : ℕ) (needs : List Need) (need : Need) (k : Kept) (asked : Asked)
+    (q : KAsked)
     : Type 0 where
   pub is : asked ≡ state_of q
   pub got : LineGot m i needs need k q

@@ -4,7 +4,8 @@ use Rattle.std.proofs.Common.{◌≡◌, ◌≢◌, ℕ, ◌<◌, ◌≤◌, Boo
 use Rattle.std.proofs.Common.{None, is_some, refl, sym, ap, ◌∙◌, arith, ◌⊎◌, inl, inr}
 use Rattle.std.specs.Prelude.{◌&&◌, ◌||◌, not, filter}
 use Rattle.std.specs.List.{range_with_len}
-use Rattle.std.proofs.lemmas.Bool.{cases_Bool, cases_eq, cond_both, eqb-true, and_parts, cond-true, cond-false, not-true}
+use Rattle.std.proofs.lemmas.Bool.{cases_Bool, cases_eq, cond_both, eqb-true, and_parts, cond-true}
+use Rattle.std.proofs.lemmas.Bool.{cond-false, not-true}
 use Rattle.std.proofs.lemmas.Bool.{or_parts}
 use borrow.Enum.Arm.{by_way}
 use Rattle.line_table.specs.declared.table.Mode.{Mode}
@@ -132,7 +133,8 @@ spare_parts held i sets needs line h =
     record { not_fetched = two.0; not_stored = two.1; not_needed = off.1 }
 
 -- what making room leaves: of other CPUs, and of all lines that are needed, everything
-pub record MakesRoom (held : Holders) (i : ℕ) (sets : Sets) (needs : List Need) (after : Holders) : Type 0 where
+pub record MakesRoom (held : Holders) (i : ℕ) (sets : Sets) (needs : List Need)
+    (after : Holders) : Type 0 where
   pub others : (x line : ℕ) → x ≢ i → after x line ≡ held x line
   pub less : (line : ℕ) → (after i line ≡ held i line) ⊎ (after i line ≡ None)
   pub needed : (line : ℕ) → is_needed needs line ≡ true → after i line ≡ held i line
@@ -193,7 +195,8 @@ alone_by Shared h e s = absurd (cc)
 there_exclusively : (mode : Mode) (h : Option Mode) → is_there mode h ≡ false → h ≡ Some Exclusive → ⊥
 there_exclusively mode h off e = let n : true ≡ false = ap (is_there mode) (sym e) ∙ off in cc
 
-pub granting_holds : (cpus : ℕ) (held : Holders) (touched : ℕ → Sets) (i : ℕ) (needs : List Need) (need : Need)
+pub granting_holds : (cpus : ℕ) (held : Holders) (touched : ℕ
+    → Sets) (i : ℕ) (needs : List Need) (need : Need)
     → Holds cpus held touched → i < cpus → is_there need.mode (held i need.line) ≡ false
     → ((x : ℕ) → x ≢ i → is_against need.mode (held x need.line) ≡ false)
     → Holds cpus (granting i (touched i) needs need held) touched

@@ -1,5 +1,6 @@
 -- No instruction, and no run, leaves a CPU interrupted that was not.
-use Rattle.std.proofs.Common.{◌≡◌, ℕ, ◌+◌, ◌*◌, ◌^◌, zero, suc, Bool, true, false, List, [], not, take, drop, refl, Option, Some, None, Result, Ok, Err}
+use Rattle.std.proofs.Common.{◌≡◌, ℕ, ◌+◌, ◌*◌, ◌^◌, zero, suc, Bool, true, false, List, [], not, take, drop}
+use Rattle.std.proofs.Common.{refl, Option, Some, None, Result, Ok, Err}
 use Rattle.std.specs.Prelude.{◌&&◌, nat_le, nat_eq, if◌then◌else◌}
 use Rattle.z_arith.specs.declared.Width.{Width}
 use Rattle.z_arith.specs.declared.Width.TheVariants.{Word, Double}
@@ -11,7 +12,8 @@ use Rattle.z_instr.specs.declared.operand.Size.TheVariants.{Doubleword}
 use Rattle.z_instr.specs.Operands.{first_address, second_address, selects, registers_between}
 use Rattle.z_instr.specs.Operands as operands
 use Rattle.z_effect.specs.declared.kind.Order.TheVariants.{Signed}
-use Rattle.z_effect.specs.Registers.{register, operand_in, after, target, with_general, with_register, with_condition, next_address, advanced}
+use Rattle.z_effect.specs.Registers.{register, operand_in, after, target, with_general, with_register}
+use Rattle.z_effect.specs.Registers.{with_condition, next_address, advanced}
 use Rattle.z_effect.specs.Operations.{combined, compared, shifted}
 use Rattle.z_arith.specs.declared.DivideFault.{DivideFault}
 use Rattle.z_instr.specs.declared.instr.Instr.{Instr}
@@ -28,8 +30,10 @@ use Rattle.z_effect.specs.declared.kind.Transaction.{Transaction}
 use Rattle.z_effect.specs.declared.kind.Transaction.TheVariants as transaction
 use Rattle.z_effect.specs.Outcome.{Outcome, Did, ended}
 use Rattle.z_effect.specs.Kinds.{kind_at}
-use Rattle.z_effect.specs.GeneralEffect.{general_effect, first_operand, second_operand, amount, answered, divided}
-use Rattle.z_effect.specs.StorageEffect.{storage_effect, item, number, stored, piece, with_items, with_code_of, results, lead}
+use Rattle.z_effect.specs.GeneralEffect.{general_effect, first_operand, second_operand, amount, answered}
+use Rattle.z_effect.specs.GeneralEffect.{divided}
+use Rattle.z_effect.specs.StorageEffect.{storage_effect, item, number, stored, piece, with_items}
+use Rattle.z_effect.specs.StorageEffect.{with_code_of, results, lead}
 use Rattle.z_effect.specs.declared.kind.Combination.{Combination}
 use Rattle.z_effect.specs.declared.kind.Combination.TheVariants.{Move, Logic}
 use Rattle.z_effect.specs.BranchEffect.{branch_effect, destination, counted, going}
@@ -151,14 +155,16 @@ keeps_storage (storage.StoreMany w) n i c bytes = λ h. h
 keeps_storage (storage.CompareAndSwap w) n i c bytes =
     either_way (nat_eq (operand_in w c i.r1) (number (item w) bytes))
     (Did (advanced n (with_condition 0 c)) (stored (item w) (register c i.r3)))
-    (Did (advanced n (with_condition 1 (with_register w i.r1 (number (item w) bytes) c))) bytes) c (λ h. h) (λ h. h)
+    (Did (advanced n (with_condition 1 (with_register w i.r1 (number (item w) bytes) c))) bytes) c (λ h. h)
+    (λ h. h)
 keeps_storage (storage.LoadAnd o w) n i c bytes =
     let old = number (item w) bytes in
     let a = combined o w c.condition old (operand_in w c i.r3) in
     keeps_ended a.overflow (advanced n (with_condition a.condition (with_register w i.r1 old c))) c
     (stored (item w) a.value) (λ h. h)
 keeps_storage (storage.LoadSelected) n i c bytes =
-    one_of_two (selects i.mask c.condition) (with_general i.r1 (number Doubleword bytes) c) c c (λ h. h) (λ h. h)
+    one_of_two (selects i.mask c.condition) (with_general i.r1 (number Doubleword bytes) c) c c (λ h. h)
+    (λ h. h)
 keeps_storage (storage.StoreSelected) n i c bytes = λ h. h
 keeps_storage (storage.ByteByByte m) n i c bytes =
     let count = operands.length_of i in

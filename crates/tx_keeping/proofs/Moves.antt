@@ -84,7 +84,8 @@ restated m k s t history numbers = record {
 -- ---- one CPU changes
 
 -- what is true of its parts
-pub record TrueOf (m : Setting) (after : Kept) (i : ℕ) (n : Numbers) (l : Local) (st : Standing) : Type 0 where
+pub record TrueOf (m : Setting) (after : Kept) (i : ℕ) (n : Numbers) (l : Local)
+    (st : Standing) : Type 0 where
   pub count : n.completed ≡ l.attempt.count
   pub followed : IsFollowed (kept_flat m after) i l
   pub parms : st.parms ≡ m.image.parms
@@ -196,7 +197,8 @@ moved_good m s k after i e b lines g d =
           (λ x ne. ap (λ (l : Local). l.attempt.footprint)
           (ap (λ (f : ℕ → Local). f x) d.locals ∙ at_put_other k.locals i b.local x ne))
           (λ line is. let n : false ≡ true = sym (ap (λ (t : Sets). t.stored line) empty) ∙ is in absurd (cc))
-          (λ line is. let n : false ≡ true = sym (ap (λ (t : Sets). t.fetched line) empty) ∙ is in absurd (cc)));
+          (λ line is. let n : false ≡ true = sym (ap (λ (t : Sets). t.fetched line) empty)
+          ∙ is in absurd (cc)));
     }
 
 -- ---- the end of an attempt
@@ -226,7 +228,10 @@ ends_without i s =
     }
 
 ends_delayed : (i turns : ℕ) (s after : State) → EndsAttempt i s after
-    → EndsAttempt i s (record after { numbers = at_put after.numbers i (record (after.numbers i) { delay = turns }) })
+    → EndsAttempt i s (record after {
+      numbers = at_put after.numbers i (record
+          (after.numbers i) { delay = turns });
+    })
 ends_delayed i turns s after h =
     let same = at_put_same after.numbers i (record (after.numbers i) { delay = turns }) in
     record {

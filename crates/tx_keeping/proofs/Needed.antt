@@ -1,6 +1,7 @@
 -- What is needed of one CPU beside storage: its fate by what is kept, what each entry makes of it, and that it
 -- stays followed where nothing that it has touched changes.
-use Rattle.std.proofs.Common.{◌≡◌, ◌≢◌, ℕ, zero, suc, ◌+◌, ◌/◌, Bool, true, false, List, [], ◌∷◌, Option, Some}
+use Rattle.std.proofs.Common.{◌≡◌, ◌≢◌, ℕ, zero, suc, ◌+◌, ◌/◌, Bool, true, false, List, [], ◌∷◌, Option}
+use Rattle.std.proofs.Common.{Some}
 use Rattle.std.proofs.Common.{None, refl, sym, ap, ◌∙◌, is_some, length}
 use Rattle.std.specs.Prelude.{◌||◌, ◌⊎◌}
 use Rattle.z_regs.specs.Absolute.{absolute_ranges}
@@ -48,7 +49,8 @@ use Rattle.z_instr.specs.Access.{lies_in}
 use Rattle.z_effect.specs.Outcome.{Outcome, Did, Divides, Aborts}
 use Rattle.z_effect.specs.Outcome as outcome
 use Rattle.tx_serial.specs.Alike.{AgreeInText}
-use Rattle.tx_serial.specs.Apply.{identification, old_psw, new_psw, interruption_block, identified, with_block}
+use Rattle.tx_serial.specs.Apply.{identification, old_psw, new_psw, interruption_block, identified}
+use Rattle.tx_serial.specs.Apply.{with_block}
 use Rattle.tx_serial.specs.Flat.{with_bytes_at}
 use Rattle.tx_serial.proofs.Frame.{run_alike, fate_alike, with_its_copy}
 use Rattle.tx_serial.proofs.TextStays.{copy_keeps_text, has_prefix}
@@ -81,7 +83,8 @@ use Rattle.store_cache.specs.Overlay.{Store}
 use Rattle.tx_serial.specs.Ending.{outcome_cause}
 use Rattle.tx_serial.specs.Fate.{cause_in}
 use Rattle.tx_serial.specs.Flat.{operand_bytes, operand_stores, laid_over}
-use Rattle.tx_serial.specs.Run.{after, overflowed, with_instruction, mark_in, outcome_of, lasting_of, stores_lastingly}
+use Rattle.tx_serial.specs.Run.{after, overflowed, with_instruction, mark_in, outcome_of, lasting_of}
+use Rattle.tx_serial.specs.Run.{stores_lastingly}
 use Rattle.tx_serial.proofs.Passing.{passes}
 use Rattle.tx_serial.proofs.StoredBytes.{Fills, stored_size}
 use Rattle.tx_serial.proofs.StoredPlaces.{filled, small_operands, AreSmall, goes_there}
@@ -205,7 +208,8 @@ taken_kind b bs (suc k) opens = refl
 
 kind_by_roles : (b : Begin) (bs more : List Begin) (begin end : Bool) (k : ℕ)
     → mark_in (if begin then (b ∷ bs) ++ more else if end then take k (b ∷ bs) else b ∷ bs) ≡ Open
-    → b.constrained ≡ is_constrained (if begin then (b ∷ bs) ++ more else if end then take k (b ∷ bs) else b ∷ bs)
+    → b.constrained ≡ is_constrained (if begin then (b ∷ bs) ++ more else if end then take k
+    (b ∷ bs) else b ∷ bs)
 kind_by_roles b bs more true end k opens = refl
 kind_by_roles b bs more false true k opens = taken_kind b bs k opens
 kind_by_roles b bs more false false k opens = refl
@@ -268,11 +272,13 @@ rests_tried c instr None (Some code) true why e = cc
 rests_tried c instr None (Some code) false why e = cc
 rests_tried c instr (Some code) accessible begin why e = cc
 
-rests_fetched : (text : List ℕ) (storage : Storage) (c : Cpu) (why : Why) (code : Option ℕ) (instr : Option Instr)
+rests_fetched : (text : List ℕ) (storage : Storage) (c : Cpu) (why : Why) (code : Option ℕ)
+    (instr : Option Instr)
     → fetched text storage (resting c) code instr ≡ Ends why → ⊥
 rests_fetched text storage c why (Some code) instr e = cc
 rests_fetched text storage c why None None e = cc
-rests_fetched text storage c why None (Some instr) e = rests_tried c instr _ _ (begins (entry_at instr.op.number)) why e
+rests_fetched text storage c why None (Some instr) e = rests_tried c instr _ _ (begins
+    (entry_at instr.op.number)) why e
 
 rests_end : (text : List ℕ) (storage : Storage) (c : Cpu) (why : Why)
     → fate_by_progress text storage (resting c) ≡ Ends why → ⊥
@@ -291,7 +297,8 @@ open_tried q instr (Some r) e some is = open_refused q.nest r e some is
 
 open_fetched : (text : List ℕ) (storage : Storage) (q : Progress) (code : Option ℕ) (instr : Option Instr)
     (e : Exception) → q.nest ≢ [] → fetched text storage q code instr ≡ Stops e → ⊥
-open_fetched text storage q (Some code) instr e some is = open_refused q.nest (Excepts (at_fetch code)) e some is
+open_fetched text storage q (Some code) instr e some is = open_refused q.nest (Excepts
+    (at_fetch code)) e some is
 open_fetched text storage q None None e some is =
     open_refused q.nest (Excepts (unreadable (at_hand storage q))) e some is
 open_fetched text storage q None (Some instr) e some is = open_tried q instr _ e some is
@@ -344,7 +351,8 @@ pub lasting_in_stored : (f : FlatState) (i : ℕ) (local : Local) → IsKept f �
 lasting_in_stored f i local kept h a off =
     ap (λ o. unwrap_or o (f.storage a))
     (none_there (local.attempt.lasting a) (local.attempt.footprint.stored (a / LINE_SIZE)) off
-    (λ byte e. lasting_line f i a byte local h (ap (λ (c : Cpu). is_prefix c.prefix) (sym h.cpu) ∙ kept.prefixes i) e))
+    (λ byte e. lasting_line f i a byte local h (ap (λ (c : Cpu). is_prefix c.prefix) (sym h.cpu)
+    ∙ kept.prefixes i) e))
 
 -- ---- one instruction inside a transaction
 
@@ -361,13 +369,15 @@ pub record GoesOn (text : List ℕ) (storage : Storage) (locals : ℕ → Local)
   pub count : after.local.attempt.count ≡ (locals i).attempt.count + 1
   pub followed : IsFollowed (flat_with text locals i after) i after.local
 
-pub record Commits (text : List ℕ) (storage : Storage) (locals : ℕ → Local) (i n : ℕ) (after : Beside) (q : Run)
+pub record Commits (text : List ℕ) (storage : Storage) (locals : ℕ
+    → Local) (i n : ℕ) (after : Beside) (q : Run)
     : Type 0 where
   pub mark : q.mark ≡ Committed
   pub count : n ≡ (locals i).attempt.count + 1
   pub leaves : Leaves text storage locals i (Commit i n) after
 
-pub record EndsBy (text : List ℕ) (storage : Storage) (locals : ℕ → Local) (i : ℕ) (why : Why) (after : Beside)
+pub record EndsBy (text : List ℕ) (storage : Storage) (locals : ℕ
+    → Local) (i : ℕ) (why : Why) (after : Beside)
     (p q : Run) : Type 0 where
   pub ends : AttemptEnds text p q (locals i).attempt.count after why
   pub leaves : Leaves text storage locals i (Abort i after.local.attempt.count why)
@@ -434,7 +444,8 @@ inside_facts text storage locals i instr ranges (Did c bytes) h live goes came =
     let f = flat_from text storage locals in
     let n = (locals i).attempt.count in
     let next = next_of (locals i) instr ranges c bytes in
-    let more = one_more f i (locals i) instr ranges c bytes h goes (live_follows f i n instr h.opens live) came in
+    let more = one_more f i (locals i) instr ranges c bytes h goes
+    (live_follows f i n instr h.opens live) came in
     let e : suc n ≡ n + 1 = omega arith in
     closed_facts text (run f i n) (run f i (suc n)) n next next.nest (side storage locals i)
     (ap (λ k. (run f i k).mark) e ∙ more.mark) refl
@@ -479,7 +490,8 @@ executed_facts text storage locals i instr ranges h live goes =
     let n = (locals i).attempt.count in
     subst (λ (e : Executed). Facts text (run f i n) (run f i (suc n)) n e.after e.told)
     (sym (executed_live instr ranges (side storage locals i) live))
-    (inside_facts text storage locals i instr ranges (outcome_by storage instr ranges (locals i).attempt) h live goes
+    (inside_facts text storage locals i instr ranges (outcome_by storage instr ranges
+    (locals i).attempt) h live goes
     refl)
 
 pub executed_inside : (text : List ℕ) (storage : Storage) (locals : ℕ → Local) (i : ℕ) (instr : Instr)
@@ -504,7 +516,8 @@ executed_inside text storage locals i instr ranges kept h live goes =
     by (done.Committed n) is facts = record {
       mark = facts.0;
       count = facts.1;
-      leaves = at_rest text storage locals i (Commit i n) (executed instr ranges (side storage locals i)).after
+      leaves = at_rest text storage locals i (Commit i n) (executed instr ranges
+          (side storage locals i)).after
           (commit_leaves text storage locals i n instr ranges h live goes is) facts.2;
     }
     by (done.Ended why) is facts =
@@ -584,7 +597,8 @@ outside_rests : (storage : Storage) (locals : ℕ → Local) (i : ℕ) (instr : 
 unfolding executed
 outside_rests storage locals i instr ranges off plain rest =
     let o = outcome_by storage instr ranges (locals i).attempt in
-    subst (λ live. Rests (executed_where live (begins (entry_at instr.op.number)) instr ranges (side storage locals i) o))
+    subst (λ live. Rests (executed_where live (begins (entry_at instr.op.number)) instr ranges
+    (side storage locals i) o))
     (sym off)
     (subst (λ begin. Rests (executed_where false begin instr ranges (side storage locals i) o)) (sym plain)
     (outside_rest storage locals i instr ranges o rest))
@@ -602,7 +616,8 @@ executed_outside text storage locals i instr ranges kept h off acts goes plain =
     let e = executed instr ranges (side storage locals i) in
     at_rest text storage locals i (Step i) e.after
     (step_leaves text storage locals i instr ranges h acts off plain goes)
-    (outside_rests storage locals i instr ranges off plain (rests (flat_from text storage locals) i (locals i) h off))
+    (outside_rests storage locals i instr ranges off plain (rests (flat_from text storage locals) i
+    (locals i) h off))
 
 stopped_rests : (e : Exception) (l : Local) → (stopped e l).attempt ≡ resting (stopped e l).cpu
 unfolding stopped
@@ -621,7 +636,8 @@ stopped_leaves text storage locals i e kept h rests acts stops =
 
 -- ---- what an instruction touches
 
-pub record TouchesMore (q : Progress) (storage : Storage) (ranges : List Range) (after : Beside) : Type 0 where
+pub record TouchesMore (q : Progress) (storage : Storage) (ranges : List Range)
+    (after : Beside) : Type 0 where
   pub bytes : ChangesIn (λ line. q.footprint.stored line
       || stores (absolute_ranges q.cpu.prefix ranges) line) storage after.storage
   pub stored : (line : ℕ) → after.local.attempt.footprint.stored line ≡ true
@@ -637,7 +653,8 @@ record Operated (q : Progress) (storage : Storage) (ranges : List Range) (instr 
   small : AreSmall ranges
   filled : Fills (stored_size ranges) (outcome_by storage instr ranges q)
 
-operated : (f : FlatState) (i : ℕ) (local : Local) (instr : Instr) (ranges : List Range) → IsFollowed f i local
+operated : (f : FlatState) (i : ℕ) (local : Local) (instr : Instr) (ranges : List Range)
+    → IsFollowed f i local
     → fate_by_progress f.text f.storage local.attempt ≡ Goes instr ranges
     → Operated local.attempt f.storage ranges instr
 operated f i local instr ranges h goes =
@@ -711,9 +728,11 @@ gone_touches : (q : Progress) (storage : Storage) (ranges : List Range) (after :
     → TouchesMore q storage ranges after
 gone_touches q storage ranges after rest changes = record {
   bytes = changes;
-  stored = λ line is. absurd (let x : false ≡ true = sym (ap (λ (q : Progress). q.footprint.stored line) rest) ∙ is
+  stored = λ line is. absurd (let x : false ≡ true = sym (ap (λ
+      (q : Progress). q.footprint.stored line) rest) ∙ is
       in cc);
-  fetched = λ line is. absurd (let x : false ≡ true = sym (ap (λ (q : Progress). q.footprint.fetched line) rest) ∙ is
+  fetched = λ line is. absurd (let x : false ≡ true = sym (ap (λ
+      (q : Progress). q.footprint.fetched line) rest) ∙ is
       in cc);
   lasting = λ a off. ap (λ (q : Progress). unwrap_or (q.lasting a) (after.storage a)) rest ∙ changes a off;
 }
@@ -725,23 +744,28 @@ committed_touches : (l : Local) (storage : Storage) (ranges : List Range) (instr
 committed_touches l storage ranges instr c bytes t enough =
     let q = l.attempt in
     let abs = absolute_ranges q.cpu.prefix ranges in
-    gone_touches q storage ranges (committed (next_of l instr ranges c bytes) (record { local = l; storage = storage }))
+    gone_touches q storage ranges (committed (next_of l instr ranges c bytes)
+    (record { local = l; storage = storage }))
     refl (λ a off.
     let parts = or_parts (q.footprint.stored (a / LINE_SIZE)) (stores abs (a / LINE_SIZE)) off in
     ap (λ o. unwrap_or o (storage a))
-    (laying_elsewhere (stores_of ranges bytes q) q.overlay a (no_store q storage ranges bytes a t enough parts.1)
+    (laying_elsewhere (stores_of ranges bytes q) q.overlay a
+    (no_store q storage ranges bytes a t enough parts.1)
     ∙ t.overlay a parts.0))
 
-closed_touches : (l : Local) (storage : Storage) (ranges : List Range) (instr : Instr) (c : Cpu) (bytes : List ℕ)
+closed_touches : (l : Local) (storage : Storage) (ranges : List Range) (instr : Instr) (c : Cpu)
+    (bytes : List ℕ)
     (nest : List Begin) → Touching l.attempt storage ranges → stored_size ranges ≤ length bytes
     → TouchesMore l.attempt storage ranges
     (closed_by (next_of l instr ranges c bytes) nest (record { local = l; storage = storage })).after
-closed_touches l storage ranges instr c bytes [] t enough = committed_touches l storage ranges instr c bytes t enough
+closed_touches l storage ranges instr c bytes [] t enough = committed_touches l storage ranges instr c bytes
+    t enough
 closed_touches l storage ranges instr c bytes (outermost ∷ inner) t enough =
     on_touches l storage ranges instr c bytes t enough
 
 laid_touches : (l : Local) (storage : Storage) (ranges : List Range) (bytes : List ℕ) (after : Local)
-    → Touching l.attempt storage ranges → stored_size ranges ≤ length bytes → after.attempt ≡ resting after.cpu
+    → Touching l.attempt storage ranges → stored_size ranges ≤ length bytes
+    → after.attempt ≡ resting after.cpu
     → TouchesMore l.attempt storage ranges
     (record { local = after; storage = laid_over storage (stores_of ranges bytes l.attempt) })
 laid_touches l storage ranges bytes after t enough rest =
@@ -752,7 +776,8 @@ laid_touches l storage ranges bytes after t enough rest =
     (stores (absolute_ranges q.cpu.prefix ranges) (a / LINE_SIZE)) off in
     laid_elsewhere (stores_of ranges bytes q) storage a (no_store q storage ranges bytes a t enough parts.1))
 
-touches_by : (l : Local) (storage : Storage) (ranges : List Range) (instr : Instr) (live begin : Bool) (o : Outcome)
+touches_by : (l : Local) (storage : Storage) (ranges : List Range) (instr : Instr) (live begin : Bool)
+    (o : Outcome)
     → Touching l.attempt storage ranges → Fills (stored_size ranges) o
     → TouchesMore l.attempt storage ranges
     (executed_where live begin instr ranges (record { local = l; storage = storage }) o).after
@@ -764,7 +789,8 @@ touches_by l storage ranges instr true begin Divides t enough = same_touches l s
 touches_by l storage ranges instr true begin (Aborts code) t enough = same_touches l storage ranges t
 touches_by l storage ranges instr false true (Did c bytes) t enough =
     on_touches l storage ranges instr c bytes t enough
-touches_by l storage ranges instr false true (outcome.Overflowed c bytes) t enough = same_touches l storage ranges t
+touches_by l storage ranges instr false true
+    (outcome.Overflowed c bytes) t enough = same_touches l storage ranges t
 touches_by l storage ranges instr false true Divides t enough = same_touches l storage ranges t
 touches_by l storage ranges instr false true (Aborts code) t enough = same_touches l storage ranges t
 touches_by l storage ranges instr false false (Did c bytes) t enough =
@@ -802,7 +828,8 @@ executed_touches text storage locals i instr ranges kept h goes =
 -- ---- a block is stored, an interruption is taken
 
 stored_rests : (storage : Storage) (locals : ℕ → Local) (i : ℕ) → (locals i).attempt ≡ resting (locals i).cpu
-    → (block_stored (side storage locals i)).local.attempt ≡ resting (block_stored (side storage locals i)).local.cpu
+    → (block_stored (side storage locals i)).local.attempt ≡ resting (block_stored
+    (side storage locals i)).local.cpu
 unfolding block_stored
 stored_rests storage locals i rest = rest
 
@@ -822,7 +849,8 @@ taken_rests : (storage : Storage) (locals : ℕ → Local) (i : ℕ) (w : Waitin
     ≡ resting (interruption_taken (side storage locals i)).local.cpu
 unfolding interruption_taken
 taken_rests storage locals i w is =
-    subst (λ o. (taken_by o (side storage locals i)).local.attempt ≡ resting (taken_by o (side storage locals i)).local.cpu)
+    subst (λ o. (taken_by o (side storage locals i)).local.attempt ≡ resting (taken_by o
+    (side storage locals i)).local.cpu)
     (sym is) refl
 
 pub taking_leaves : (text : List ℕ) (storage : Storage) (locals : ℕ → Local) (i : ℕ) (w : Waiting)
@@ -845,12 +873,16 @@ block_changes storage locals i b prefix is size =
 
 -- identification and old program status word, then the block, where there is one
 words_change : (c : Cpu) (w : Waiting) (rest : List Range) (storage : Storage) → is_prefix c.prefix ≡ true
-    → ChangesIn (stores (absolute_ranges c.prefix (stored identification 4 ∷ stored old_psw 16 ∷ rest))) storage
-    (with_bytes_at c.prefix old_psw (psw_of c) (with_bytes_at c.prefix identification (identified c w) storage))
+    → ChangesIn (stores (absolute_ranges c.prefix
+    (stored identification 4 ∷ stored old_psw 16 ∷ rest))) storage
+    (with_bytes_at c.prefix old_psw (psw_of c) (with_bytes_at c.prefix identification
+    (identified c w) storage))
 words_change c w rest storage ok a off =
-    let first = first_stores c.prefix (stored identification 4) (stored old_psw 16 ∷ rest) (a / LINE_SIZE) off in
+    let first = first_stores c.prefix (stored identification 4) (stored old_psw 16 ∷ rest)
+    (a / LINE_SIZE) off in
     let second = first_stores c.prefix (stored old_psw 16) rest (a / LINE_SIZE) first.1 in
-    bytes_change c.prefix old_psw 16 (psw_of c) (with_bytes_at c.prefix identification (identified c w) storage) ok
+    bytes_change c.prefix old_psw 16 (psw_of c) (with_bytes_at c.prefix identification
+    (identified c w) storage) ok
     (psw_size c) (omega arith) a second.0
     ∙ bytes_change c.prefix identification 4 (identified c w) storage ok refl (omega arith) a first.0
 
@@ -858,16 +890,19 @@ stored_change : (c : Cpu) (w : Waiting) (block : Option (List ℕ)) → w.block 
     → is_prefix c.prefix ≡ true → ((bytes : List ℕ) → block ≡ Some bytes → length bytes ≡ 256)
     → ChangesIn (stores (absolute_ranges c.prefix (interruption_ranges block))) storage
     (with_block c.prefix block
-    (with_bytes_at c.prefix old_psw (psw_of c) (with_bytes_at c.prefix identification (identified c w) storage)))
+    (with_bytes_at c.prefix old_psw (psw_of c) (with_bytes_at c.prefix identification
+    (identified c w) storage)))
 stored_change c w None e storage ok size a off = words_change c w (stored new_psw 16 ∷ []) storage ok a off
 stored_change c w (Some bytes) e storage ok size a off =
     let rest = stored new_psw 16 ∷ stored interruption_block 256 ∷ [] in
-    let first = first_stores c.prefix (stored identification 4) (stored old_psw 16 ∷ rest) (a / LINE_SIZE) off in
+    let first = first_stores c.prefix (stored identification 4) (stored old_psw 16 ∷ rest)
+    (a / LINE_SIZE) off in
     let second = first_stores c.prefix (stored old_psw 16) rest (a / LINE_SIZE) first.1 in
     let third = first_stores c.prefix (stored new_psw 16) (stored interruption_block 256 ∷ []) (a / LINE_SIZE)
     second.1 in
     bytes_change c.prefix interruption_block 256 bytes
-    (with_bytes_at c.prefix old_psw (psw_of c) (with_bytes_at c.prefix identification (identified c w) storage)) ok
+    (with_bytes_at c.prefix old_psw (psw_of c) (with_bytes_at c.prefix identification
+    (identified c w) storage)) ok
     (size bytes refl) (omega arith) a third.1
     ∙ words_change c w rest storage ok a off
 
@@ -878,6 +913,7 @@ pub taking_changes : (storage : Storage) (locals : ℕ → Local) (i : ℕ) (w :
     (interruption_taken (side storage locals i)).storage
 unfolding interruption_taken
 taking_changes storage locals i w prefix is size =
-    subst (λ o. ChangesIn (stores (absolute_ranges (locals i).cpu.prefix (interruption_ranges w.block))) storage
+    subst (λ o. ChangesIn (stores (absolute_ranges (locals i).cpu.prefix
+    (interruption_ranges w.block))) storage
     (taken_by o (side storage locals i)).storage) (sym is)
     (stored_change (locals i).cpu w w.block refl storage prefix size)

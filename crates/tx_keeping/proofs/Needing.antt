@@ -1,10 +1,13 @@
 -- Each line of ranges is among the lines that are needed for them, exclusively where it is stored.
-use Rattle.std.proofs.Common.{◌≡◌, ◌≢◌, ℕ, zero, suc, ◌+◌, ◌-◌, ◌/◌, ◌<◌, ◌≤◌, Bool, true, false, eqb, List, []}
-use Rattle.std.proofs.Common.{◌∷◌, ◌++◌, Option, Some, None, is_some, refl, sym, ap, subst, arith, ◌⊎◌, inl, inr}
+use Rattle.std.proofs.Common.{◌≡◌, ◌≢◌, ℕ, zero, suc, ◌+◌, ◌-◌, ◌/◌, ◌<◌, ◌≤◌, Bool, true, false, eqb, List}
+use Rattle.std.proofs.Common.{[]}
+use Rattle.std.proofs.Common.{◌∷◌, ◌++◌, Option, Some, None, is_some, refl, sym, ap, subst, arith, ◌⊎◌, inl}
+use Rattle.std.proofs.Common.{inr}
 use Rattle.std.proofs.Common.{map}
 use Rattle.std.specs.Prelude.{◌&&◌, not, nat_lt, nat_le, nat_eq, if◌then◌else◌, fold}
 use Rattle.std.specs.List.{list_any, flat_map, range_with_len}
-use Rattle.std.proofs.lemmas.Bool.{cases_eq, or_cases, or_left, or_right, and_parts, and_from, eqb-true, cond-false}
+use Rattle.std.proofs.lemmas.Bool.{cases_eq, or_cases, or_left, or_right, and_parts, and_from, eqb-true}
+use Rattle.std.proofs.lemmas.Bool.{cond-false}
 use Rattle.std.proofs.lemmas.Bool.{cond-true, ne_eqb, lt-ltb, le-leb}
 use borrow.Enum.Arm.{by_way}
 use Rattle.z_regs.specs.declared.ranges.Range.{Range}
@@ -13,7 +16,8 @@ use Rattle.line_table.specs.declared.table.Mode.TheVariants.{Shared, Exclusive}
 use Rattle.tx_footprint.specs.declared.places.TheConstants.{LINE_SIZE}
 use Rattle.tx_footprint.specs.Places.{has_place, fetches, stores}
 use Rattle.tx_meaning.specs.declared.asking.Need.{Need}
-use Rattle.tx_meaning.specs.Needs.{first_line, last_line, has_line, lines_of, with_number, rising, mode_for, needs_of}
+use Rattle.tx_meaning.specs.Needs.{first_line, last_line, has_line, lines_of, with_number, rising, mode_for}
+use Rattle.tx_meaning.specs.Needs.{needs_of}
 use Rattle.tx_meaning.specs.Asking.{is_there}
 use Rattle.tx_keeping.proofs.Getting.{Among}
 
@@ -38,7 +42,8 @@ in_second : (x : ℕ) (xs ys : List ℕ) → In x ys → In x (xs ++ ys)
 in_second x [] ys h = h
 in_second x (z ∷ xs) ys h = inr (in_second x xs ys h)
 
-in_where : (x n : ℕ) (b : Bool) (first other : List ℕ) → In x first → In x other → In x (if b then first else other)
+in_where : (x n : ℕ) (b : Bool) (first other : List ℕ) → In x first → In x other
+    → In x (if b then first else other)
 in_where x n true first other h g = h
 in_where x n false first other h g = g
 
@@ -68,7 +73,8 @@ in_fold x [] sorted (inl h) = h
 in_fold x [] sorted (inr h) = absurd h
 in_fold x (y ∷ ys) sorted (inl h) = in_fold x ys (with_number y sorted) (inl (old_in y x sorted h))
 in_fold x (y ∷ ys) sorted (inr (inl e)) =
-    in_fold x ys (with_number y sorted) (inl (subst (λ z. In z (with_number y sorted)) (sym e) (new_in y sorted)))
+    in_fold x ys (with_number y sorted) (inl (subst (λ z. In z (with_number y sorted)) (sym e)
+    (new_in y sorted)))
 in_fold x (y ∷ ys) sorted (inr (inr h)) = in_fold x ys (with_number y sorted) (inr h)
 
 in_map : (f : ℕ → Need) (x : ℕ) (xs : List ℕ) → In x xs → Among (f x) (map f xs)
@@ -85,11 +91,19 @@ pub record Spot (a n line : ℕ) : Type 0 where
   pub high : at < a + n
   pub there : at / LINE_SIZE ≡ line
 
-pub spot : (a n line : ℕ) → list_any (λ x. eqb (x / LINE_SIZE) line) (range_with_len a n) ≡ true → Spot a n line
+pub spot : (a n line : ℕ) → list_any (λ x. eqb (x / LINE_SIZE) line) (range_with_len a n) ≡ true
+    → Spot a n line
 spot a zero line h = absurd (let e : false ≡ true = h in cc)
 spot a (suc n) line h =
-    by_way (or_cases (eqb (a / LINE_SIZE) line) (list_any (λ x. eqb (x / LINE_SIZE) line) (range_with_len (a + 1) n)) h)
-    (λ here. record { at = a; low = omega arith; high = omega arith; there = eqb-true (a / LINE_SIZE) line here })
+    by_way (or_cases (eqb (a / LINE_SIZE) line) (list_any (λ x. eqb (x / LINE_SIZE) line) (range_with_len
+    (a + 1) n)) h)
+    (λ here. record {
+      at = a;
+      low = omega arith;
+      high = omega arith;
+      there = eqb-true
+          (a / LINE_SIZE) line here;
+    })
     (λ later. let s = spot (a + 1) n line later in
     record { at = s.at; low = omega (arith, s.low); high = omega (arith, s.high); there = s.there })
 
@@ -148,7 +162,8 @@ needs_line : (ranges : List Range) (line : ℕ) → In line (flat_map lines_of r
     → Among (record { line = line; mode = mode_for ranges line }) (needs_of ranges)
 unfolding needs_of
 needs_line ranges line h =
-    in_map (λ line. record { line = line; mode = mode_for ranges line }) line (rising (flat_map lines_of ranges))
+    in_map (λ line. record { line = line; mode = mode_for ranges line }) line (rising
+    (flat_map lines_of ranges))
     (in_fold line (flat_map lines_of ranges) [] (inr h))
 
 there_exclusive : (h : Option Mode) → is_there Exclusive h ≡ true → h ≡ Some Exclusive
@@ -170,7 +185,8 @@ pub has_lines : (modes : ℕ → Option Mode) (ranges : List Range)
 has_lines modes ranges there = record {
   stored = λ line h.
       let exclusive : mode_for ranges line ≡ Exclusive =
-      cond-true (list_any (λ r. r.store && has_line line r) ranges) Exclusive Shared (stored_line ranges line h) in
+      cond-true (list_any (λ r. r.store && has_line line r) ranges) Exclusive Shared
+      (stored_line ranges line h) in
       there_exclusive (modes line) (subst (λ mode. is_there mode (modes line) ≡ true) exclusive
       (there (record { line = line; mode = mode_for ranges line })
       (needs_line ranges line (line_of_some (λ r. r.store) ranges line h))));

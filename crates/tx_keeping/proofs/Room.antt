@@ -15,7 +15,8 @@ use Rattle.line_table.proofs.Against.{holds_outside_for_one_more}
 use Rattle.line_table.proofs.Seen.{holding_here, holding_other_line, holding_other_cpu}
 use Rattle.tx_footprint.specs.Touched.{Sets}
 use Rattle.tx_meaning.specs.declared.asking.Need.{Need}
-use Rattle.tx_meaning.specs.Changes.{is_needed, is_spare, spare_line, lowest, giving_up, with_room, has_room, granting}
+use Rattle.tx_meaning.specs.Changes.{is_needed, is_spare, spare_line, lowest, giving_up, with_room, has_room}
+use Rattle.tx_meaning.specs.Changes.{granting}
 use Rattle.tx_keeping.proofs.Holding.{is_granted}
 use Rattle.tx_keeping.proofs.Asking.{Shrinks}
 
@@ -30,7 +31,8 @@ shrinks_within held after shrinks within cpu =
 
 -- what an attempt has touched and what a turn needs are together no more lines than a CPU may hold
 pub record HasRoom (sets : Sets) (needs : List Need) : Type 0 where
-  pub few : count_below LINES (λ line. (sets.fetched line || sets.stored line) || is_needed needs line) ≤ MOST_HELD
+  pub few : count_below LINES (λ line.
+      (sets.fetched line || sets.stored line) || is_needed needs line) ≤ MOST_HELD
 
 -- ---- the lowest number that passes
 
@@ -101,14 +103,17 @@ not_some (Some mode) h = absurd (let e : true ≡ false = h in cc)
 spare_count : (held : Holders) (i line : ℕ) (sets : Sets) (needs : List Need) (spare : Option ℕ)
     → spare_line held i sets needs ≡ spare → held i line ≡ None → MOST_HELD ≤ lines_held held i
     → HasRoom sets needs → is_needed needs line ≡ true → line < LINES → lines_held held i ≤ MOST_HELD
-    → (lines_held (giving_up held i spare) i + 1 ≤ MOST_HELD) × (is_some (giving_up held i spare i line) ≡ false)
+    → (lines_held (giving_up held i spare) i + 1 ≤ MOST_HELD) × (is_some
+    (giving_up held i spare i line) ≡ false)
 spare_count held i line sets needs None none free full room needed lt within =
     let kept = λ (l : ℕ). (sets.fetched l || sets.stored l) || is_needed needs l in
     let out = holds_outside_for_one_more held i line kept full room.few lt
     (or_right (sets.fetched line || sets.stored line) (is_needed needs line) needed) free in
     let passes : is_spare held i sets needs out.0 ≡ true =
-    and_from (is_some (held i out.0)) (not (kept out.0)) out.1.held_line (not_from_false (kept out.0) out.1.not_kept) in
-    let off = none_passes (is_spare held i sets needs) 0 LINES none out.0 (omega arith) (omega (arith, out.1.in_storage)) in
+    and_from (is_some (held i out.0)) (not (kept out.0)) out.1.held_line (not_from_false
+    (kept out.0) out.1.not_kept) in
+    let off = none_passes (is_spare held i sets needs) 0 LINES none out.0 (omega arith) (omega
+    (arith, out.1.in_storage)) in
     absurd (let n : false ≡ true = sym off ∙ passes in cc)
 spare_count held i line sets needs (Some gone) some free full room needed lt within =
     let low = lowest_is (is_spare held i sets needs) 0 LINES gone some in
@@ -117,7 +122,8 @@ spare_count held i line sets needs (Some gone) some free full room needed lt wit
     let below : gone < LINES = omega (arith, low.below) in
     let count = changed_count held i gone None below in
     let one : one_if (is_some (held i gone)) ≡ 1 = ap one_if parts.0 in
-    let ne : line ≢ gone = λ e. let n : false ≡ true = sym (ap is_some (ap (held i) (sym e) ∙ free)) ∙ parts.0 in cc in (
+    let ne : line ≢ gone = λ e. let n : false ≡ true = sym (ap is_some (ap (held i) (sym e) ∙ free))
+    ∙ parts.0 in cc in (
       omega (arith, count, one, within),
       ap is_some (holding_other_line held i gone None i line ne ∙ free),
     )
@@ -136,7 +142,8 @@ granted_count false held i sets needs need is within room needed lt =
     let free = not_some (held i need.line) parts.0 in
     let full = ltb-false (lines_held held i) MOST_HELD parts.1 in
     let made = giving_up held i (spare_line held i sets needs) in
-    let less = spare_count held i need.line sets needs (spare_line held i sets needs) refl free full room needed lt
+    let less = spare_count held i need.line sets needs
+    (spare_line held i sets needs) refl free full room needed lt
     within in
     let count = changed_count made i need.line (Some need.mode) lt in
     omega (arith, count, ap one_if less.1, less.0)
@@ -157,7 +164,8 @@ room_shrinks : (b : Bool) (held : Holders) (i : ℕ) (sets : Sets) (needs : List
 room_shrinks true held i sets needs = λ x line is. is
 room_shrinks false held i sets needs = giving_shrinks held i (spare_line held i sets needs)
 
-pub granting_within : (held : Holders) (i : ℕ) (sets : Sets) (needs : List Need) (need : Need) → AllWithin held
+pub granting_within : (held : Holders) (i : ℕ) (sets : Sets) (needs : List Need) (need : Need)
+    → AllWithin held
     → HasRoom sets needs → is_needed needs need.line ≡ true → AllWithin (granting i sets needs need held)
 unfolding granting
 granting_within held i sets needs need within room needed cpu =

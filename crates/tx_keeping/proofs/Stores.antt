@@ -41,7 +41,8 @@ pub laid_elsewhere : (xs : List Store) (storage : Storage) (a : ℕ)
 unfolding laid_over
 laid_elsewhere [] storage a off = refl
 laid_elsewhere (s ∷ rest) storage a off =
-    let parts = or_parts (in_line (a / LINE_SIZE) s.address) (goes_there (in_line (a / LINE_SIZE)) rest) off in
+    let parts = or_parts (in_line (a / LINE_SIZE) s.address) (goes_there (in_line
+    (a / LINE_SIZE)) rest) off in
     laid_elsewhere rest (at_put storage s.address s.byte) a parts.1
     ∙ put_elsewhere storage s s.byte a (eqb a s.address) refl parts.0
 
@@ -49,7 +50,8 @@ pub laying_elsewhere : (xs : List Store) (overlay : Overlay) (a : ℕ)
     → goes_there (in_line (a / LINE_SIZE)) xs ≡ false → laying overlay xs a ≡ overlay a
 laying_elsewhere [] overlay a off = refl
 laying_elsewhere (s ∷ rest) overlay a off =
-    let parts = or_parts (in_line (a / LINE_SIZE) s.address) (goes_there (in_line (a / LINE_SIZE)) rest) off in
+    let parts = or_parts (in_line (a / LINE_SIZE) s.address) (goes_there (in_line
+    (a / LINE_SIZE)) rest) off in
     laying_elsewhere rest (with_one overlay s.address s.byte) a parts.1
     ∙ put_elsewhere overlay s (Some s.byte) a (eqb a s.address) refl parts.0
 
@@ -69,7 +71,8 @@ all_taken (b ∷ bs) = ap (λ rest. b ∷ rest) (all_taken bs)
 
 -- ---- bytes at a place
 
-pub bytes_change : (prefix : Option ℕ) (first n : ℕ) (bytes : List ℕ) (storage : Storage) → is_prefix prefix ≡ true
+pub bytes_change : (prefix : Option ℕ) (first n : ℕ) (bytes : List ℕ) (storage : Storage)
+    → is_prefix prefix ≡ true
     → length bytes ≡ n → n ≤ 8192
     → ChangesIn (stores (absolute_ranges prefix (stored first n ∷ []))) storage
     (with_bytes_at prefix first bytes storage)
@@ -84,7 +87,8 @@ bytes_change prefix first n bytes storage ok size small a off =
 
 pub first_stores : (prefix : Option ℕ) (r : Range) (rest : List Range) (line : ℕ)
     → stores (absolute_ranges prefix (r ∷ rest)) line ≡ false
-    → (stores (absolute_ranges prefix (r ∷ [])) line ≡ false) × (stores (absolute_ranges prefix rest) line ≡ false)
+    → (stores (absolute_ranges prefix (r ∷ [])) line ≡ false) × (stores
+    (absolute_ranges prefix rest) line ≡ false)
 first_stores prefix r rest line off =
     let test = λ (r : Range). r.store && has_place LINE_SIZE r line in
     let parts = or_parts (list_any test (absolute_range prefix r)) (stores (absolute_ranges prefix rest) line)

@@ -143,7 +143,8 @@ module _ (m : Setting) (s : IsSetting m) where
   pub same_text : (f g : FlatState) (h i : List Entry) → replay m.image h ≡ Some f → replay m.image i ≡ Some g
       → SameText (text_of m) f.storage g.storage
   same_text f g h i is after a text =
-      replay_keeps_text m.image i g s.image after a text ∙ sym (replay_keeps_text m.image h f s.image is a text)
+      replay_keeps_text m.image i g s.image after a text
+      ∙ sym (replay_keeps_text m.image h f s.image is a text)
 
   pub stays : (k after : Kept) (x : ℕ) → Truth m k
       → replay m.image after.state.history ≡ Some (kept_flat m after) → Untouched k after x
@@ -194,7 +195,8 @@ module _ (m : Setting) (s : IsSetting m) where
       record {
         replayed = replayed;
         each = by_two i own (λ x ne. still_true k after x t replayed (others x ne)
-            (ap (λ h. hits m.image h x) more ∙ hits_with m.image x k.state.history e (kept_flat m k) t.replayed
+            (ap (λ h. hits m.image h x) more
+            ∙ hits_with m.image x k.state.history e (kept_flat m k) t.replayed
             ∙ other_hits x (kept_flat m k) e (hits m.image k.state.history x) (λ ej. ne (ej ∙ is))));
       }
 

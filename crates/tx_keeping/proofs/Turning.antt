@@ -25,7 +25,8 @@ use Rattle.tx_meaning.specs.Hits.{hits_after}
 use Rattle.tx_journal.specs.declared.events.Event.{Event}
 use Rattle.tx_journal.specs.declared.events.Event.TheVariants as event
 use Rattle.tx_serial.specs.Apply.{may_act, is_running}
-use Rattle.tx_serial.specs.Ending.{fits, has_operands, comes_from_outside, is_cause, ending, ending_of, fate_cause, is_open}
+use Rattle.tx_serial.specs.Ending.{fits, has_operands, comes_from_outside, is_cause, ending, ending_of}
+use Rattle.tx_serial.specs.Ending.{fate_cause, is_open}
 use Rattle.tx_serial.specs.Fate.{Fate, Goes, Ends, Stops, fate}
 use Rattle.tx_serial.specs.Flat.{FlatState, Pending}
 use Rattle.tx_serial.specs.Run.{run}
@@ -47,27 +48,36 @@ use Rattle.tx_meaning.specs.State.{State, is_live, cpus_of, flat_of, attempt_of,
 use Rattle.tx_meaning.specs.Changes.{with_entry, with_event, counting_turn, waiting_turn}
 use Rattle.tx_meaning.specs.Asking.{Asked}
 use Rattle.tx_meaning.specs.Idle.{idle, idle_by, has_ended}
-use Rattle.tx_meaning.specs.Turn.{Turned, turned, ends_by, refused_turn, once_given, with_lines, executing, attempting}
-use Rattle.tx_meaning.specs.Turn.{stepping, storing_block, taking_interruption, acting, external, interrupting}
-use Rattle.tx_meaning.specs.Turn.{to_tail, by_rules, counted_turn, turn_where, turn, happen, outcome_of_abort, is_tick}
+use Rattle.tx_meaning.specs.Turn.{Turned, turned, ends_by, refused_turn, once_given, with_lines, executing}
+use Rattle.tx_meaning.specs.Turn.{attempting}
+use Rattle.tx_meaning.specs.Turn.{stepping, storing_block, taking_interruption, acting, external}
+use Rattle.tx_meaning.specs.Turn.{interrupting}
+use Rattle.tx_meaning.specs.Turn.{to_tail, by_rules, counted_turn, turn_where, turn, happen, outcome_of_abort}
+use Rattle.tx_meaning.specs.Turn.{is_tick}
 use Rattle.tx_keeping.specs.Kept.{Kept, kept_flat, kept_footprint, text_of, with_state, with_beside, beside}
 use Rattle.tx_keeping.specs.Kept.{kept_finished}
 use Rattle.tx_keeping.specs.Moves.{k_aborting, k_stepping, k_storing, k_taking}
 use Rattle.tx_keeping.specs.Asking.{KAsked, k_get_lines, k_get_each}
-use Rattle.tx_keeping.specs.Turn.{KTurned, k_turned, k_ends_by, k_outside, next_address, k_refused_turn, k_once_given}
-use Rattle.tx_keeping.specs.Turn.{k_with_lines, k_executing, k_stopping, k_attempting, k_storing_block, k_acting}
+use Rattle.tx_keeping.specs.Turn.{KTurned, k_turned, k_ends_by, k_outside, next_address, k_refused_turn}
+use Rattle.tx_keeping.specs.Turn.{k_once_given}
+use Rattle.tx_keeping.specs.Turn.{k_with_lines, k_executing, k_stopping, k_attempting, k_storing_block}
+use Rattle.tx_keeping.specs.Turn.{k_acting}
 use Rattle.tx_keeping.specs.Turn.{k_taking_interruption, k_interrupting, k_external, k_by_rules}
 use Rattle.tx_keeping.specs.Turn.{k_counted_turn, k_idle, k_turn_where, k_turn, k_happen}
 use Rattle.tx_keeping.proofs.Stores.{ChangesIn}
-use Rattle.tx_keeping.proofs.Needed.{fate_followed, fate_stays, is_awaited, waits_stopped, ends_live, stops_not_live}
-use Rattle.tx_keeping.proofs.Needed.{stopped_leaves, block_leaves, taking_leaves, block_changes, taking_changes}
+use Rattle.tx_keeping.proofs.Needed.{fate_followed, fate_stays, is_awaited, waits_stopped, ends_live}
+use Rattle.tx_keeping.proofs.Needed.{stops_not_live}
+use Rattle.tx_keeping.proofs.Needed.{stopped_leaves, block_leaves, taking_leaves, block_changes}
+use Rattle.tx_keeping.proofs.Needed.{taking_changes}
 use Rattle.tx_keeping.proofs.Needed.{stays_followed, StaysFollowed, Leaves}
-use Rattle.tx_keeping.proofs.Truth.{Truth, kept_is, live_is, flat_is, attempt_is, cpu_is, standing_is, same_text}
+use Rattle.tx_keeping.proofs.Truth.{Truth, kept_is, live_is, flat_is, attempt_is, cpu_is, standing_is}
+use Rattle.tx_keeping.proofs.Truth.{same_text}
 use Rattle.tx_keeping.specs.Views.{turned_of}
 use Rattle.tx_keeping.proofs.Holding.{Holds}
 use Rattle.tx_keeping.proofs.Moves.{IsGood, restated, SameNumbers, same_numbers, one_number}
 use Rattle.tx_keeping.proofs.Endings.{Ended, moved_ended, abort_ended, outside_fits}
-use Rattle.tx_keeping.proofs.Asking.{Keeps, keeps_then, keeps_restated, Grows, grows_not, grows_then, AskKeeps}
+use Rattle.tx_keeping.proofs.Asking.{Keeps, keeps_then, keeps_restated, Grows, grows_not, grows_then}
+use Rattle.tx_keeping.proofs.Asking.{AskKeeps}
 use Rattle.tx_keeping.proofs.Asking.{live_aborting_is, asks_restated}
 use Rattle.tx_keeping.proofs.Getting.{lines_got}
 use Rattle.tx_keeping.proofs.Needing.{HasLines, has_lines}
@@ -151,7 +161,8 @@ restated_act m i k s o r g history held numbers = record {
 }
 
 -- a cause by which a test ends it
-ends_fits_run : (text : List ℕ) (p : Run) (w : Why) → p.mark ≡ Open → fate text p ≡ Ends w → fits text p w ≡ true
+ends_fits_run : (text : List ℕ) (p : Run) (w : Why) → p.mark ≡ Open → fate text p ≡ Ends w
+    → fits text p w ≡ true
 unfolding fits ending
 ends_fits_run text p w opens ends =
     ap (λ mark. is_cause (ending_of mark text p) w || (is_open p.mark && comes_from_outside text p w)) opens
@@ -177,8 +188,10 @@ module _ (m : Setting) (s : IsSetting m) where
   pub own_stays : (k mid : Kept) (i : ℕ) → Truth m k → Truth m mid → Keeps k mid i
       → StaysFollowed (kept_flat m k) (kept_flat m mid) i (k.locals i)
   own_stays k mid i t u keeps =
-      stays_followed (kept_flat m k) (kept_flat m mid) i (k.locals i) (kept_is m s k t) (t.each i).followed refl
-      (same_text m s (kept_flat m k) (kept_flat m mid) k.state.history mid.state.history t.replayed u.replayed)
+      stays_followed (kept_flat m k) (kept_flat m mid) i (k.locals i) (kept_is m s k t)
+      (t.each i).followed refl
+      (same_text m s (kept_flat m k)
+      (kept_flat m mid) k.state.history mid.state.history t.replayed u.replayed)
       (ap (λ (l : Local). l.cpu) keeps.local) (ap (λ (l : Local). l.pending) keeps.local)
       (ap (λ (l : Local). l.waiting) keeps.local) keeps.bytes
 
@@ -190,7 +203,8 @@ module _ (m : Setting) (s : IsSetting m) where
       ap (λ (l : Local). fate_by_progress (text_of m) mid.storage l.attempt) keeps.local
       ∙ fate_stays (kept_flat m k) (kept_flat m mid) i (k.locals i) (kept_is m s k t) (kept_is m s mid u)
       (t.each i).followed (own_stays k mid i t u keeps) refl
-      (same_text m s (kept_flat m k) (kept_flat m mid) k.state.history mid.state.history t.replayed u.replayed)
+      (same_text m s (kept_flat m k)
+      (kept_flat m mid) k.state.history mid.state.history t.replayed u.replayed)
 
   -- ---- a turn that is rejected
 
@@ -210,7 +224,8 @@ module _ (m : Setting) (s : IsSetting m) where
 
   refused_act : (b : Bool) (i : ℕ) (r : Reject) (k : Kept) → IsGood m k
       → (is_live k.state i && is_starved (k.standings i)) ≡ b
-      → (is_live k.state i ≡ true → has_operands (fate_by_progress (text_of m) k.storage (k.locals i).attempt) ≡ true)
+      → (is_live k.state i ≡ true
+      → has_operands (fate_by_progress (text_of m) k.storage (k.locals i).attempt) ≡ true)
       → ActOk m i k (refused_turn b m i r k.state) (k_refused_turn b i r k)
   refused_act false i r k g e asks =
       restated_act m i k k.state (outcome.Rejected r.by r.line) (Some r) g refl refl
@@ -228,7 +243,8 @@ module _ (m : Setting) (s : IsSetting m) where
       }
 
   starved_is : (i : ℕ) (k : Kept) (b : Bool) → Truth m k → is_live k.state i ≡ b
-      → (is_live k.state i && is_starved (standing_of m k.state i)) ≡ (is_live k.state i && is_starved (k.standings i))
+      → (is_live k.state i && is_starved (standing_of m k.state i)) ≡ (is_live k.state i && is_starved
+      (k.standings i))
   starved_is i k true t live = ap (λ st. is_live k.state i && is_starved st) (standing_is m k t i live)
   starved_is i k false t live =
       ap (λ b. b && is_starved (standing_of m k.state i)) live
@@ -257,7 +273,8 @@ module _ (m : Setting) (s : IsSetting m) where
       → (k_get_lines m i (operand_needs prefix ranges) k).reject ≡ Some reject
       → has_operands (fate_by_progress (text_of m) k.storage (k.locals i).attempt) ≡ true)
       → HasRoom (kept_footprint k i) (operand_needs prefix ranges)
-      → ((mid : Kept) → IsGood m mid → Keeps k mid i → HasLines (mid.state.held i) (absolute_ranges prefix ranges)
+      → ((mid : Kept) → IsGood m mid → Keeps k mid i
+      → HasLines (mid.state.held i) (absolute_ranges prefix ranges)
       → ActOk m i mid (next mid.state) (k_next mid))
       → TurnOk m k (with_lines m i (operand_needs prefix ranges) k.state next)
       (k_with_lines m i (operand_needs prefix ranges) k k_next)
@@ -269,7 +286,8 @@ module _ (m : Setting) (s : IsSetting m) where
       let is : with_lines m i needs k.state next ≡ once_given m i q.reject mid.state next =
       ap (λ (a : Asked). once_given m i a.reject a.state next) got.is in
       subst (λ t. TurnOk m k t (k_with_lines m i needs k k_next)) (sym is)
-      (then_act m i k mid (once_given m i q.reject mid.state next) (k_once_given i q.reject mid k_next) got.keeps (got.within room)
+      (then_act m i k mid (once_given m i q.reject mid.state next)
+      (k_once_given i q.reject mid k_next) got.keeps (got.within room)
       (given_act i q q.reject next k_next refl got.good
       (λ live reject e. ap has_operands (own_fate k mid i g.truth got.good.truth got.keeps.own)
       ∙ asks (sym (ap (nat_lt 0) got.keeps.own.completed) ∙ live) reject e)
@@ -303,15 +321,18 @@ module _ (m : Setting) (s : IsSetting m) where
       → ActOk m i k (stepping m i 0 k.state) (k_stopping i after k e.code)
   unfolding stopped
   stopping_act i k e after g is end =
-      subst (λ (b : Beside). ActOk m i k (stepping m i 0 k.state) (k_outside i after k (told_of b.local.cpu.state 0)))
+      subst (λ (b : Beside). ActOk m i k (stepping m i 0 k.state) (k_outside i after k
+      (told_of b.local.cpu.state 0)))
       is (stepping_act m s i 0 k after end)
 
-  attempting_ok : (i : ℕ) (k : Kept) (f : Fate) → IsGood m k → i < cpus_of m → may_act (kept_flat m k) i ≡ true
+  attempting_ok : (i : ℕ) (k : Kept) (f : Fate) → IsGood m k → i < cpus_of m
+      → may_act (kept_flat m k) i ≡ true
       → fate_by_progress (text_of m) k.storage (k.locals i).attempt ≡ f
       → TurnOk m k (attempting m i k.state f) (k_attempting m i k f)
   attempting_ok i k (Goes instr ranges) g within acts goes =
       let prefix = (k.locals i).attempt.cpu.prefix in
-      subst (λ (c : Cpu). TurnOk m k (with_lines m i (operand_needs c.prefix ranges) k.state (executing m i instr))
+      subst (λ (c : Cpu). TurnOk m k (with_lines m i (operand_needs c.prefix ranges) k.state
+      (executing m i instr))
       (k_with_lines m i (operand_needs prefix ranges) k (k_executing i instr ranges)))
       (sym (cpu_is m k g.truth i))
       (lines_act i k prefix ranges (executing m i instr) (k_executing i instr ranges) g within
@@ -394,7 +415,8 @@ module _ (m : Setting) (s : IsSetting m) where
       let off' = pending_rests i mid b good.truth there in
       let cpu : (mid.locals i).cpu ≡ (k.locals i).attempt.cpu =
       ap (λ (l : Local). l.cpu) keeps.local ∙ sym (own_prefix i k g.truth off) in
-      done_act i mid (entry.Tdb i) (block_stored (beside mid i)) (absolute_ranges prefix ranges) good off' refl
+      done_act i mid (entry.Tdb i) (block_stored (beside mid i))
+      (absolute_ranges prefix ranges) good off' refl
       (block_leaves (text_of m) mid.storage mid.locals i b kept (good.truth.each i).followed there)
       (subst (λ (c : Cpu). ChangesIn (stores (absolute_ranges c.prefix ranges)) mid.storage
       (block_stored (beside mid i)).storage) cpu
@@ -402,7 +424,8 @@ module _ (m : Setting) (s : IsSetting m) where
       has (λ n. refl)))
 
   taking_ok : (i : ℕ) (k : Kept) (w : Waiting) → IsGood m k → i < cpus_of m → (k.locals i).pending ≡ None
-      → (k.locals i).waiting ≡ Some w → TurnOk m k (taking_interruption m i w k.state) (k_taking_interruption m i w k)
+      → (k.locals i).waiting ≡ Some w
+      → TurnOk m k (taking_interruption m i w k.state) (k_taking_interruption m i w k)
   taking_ok i k w g within none is =
       let prefix = (k.locals i).attempt.cpu.prefix in
       let ranges = interruption_ranges w.block in
@@ -420,7 +443,8 @@ module _ (m : Setting) (s : IsSetting m) where
       let off' = waiting_rests i mid w good.truth there in
       let cpu : (mid.locals i).cpu ≡ (k.locals i).attempt.cpu =
       ap (λ (l : Local). l.cpu) keeps.local ∙ sym (own_prefix i k g.truth off) in
-      done_act i mid (entry.Interrupt i) (interruption_taken (beside mid i)) (absolute_ranges prefix ranges) good
+      done_act i mid (entry.Interrupt i) (interruption_taken (beside mid i))
+      (absolute_ranges prefix ranges) good
       off' refl
       (taking_leaves (text_of m) mid.storage mid.locals i w kept (good.truth.each i).followed empty there)
       (subst (λ (c : Cpu). ChangesIn (stores (absolute_ranges c.prefix ranges)) mid.storage
@@ -454,7 +478,8 @@ module _ (m : Setting) (s : IsSetting m) where
       let x : false ≡ true = sym (ap is_some empty) ∙ there in cc))
       (ap is_none none)
 
-  acting_by : (i : ℕ) (k : Kept) (pending : Option Pending) (waiting : Option Waiting) → IsGood m k → i < cpus_of m
+  acting_by : (i : ℕ) (k : Kept) (pending : Option Pending) (waiting : Option Waiting) → IsGood m k
+      → i < cpus_of m
       → kept_finished k i ≡ false → (k.locals i).pending ≡ pending → (k.locals i).waiting ≡ waiting
       → TurnOk m k (acting m i k.state pending waiting) (k_acting m i k pending waiting)
   acting_by i k (Some b) w g within unfinished is awaits = storing_ok i k b g within is
@@ -518,9 +543,11 @@ module _ (m : Setting) (s : IsSetting m) where
   unfolding idle k_idle
   idle_is i k t =
       ap (λ (f : FlatState). idle_by m.limits (is_none (f.pending i)
-      && has_ended (cpu_of m k.state i).state (cpu_of m k.state i).prefix) k.state.queue (k.state.numbers i) i)
+      && has_ended (cpu_of m k.state i).state (cpu_of m k.state i).prefix) k.state.queue
+      (k.state.numbers i) i)
       (flat_is m k t)
-      ∙ ap (λ (c : Cpu). idle_by m.limits (is_none (k.locals i).pending && has_ended c.state c.prefix) k.state.queue
+      ∙ ap (λ (c : Cpu). idle_by m.limits (is_none
+      (k.locals i).pending && has_ended c.state c.prefix) k.state.queue
       (k.state.numbers i) i) (cpu_is m k t i)
 
   unfinished_by : (i : ℕ) (k : Kept) (b : Bool) → kept_finished k i ≡ b
@@ -535,14 +562,16 @@ module _ (m : Setting) (s : IsSetting m) where
   turn_by : (i : ℕ) (k : Kept) (o : Option Outcome) → IsGood m k → i < cpus_of m → k_idle m k i ≡ o
       → TurnOk m k (turn_where o m i k.state) (k_turn_where o m i k)
   turn_by i k (Some o) g within e =
-      act_only m i k _ _ (restated_act m i k k.state o None g refl refl (λ x. same_numbers (k.state.numbers x)))
+      act_only m i k _ _ (restated_act m i k k.state o None g refl refl (λ x. same_numbers
+      (k.state.numbers x)))
   turn_by i k None g within e =
       let counted = with_event (event.Turn i) (counting_turn i k.state) in
       let n = record (k.state.numbers i) { turns = (k.state.numbers i).turns + 1 } in
       let same = one_number k.state.numbers i n record { completed = refl; given = refl; refused = refl } in
       behind m k counted _ _ refl refl (λ x. (same x).completed)
       (counted_ok i (with_state counted k)
-      (record { truth = restated m k counted g.truth refl same; holds = g.holds }) within (not_finished i k e))
+      (record { truth = restated m k counted g.truth refl same; holds = g.holds }) within
+      (not_finished i k e))
 
   turn_ok : (i : ℕ) (k : Kept) → IsGood m k → i < cpus_of m → TurnOk m k (turn m i k.state) (k_turn m i k)
   unfolding turn k_turn
@@ -560,4 +589,8 @@ module _ (m : Setting) (s : IsSetting m) where
       let told = with_event (event.External i) k.state in
       behind m k told _ _ refl refl (λ x. refl)
       (external_ok i (with_state told k)
-      (record { truth = restated m k told g.truth refl (λ x. same_numbers (k.state.numbers x)); holds = g.holds }))
+      (record {
+        truth = restated m k told g.truth refl (λ x. same_numbers
+            (k.state.numbers x));
+        holds = g.holds;
+      }))

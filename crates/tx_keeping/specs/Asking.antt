@@ -24,7 +24,8 @@ pub record KAsked : Type 0 where
 unfoldable pub k_reply : Kept → ℕ → ℕ → Mode → ℕ → Answer
 k_reply k j line mode i =
     let lines = kept_footprint k j in
-    interrogate.reply (is_live k.state j) lines.fetched lines.stored (k.standings j) line mode (kept_asker k i)
+    interrogate.reply (is_live k.state j) lines.fetched lines.stored (k.standings j) line mode
+    (kept_asker k i)
 
 abbrev pub k_by_answer : ℕ → Need → ℕ → Kept → Answer → KAsked
 k_by_answer i need j k Yields = record { kept = k_yielding j need.line need.mode k; reject = None }
