@@ -7,13 +7,19 @@ ghost use Rattle.line_table.specs.Holders.{nobody, holding, against, is_against,
 ghost use Rattle.tx_footprint.specs.Touched.{sets_of};
 ghost use Rattle.tx_meaning.specs.Asking.{is_there};
 ghost use Rattle.tx_meaning.specs.Changes.{left_to, granting, spare_line, is_spare, has_room, giving_up};
-ghost use Rattle.tx_lines.specs.Owned.{Owned, holders_in};
+ghost use Rattle.tx_progress.specs.Local.{aborted, block_stored, interruption_taken};
+ghost use Rattle.tx_progress.specs.Progress.{is_live};
+ghost use Rattle.tx_cpu.specs.Parts.{local_of};
+ghost use Rattle.tx_cpu.specs.Plans.{HasRoom};
+ghost use Rattle.tx_lines.specs.Owned.{Owned, holders_in, with_lines};
 ghost use Rattle.tx_lines.specs.Spare.{is_unused, lowest_spare, granted};
 ghost use Rattle.tx_lines.specs.Next.{next_against, stands_against};
 
 use line_table::{LineTable, MOST_HELD, Mode};
 use std::alloc::Global;
 use std::marker::Model;
+use tx_control::Why;
+use tx_cpu::Cpu;
 use tx_footprint::Footprint;
 use tx_meaning::Need;
 use z_regs::Storage;
@@ -191,5 +197,40 @@ impl Lines {
         ensures sound { IsSound (holders_in self.now) }
     {
         self.table.mode_of(cpu, line).is_some() || self.table.held(cpu) < MOST_HELD
+    }
+
+    /// Aborts the live attempt of a CPU by this cause; `at` is the address that the diagnostic block tells. What
+    /// NTSTG stored goes into storage. Gives how many instructions the attempt had completed.
+    pub fn abort(&mut self, cpu: &mut Cpu, why: Why, at: u64) -> u32
+        requires live { is_live (local_of cpu.old).attempt ≡ true }
+        requires code { HasRoom why }
+        ensures count { result ≡ (local_of cpu.old).attempt.count }
+        ensures value { with_lines cpu.new self.new ≡ aborted why at (with_lines cpu.old self.old) }
+        ensures cpus { self.new.cpus ≡ self.old.cpus }
+        ensures held { holders_in self.new ≡ holders_in self.old }
+    {
+        let _size = self.storage.as_slice();
+        cpu.abort(why, at, &mut self.storage)
+    }
+
+    /// Stores the block that is pending for a CPU; nothing is pending afterwards.
+    pub fn store_block(&mut self, cpu: &mut Cpu)
+        ensures value { with_lines cpu.new self.new ≡ block_stored (with_lines cpu.old self.old) }
+        ensures cpus { self.new.cpus ≡ self.old.cpus }
+        ensures held { holders_in self.new ≡ holders_in self.old }
+    {
+        let _size = self.storage.as_slice();
+        cpu.store_block(&mut self.storage);
+    }
+
+    /// A CPU without a live attempt takes the interruption that waits for it.
+    pub fn take(&mut self, cpu: &mut Cpu)
+        requires { is_live (local_of cpu.old).attempt ≡ false }
+        ensures value { with_lines cpu.new self.new ≡ interruption_taken (with_lines cpu.old self.old) }
+        ensures cpus { self.new.cpus ≡ self.old.cpus }
+        ensures held { holders_in self.new ≡ holders_in self.old }
+    {
+        let _size = self.storage.as_slice();
+        cpu.take(&mut self.storage);
     }
 }
