@@ -27,7 +27,7 @@ pub put-true : (s : List ℕ) (f : ℕ → ℕ) (a b x : ℕ) → a < length s �
 put-true s f a b x h e same =
     ap (λ k. get_or (set s a b) k 0) same ∙ get_or-set_same s a b 0 h ∙ e ∙ ap f (sym same)
 
-taken-at : (n a : ℕ) (t : List ℕ) (f : ℕ → ℕ) → ((k : ℕ) → k < n → get_or t (a + k) 0 ≡ f (a + k))
+pub taken-at : (n a : ℕ) (t : List ℕ) (f : ℕ → ℕ) → ((k : ℕ) → k < n → get_or t (a + k) 0 ≡ f (a + k))
     → a + n ≤ length t → take n (drop a t) ≡ map f (from_up a n)
 taken-at zero a t f at h = refl
 taken-at (suc n) a t f at h =

@@ -8,3 +8,4 @@ pub mod Fetching
 pub mod Effects
 pub mod SmallCodes
 pub mod Agreeing
+pub mod Stored

@@ -1,11 +1,11 @@
 -- What performing an instruction tells, and what it leaves.
 use Rattle.std.specs.Prelude.{ℕ, ◌+◌, ◌<◌, ◌≡◌, cond, get_or, List, [], ◌∷◌, take, Result, Ok, Err}
-use Rattle.std.specs.Prelude.{if◌then◌else◌, nat_eq, map, Option, Bool, true, false}
+use Rattle.std.specs.Prelude.{if◌then◌else◌, nat_eq, map, Option, Some, None, Bool, true, false}
 use Rattle.z_regs.specs.Cpu.{Cpu}
 use Rattle.z_regs.specs.Prefix.{absolute_of}
 use Rattle.z_regs.specs.declared.ranges.Range.{Range}
 use Rattle.z_touch.specs.Refusals.{span_of}
-use Rattle.z_effect.specs.After.{cpu_after, storage_after}
+use Rattle.z_effect.specs.After.{cpu_after, storage_after, range_at}
 use Rattle.z_effect.specs.Outcome.{Outcome, Did, Overflowed, Divides, Aborts}
 use Rattle.z_effect.specs.Outcome as outcome
 use Rattle.z_effect.specs.declared.kind.Kind.{Kind}
@@ -71,3 +71,25 @@ is_transaction (kind.Branch b) = false
 abbrev pub lasting_size : Transaction → ℕ
 lasting_size StoreLasting = 8
 lasting_size _ = 0
+
+-- what a transaction instruction does; of any other kind nothing
+abbrev pub transaction_in : Kind → Option Transaction
+transaction_in (kind.Transaction t) = Some t
+transaction_in (kind.General g) = None
+transaction_in (kind.Storage s) = None
+transaction_in (kind.Branch b) = None
+
+-- the bytes of the first operand where it is stored
+abbrev pub first_bytes : List Range → List ℕ → List ℕ
+first_bytes [] s = []
+first_bytes (r ∷ rs) s = cond r.store (range_at s r.first r.length) []
+
+-- no operand is stored into, or none but the first
+abbrev pub StoresNone : List Range → Type 0
+StoresNone [] = Unit {0}
+StoresNone (r ∷ rs) = (r.store ≡ false) × StoresNone rs
+
+abbrev pub StoresFirst : List Range → Type 0
+StoresFirst [] = Unit {0}
+StoresFirst (r ∷ rs) = StoresNone rs
+

@@ -15,7 +15,9 @@ ghost use Rattle.tx_progress.specs.Progress.{seen_through};
 ghost use Rattle.tx_cpu.specs.Parts.{storage_of};
 ghost use Rattle.tx_cpu.specs.Performed.{ended_in, IsLeft, trimmed, outcome_from, first_size, IsFetched};
 ghost use Rattle.tx_cpu.specs.Performed.{ended_of};
-ghost use Rattle.tx_cpu.specs.Performed.{is_transaction, lasting_size};
+ghost use Rattle.tx_cpu.specs.Performed.{is_transaction, transaction_in, lasting_size, first_bytes};
+ghost use Rattle.tx_cpu.specs.Tracked.{progress};
+ghost use Rattle.tx_progress.specs.Trial.{outcome_by};
 ghost use Rattle.z_effect.specs.One.{length_of};
 ghost use Rattle.z_effect.specs.TransactionEffect.{transaction_effect};
 
@@ -30,6 +32,7 @@ use z_instr::addresses::first_address;
 use z_instr::format::length_in;
 use z_instr::instr::Instr;
 use z_instr::lookup::line;
+use z_instr::op::Op;
 use z_regs::{Bytes, CpuImage, Range, Storage, Touches, place_of};
 
 /// The most bytes that an operand has.
@@ -167,5 +170,66 @@ fn execute_transaction(
         Transaction::End => Ended::Completed,
         Transaction::ExtractDepth => Ended::Completed,
         Transaction::Assist => Ended::Completed,
+    }
+}
+
+/// What a transaction instruction does; None of any other operation.
+fn transaction_of(op: Op) -> Option<Transaction>
+    ensures { result ≡ transaction_in (kind_at op.number) }
+{
+    match kind_of(op) {
+        Kind::Transaction(kind) => Some(kind),
+        Kind::General(_) => None,
+        Kind::Storage(_) => None,
+        Kind::Branch(_) => None,
+    }
+}
+
+/// Copies what is stored in the first operand; no other is ever stored into.
+fn copy_stored(need: &Touches, scratch: &Storage, stored: &mut [u8; MOST_BYTES])
+    requires inside { AreInside (map span_of need.now) scratch.now }
+    requires most { first_size need.now ≤ 256 }
+    ensures { take (first_size need.now) stored.new ≡ first_bytes need.now scratch.now }
+{
+    let _size = scratch.as_slice();
+    if need.count() == 0 {
+        return;
+    }
+    let first = need.at(0);
+    if first.store {
+        get_all(&mut stored[..first.length as usize], first.first, None, scratch);
+    }
+}
+
+/// Performs an instruction on the bytes that the attempt sees of its operands, so that only the CPU is
+/// changed, and keeps apart what is stored in its first operand; no other is ever stored into.
+pub fn perform<V: Bytes>(
+    attempt: &Attempt,
+    instr: &Instr,
+    need: &Touches,
+    image: &mut CpuImage,
+    scratch: &mut Storage,
+    stored: &mut [u8; MOST_BYTES],
+    base: &V,
+) -> Ended
+    requires need { need.now ≡ operands instr.now (cpu_of image.old) }
+    requires accessible { All (IsAccessible image.old.prefix) need.now }
+    requires size { length (V.bytes base.now) ≡ storage_size }
+    ensures value { outcome_from result (cpu_of image.new) (take (first_size need.now) stored.new) ≡
+        trimmed (first_size need.now) (outcome_by (storage_of (V.bytes base.now)) instr.now need.now
+        (progress attempt.now (cpu_of image.old))) }
+    ensures image { cpu_of image.new ≡ cpu_after (cpu_of image.old) (outcome_by
+        (storage_of (V.bytes base.now)) instr.now need.now (progress attempt.now (cpu_of image.old))) }
+{
+    let depth = attempt.nest().depth();
+    fetch(attempt, need, image.prefix, scratch, base);
+    match transaction_of(instr.op) {
+        Some(kind) => execute_transaction(kind, instr, image, depth, stored),
+        None => {
+            let ended = execute_plain(instr, need, image, scratch);
+            let _size = scratch.as_slice();
+            copy_stored(need, scratch, stored);
+            ended
+        }
     }
 }
