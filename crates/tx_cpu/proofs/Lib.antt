@@ -9,3 +9,4 @@ pub mod Effects
 pub mod SmallCodes
 pub mod Agreeing
 pub mod Stored
+pub mod Completing

@@ -14,7 +14,9 @@ use Rattle.z_effect.specs.declared.kind.Transaction.{Transaction}
 use Rattle.z_effect.specs.declared.kind.Transaction.TheVariants.{StoreLasting}
 use Rattle.tx_control.specs.declared.codes.TheConstants.{FIXED_POINT_DIVIDE}
 use Rattle.tx_control.specs.declared.exceptions.Exception.{Exception}
-use Rattle.tx_serial.specs.Flat.{Storage}
+use Rattle.z_regs.specs.declared.waiting.Waiting.{Waiting}
+use Rattle.tx_serial.specs.Flat.{Storage, laid_over, operand_stores}
+use Rattle.tx_serial.specs.Remains.{waiting_with}
 use Rattle.tx_cpu.specs.declared.performing.Ended.{Ended}
 use Rattle.tx_cpu.specs.declared.performing.Ended.TheVariants as ended
 
@@ -93,3 +95,19 @@ abbrev pub StoresFirst : List Range → Type 0
 StoresFirst [] = Unit {0}
 StoresFirst (r ∷ rs) = StoresNone rs
 
+
+-- ---- outside transactions
+
+-- the interruption that waits after an instruction of n bytes that has ended so
+abbrev pub waiting_outside : Option ℕ → ℕ → Ended → Option Waiting → Option Waiting
+waiting_outside prefix n ended.Completed before = before
+waiting_outside prefix n ended.Exceeded before = waiting_with prefix n None
+waiting_outside prefix n ended.Suppressed before = waiting_with prefix n None
+waiting_outside prefix n (ended.Aborting code) before = before
+
+-- storage after it, with the bytes of its operands that are stored
+abbrev pub storage_outside : Option ℕ → List Range → Ended → List ℕ → Storage → Storage
+storage_outside prefix ranges ended.Completed bytes s = laid_over s (operand_stores prefix ranges bytes)
+storage_outside prefix ranges ended.Exceeded bytes s = laid_over s (operand_stores prefix ranges bytes)
+storage_outside prefix ranges ended.Suppressed bytes s = s
+storage_outside prefix ranges (ended.Aborting code) bytes s = s

@@ -7,6 +7,7 @@ mod attempt;
 mod interruption;
 pub mod laws;
 mod one;
+mod outside;
 mod pending;
 mod performing;
 mod plan;

@@ -1,13 +1,15 @@
 //! The CPU.
-ghost use Rattle.std.specs.Prelude.{◌≡◌, ◌<◌, ◌↔◌, IsTrue, IfOk, is_some, length, true, false};
+ghost use Rattle.std.specs.Prelude.{◌≡◌, ◌<◌, ◌↔◌, IsTrue, IfOk, is_some, length, true, false, All};
 ghost use Rattle.z_regs.specs.Cpu.{cpu_of};
 ghost use Rattle.z_regs.specs.Prefix.{storage_size};
 ghost use Rattle.tx_footprint.specs.Touched.{sets_of};
 ghost use Rattle.tx_serial.specs.Remains.{pending_after as pends_after};
 ghost use Rattle.tx_progress.specs.Progress.{is_live, seen_through};
 ghost use Rattle.tx_progress.specs.Local.{settled, aborted, block_stored, interruption_taken};
-ghost use Rattle.tx_progress.specs.Doing.{stopped};
-ghost use Rattle.tx_progress.specs.Trial.{fate_by_progress};
+ghost use Rattle.tx_progress.specs.Doing.{stopped, executed_where};
+ghost use Rattle.tx_progress.specs.Trial.{fate_by_progress, outcome_by};
+ghost use Rattle.tx_serial.specs.Fate.{operands};
+ghost use Rattle.z_regs.specs.Absolute.{IsAccessible};
 ghost use Rattle.std.specs.FinSet.{items};
 ghost use Rattle.tx_cpu.specs.Parts.{local_of, beside, storage_of};
 ghost use Rattle.tx_cpu.specs.Plans.{fate_of, levels_of, address_of, HasRoom, HasPlanRoom};
@@ -17,6 +19,8 @@ use crate::attempt::Attempt;
 use crate::interruption::{leave, load, store, waiting_after, waiting_with};
 use crate::pending::{Block, pending_after};
 use crate::plan::{Plan, next_plan};
+use crate::outside::{delay_after, end_outside, store_outside, told, waiting_outside};
+use crate::performing::{MOST_BYTES, perform};
 use crate::storing::put_all;
 use std::alloc::Global;
 use std::marker::Model;
@@ -25,11 +29,15 @@ use tx_control::{Exception, Why};
 use tx_footprint::Footprint;
 use tx_journal::Image;
 use z_effect::interrupt;
-use z_regs::{Bytes, CpuImage, NoMemory, Waiting};
+use tx_progress::done::Done;
+use z_instr::format::length_in;
+use z_instr::instr::Instr;
+use z_instr::lookup::line;
+use z_regs::{Bytes, CpuImage, NoMemory, STORAGE_SIZE, Storage, Touches, Waiting};
 
 /// One CPU. Contracts speak of what is kept of it (`local_of`): the CPU as the history leaves it, its
-/// attempt,
-/// the block that is pending for it and the interruption that waits.
+/// attempt, the block that is pending for it and the interruption that waits. The bytes of operands are
+/// brought into a storage of its own, in which nothing lasts.
 #[derive(Drop)]
 pub struct Cpu {
     image: CpuImage,
@@ -37,6 +45,7 @@ pub struct Cpu {
     attempt: Attempt,
     pending: Option<Block>,
     waiting: Option<Waiting>,
+    scratch: Storage,
 }
 
 impl Model for Cpu {
@@ -63,12 +72,16 @@ impl Cpu {
     pub fn open(alloc: Global, start: CpuImage) -> Result<Cpu, NoMemory>
         ensures { IfOk result (λ cpu. local_of cpu ≡ settled (cpu_of start)) }
     {
+        let Ok(zeros) = vec![in alloc; 0u8; STORAGE_SIZE as usize] else {
+            return Err(NoMemory);
+        };
         Ok(Cpu {
             image: start,
             saved: start,
             attempt: Attempt::open(alloc)?,
             pending: None,
             waiting: None,
+            scratch: Storage::open(alloc, zeros.as_slice())?,
         })
     }
 
@@ -159,6 +172,37 @@ impl Cpu {
         self.attempt.is_sound();
         interrupt(&mut self.image, e);
         self.waiting = waiting_with(self.image.prefix, e.length, None);
+    }
+
+    /// Executes an instruction outside transactions that begins none.
+    fn execute_outside<V: Bytes>(&mut self, instr: &Instr, need: &Touches, base: &mut V) -> Done
+        requires rests { is_live (local_of self.old).attempt ≡ false }
+        requires need { need.now ≡ operands instr.now (local_of self.old).attempt.cpu }
+        requires accessible { All (IsAccessible (local_of self.old).attempt.cpu.prefix) need.now }
+        requires size { length (V.bytes base.old) ≡ storage_size }
+        ensures value { record { after = beside self.new (V.bytes base.new); told = result } ≡
+            executed_where false false instr.now need.now (beside self.old (V.bytes base.old))
+            (outcome_by (storage_of (V.bytes base.old)) instr.now need.now (local_of self.old).attempt) }
+        ensures size { length (V.bytes base.new) ≡ storage_size }
+    {
+        self.attempt.is_sound();
+        let prefix = self.image.prefix;
+        let turns = delay_after(instr, &self.image);
+        let length = length_in(line(instr.op).format);
+        let mut stored = [0; MOST_BYTES];
+        let ended = perform(
+            &self.attempt,
+            instr,
+            need,
+            &mut self.image,
+            &mut self.scratch,
+            &mut stored,
+            base,
+        );
+        store_outside(need, ended, &stored, prefix, base);
+        end_outside(&mut self.image, ended, length);
+        self.waiting = waiting_outside(self.image.prefix, length, ended, self.waiting);
+        told(self.image.state, turns)
     }
 
     /// Aborts the attempt by this cause; `at` is the address that the diagnostic block tells. Gives how many

@@ -1,0 +1,104 @@
+//! What an instruction outside transactions leaves and tells.
+ghost use Rattle.std.specs.Prelude.{◌≡◌, [], take, All, IsTrue, length};
+ghost use Rattle.z_regs.specs.Cpu.{cpu_of};
+ghost use Rattle.z_regs.specs.Prefix.{is_prefix, storage_size};
+ghost use Rattle.z_regs.specs.Absolute.{IsAccessible};
+ghost use Rattle.z_effect.specs.Interrupted.{cpu_outside};
+ghost use Rattle.tx_progress.specs.Doing.{told_of, delay_given};
+ghost use Rattle.tx_cpu.specs.Parts.{storage_of};
+ghost use Rattle.tx_cpu.specs.Performed.{outcome_from, first_size, StoresFirst};
+ghost use Rattle.tx_cpu.specs.Performed.{waiting_outside as waits_outside, storage_outside};
+
+use crate::interruption::waiting_with;
+use crate::performing::{Ended, MOST_BYTES};
+use crate::storing::put_stored;
+use tx_control::codes::{FIXED_POINT_DIVIDE, FIXED_POINT_OVERFLOW};
+use tx_progress::done::Done;
+use z_effect::{delay, exception, interrupt};
+use z_instr::instr::Instr;
+use z_instr::lookup::line;
+use z_regs::{Bytes, CpuImage, RunState, Touches, Waiting};
+
+/// The opcode of PPA.
+const ASSIST: u16 = 0xB2E8;
+
+/// How many turns the program waits after the instruction.
+pub fn delay_after(instr: &Instr, image: &CpuImage) -> u32
+    ensures { result ≡ delay_given instr.now (cpu_of image.now) }
+{
+    if line(instr.op).opcode == ASSIST {
+        delay(instr, image)
+    } else {
+        0
+    }
+}
+
+/// What is told of a CPU that an instruction has left so.
+pub fn told(state: RunState, turns: u32) -> Done
+    ensures { result ≡ told_of state turns }
+{
+    match state {
+        RunState::Interrupted(code) => Done::Interrupted(code),
+        RunState::Running | RunState::Halted => {
+            if turns > 0 {
+                Done::Paused(turns)
+            } else {
+                Done::Stepped
+            }
+        }
+    }
+}
+
+/// The CPU is interrupted where the instruction, of so many bytes, has ended by an exception.
+pub fn end_outside(image: &mut CpuImage, ended: Ended, length: u8)
+    ensures { cpu_of image.new ≡
+        cpu_outside length (cpu_of image.old) (outcome_from ended (cpu_of image.old) []) }
+{
+    match ended {
+        Ended::Completed => {}
+        Ended::Exceeded => image.state = RunState::Interrupted(FIXED_POINT_OVERFLOW),
+        Ended::Suppressed => interrupt(image, exception(FIXED_POINT_DIVIDE, length)),
+        Ended::Aborting(_) => {}
+    }
+}
+
+/// The interruption that waits then.
+pub fn waiting_outside(
+    prefix: Option<u32>,
+    length: u8,
+    ended: Ended,
+    before: Option<Waiting>,
+) -> Option<Waiting>
+    ensures { result ≡ waits_outside prefix length ended before }
+{
+    match ended {
+        Ended::Completed => before,
+        Ended::Exceeded => waiting_with(prefix, length, None),
+        Ended::Suppressed => waiting_with(prefix, length, None),
+        Ended::Aborting(_) => before,
+    }
+}
+
+/// Stores what the instruction stores; nothing where it is suppressed.
+pub fn store_outside<V: Bytes>(
+    need: &Touches,
+    ended: Ended,
+    stored: &[u8; MOST_BYTES],
+    prefix: Option<u32>,
+    base: &mut V,
+)
+    requires prefix_in { IsTrue (is_prefix prefix) }
+    requires first { StoresFirst need.now }
+    requires accessible { All (IsAccessible prefix) need.now }
+    requires size { length (V.bytes base.old) ≡ storage_size }
+    ensures value { storage_of (V.bytes base.new) ≡ storage_outside prefix need.now ended
+        (take (first_size need.now) stored.now) (storage_of (V.bytes base.old)) }
+    ensures size { length (V.bytes base.new) ≡ storage_size }
+{
+    match ended {
+        Ended::Completed => put_stored(need, stored, prefix, base),
+        Ended::Exceeded => put_stored(need, stored, prefix, base),
+        Ended::Suppressed => {}
+        Ended::Aborting(_) => {}
+    }
+}
