@@ -10,3 +10,4 @@ pub mod SmallCodes
 pub mod Agreeing
 pub mod Stored
 pub mod Completing
+pub mod Beginnings

@@ -1,7 +1,10 @@
 //! The attempt of a CPU.
 ghost use Rattle.std.specs.Prelude.{◌≡◌, ◌<◌, ◌≤◌, ◌+◌, ℕ, IfOk, nat_lt, length, is_some, unwrap_or};
 ghost use Rattle.std.specs.Prelude.{slice_index};
-ghost use Rattle.std.specs.Prelude.{true, Some};
+ghost use Rattle.std.specs.Prelude.{true, Some, []};
+ghost use Rattle.z_instr.specs.Roles.{begins as is_begun, block_named};
+ghost use Rattle.z_instr.specs.Table.{entry_at};
+ghost use Rattle.tx_progress.specs.Progress.{advanced};
 ghost use Rattle.z_regs.specs.Cpu.{Cpu};
 ghost use Rattle.z_regs.specs.Prefix.{storage_size};
 ghost use Rattle.store_cache.specs.Entries.{stores_of};
@@ -30,7 +33,10 @@ use store_cache::StoreCache;
 use tx_constraint::Constraint;
 use tx_control::{Nest, Why};
 use tx_footprint::{Footprint, Overflow};
+use z_effect::opened;
+use z_instr::format::length_in;
 use z_instr::instr::Instr;
+use z_instr::lookup::line;
 use z_regs::{Bytes, CpuImage, NoMemory, STORAGE_SIZE, Touches, place_of};
 
 /// All that is kept of an attempt but the CPU.
@@ -270,6 +276,29 @@ impl Attempt {
             return false;
         }
         are_same_constraints(&self.constraint, &other.constraint)
+    }
+
+    /// Begins an attempt by the outermost begin, which has no operands; before it the CPU was so.
+    pub fn begin(&mut self, instr: &Instr, before: &CpuImage)
+        requires rests { self.old.count ≡ 0 }
+        requires begins { is_begun (entry_at instr.now.op.number) ≡ true }
+        requires block { (a : ℕ) → block_named instr.now before.now.general ≡ Some a → a + 256 ≤ storage_size }
+        requires place { before.now.address < storage_size }
+        ensures value { (c : Cpu) → progress self.new c ≡
+            advanced instr.now [] c [] (resting (cpu_of before.now)) }
+        ensures count { self.new.count ≡ 1 }
+    {
+        let level = opened(instr, before);
+        let at = before.address;
+        self.nest.enter(level);
+        self.count = 1;
+        if level.constrained {
+            self.constraint = Some(Constraint::begin(at));
+            self.resumes_at = at;
+        } else {
+            self.constraint = None;
+            self.resumes_at = at + u64::from(length_in(line(instr.op).format));
+        }
     }
 
     /// Ends the attempt: all its stores go into storage.

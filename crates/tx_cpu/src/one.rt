@@ -1,4 +1,7 @@
 //! The CPU.
+ghost use Rattle.z_instr.specs.Roles.{begins, block_named};
+ghost use Rattle.z_instr.specs.Table.{entry_at};
+ghost use Rattle.std.specs.Prelude.{ℕ, Some, ◌+◌, ◌≤◌};
 ghost use Rattle.std.specs.Prelude.{◌≡◌, ◌<◌, ◌↔◌, IsTrue, IfOk, is_some, length, true, false, All};
 ghost use Rattle.z_regs.specs.Cpu.{cpu_of};
 ghost use Rattle.z_regs.specs.Prefix.{storage_size};
@@ -203,6 +206,37 @@ impl Cpu {
         end_outside(&mut self.image, ended, length);
         self.waiting = waiting_outside(self.image.prefix, length, ended, self.waiting);
         told(self.image.state, turns)
+    }
+
+    /// Executes the outermost begin.
+    fn execute_begin<V: Bytes>(&mut self, instr: &Instr, need: &Touches, base: &V) -> Done
+        requires rests { is_live (local_of self.old).attempt ≡ false }
+        requires begins { begins (entry_at instr.now.op.number) ≡ true }
+        requires need { need.now ≡ operands instr.now (local_of self.old).attempt.cpu }
+        requires accessible { All (IsAccessible (local_of self.old).attempt.cpu.prefix) need.now }
+        requires block { (a : ℕ) → block_named instr.now (local_of self.old).attempt.cpu.general ≡ Some a
+            → a + 256 ≤ storage_size }
+        requires place { (local_of self.old).attempt.cpu.address < storage_size }
+        requires size { length (V.bytes base.now) ≡ storage_size }
+        ensures { record { after = beside self.new (V.bytes base.now); told = result } ≡
+            executed_where false true instr.now need.now (beside self.old (V.bytes base.now))
+            (outcome_by (storage_of (V.bytes base.now)) instr.now need.now (local_of self.old).attempt) }
+    {
+        self.attempt.is_sound();
+        let before = self.image;
+        let mut stored = [0; MOST_BYTES];
+        perform(
+            &self.attempt,
+            instr,
+            need,
+            &mut self.image,
+            &mut self.scratch,
+            &mut stored,
+            base,
+        );
+        self.saved = before;
+        self.attempt.begin(instr, &before);
+        Done::Began
     }
 
     /// Aborts the attempt by this cause; `at` is the address that the diagnostic block tells. Gives how many

@@ -1,0 +1,31 @@
+-- What the outermost begin leaves and tells.
+use Rattle.std.proofs.Common.{◌≡◌, ap, ◌∙◌}
+use Rattle.std.specs.Prelude.{nat_lt, false, true, ◌||◌}
+use Rattle.std.proofs.lemmas.Bool.{or_left}
+use Rattle.z_instr.specs.Roles.{begins, is_end}
+use Rattle.z_instr.specs.Table.{entry_at}
+use Rattle.tx_progress.proofs.Rows.{role_done}
+use Rattle.tx_progress.specs.Trial.{outcome_by}
+use Rattle.tx_serial.proofs.FreeOperands.{begin_bare}
+use Rattle.tx_cpu.specs.Tracked.{progress}
+use Rattle.tx_cpu.specs.Parts.{Parts, local_of, storage_of}
+use Rattle.tx_cpu.specs.contracts.one.Cpu.{the_view}
+use Rattle.tx_cpu.proofs.Beginnings.{began-is}
+use Rattle.tx_cpu.proofs.Ends.{none_of}
+use Rattle.tx_cpu.proofs.one.Cpu.execute_begin.Goals as goal
+
+pub returns : goal.returns
+returns g c =
+    let p = the_view c.self.inside in
+    let i = c.args.instr.now in
+    let need = c.args.need.now in
+    let live : nat_lt 0 c.self.inside.attempt.count ≡ false =
+    ap (λ (q : Parts). nat_lt 0 q.attempt.count) c.self.view_is ∙ c.requires.rests in
+    let role : (begins (entry_at i.op.number) || is_end (entry_at i.op.number)) ≡ true =
+    or_left (begins (entry_at i.op.number)) (is_end (entry_at i.op.number)) c.requires.begins in
+    rw (← c.self.view_is)
+    (began-is p i need
+    (outcome_by (storage_of (g.V.Bytes.bytes c.args.base.now)) i need (progress p.attempt p.image)) _ _ _
+    (role_done i p.image _ _ role) live (c.is_sound.ensures.rests (none_of _ live))
+    (c.requires.need ∙ begin_bare i (local_of c.args.self.now).attempt.cpu c.requires.begins)
+    c.perform.ensures.image c.begin.ensures.value c.begin.ensures.count)
