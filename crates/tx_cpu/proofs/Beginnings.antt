@@ -1,8 +1,7 @@
 -- What is kept of a CPU after an outermost begin.
 use Rattle.std.proofs.Common.{◌≡◌, ℕ, ◌+◌, Bool, true, false, List, [], ◌∷◌, ◌++◌, Option, Some, None, refl}
 use Rattle.std.proofs.Common.{sym, ap, ◌∙◌, take}
-use Rattle.std.specs.Prelude.{if◌then◌else◌, nat_lt, ◌-◌, ◌||◌}
-use Rattle.std.proofs.lemmas.Bool.{or_left}
+use Rattle.std.specs.Prelude.{if◌then◌else◌, nat_lt, ◌-◌}
 use Rattle.z_regs.specs.Cpu.{Cpu}
 use Rattle.z_regs.specs.declared.ranges.Range.{Range}
 use Rattle.z_instr.specs.declared.instr.Instr.{Instr}
@@ -10,19 +9,18 @@ use Rattle.z_instr.specs.Table.{entry_at}
 use Rattle.z_instr.specs.Roles.{begins, is_end}
 use Rattle.z_effect.specs.After.{cpu_after}
 use Rattle.z_effect.specs.Beginning.{begin_of}
-use Rattle.z_effect.specs.One.{length_of, one}
+use Rattle.z_effect.specs.One.{length_of}
 use Rattle.z_effect.specs.Outcome.{Outcome, Did}
 use Rattle.tx_control.specs.declared.begins.Begin.{Begin}
 use Rattle.tx_constraint.specs.Kept.{Kept, kept_at}
-use Rattle.tx_footprint.specs.Touched.{Sets, sets_of, untouched, touching}
-use Rattle.store_cache.specs.Overlay.{Overlay, Store, nothing}
+use Rattle.store_cache.specs.Overlay.{Store, nothing}
 use Rattle.store_cache.specs.Stores.{Stores, lasting_bytes}
 use Rattle.store_cache.specs.Entries.{stores_of}
 use Rattle.store_cache.proofs.Overlays.{lasting_bytes-nothing}
 use Rattle.tx_serial.specs.Run.{lasting_of}
 use Rattle.tx_progress.proofs.Rows.{IsDone}
-use Rattle.tx_progress.specs.Progress.{Progress, advanced, resting, begins_constrained, laying}
-use Rattle.tx_progress.specs.Doing.{Executed, opened, executed_where}
+use Rattle.tx_progress.specs.Progress.{advanced, resting, begins_constrained, laying}
+use Rattle.tx_progress.specs.Doing.{Executed, executed_where}
 use Rattle.tx_progress.specs.declared.done.Done.TheVariants as done
 use Rattle.tx_cpu.specs.Tracked.{Tracked, IsAtRest, progress}
 use Rattle.tx_cpu.specs.Parts.{Parts, local_of, beside, storage_of}

@@ -1,6 +1,6 @@
 -- Only the first operand of an instruction is ever stored into, and its new bytes are found there.
 use Rattle.std.proofs.Common.{◌≡◌, ℕ, zero, suc, ◌+◌, ◌≤◌, Bool, true, false, List, [], ◌∷◌, ◌++◌, Option}
-use Rattle.std.proofs.Common.{Some, None, refl, sym, ap, subst, ◌∙◌, arith, length, take, drop, length-append}
+use Rattle.std.proofs.Common.{Some, None, refl, sym, ap, subst, ◌∙◌, arith, length, take, drop}
 use Rattle.std.specs.Prelude.{cond, map, All, slice_get}
 use Rattle.std.proofs.lemmas.List.{length-take-le, append_assoc, append-nil}
 use Rattle.std.proofs.lemmas.List.Elements.{All-head}
@@ -15,7 +15,7 @@ use Rattle.z_instr.specs.declared.operand.Operands.TheVariants.{StoredAndFetched
 use Rattle.z_instr.specs.Operands.{Span, span, spans_in, selects, first_address}
 use Rattle.z_instr.specs.Table.{entry_at}
 use Rattle.z_touch.specs.Refusals.{span_of, range_of}
-use Rattle.z_effect.specs.After.{AreInside, written, with_stored, range_at, touched, cpu_after, storage_after}
+use Rattle.z_effect.specs.After.{AreInside, written, with_stored, range_at, touched}
 use Rattle.z_effect.specs.Outcome.{Outcome, Did, Overflowed, Divides, Aborts}
 use Rattle.z_effect.specs.declared.kind.Kind.{Kind}
 use Rattle.z_effect.specs.declared.kind.Kind.TheVariants as kind
@@ -37,7 +37,7 @@ use Rattle.tx_cpu.specs.Parts.{storage_of}
 use Rattle.tx_cpu.proofs.Fetching.{taken-at}
 use Rattle.tx_cpu.specs.declared.performing.Ended.{Ended}
 use Rattle.tx_cpu.specs.declared.performing.Ended.TheVariants as ended
-use Rattle.tx_cpu.specs.Performed.{ended_of, IsLeft, trimmed, outcome_from, first_size, first_bytes}
+use Rattle.tx_cpu.specs.Performed.{IsLeft, trimmed, outcome_from, first_size, first_bytes}
 use Rattle.tx_cpu.specs.Performed.{transaction_in, is_transaction, lasting_size, StoresNone, StoresFirst}
 
 -- ---- only the first operand

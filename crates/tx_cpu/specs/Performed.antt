@@ -95,7 +95,6 @@ abbrev pub StoresFirst : List Range → Type 0
 StoresFirst [] = Unit {0}
 StoresFirst (r ∷ rs) = StoresNone rs
 
-
 -- ---- outside transactions
 
 -- the interruption that waits after an instruction of n bytes that has ended so

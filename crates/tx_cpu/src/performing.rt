@@ -197,7 +197,12 @@ fn copy_stored(need: &Touches, scratch: &Storage, stored: &mut [u8; MOST_BYTES])
     }
     let first = need.at(0);
     if first.store {
-        get_all(&mut stored[..first.length as usize], first.first, None, scratch);
+        get_all(
+            &mut stored[..first.length as usize],
+            first.first,
+            None,
+            scratch,
+        );
     }
 }
 
