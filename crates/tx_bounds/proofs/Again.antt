@@ -25,10 +25,10 @@ use Rattle.tx_serial.proofs.Frame.{fate_alike}
 use Rattle.tx_serial.proofs.Passing.{passes, goes_where_passes}
 use Rattle.tx_serial.proofs.FreeOperands.{begin_bare}
 
-abbrev IsConstrainedBegin : Instr → Type 0
+abbrev pub IsConstrainedBegin : Instr → Type 0
 IsConstrainedBegin i = (entry_at i.op.number).demand ≡ BeginConstrained
 
-is_begin : (i : Instr) → IsConstrainedBegin i → begins (entry_at i.op.number) ≡ true
+pub is_begin : (i : Instr) → IsConstrainedBegin i → begins (entry_at i.op.number) ≡ true
 is_begin i e = ap (λ d. begins (record (entry_at i.op.number) { demand = d })) e
 
 none_of : (ss : List Span) → map range_of ss ≡ [] → ss ≡ []

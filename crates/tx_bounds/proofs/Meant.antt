@@ -12,10 +12,10 @@ use Rattle.tx_keeping.proofs.Events.{keeping_is, keeping_good}
 use Rattle.tx_bounds.proofs.Stopping.{Stopping, counted_same}
 use Rattle.tx_bounds.proofs.Stopped.{between, some_stop}
 
-abbrev StopsAt : Setting → State → Type 0
+abbrev pub StopsAt : Setting → State → Type 0
 StopsAt m s = Stopping m.image.parms.stop (hits m.image s.history) s.queue (is_live s)
 
-kept_stops : (m : Setting) (events : List Event) → IsSetting m → AreKnown m events
+pub kept_stops : (m : Setting) (events : List Event) → IsSetting m → AreKnown m events
     → StopsAt m (keeping m events).state
 kept_stops m events s known =
     let k = keeping m events in

@@ -321,11 +321,13 @@ module _ (m : Setting) (i : ℕ) where
 
   walked : 0 < stop → Walk m i (During m i) (Refused m i) (Between m)
   walked some = record {
-    asks = λ k d. still k (k_asking i k) refl (λ x. refl) (λ x. refl) (same_live i _ k.state refl) d;
-    holds = λ k held d.
-        still k (with_state (record k.state { held = held }) k) refl (λ x. refl) (λ x. refl) (λ x h. h) d;
-    rejects = λ k j other live head d. rejected_after k j head d;
-    aborts = λ k j line stored at other live d. holder_aborted_by k j line stored at other live d;
+    asking = record {
+      asks = λ k d. still k (k_asking i k) refl (λ x. refl) (λ x. refl) (same_live i _ k.state refl) d;
+      holds = λ k held d.
+          still k (with_state (record k.state { held = held }) k) refl (λ x. refl) (λ x. refl) (λ x h. h) d;
+      rejects = λ k j other live head d. rejected_after k j head d;
+      aborts = λ k j line stored at other live d. holder_aborted_by k j line stored at other live d;
+    };
     refused = λ k r. over k k refl (λ x. refl) (λ x. refl) (λ x h. inl h) r.during;
     starved = λ k at live r. starved_after k at r;
     nothing = λ k d. over k k refl (λ x. refl) (λ x. refl) (λ x h. inl h) d;

@@ -208,14 +208,18 @@ executed_own i ranges b = where_told_own _ _ i ranges b (outcome_by b.storage i 
 
 -- ---- what is kept
 
--- in a turn of a CPU: P holds while it asks, Q behind a reject, and F at the end
-pub record Walk (m : Setting) (i : ℕ) (P Q F : Kept → Type 0) : Type 0 where
+-- while a CPU asks, P holds, and Q behind a reject
+pub record Asks (i : ℕ) (P Q : Kept → Type 0) : Type 0 where
   pub asks : (k : Kept) → P k → P (k_asking i k)
   pub holds : (k : Kept) (held : Holders) → P k → P (with_state (record k.state { held = held }) k)
   pub rejects : (k : Kept) (j : ℕ) → j ≢ i → is_live k.state j ≡ true → is_head k.state i ≡ false → P k
       → Q (k_rejected i (k_rejecting j k))
   pub aborts : (k : Kept) (j line : ℕ) (stored : Bool) (at : ℕ) → j ≢ i → is_live k.state j ≡ true → P k
       → P (k_aborting j (conflict_on stored line) at k)
+
+-- in a turn of a CPU: P holds while it asks, Q behind a reject, and F at the end
+pub record Walk (m : Setting) (i : ℕ) (P Q F : Kept → Type 0) : Type 0 where
+  pub asking : Asks i P Q
   pub refused : (k : Kept) → Q k → F k
   pub starved : (k : Kept) (at : ℕ) → is_live k.state i ≡ true → Q k → F (k_aborting i Starved at k)
   pub nothing : (k : Kept) → P k → F k
@@ -235,11 +239,11 @@ pub record Walk (m : Setting) (i : ℕ) (P Q F : Kept → Type 0) : Type 0 where
 
 -- ---- questions
 
-abbrev Behind : (Kept → Type 0) → (Kept → Type 0) → Option Reject → Kept → Type 0
+abbrev pub Behind : (Kept → Type 0) → (Kept → Type 0) → Option Reject → Kept → Type 0
 Behind P Q None k = P k
 Behind P Q (Some r) k = Q k
 
-abbrev IsBehind : (Kept → Type 0) → (Kept → Type 0) → KAsked → Type 0
+abbrev pub IsBehind : (Kept → Type 0) → (Kept → Type 0) → KAsked → Type 0
 IsBehind P Q a = Behind P Q a.reject a.kept
 
 and_then : (P Q : Kept → Type 0) (o : Option Reject) (k : Kept) (next : Kept → KAsked) → Behind P Q o k
@@ -251,7 +255,7 @@ abbrev AreOthers : ℕ → List ℕ → Type 0
 AreOthers i [] = Unit {0}
 AreOthers i (j ∷ rest) = (j ≢ i) × AreOthers i rest
 
-module _ (m : Setting) (i : ℕ) (P Q F : Kept → Type 0) (w : Walk m i P Q F) where
+module _ (m : Setting) (i : ℕ) (P Q : Kept → Type 0) (w : Asks i P Q) where
   one_asked : (need : Need) (j : ℕ) (k : Kept) → j ≢ i → P k → IsBehind P Q (k_ask_one i need j k)
   unfolding k_ask_one k_reply
   one_asked need j k other p =
@@ -315,7 +319,7 @@ module _ (m : Setting) (i : ℕ) (P Q F : Kept → Type 0) (w : Walk m i P Q F) 
   unfolding k_get_line
   line_got needs need k p = line_taken (is_there need.mode (k.state.held i need.line)) needs need k p
 
-  lines_got : (needs rest : List Need) (k : Kept) → P k → IsBehind P Q (k_get_each m i needs rest k)
+  pub lines_got : (needs rest : List Need) (k : Kept) → P k → IsBehind P Q (k_get_each m i needs rest k)
   unfolding k_get_each
   lines_got needs [] k p = p
   lines_got needs (need ∷ rest) k p =
@@ -323,8 +327,9 @@ module _ (m : Setting) (i : ℕ) (P Q F : Kept → Type 0) (w : Walk m i P Q F) 
       and_then P Q a.reject a.kept (k_get_each m i needs rest) (line_got needs need k p)
       (λ t q. lines_got needs rest t q)
 
-  -- ---- what the turn does
+-- ---- what the turn does
 
+module _ (m : Setting) (i : ℕ) (P Q F : Kept → Type 0) (w : Walk m i P Q F) where
   turned_away : (starved live : Bool) (r : Reject) (k : Kept) → is_live k.state i ≡ live → Q k
       → F (k_refused_turn (live && starved) i r k).kept
   unfolding k_ends_by
@@ -341,7 +346,7 @@ module _ (m : Setting) (i : ℕ) (P Q F : Kept → Type 0) (w : Walk m i P Q F) 
       → ((t : Kept) → P t → F (next t).kept) → F (k_with_lines m i needs k next).kept
   lines_then needs k next p go =
       let a = k_get_lines m i needs k in
-      given_then a.reject a.kept next (lines_got needs needs k p) go
+      given_then a.reject a.kept next (lines_got m i P Q w.asking needs needs k p) go
 
   inside_told : (at : ℕ) (after : Beside) (k : Kept) (told : Done) → ToldOwn told → is_live k.state i ≡ true
       → P k → F (k_inside i at after k told).kept

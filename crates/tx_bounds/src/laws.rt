@@ -7,6 +7,8 @@ ghost use Rattle.tx_meaning.specs.Hits.{hits};
 ghost use Rattle.tx_meaning.specs.Limits.{Setting};
 ghost use Rattle.tx_meaning.specs.Meaning.{IsSetting, meaning};
 ghost use Rattle.tx_meaning.specs.State.{is_live, is_head};
+ghost use Rattle.tx_meaning.specs.Stretches.{stretch_of};
+ghost use Rattle.tx_bounds.specs.Stretches.{IsUnderWay};
 ghost use Rattle.tx_serial.specs.Alike.{AgreeInText};
 ghost use Rattle.tx_serial.specs.Attempt.{at_rest};
 ghost use Rattle.tx_serial.specs.Fate.{Goes, fate};
@@ -43,4 +45,16 @@ pub fn a_constrained_begin_goes_again()
         → (entry_at i.op.number).demand ≡ BeginConstrained → d.prefix ≡ c.prefix → d.address ≡ c.address
         → AgreeInText c.prefix text s t → fate text (at_rest s c) ≡ Goes i ranges
         → fate text (at_rest t d) ≡ Goes i [] }
+{}
+
+/// While a stretch of a CPU is open, from the start of its first constrained attempt to the commit or the program
+/// interruption that ends the transaction, the CPU is in the middle of a constrained transaction, whatever aborts
+/// its attempts. Nothing is left to be done before its next instruction; between attempts that is the begin, which
+/// goes. A live attempt is constrained and not nested, waits no turns, has completed from 1 to 33 instructions, and
+/// fewer of its requests were rejected than would starve it. The CPU is in the stop queue exactly where it has as
+/// many conflict aborts as lead there; then it waits no turns, and has a live attempt only as the head. Otherwise it
+/// waits no longer than its conflict aborts ask.
+pub fn an_open_stretch_is_a_transaction_under_way()
+    ensures { (m : Setting) (events : List Event) (i : ℕ) → IsSetting m → AreKnown m events
+        → (stretch_of m events i).is_open ≡ true → IsUnderWay m (meaning m events) i }
 {}

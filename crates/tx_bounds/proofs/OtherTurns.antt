@@ -1,0 +1,290 @@
+-- What aborts, turns of other CPUs and interruptions of them leave of a CPU in the middle of a constrained
+-- transaction.
+use Rattle.std.proofs.Common.{◌≡◌, ◌≢◌, ℕ, Bool, true, false}
+use Rattle.std.proofs.Common.{refl, sym, ap, ◌∙◌, subst}
+use Rattle.std.specs.Prelude.{if◌then◌else◌}
+use Rattle.std.proofs.lemmas.Bool.{true≢false, cases_eq}
+use borrow.Enum.Arm.{by_way}
+use Rattle.tx_control.specs.declared.causes.Why.{Why}
+use Rattle.tx_control.specs.declared.causes.Why.TheVariants.{External, Program}
+use Rattle.tx_ladder.specs.Rungs.{Standing, rejecting, descended}
+use Rattle.tx_serial.specs.Flat.{at_put}
+use Rattle.tx_progress.specs.Local.{Local, left_behind, aborted}
+use Rattle.tx_meaning.specs.Limits.{Setting}
+use Rattle.tx_meaning.specs.State.{Numbers, State, is_live}
+use Rattle.tx_meaning.specs.Stretches.{is_end_by}
+use Rattle.tx_meaning.specs.Changes.{with_numbers, without_attempt, aborting}
+use Rattle.tx_meaning.proofs.Walk.{at_put_case, at_put_kept, cause_case, conflict_on}
+use Rattle.tx_keeping.specs.Kept.{Kept}
+use Rattle.tx_keeping.specs.Moves.{standing_after, k_aborting, k_rejecting, k_rejected}
+use Rattle.tx_keeping.specs.Turn.{k_external, k_interrupting, k_turn, next_address}
+use Rattle.tx_bounds.proofs.Resuming.{Leads}
+use Rattle.tx_bounds.proofs.UnderWay.{HoldsOf, HoldsOfBelow, Amid, SameStanding, holds_same, holds_quiet}
+use Rattle.tx_bounds.proofs.UnderWay.{amid_same, amid_left, abort_rung, put_here, lives}
+use Rattle.tx_bounds.proofs.Walk.{Walk, in_a_turn}
+
+pub put_other : {A : Type 0} (table : ℕ → A) (i : ℕ) (v : A) (c : ℕ) → c ≢ i → at_put table i v c ≡ table c
+put_other {A} table i v c ne =
+    at_put_case (λ (x : A). x ≡ table c) table i v c (λ e. absurd (ne e)) (λ _. refl)
+
+-- ---- an abort of the CPU's own attempt
+
+pub parms_always_by : (b : Bool) (st : Standing) → (if b then descended st else st).parms ≡ st.parms
+parms_always_by true st = refl
+parms_always_by false st = refl
+
+pub parms_always : (w : Why) (st : Standing) → (standing_after w st).parms ≡ st.parms
+parms_always (Program e) st = parms_always_by st.constrained st
+parms_always w st = refl
+
+pub aborted_number : {B : Type 0} (f : Numbers → B) (i : ℕ) (st : Standing) (n : ℕ) (w : Why) (s : State)
+    → ((v : Numbers) (d : ℕ) → f (record v { delay = d }) ≡ f v)
+    → f ((aborting i st n w s).numbers i) ≡ f (record (s.numbers i) { completed = 0 })
+unfolding aborting
+aborted_number f i st n w s still =
+    let t = without_attempt i s in
+    let here : f (t.numbers i) ≡ f (record (s.numbers i) { completed = 0 }) =
+    ap f (put_here s.numbers i (record (s.numbers i) { completed = 0 })) in
+    cause_case (λ r. f (r.numbers i) ≡ f (record (s.numbers i) { completed = 0 })) i st w t here
+    (λ d. ap f (put_here t.numbers i (record (t.numbers i) { delay = d })) ∙ still (t.numbers i) d ∙ here)
+    here here
+
+module _ (m : Setting) (c : ℕ) (k : Kept) (w : Why) (at : ℕ) where
+  pub aborted_completed : ((k_aborting c w at k).state.numbers c).completed ≡ 0
+  unfolding k_aborting
+  aborted_completed = aborted_number (λ (v : Numbers). v.completed) c (k.standings c) _ w k.state (λ v d. refl)
+
+  pub aborted_attempts : ((k_aborting c w at k).state.numbers c).attempts ≡ (k.state.numbers c).attempts
+  unfolding k_aborting
+  aborted_attempts = aborted_number (λ (v : Numbers). v.attempts) c (k.standings c) _ w k.state (λ v d. refl)
+
+  pub aborted_dead : is_live (k_aborting c w at k).state c ≡ false
+  aborted_dead = ap lives aborted_completed
+
+  aborted_standing : (k_aborting c w at k).standings c ≡ standing_after w (k.standings c)
+  unfolding k_aborting
+  aborted_standing = put_here k.standings c (standing_after w (k.standings c))
+
+  aborted_local : (k_aborting c w at k).locals c ≡ left_behind (k.locals c).cpu (k.locals c).attempt w at
+  unfolding k_aborting aborted
+  aborted_local = put_here k.locals c (left_behind (k.locals c).cpu (k.locals c).attempt w at)
+
+  pub aborted_quiet : (most : ℕ) (busy : Bool) → HoldsOfBelow m most busy c k → HoldsOf m false c (k_aborting c w at k)
+  aborted_quiet most busy h =
+      let t = k_aborting c w at k in
+      holds_quiet m (t.state.numbers c).completed (t.state.numbers c).delay (t.standings c) (t.locals c)
+      (ap (λ (s : Standing). s.parms) aborted_standing ∙ parms_always w (k.standings c) ∙ h.parms) aborted_dead
+
+  aborted_rung : is_end_by w ≡ false → Amid m (k.state.numbers c).completed (k.state.numbers c).delay
+      (k.standings c) (k.locals c) → is_live k.state c ≡ true → (k.state.numbers c).delay ≡ 0
+      → (k.standings c).parms ≡ m.image.parms → Leads (k.locals c)
+      → Amid m 0 ((k_aborting c w at k).state.numbers c).delay (standing_after w (k.standings c))
+      (left_behind (k.locals c).cpu (k.locals c).attempt w at)
+  unfolding k_aborting
+  aborted_rung goes_on h live none parms leads =
+      amid_left m (k.locals c) w at leads goes_on (k.state.numbers c).completed (k.state.numbers c).delay
+      ((k_aborting c w at k).state.numbers c).delay (k.standings c) (standing_after w (k.standings c)) refl live
+      none parms h (abort_rung c (k.standings c) _ w k.state goes_on)
+
+  pub aborted_amid : (most : ℕ) (busy : Bool) → is_end_by w ≡ false → is_live k.state c ≡ true → Leads (k.locals c)
+      → HoldsOfBelow m most busy c k → busy ≡ true
+      → Amid m ((k_aborting c w at k).state.numbers c).completed ((k_aborting c w at k).state.numbers c).delay
+      ((k_aborting c w at k).standings c) ((k_aborting c w at k).locals c)
+  aborted_amid most busy goes_on live leads h is =
+      let t = k_aborting c w at k in
+      let l = left_behind (k.locals c).cpu (k.locals c).attempt w at in
+      amid_same m 0 (t.state.numbers c).delay (t.state.numbers c).completed (t.state.numbers c).delay
+      (standing_after w (k.standings c)) (t.standings c) l (t.locals c) (ap lives aborted_completed) refl
+      (ap (λ (s : Standing). s.aborts) aborted_standing) (ap (λ (s : Standing). s.constrained) aborted_standing)
+      (record {
+        cpu = ap (λ (x : Local). x.cpu) aborted_local;
+        pending = ap (λ (x : Local). x.pending) aborted_local;
+        waiting = ap (λ (x : Local). x.waiting) aborted_local;
+      })
+      (aborted_rung goes_on (h.amid is) live (h.rests live) h.parms leads)
+
+  pub aborted_holds : (most : ℕ) (busy : Bool) → is_end_by w ≡ false → is_live k.state c ≡ true
+      → ((k.standings c).constrained ≡ true → Leads (k.locals c)) → HoldsOfBelow m most busy c k
+      → HoldsOf m busy c (k_aborting c w at k)
+  aborted_holds most busy goes_on live leads h =
+      let t = k_aborting c w at k in
+      let quiet = aborted_quiet most busy h in
+      record {
+        parms = quiet.parms;
+        rests = quiet.rests;
+        fewer = quiet.fewer;
+        amid = λ is. aborted_amid most busy goes_on live (leads ((h.amid is).kind live)) h is;
+      }
+
+-- ---- what other CPUs do
+
+-- what is kept of the CPU, where an abort would lead, and how many attempts it has started
+pub record Kept_at (m : Setting) (busy : Bool) (c attempts : ℕ) (k : Kept) : Type 0 where
+  pub holds : HoldsOf m busy c k
+  pub well : is_live k.state c ≡ true → (k.standings c).constrained ≡ true → Leads (k.locals c)
+  pub started : (k.state.numbers c).attempts ≡ attempts
+
+pub record SameAt (c : ℕ) (k t : Kept) : Type 0 where
+  pub completed : (t.state.numbers c).completed ≡ (k.state.numbers c).completed
+  pub delay : (t.state.numbers c).delay ≡ (k.state.numbers c).delay
+  pub started : (t.state.numbers c).attempts ≡ (k.state.numbers c).attempts
+  pub standing : SameStanding (k.standings c) (t.standings c)
+  pub local : t.locals c ≡ k.locals c
+
+module _ (m : Setting) (busy : Bool) (c attempts : ℕ) where
+  pub same_holds : (k t : Kept) → SameAt c k t → HoldsOf m busy c k → HoldsOf m busy c t
+  same_holds k t s h =
+      holds_same m busy (k.state.numbers c).completed (k.state.numbers c).delay (t.state.numbers c).completed
+      (t.state.numbers c).delay (k.standings c) (t.standings c) (k.locals c) (t.locals c)
+      (ap lives s.completed) s.delay s.standing
+      (record {
+        cpu = ap (λ (x : Local). x.cpu) s.local;
+        pending = ap (λ (x : Local). x.pending) s.local;
+        waiting = ap (λ (x : Local). x.waiting) s.local;
+      }) h
+
+  pub same_kept : (k t : Kept) → SameAt c k t → Kept_at m busy c attempts k → Kept_at m busy c attempts t
+  same_kept k t s p = record {
+    holds = same_holds k t s p.holds;
+    well = λ live kind.
+        subst Leads (sym s.local)
+        (p.well (sym (ap lives s.completed) ∙ live) (sym s.standing.constrained ∙ kind));
+    started = s.started ∙ p.started;
+  }
+
+pub same_parts : (c : ℕ) (k t : Kept) → t.state.numbers c ≡ k.state.numbers c
+    → t.standings c ≡ k.standings c → t.locals c ≡ k.locals c → SameAt c k t
+same_parts c k t numbers standing local = record {
+  completed = ap (λ (n : Numbers). n.completed) numbers;
+  delay = ap (λ (n : Numbers). n.delay) numbers;
+  started = ap (λ (n : Numbers). n.attempts) numbers;
+  standing = record {
+    parms = ap (λ (s : Standing). s.parms) standing;
+    aborts = ap (λ (s : Standing). s.aborts) standing;
+    constrained = ap (λ (s : Standing). s.constrained) standing;
+    refused = ap (λ (s : Standing). s.requests_rejected) standing;
+  };
+  local = local;
+}
+
+-- a conflict does not end a transaction
+pub goes_on_behind : (stored : Bool) (line : ℕ) → is_end_by (conflict_on stored line) ≡ false
+goes_on_behind true line = refl
+goes_on_behind false line = refl
+
+module _ (m : Setting) (busy : Bool) (c attempts i : ℕ) (other : c ≢ i) where
+  abbrev P : Kept → Type 0
+  P = Kept_at m busy c attempts
+
+  numbers_elsewhere : (v : Numbers) (s : State) → (with_numbers i v s).numbers c ≡ s.numbers c
+  numbers_elsewhere v s = put_other s.numbers i v c other
+
+  pub aborted_elsewhere : (j : ℕ) (w : Why) (at : ℕ) (k : Kept) → c ≢ j → SameAt c k (k_aborting j w at k)
+  unfolding k_aborting aborting
+  aborted_elsewhere j w at k ne =
+      let s = k.state in
+      let t = without_attempt j s in
+      let here : t.numbers c ≡ s.numbers c = put_other s.numbers j (record (s.numbers j) { completed = 0 }) c ne
+      in
+      same_parts c k (k_aborting j w at k)
+      (cause_case (λ r. r.numbers c ≡ s.numbers c) j (k.standings j) w t here
+      (λ d. put_other t.numbers j (record (t.numbers j) { delay = d }) c ne ∙ here) here here)
+      (put_other k.standings j _ c ne) (put_other k.locals j _ c ne)
+
+  aborted_here : (j : ℕ) (w : Why) (at : ℕ) (k : Kept) → is_end_by w ≡ false → j ≡ c → is_live k.state j ≡ true
+      → P k → P (k_aborting j w at k)
+  aborted_here j w at k goes_on e live p =
+      let lives_here : is_live k.state c ≡ true = ap (is_live k.state) (sym e) ∙ live in
+      subst (λ x. P (k_aborting x w at k)) (sym e) (record {
+        holds = aborted_holds m c k w at m.image.parms.starve busy goes_on lives_here (p.well lives_here) p.holds;
+        well = λ x. absurd (true≢false (sym x ∙ aborted_dead m c k w at));
+        started = aborted_attempts m c k w at ∙ p.started;
+      })
+
+  holder_aborted : (k : Kept) (j line : ℕ) (stored : Bool) (at : ℕ) → is_live k.state j ≡ true → P k
+      → P (k_aborting j (conflict_on stored line) at k)
+  holder_aborted k j line stored at live p =
+      by_way (cases_eq j c)
+      (λ e. aborted_here j (conflict_on stored line) at k (goes_on_behind stored line) e live p)
+      (λ ne. same_kept m busy c attempts k _ (aborted_elsewhere j (conflict_on stored line) at k
+      (λ e. ne (sym e))) p)
+
+  rejected_number : {B : Type 0} (f : Numbers → B) (k : Kept) (j : ℕ)
+      → ((v : Numbers) (g : ℕ) → f (record v { given = g }) ≡ f v)
+      → f ((k_rejected i (k_rejecting j k)).state.numbers c) ≡ f (k.state.numbers c)
+  rejected_number f k j still =
+      ap f (put_other (k_rejecting j k).state.numbers i _ c other)
+      ∙ at_put_kept f k.state.numbers j _ (still (k.state.numbers j) _) c
+
+  rejected_standing : {B : Type 0} (f : Standing → B) (k : Kept) (j : ℕ)
+      → f (rejecting (k.standings j)) ≡ f (k.standings j)
+      → f ((k_rejected i (k_rejecting j k)).standings c) ≡ f (k.standings c)
+  rejected_standing f k j still =
+      ap f (put_other (k_rejecting j k).standings i _ c other)
+      ∙ at_put_kept f k.standings j (rejecting (k.standings j)) still c
+
+  rejected_elsewhere : (k : Kept) (j : ℕ) → SameAt c k (k_rejected i (k_rejecting j k))
+  rejected_elsewhere k j = record {
+    completed = rejected_number (λ (v : Numbers). v.completed) k j (λ v g. refl);
+    delay = rejected_number (λ (v : Numbers). v.delay) k j (λ v g. refl);
+    started = rejected_number (λ (v : Numbers). v.attempts) k j (λ v g. refl);
+    standing = record {
+      parms = rejected_standing (λ (s : Standing). s.parms) k j refl;
+      aborts = rejected_standing (λ (s : Standing). s.aborts) k j refl;
+      constrained = rejected_standing (λ (s : Standing). s.constrained) k j refl;
+      refused = rejected_standing (λ (s : Standing). s.requests_rejected) k j refl;
+    };
+    local = refl;
+  }
+
+  -- tables that change at the other CPU alone
+  elsewhere : (k t : Kept) → t.state.numbers c ≡ k.state.numbers c → t.standings c ≡ k.standings c
+      → t.locals c ≡ k.locals c → P k → P t
+  elsewhere k t numbers standing local p =
+      same_kept m busy c attempts k t (same_parts c k t numbers standing local) p
+
+  interrupted_by : (k : Kept) (live : Bool) → P k → P (k_interrupting live i k).kept
+  interrupted_by k true p =
+      let u = k_aborting i External (next_address k i) k in
+      let q = same_kept m busy c attempts k u (aborted_elsewhere i External (next_address k i) k other) p in
+      elsewhere u (k_interrupting true i k).kept refl refl refl q
+  interrupted_by k false p = elsewhere k _ refl refl refl p
+
+  pub interrupted_elsewhere : (k : Kept) → P k → P (k_external i k).kept
+  unfolding k_external
+  interrupted_elsewhere k p = interrupted_by k (is_live k.state i) p
+
+  walked : Walk m i P P P
+  walked = record {
+    asking = record {
+      asks = λ k p. elsewhere k _ (numbers_elsewhere _ k.state) refl refl p;
+      holds = λ k held p. elsewhere k _ refl refl refl p;
+      rejects = λ k j ne live head p. same_kept m busy c attempts k _ (rejected_elsewhere k j) p;
+      aborts = λ k j line stored at ne live p. holder_aborted k j line stored at live p;
+    };
+    refused = λ k p. p;
+    starved = λ k at live p. same_kept m busy c attempts k _ (aborted_elsewhere i _ at k other) p;
+    nothing = λ k p. p;
+    leaves = λ k after p. elsewhere k _ refl refl (put_other k.locals i _ c other) p;
+    ends = λ k w at own p. same_kept m busy c attempts k _ (aborted_elsewhere i w at k other) p;
+    steps = λ k after p. elsewhere k _ refl refl (put_other k.locals i _ c other) p;
+    pauses = λ k after turns p.
+        elsewhere k _ (numbers_elsewhere _ k.state) refl (put_other k.locals i _ c other) p;
+    stores = λ k p. elsewhere k _ refl refl (put_other k.locals i _ c other) p;
+    takes = λ k p. elsewhere k _ refl refl (put_other k.locals i _ c other) p;
+    starts = λ k after live p.
+        elsewhere k _ (numbers_elsewhere _ k.state) (put_other k.standings i _ c other)
+        (put_other k.locals i _ c other) p;
+    continues = λ k after live p.
+        elsewhere k _ (numbers_elsewhere _ k.state) refl (put_other k.locals i _ c other) p;
+    commits = λ k n after live p.
+        elsewhere k _ (numbers_elsewhere _ k.state) (put_other k.standings i _ c other)
+        (put_other k.locals i _ c other) p;
+    waits = λ k p. elsewhere k _ (numbers_elsewhere _ k.state) refl refl p;
+    interrupted = λ k p. interrupted_elsewhere k p;
+  }
+
+  pub other_turn : (k : Kept) → P k → P (k_turn m i k).kept
+  other_turn k p =
+      in_a_turn m i P P P walked k (λ o e. p)
+      (λ e. elsewhere k _ (numbers_elsewhere _ k.state) refl refl p)

@@ -1,0 +1,331 @@
+-- A CPU's own turn, and an interruption of it, in the middle of a constrained transaction or outside one.
+use Rattle.std.proofs.Common.{◌≡◌, ◌≢◌, ℕ, ◌+◌, ◌<◌, ◌≤◌, Bool, true, false, List, [], ◌∷◌, ◌++◌, length, drop}
+use Rattle.std.proofs.Common.{Option, Some, None, refl, sym, ap, ◌∙◌, subst, arith, inl, inr, length-append}
+use Rattle.std.specs.Prelude.{◌⊎◌, if◌then◌else◌, nat_lt, min, ◌-◌, ◌^◌, ◌&&◌, ◌||◌, ◌==◌}
+use Rattle.std.specs.List.{list_any}
+use Rattle.std.proofs.lemmas.Bool.{true≢false, ltb-true, or_left, or_right, eq-eqb, and_from, eqb-false}
+use Rattle.std.proofs.lemmas.List.{drop-append-le}
+use Rattle.std.proofs.lemmas.List.Folds.{list_any-append}
+use Rattle.tx_control.specs.declared.causes.Why.{Why}
+use Rattle.tx_control.specs.declared.causes.Why.TheVariants.{Starved}
+use Rattle.tx_ladder.specs.Rungs.{Standing, rejected, is_starved}
+use Rattle.tx_journal.specs.declared.entries.Entry.{Entry}
+use Rattle.tx_journal.specs.declared.entries.Entry.TheVariants.{Abort}
+use Rattle.tx_progress.specs.Local.{Local}
+use Rattle.tx_progress.specs.Progress.{Progress, advanced}
+use Rattle.tx_progress.specs.Progress as progress
+use Rattle.tx_meaning.specs.declared.asking.Need.{Need}
+use Rattle.tx_meaning.specs.declared.asking.Reject.{Reject}
+use Rattle.tx_meaning.specs.Limits.{Setting}
+use Rattle.tx_meaning.specs.State.{Numbers, State, is_live}
+use Rattle.tx_meaning.specs.Stretches.{is_end_by, is_end_of, ends_transaction}
+use Rattle.tx_meaning.specs.Changes.{with_numbers, without_attempt, aborting}
+use Rattle.tx_meaning.proofs.Walk.{at_put_kept, cause_case}
+use Rattle.tx_keeping.specs.Kept.{Kept, with_state}
+use Rattle.tx_keeping.specs.Moves.{k_aborting, k_rejected, k_rejecting}
+use Rattle.tx_keeping.specs.Asking.{k_get_lines}
+use Rattle.tx_keeping.specs.Turn.{KTurned, k_ends_by, next_address, k_refused_turn, k_once_given, k_with_lines}
+use Rattle.tx_bounds.proofs.Resuming.{Resumes, Leads, leads}
+use Rattle.tx_bounds.proofs.UnderWay.{HoldsOf, HoldsOfBelow, AmidOf, lives, holds_less}
+use Rattle.tx_bounds.proofs.UnderWay.{put_here, amid_same}
+use Rattle.tx_bounds.proofs.OtherTurns.{put_other, aborted_attempts}
+use Rattle.tx_bounds.proofs.OtherTurns.{aborted_quiet, aborted_holds, SameAt, same_parts}
+use Rattle.tx_bounds.proofs.OtherTurns.{same_holds, aborted_elsewhere}
+use Rattle.tx_bounds.proofs.Walk.{Asks, lines_got, Behind}
+
+not_more : {A : Type 0} (a b : ℕ) → b ≡ a → nat_lt a b ≡ true → A
+not_more a b e h = let less = ltb-true a b h in absurd (omega (arith, e, less))
+
+pub ends_last : (c : ℕ) (h t : List Entry) (e : Entry) → length h ≤ length t → is_end_of c e ≡ true
+    → list_any (is_end_of c) (drop (length h) (t ++ e ∷ [])) ≡ true
+ends_last c h t e le is =
+    ap (list_any (is_end_of c)) (drop-append-le (length h) t (e ∷ []) le)
+    ∙ list_any-append (is_end_of c) (drop (length h) t) (e ∷ [])
+    ∙ or_right (list_any (is_end_of c) (drop (length h) t)) (is_end_of c e || false)
+    (or_left (is_end_of c e) false is)
+
+aborted_history : (i : ℕ) (st : Standing) (n : ℕ) (w : Why) (s : State)
+    → (aborting i st n w s).history ≡ s.history ++ Abort i n w ∷ []
+unfolding aborting
+aborted_history i st n w s =
+    ap (λ h. h ++ Abort i n w ∷ [])
+    (cause_case (λ r. r.history ≡ s.history) i st w (without_attempt i s) refl (λ d. refl) refl refl)
+
+-- what an event of the CPU leaves: where a transaction was under way, it has ended or goes on; where none was, one
+-- is under way once a constrained attempt has started
+pub record After (m : Setting) (c : ℕ) (busy : Bool) (before : State) (t : Kept) : Type 0 where
+  pub holds : HoldsOf m false c t
+  pub ends : busy ≡ true → (ends_transaction before t.state c ≡ true) ⊎ AmidOf m c t
+  pub starts : busy ≡ false → nat_lt (before.numbers c).attempts (t.state.numbers c).attempts ≡ true
+      → is_live t.state c ≡ true → (t.standings c).constrained ≡ true → AmidOf m c t
+
+-- in the turn, while the CPU asks
+pub record Own (m : Setting) (c : ℕ) (busy : Bool) (before : State) (l : Local) (u : Kept) : Type 0 where
+  pub holds : HoldsOf m busy c u
+  pub well : is_live u.state c ≡ true → (u.standings c).constrained ≡ true → Resumes (u.locals c)
+  pub longer : length before.history ≤ length u.state.history
+  pub started : (u.state.numbers c).attempts ≡ (before.numbers c).attempts
+  pub rests : (u.state.numbers c).delay ≡ 0
+  pub local : u.locals c ≡ l
+  pub live : is_live u.state c ≡ progress.is_live (u.locals c).attempt
+
+-- behind a reject
+pub record Rejected (m : Setting) (c : ℕ) (busy : Bool) (before : State) (l : Local) (u : Kept) : Type 0 where
+  pub mid : Kept
+  pub own : Own m c busy before l mid
+  pub is : u ≡ k_rejected c mid
+
+module _ (m : Setting) (c : ℕ) (busy : Bool) (before : State) where
+  pub stays : (t : Kept) → HoldsOf m busy c t
+      → (t.state.numbers c).attempts ≡ (before.numbers c).attempts → After m c busy before t
+  stays t h same = record {
+    holds = holds_less m busy (t.state.numbers c).completed (t.state.numbers c).delay (t.standings c) (t.locals c)
+        h;
+    ends = λ is. inr (h.amid is);
+    starts = λ is more. not_more (before.numbers c).attempts (t.state.numbers c).attempts same more;
+  }
+
+  pub plain : (t : Kept) → (busy ≡ true → ⊥) → HoldsOf m false c t
+      → (t.state.numbers c).attempts ≡ (before.numbers c).attempts → After m c busy before t
+  plain t never h same = record {
+    holds = h;
+    ends = λ is. absurd (never is);
+    starts = λ is more. not_more (before.numbers c).attempts (t.state.numbers c).attempts same more;
+  }
+
+  pub over : (t : Kept) → ends_transaction before t.state c ≡ true → HoldsOf m false c t
+      → (t.state.numbers c).attempts ≡ (before.numbers c).attempts → After m c busy before t
+  over t ends h same = record {
+    holds = h;
+    ends = λ is. inl ends;
+    starts = λ is more. not_more (before.numbers c).attempts (t.state.numbers c).attempts same more;
+  }
+
+  -- ---- the CPU's attempt is aborted
+
+  ends_by_abort : (u : Kept) (w : Why) (at : ℕ) → length before.history ≤ length u.state.history
+      → is_end_by w ≡ true → ends_transaction before (k_aborting c w at u).state c ≡ true
+  unfolding k_aborting
+  ends_by_abort u w at longer is =
+      let n = (u.locals c).attempt.count in
+      ap (λ h. list_any (is_end_of c) (drop (length before.history) h))
+      (aborted_history c (u.standings c) n w u.state)
+      ∙ ends_last c before.history u.state.history (Abort c n w) longer
+      (and_from (c == c) (is_end_by w) (eq-eqb c c refl) is)
+
+  own_abort_by : (most : ℕ) (u : Kept) (w : Why) (at : ℕ) (ends : Bool) → is_end_by w ≡ ends
+      → is_live u.state c ≡ true → HoldsOfBelow m most busy c u
+      → ((u.standings c).constrained ≡ true → Leads (u.locals c))
+      → length before.history ≤ length u.state.history
+      → (u.state.numbers c).attempts ≡ (before.numbers c).attempts
+      → After m c busy before (k_aborting c w at u)
+  own_abort_by most u w at true e live h well longer same =
+      over (k_aborting c w at u) (ends_by_abort u w at longer e) (aborted_quiet m c u w at most busy h)
+      (aborted_attempts m c u w at ∙ same)
+  own_abort_by most u w at false e live h well longer same =
+      stays (k_aborting c w at u) (aborted_holds m c u w at most busy e live well h)
+      (aborted_attempts m c u w at ∙ same)
+
+  pub own_abort : (most : ℕ) (u : Kept) (w : Why) (at : ℕ) → is_live u.state c ≡ true
+      → HoldsOfBelow m most busy c u
+      → ((u.standings c).constrained ≡ true → Leads (u.locals c))
+      → length before.history ≤ length u.state.history
+      → (u.state.numbers c).attempts ≡ (before.numbers c).attempts
+      → After m c busy before (k_aborting c w at u)
+  own_abort most u w at live h well longer same =
+      own_abort_by most u w at (is_end_by w) refl live h well longer same
+
+  -- ---- questions
+
+  module _ (l : Local) where
+    abbrev P : Kept → Type 0
+    P = Own m c busy before l
+
+    pub own_same : (u t : Kept) → SameAt c u t → length u.state.history ≤ length t.state.history → P u → P t
+    own_same u t s longer p = record {
+      holds = same_holds m busy c (before.numbers c).attempts u t s p.holds;
+      well = λ live kind.
+          subst Resumes (sym s.local)
+          (p.well (sym (ap lives s.completed) ∙ live) (sym s.standing.constrained ∙ kind));
+      longer = let first = p.longer in omega (arith, first, longer);
+      started = s.started ∙ p.started;
+      rests = s.delay ∙ p.rests;
+      local = s.local ∙ p.local;
+      live = ap lives s.completed ∙ p.live ∙ ap (λ (x : Local). progress.is_live x.attempt) (sym s.local);
+    }
+
+    pub own_parts : (u t : Kept) → t.state.numbers c ≡ u.state.numbers c → t.standings c ≡ u.standings c
+        → t.locals c ≡ u.locals c → length u.state.history ≤ length t.state.history → P u → P t
+    own_parts u t numbers standing local longer p =
+        own_same u t (same_parts c u t numbers standing local) longer p
+
+    pub own_number : (u : Kept) (v : Numbers) → v.completed ≡ (u.state.numbers c).completed
+        → v.delay ≡ (u.state.numbers c).delay → v.attempts ≡ (u.state.numbers c).attempts → P u
+        → P (with_state (with_numbers c v u.state) u)
+    own_number u v completed delay started p =
+        let now = put_here u.state.numbers c v in
+        own_same u (with_state (with_numbers c v u.state) u) (record {
+          completed = ap (λ (n : Numbers). n.completed) now ∙ completed;
+          delay = ap (λ (n : Numbers). n.delay) now ∙ delay;
+          started = ap (λ (n : Numbers). n.attempts) now ∙ started;
+          standing = record { parms = refl; aborts = refl; constrained = refl; refused = refl };
+          local = refl;
+        }) (omega arith) p
+
+    longer_behind : (j : ℕ) (w : Why) (at : ℕ) (u : Kept)
+        → length u.state.history ≤ length (k_aborting j w at u).state.history
+    unfolding k_aborting
+    longer_behind j w at u =
+        let n = (u.locals j).attempt.count in
+        let h = u.state.history in
+        subst (λ x. length h ≤ length x) (sym (aborted_history j (u.standings j) n w u.state))
+        (let e = length-append h (Abort j n w ∷ []) in omega (arith, e))
+
+    holder_rejects : (u : Kept) (j : ℕ) → j ≢ c → P u → P (k_rejecting j u)
+    holder_rejects u j ne p =
+        let other : c ≢ j = λ e. ne (sym e) in
+        own_parts u (k_rejecting j u) (put_other u.state.numbers j _ c other) (put_other u.standings j _ c other)
+        refl (omega arith) p
+
+    own_asks : Asks c P (Rejected m c busy before l)
+    own_asks = record {
+      asks = λ u p. own_number u _ refl refl refl p;
+      holds = λ u held p. own_parts u _ refl refl refl (omega arith) p;
+      rejects = λ u j ne live head p. record { mid = k_rejecting j u; own = holder_rejects u j ne p; is = refl };
+      aborts = λ u j line stored at ne live p.
+          own_same u _ (aborted_elsewhere m busy c 0 j (λ e. ne (sym e)) j _ at u (λ e. ne (sym e)))
+          (longer_behind j _ at u) p;
+    }
+
+    -- ---- a reject
+
+    rejected_number : {B : Type 0} (f : Numbers → B) (u : Kept)
+        → ((v : Numbers) (a b : ℕ) → f (record v { rejected = a; refused = b }) ≡ f v)
+        → f ((k_rejected c u).state.numbers c) ≡ f (u.state.numbers c)
+    rejected_number f u still =
+        at_put_kept f u.state.numbers c _ (still (u.state.numbers c) _ _) c
+
+    rejected_kept : {B : Type 0} (f : Standing → B) (u : Kept) (b : Bool)
+        → f (rejected (u.standings c)) ≡ f (u.standings c)
+        → f (if b then rejected (u.standings c) else u.standings c) ≡ f (u.standings c)
+    rejected_kept f u true same = same
+    rejected_kept f u false same = refl
+
+    rejected_standing : {B : Type 0} (f : Standing → B) (u : Kept)
+        → f (rejected (u.standings c)) ≡ f (u.standings c) → f ((k_rejected c u).standings c) ≡ f (u.standings c)
+    rejected_standing f u same =
+        ap f (put_here u.standings c _) ∙ rejected_kept f u (is_live u.state c) same
+
+    refused_now : (u : Kept) → is_live u.state c ≡ true
+        → ((k_rejected c u).standings c).requests_rejected ≡ (rejected (u.standings c)).requests_rejected
+    refused_now u live =
+        ap (λ (s : Standing). s.requests_rejected) (put_here u.standings c _)
+        ∙ ap (λ b. (if b then rejected (u.standings c) else u.standings c).requests_rejected) live
+
+    rejected_amid : (u : Kept) → P u → busy ≡ true → AmidOf m c (k_rejected c u)
+    rejected_amid u p is =
+        let t = k_rejected c u in
+        amid_same m (u.state.numbers c).completed (u.state.numbers c).delay (t.state.numbers c).completed
+        (t.state.numbers c).delay (u.standings c) (t.standings c) (u.locals c) (t.locals c)
+        (ap lives (rejected_number (λ (v : Numbers). v.completed) u (λ v a b. refl)))
+        (rejected_number (λ (v : Numbers). v.delay) u (λ v a b. refl))
+        (rejected_standing (λ (s : Standing). s.aborts) u refl)
+        (rejected_standing (λ (s : Standing). s.constrained) u refl)
+        (record { cpu = refl; pending = refl; waiting = refl }) (p.holds.amid is)
+
+    live_there : (u : Kept) → is_live (k_rejected c u).state c ≡ is_live u.state c
+    live_there u = ap lives (rejected_number (λ (v : Numbers). v.completed) u (λ v a b. refl))
+
+    -- one more request was rejected
+    rejected_holds : (most : ℕ) (u : Kept) → P u
+        → (is_live u.state c ≡ true → (u.standings c).constrained ≡ true
+        → (rejected (u.standings c)).requests_rejected < most)
+        → HoldsOfBelow m most busy c (k_rejected c u)
+    rejected_holds most u p fewer = record {
+      parms = rejected_standing (λ (s : Standing). s.parms) u refl ∙ p.holds.parms;
+      rests = λ live. rejected_number (λ (v : Numbers). v.delay) u (λ v a b. refl) ∙ p.rests;
+      fewer = λ live kind.
+          let now : is_live u.state c ≡ true = sym (live_there u) ∙ live in
+          subst (λ x. x < most) (sym (refused_now u now))
+          (fewer now (sym (rejected_standing (λ (s : Standing). s.constrained) u refl) ∙ kind));
+      amid = λ is. rejected_amid u p is;
+    }
+
+    one_more : (r starve : ℕ) → r < starve → min (r + 1) (2 ^ 32 - 1) < starve + 1
+    one_more r starve less = omega arith
+
+    starves : (u : Kept) → P u → HoldsOfBelow m (m.image.parms.starve + 1) busy c (k_rejected c u)
+    starves u p =
+        rejected_holds (m.image.parms.starve + 1) u p
+        (λ live kind. one_more (u.standings c).requests_rejected m.image.parms.starve (p.holds.fewer live kind))
+
+    not_starved : (r starve : ℕ) (b : Bool) → b ≡ true → (b && (r == starve)) ≡ false → r < starve + 1
+        → r < starve
+    not_starved r starve true is h less =
+        let ne = eqb-false r starve h in omega (arith, ne)
+    not_starved r starve false is h less = absurd (true≢false (sym is))
+
+    survives : (u : Kept) → P u
+        → (is_live (k_rejected c u).state c && is_starved ((k_rejected c u).standings c)) ≡ false
+        → HoldsOf m busy c (k_rejected c u)
+    survives u p fine =
+        let t = k_rejected c u in
+        let h = starves u p in
+        record {
+          parms = h.parms;
+          rests = h.rests;
+          fewer = λ live kind.
+              not_starved (t.standings c).requests_rejected m.image.parms.starve (t.standings c).constrained kind
+              (sym (ap (λ b. b && is_starved (t.standings c)) live
+              ∙ ap (λ p. (t.standings c).constrained && ((t.standings c).requests_rejected == p.starve)) h.parms)
+              ∙ fine)
+              (h.fewer live kind);
+          amid = h.amid;
+        }
+
+    rejected_leads : (u : Kept) → P u → is_live (k_rejected c u).state c ≡ true
+        → ((k_rejected c u).standings c).constrained ≡ true → Leads ((k_rejected c u).locals c)
+    rejected_leads u p live kind =
+        leads (u.locals c) (p.well (sym (live_there u) ∙ live)
+        (sym (rejected_standing (λ (s : Standing). s.constrained) u refl) ∙ kind))
+
+    turned_by : (u : Kept) (r : Reject) (live starved : Bool) → P u
+        → is_live (k_rejected c u).state c ≡ live → is_starved ((k_rejected c u).standings c) ≡ starved
+        → After m c busy before (k_refused_turn (live && starved) c r (k_rejected c u)).kept
+    unfolding k_ends_by
+    turned_by u r true true p live starved =
+        let t = k_rejected c u in
+        own_abort (m.image.parms.starve + 1) t Starved (next_address t c) live (starves u p)
+        (rejected_leads u p live) p.longer
+        (rejected_number (λ (v : Numbers). v.attempts) u (λ v a b. refl) ∙ p.started)
+    turned_by u r false starved p live e =
+        stays (k_rejected c u)
+        (survives u p (ap (λ b. b && is_starved ((k_rejected c u).standings c)) live))
+        (rejected_number (λ (v : Numbers). v.attempts) u (λ v a b. refl) ∙ p.started)
+    turned_by u r true false p live e =
+        stays (k_rejected c u)
+        (survives u p (ap (λ b. b && is_starved ((k_rejected c u).standings c)) live ∙ e))
+        (rejected_number (λ (v : Numbers). v.attempts) u (λ v a b. refl) ∙ p.started)
+
+    turned_away : (u : Kept) (r : Reject) → Rejected m c busy before l u
+        → After m c busy before
+        (k_refused_turn (is_live u.state c && is_starved (u.standings c)) c r u).kept
+    turned_away u r q =
+        subst (λ x. After m c busy before
+        (k_refused_turn (is_live x.state c && is_starved (x.standings c)) c r x).kept) (sym q.is)
+        (turned_by q.mid r (is_live (k_rejected c q.mid).state c) (is_starved ((k_rejected c q.mid).standings c))
+        q.own refl refl)
+
+    given_own : (o : Option Reject) (u : Kept) (next : Kept → KTurned)
+        → Behind P (Rejected m c busy before l) o u
+        → ((t : Kept) → P t → After m c busy before (next t).kept)
+        → After m c busy before (k_once_given c o u next).kept
+    given_own None u next p go = go u p
+    given_own (Some r) u next q go = turned_away u r q
+
+    pub lines_own : (needs : List Need) (u : Kept) (next : Kept → KTurned) → P u
+        → ((t : Kept) → P t → After m c busy before (next t).kept)
+        → After m c busy before (k_with_lines m c needs u next).kept
+    lines_own needs u next p go =
+        let a = k_get_lines m c needs u in
+        given_own a.reject a.kept next (lines_got m c P (Rejected m c busy before l) own_asks needs needs u p) go
