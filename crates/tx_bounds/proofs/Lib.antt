@@ -6,6 +6,7 @@ pub mod Stopping
 pub mod Stopped
 pub mod Meant
 pub mod Again
+pub mod Running
 pub mod Resuming
 pub mod UnderWay
 pub mod OtherTurns

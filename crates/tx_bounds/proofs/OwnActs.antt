@@ -19,6 +19,8 @@ use Rattle.tx_control.specs.declared.begins.Begin.{Begin}
 use Rattle.tx_control.specs.declared.causes.Why.{Why}
 use Rattle.tx_ladder.specs.Rungs.{Standing, begun}
 use Rattle.tx_journal.specs.declared.entries.Entry.TheVariants.{Commit}
+use Rattle.z_effect.specs.Kinds.{kind_at}
+use Rattle.tx_serial.specs.Apply.{is_running}
 use Rattle.tx_serial.specs.Attempt.{at_rest}
 use Rattle.tx_serial.specs.Fate.{Goes, fate}
 use Rattle.tx_serial.specs.History.{start_of}
@@ -40,6 +42,7 @@ use Rattle.tx_keeping.specs.Moves.{k_aborting, k_continuing, k_committing, k_sta
 use Rattle.tx_keeping.specs.Turn.{k_ends_by, next_address, k_inside, k_outside, k_done, k_executing}
 use Rattle.tx_bounds.proofs.Again.{IsConstrainedBegin, is_begin}
 use Rattle.tx_bounds.proofs.AtBegin.{constrained_demand, opens_so}
+use Rattle.tx_bounds.proofs.Running.{is_service, keeps_running}
 use Rattle.tx_bounds.proofs.Resuming.{Leads, leads, leads_on}
 use Rattle.tx_bounds.proofs.UnderWay.{HoldsOf, AmidOf, lives, holds_same}
 use Rattle.tx_bounds.proofs.UnderWay.{holds_quiet, put_here, SameParts}
@@ -149,24 +152,25 @@ module _ (m : Setting) (c : ℕ) (busy : Bool) (before : State) (l : Local) wher
   acts_inside : (t : Kept) (i : Instr) (ranges : List Range) (at : ℕ) (o : Outcome) → Own m c busy before l t
       → is_live t.state c ≡ true
       → (cpu_after (t.locals c).attempt.cpu o).prefix ≡ (t.locals c).attempt.cpu.prefix
+      → ((t.standings c).constrained ≡ true → is_running (cpu_after (t.locals c).attempt.cpu o).state ≡ true)
       → After m c busy before
       (k_inside c at (inside i ranges (beside t c) o).after t (inside i ranges (beside t c) o).told).kept
   unfolding k_ends_by
-  acts_inside t i ranges at (Did cpu bytes) p live same =
+  acts_inside t i ranges at (Did cpu bytes) p live same runs =
       let q = (t.locals c).attempt in
       let next = advanced i ranges cpu (stores_of ranges bytes q) q in
       closes t next next.nest at p live
-  acts_inside t i ranges at (effect.Overflowed cpu bytes) p live same =
+  acts_inside t i ranges at (effect.Overflowed cpu bytes) p live same runs =
       let q = (t.locals c).attempt in
       let next = advanced i ranges cpu (stores_of ranges bytes q) q in
       ends_inside t (going_on next (beside t c)) _ at p live
       (record { cpu = refl; pending = refl; waiting = refl })
       (λ kind. leads_on (t.locals c) i ranges cpu (stores_of ranges bytes q) (p.well live kind)
-      (sym p.live ∙ live) same)
-  acts_inside t i ranges at Divides p live same =
+      (sym p.live ∙ live) same (runs kind))
+  acts_inside t i ranges at Divides p live same runs =
       ends_inside t (beside t c) _ at p live (record { cpu = refl; pending = refl; waiting = refl })
       (λ kind. leads (t.locals c) (p.well live kind))
-  acts_inside t i ranges at (Aborts code) p live same =
+  acts_inside t i ranges at (Aborts code) p live same runs =
       ends_inside t (beside t c) _ at p live (record { cpu = refl; pending = refl; waiting = refl })
       (λ kind. leads (t.locals c) (p.well live kind))
 
@@ -224,12 +228,15 @@ module _ (m : Setting) (c : ℕ) (busy : Bool) (before : State) (l : Local) wher
         kind = λ live. ap (λ (s : Standing). s.constrained) (put_here t.standings c _) ∙ kind;
         short = omega (arith, none);
         queued = λ full. none;
+        running = λ off.
+            absurd (true≢false (sym (ap (λ (v : Numbers). lives v.completed) (put_here t.state.numbers c _)) ∙ off));
       }
 
   -- what is known of the next instruction of the CPU, where it goes
   pub record Next (i : Instr) : Type 0 where
     pub pending : l.pending ≡ None
     pub waiting : l.waiting ≡ None
+    pub plain : progress.is_live l.attempt ≡ true → is_service (kind_at i.op.number) ≡ false
     pub nest : progress.is_live l.attempt ≡ false → l.attempt.nest ≡ []
     pub begins_it : progress.is_live l.attempt ≡ false → busy ≡ true → IsConstrainedBegin i
     pub at_start : progress.is_live l.attempt ≡ false → IsConstrainedBegin i
@@ -283,6 +290,9 @@ module _ (m : Setting) (c : ℕ) (busy : Bool) (before : State) (l : Local) wher
   executes_by t i ranges true begin some p n live e =
       acts_inside t i ranges (next_address t c) (outcome_by t.storage i ranges (t.locals c).attempt) p live
       (keeps_prefix i (t.locals c).attempt.cpu _ _)
+      (λ kind. keeps_running i (t.locals c).attempt.cpu _ _
+      (n.plain (ap (λ (x : Local). progress.is_live x.attempt) (sym p.local) ∙ sym p.live ∙ live))
+      (p.well live kind).runs)
   executes_by t i ranges false true some p n off e =
       starts t i ranges (outcome_by t.storage i ranges (t.locals c).attempt) some
       (role_done i (t.locals c).attempt.cpu _ _

@@ -16,7 +16,9 @@ use Rattle.tx_progress.specs.Progress.{Progress, resting}
 use Rattle.tx_progress.specs.Progress as progress
 use Rattle.tx_progress.specs.Reached.{IsFollowed}
 use Rattle.tx_progress.specs.Trial.{fate_by_progress}
-use Rattle.tx_progress.proofs.Parts.{rests}
+use Rattle.tx_progress.proofs.Parts.{rests, live_follows, followed_fate}
+use Rattle.tx_serial.specs.Run.{run}
+use Rattle.tx_bounds.proofs.Running.{goes_without_service}
 use Rattle.tx_progress.proofs.Quiet.{ends_live, stops_quiet}
 use Rattle.tx_meaning.specs.Limits.{Setting}
 use Rattle.tx_meaning.specs.Meaning.{IsSetting}
@@ -78,6 +80,7 @@ module _ (m : Setting) (s : IsSetting m) (c : ℕ) (busy : Bool) (before : State
     kind = λ live. h.kind (sym (ap lives same) ∙ live);
     short = let short = h.short in omega (arith, e, short);
     queued = λ full. let none = h.queued full in omega (arith, e, none);
+    running = λ off. h.running (sym (ap lives same) ∙ off);
   }
 
   own_wait : HoldsOf m busy c k → (k.state.numbers c).attempts ≡ (before.numbers c).attempts
@@ -113,6 +116,10 @@ module _ (m : Setting) (s : IsSetting m) (c : ℕ) (busy : Bool) (before : State
     next_goes i ranges pending waiting h = record {
       pending = pending;
       waiting = waiting;
+      plain = λ live.
+          let f = kept_flat m k in
+          goes_without_service (text_of m) (run f c l.attempt.count) i ranges
+          (live_follows f c l.attempt.count i followed.opens live) (followed_fate f c l followed ∙ h);
       nest = λ quiet. ap (λ (q : Progress). q.nest) (rests (kept_flat m k) c l followed quiet);
       begins_it = λ quiet is.
           let a = own.holds.amid is in

@@ -25,7 +25,10 @@ use Rattle.tx_serial.specs.Run.{run}
 use Rattle.tx_progress.specs.Local.{Local}
 use Rattle.tx_progress.specs.Progress.{Progress, is_live, advanced, begins_constrained}
 use Rattle.tx_progress.specs.Reached.{progress_of, IsFollowed}
-use Rattle.tx_progress.proofs.Facts.{keeps_constraints, keeps_prefix}
+use Rattle.tx_progress.proofs.Facts.{keeps_constraints, keeps_prefix, live_runs}
+use Rattle.tx_progress.proofs.Parts.{rests}
+use Rattle.tx_serial.specs.Apply.{is_running}
+use Rattle.tx_bounds.proofs.Running.{run_runs}
 use Rattle.tx_progress.proofs.Standing.{Stands, is_begun_so, run_stands}
 use Rattle.tx_meaning.specs.Stretches.{is_end_by}
 
@@ -35,6 +38,7 @@ pub record Resumes (l : Local) : Type 0 where
   pub again : l.attempt.resumes_at ≡ l.cpu.address
   pub prefix : l.attempt.cpu.prefix ≡ l.cpu.prefix
   pub block : outermost_block l.attempt.nest ≡ None
+  pub runs : is_running l.attempt.cpu.state ≡ true
 
 no_block_by : (d : Demand) (b : Bool) (a : ℕ) → beginning.is_constrained d ≡ true
     → cond (may_name_block d && b) (Some a) None ≡ None
@@ -50,6 +54,20 @@ block_of c now (s ∷ ss) (b ∷ bs) h k =
     ap (λ (x : opened.Begin). x.block) h.opened
     ∙ no_block_by (entry_at s.instruction.op.number).demand _ _ (sym (is_begun_so c s ss b bs h) ∙ k)
 
+live_by : (f : FlatState) (i : ℕ) (l : Local) → IsFollowed f i l → is_constrained l.attempt.nest ≡ true
+    → (b : Bool) → is_live l.attempt ≡ b → is_live l.attempt ≡ true
+live_by f i l is kind true e = e
+live_by f i l is kind false e =
+    absurd (true≢false (sym kind ∙ ap (λ (q : Progress). is_constrained q.nest) (rests f i l is e)))
+
+runs_now : (f : FlatState) (i : ℕ) (l : Local) → IsFollowed f i l → is_constrained l.attempt.nest ≡ true
+    → is_running l.attempt.cpu.state ≡ true
+unfolding progress_of
+runs_now f i l is kind =
+    ap (λ (q : Progress). is_running q.cpu.state) (sym is.attempt)
+    ∙ run_runs f i l.attempt.count (ap (λ (c : Cpu). is_running c.state) is.cpu
+    ∙ ap is_running (live_runs f i l is (live_by f i l is kind (is_live l.attempt) refl)))
+
 pub resumes : (f : FlatState) (i : ℕ) (l : Local) → IsFollowed f i l → is_constrained l.attempt.nest ≡ true
     → Resumes l
 unfolding progress_of
@@ -62,6 +80,7 @@ resumes f i l is kind =
       block = ap (λ (q : Progress). outermost_block q.nest) (sym is.attempt)
           ∙ block_of (f.cpus i) p.cpu p.steps p.nest (run_stands f i l.attempt.count is.opens)
           (ap (λ (q : Progress). is_constrained q.nest) is.attempt ∙ kind);
+      runs = runs_now f i l is kind;
     }
 
 -- ---- with one instruction more
@@ -81,17 +100,19 @@ nest_block false false new n (b ∷ bs) k e = e
 
 -- where an abort leads
 pub record Leads (l : Local) : Type 0 where
+  pub runs : is_running l.attempt.cpu.state ≡ true
   pub again : l.attempt.resumes_at ≡ l.cpu.address
   pub prefix : l.attempt.cpu.prefix ≡ l.cpu.prefix
   pub block : outermost_block l.attempt.nest ≡ None
 
 pub leads : (l : Local) → Resumes l → Leads l
-leads l r = record { again = r.again; prefix = r.prefix; block = r.block }
+leads l r = record { runs = r.runs; again = r.again; prefix = r.prefix; block = r.block }
 
 pub leads_on : (l : Local) (i : Instr) (ranges : List Range) (c : Cpu) (stores : List Store) → Resumes l
-    → is_live l.attempt ≡ true → c.prefix ≡ l.attempt.cpu.prefix
+    → is_live l.attempt ≡ true → c.prefix ≡ l.attempt.cpu.prefix → is_running c.state ≡ true
     → Leads (record l { attempt = advanced i ranges c stores l.attempt })
-leads_on l i ranges c stores r live same = record {
+leads_on l i ranges c stores r live same runs = record {
+  runs = runs;
   again = ap (λ b. if b then l.attempt.resumes_at
       else (if begins_constrained i then l.attempt.cpu.address else l.attempt.cpu.address + length_of i)) live
       ∙ r.again;

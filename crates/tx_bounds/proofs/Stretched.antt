@@ -13,21 +13,27 @@ use Rattle.tx_journal.specs.declared.events.Event.TheVariants as event
 use Rattle.tx_serial.specs.Fate.{fate}
 use Rattle.tx_serial.specs.Flat.{FlatState}
 use Rattle.tx_progress.specs.Followed.{KeepsTo}
+use Rattle.tx_progress.specs.Progress.{Progress}
 use Rattle.tx_progress.proofs.Facts.{keeps_constraints}
-use Rattle.tx_progress.proofs.Parts.{followed_fate}
+use Rattle.z_regs.specs.Cpu.{Cpu}
+use Rattle.z_regs.specs.declared.image.RunState.{RunState}
+use Rattle.z_regs.specs.declared.image.RunState.TheVariants.{Running, Halted, Interrupted}
+use Rattle.tx_serial.specs.Apply.{is_running}
+use Rattle.tx_progress.proofs.Parts.{followed_fate, rests}
 use Rattle.tx_meaning.specs.declared.outcome.Outcome.{Outcome}
 use Rattle.tx_meaning.specs.Limits.{Setting}
 use Rattle.tx_meaning.specs.Meaning.{IsSetting, meaning}
 use Rattle.tx_meaning.specs.State.{Numbers, State, beginning, is_live, standing_of, attempt_of, cpus_of}
 use Rattle.tx_meaning.specs.Stretches.{Stretch, closed, opened, extended, stretch_after, stretch_from, stretch_of}
 use Rattle.tx_meaning.specs.Stretches.{ends_transaction, starts_attempt}
+use Rattle.tx_meaning.specs.State.{cpu_of}
 use Rattle.tx_meaning.specs.Changes.{with_event, counting_turn}
 use Rattle.tx_meaning.specs.Turn.{Turned, happen, is_tick}
 use Rattle.tx_keeping.specs.Kept.{Kept, kept_beginning, kept_flat, text_of, with_state}
 use Rattle.tx_keeping.specs.Keeping.{keeping, keeping_from}
 use Rattle.tx_keeping.specs.Turn.{k_happen, k_turn, k_turn_where, k_idle, k_counted_turn, k_external}
 use Rattle.tx_keeping.specs.Views.{AreKnown}
-use Rattle.tx_keeping.proofs.Truth.{Truth, live_is, flat_is, attempt_is, nest_is, standing_is}
+use Rattle.tx_keeping.proofs.Truth.{Truth, live_is, flat_is, attempt_is, nest_is, standing_is, cpu_is}
 use Rattle.tx_keeping.proofs.Moves.{IsGood, restated, one_number, same_numbers}
 use Rattle.tx_keeping.proofs.Turning.{happen_ok}
 use Rattle.tx_keeping.proofs.Events.{begins_good, keeping_is, keeping_good}
@@ -232,8 +238,22 @@ module _ (m : Setting) (s : IsSetting m) (c : ℕ) (k : Kept) (t : Truth m k) (h
   refused_few live =
       subst (λ x. x < m.image.parms.starve) (t.each c).refused (h.fewer live (the_amid.kind live))
 
+  runs_so : (state : RunState) → is_running state ≡ true → state ≡ Running
+  runs_so Running e = refl
+  runs_so Halted e = absurd (true≢false (sym e))
+  runs_so (Interrupted code) e = absurd (true≢false (sym e))
+
+  runs_by : (live : Bool) → is_live k.state c ≡ live → is_running (k.locals c).attempt.cpu.state ≡ true
+  runs_by true e = (resumes (kept_flat m k) c (k.locals c) (t.each c).followed (kind_now e)).runs
+  runs_by false e =
+      ap (λ (q : Progress). is_running q.cpu.state)
+      (rests (kept_flat m k) c (k.locals c) (t.each c).followed (sym (live_is m k t c) ∙ e))
+      ∙ the_amid.running e
+
   pub is_under_way : IsUnderWay m k.state c
   is_under_way = record {
+    running = runs_so (cpu_of m k.state c).state (ap (λ (x : Cpu). is_running x.state) (cpu_is m k t c)
+        ∙ runs_by (is_live k.state c) refl);
     no_block = ap (λ (f : FlatState). f.pending c) (flat_is m k t) ∙ the_amid.pending;
     no_interruption = ap (λ (f : FlatState). f.waiting c) (flat_is m k t) ∙ the_amid.waiting;
     begins = begins_next;

@@ -18,6 +18,7 @@ use Rattle.tx_ladder.specs.Parameters.{Parameters}
 use Rattle.tx_ladder.specs.Rungs.{Standing, after_conflict, next_rung, delay_after}
 use Rattle.tx_ladder.specs.declared.ladder.Next.{Next}
 use Rattle.tx_ladder.specs.declared.ladder.Next.TheVariants as rung
+use Rattle.tx_serial.specs.Apply.{is_running}
 use Rattle.tx_serial.specs.Attempt.{at_rest}
 use Rattle.tx_serial.specs.Fate.{Goes, fate}
 use Rattle.tx_serial.specs.Flat.{at_put}
@@ -49,6 +50,7 @@ pub record Amid (m : Setting) (completed delay : ℕ) (st : Standing) (l : Local
   pub kind : lives completed ≡ true → st.constrained ≡ true
   pub short : delay ≤ delay_after m.image.parms st.aborts
   pub queued : st.aborts ≡ m.image.parms.stop → delay ≡ 0
+  pub running : lives completed ≡ false → is_running l.cpu.state ≡ true
 
 -- and of every CPU: a live attempt waits no turns, and not so many of its requests were rejected that it starves
 pub record HoldsBelow (m : Setting) (most : ℕ) (busy : Bool) (completed delay : ℕ) (st : Standing) (l : Local)
@@ -98,6 +100,7 @@ module _ (m : Setting) where
     short = subst (λ x. e ≤ delay_after m.image.parms x) (sym aborts)
         (subst (λ x. x ≤ delay_after m.image.parms s.aborts) (sym delay) h.short);
     queued = λ x. delay ∙ h.queued (sym aborts ∙ x);
+    running = λ off. ap (λ (c : Cpu). is_running c.state) parts.cpu ∙ h.running (sym live ∙ off);
   }
 
   pub holds_same : (busy : Bool) (a d b e : ℕ) (s t : Standing) (l n : Local) → lives b ≡ lives a → e ≡ d
@@ -228,6 +231,10 @@ module _ (m : Setting) (l : Local) (w : Why) (at : ℕ) (leads : Leads l) (goes_
       (ap (λ (c : Cpu). c.prefix) left_cpu ∙ leads.prefix) (ap (λ (c : Cpu). c.address) left_cpu ∙ leads.again)
       (λ a h. refl) goes
 
+  left_runs : is_running left.cpu.state ≡ true
+  unfolding left_from
+  left_runs = ap (λ (c : Cpu). is_running c.state) left_cpu ∙ leads.runs
+
   -- the transaction is under way behind an abort
   pub amid_left : (completed delay later : ℕ) (st : Standing) (after : Standing) → after ≡ standing_after w st
       → lives completed ≡ true → delay ≡ 0 → st.parms ≡ m.image.parms → Amid m completed delay st l
@@ -245,4 +252,5 @@ module _ (m : Setting) (l : Local) (w : Why) (at : ℕ) (leads : Leads l) (goes_
         kind = λ x. absurd (true≢false (sym x));
         short = rung_delay m.image.parms st.aborts delay _ later none r2;
         queued = rung_queued m.image.parms st.aborts delay _ later none r2;
+        running = λ off. left_runs;
       })

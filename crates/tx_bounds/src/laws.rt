@@ -49,8 +49,8 @@ pub fn a_constrained_begin_goes_again()
 
 /// While a stretch of a CPU is open, from the start of its first constrained attempt to the commit or the program
 /// interruption that ends the transaction, the CPU is in the middle of a constrained transaction, whatever aborts
-/// its attempts. Nothing is left to be done before its next instruction; between attempts that is the begin, which
-/// goes. A live attempt is constrained and not nested, waits no turns, has completed from 1 to 33 instructions, and
+/// its attempts. It is running, and nothing is left to be done before its next instruction; between attempts that is
+/// the begin, which goes. A live attempt is constrained and not nested, waits no turns, has completed from 1 to 33 instructions, and
 /// fewer of its requests were rejected than would starve it. The CPU is in the stop queue exactly where it has as
 /// many conflict aborts as lead there; then it waits no turns, and has a live attempt only as the head. Otherwise it
 /// waits no longer than its conflict aborts ask.
