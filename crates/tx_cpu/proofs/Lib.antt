@@ -11,3 +11,4 @@ pub mod Agreeing
 pub mod Stored
 pub mod Completing
 pub mod Beginnings
+pub mod GatheredBlocks

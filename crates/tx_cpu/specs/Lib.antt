@@ -6,3 +6,4 @@ pub mod Plans
 pub mod Blocks
 pub mod Refused
 pub mod Performed
+pub mod Gathered

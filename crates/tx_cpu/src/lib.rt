@@ -4,6 +4,7 @@
 #![tactic(auto)]
 
 mod attempt;
+mod gathering;
 mod interruption;
 pub mod laws;
 mod one;
