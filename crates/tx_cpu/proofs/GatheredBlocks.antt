@@ -84,3 +84,11 @@ room-at o prefix first bytes k address r lt e inside =
     (laid-blocks prefix first (take k bytes) o r.blocks r.covers
     (λ j below. let within : j < length bytes = omega (arith, below, size, lt) in r.there j within))
     (ap (λ a. r.blocks (a / BLOCK_SIZE)) e ∙ r.there k lt)
+
+pub first-room : (o : Overlay) (prefix : Option ℕ) (first n address : ℕ) → HasRoomFor o prefix first n → 0 < n
+    → address ≡ absolute_of prefix first → address < 1048576 → has_room o (address / BLOCK_SIZE) ≡ true
+first-room o prefix first n address r some e inside =
+    let under : address / BLOCK_SIZE < BLOCKS = omega (arith, inside) in
+    let same : first + 0 ≡ first = omega arith in
+    room-by o r.blocks (address / BLOCK_SIZE) _ refl under r.few r.covers
+    (ap (λ a. r.blocks (a / BLOCK_SIZE)) (e ∙ ap (absolute_of prefix) (sym same)) ∙ r.there 0 some)

@@ -12,3 +12,4 @@ pub mod Stored
 pub mod Completing
 pub mod Beginnings
 pub mod GatheredBlocks
+pub mod LastingDoublewords
