@@ -32,7 +32,7 @@ use Rattle.tx_cpu.proofs.Stored.{trimmed-stores}
 
 -- ---- PPA alone has its opcode
 
-agreed : (a b : Bool) → agree a b ≡ true → a ≡ b
+pub agreed : (a b : Bool) → agree a b ≡ true → a ≡ b
 agreed true true h = refl
 agreed true false h = sym h
 agreed false true h = h

@@ -1,14 +1,14 @@
 -- Blocks of stores that are gathered, and the room for them.
-use Rattle.std.proofs.Common.{◌≡◌, ℕ, zero, suc, ◌+◌, ◌<◌, ◌≤◌, ◌/◌, Bool, true, false, List, [], ◌∷◌, ◌++◌}
+use Rattle.std.proofs.Common.{◌≡◌, ℕ, suc, ◌+◌, ◌<◌, ◌≤◌, ◌/◌, Bool, true, false, List, [], ◌∷◌, ◌++◌}
 use Rattle.std.proofs.Common.{Option, refl, sym, ap, ◌∙◌, arith, length, take, inl, inr}
-use Rattle.std.specs.Prelude.{nat_lt, ◌||◌}
-use Rattle.std.proofs.lemmas.Bool.{cases_eq, true≢false, or_left, or_right}
+use Rattle.std.specs.Prelude.{nat_lt}
+use Rattle.std.proofs.lemmas.Bool.{cases_eq, or_left, or_right}
 use Rattle.std.proofs.lemmas.Bool.Decides.{nat_tests}
 use Rattle.std.proofs.lemmas.List.{length-take-le}
 use Rattle.bit_set.specs.Counts.{count_below, but_at, one_if}
-use Rattle.bit_set.proofs.Counts.{count_le, count_but_at, but_at-same, but_at-other}
+use Rattle.bit_set.proofs.Counts.{count_le, count_but_at, but_at-other}
 use Rattle.z_regs.specs.Prefix.{absolute_of}
-use Rattle.store_cache.specs.Overlay.{Overlay, Store, with_one, has_block, block_count}
+use Rattle.store_cache.specs.Overlay.{Overlay, with_one, has_block, block_count}
 use Rattle.store_cache.specs.Stores.{has_room}
 use Rattle.store_cache.specs.declared.cache.TheConstants.{BLOCKS, BLOCK_SIZE, MOST_BLOCKS}
 use Rattle.store_cache.proofs.Blocks.{has_block-other}
@@ -28,7 +28,7 @@ laying-more prefix a (x ∷ xs) b o =
     ∙ ap (λ k. with_one (laying next (stores_at prefix (suc a) xs)) (absolute_of prefix k) b) same
 
 -- one byte more brings no block but its own
-one-block : (o : Overlay) (address byte : ℕ) (blocks : ℕ → Bool)
+pub one-block : (o : Overlay) (address byte : ℕ) (blocks : ℕ → Bool)
     → ((b : ℕ) → has_block o b ≡ true → blocks b ≡ true) → blocks (address / BLOCK_SIZE) ≡ true
     → (b : ℕ) → has_block (with_one o address byte) b ≡ true → blocks b ≡ true
 one-block o address byte blocks covers here b h = elim (cases_eq b (address / BLOCK_SIZE)) [

@@ -13,3 +13,5 @@ pub mod Completing
 pub mod Beginnings
 pub mod GatheredBlocks
 pub mod LastingDoublewords
+pub mod GatheredStores
+pub mod Advances

@@ -184,7 +184,7 @@ left-outcome (Aborts code) rs old new s t stored e first inside fills left es =
 
 -- ---- stores by the first bytes alone
 
-none-stores : (prefix : Option ℕ) (rs : List Range) (bytes : List ℕ) → StoresNone rs
+pub none-stores : (prefix : Option ℕ) (rs : List Range) (bytes : List ℕ) → StoresNone rs
     → operand_stores prefix rs bytes ≡ []
 none-stores prefix [] bytes h = refl
 none-stores prefix (r ∷ rs) bytes h =

@@ -1,5 +1,8 @@
 -- Stores of an instruction that are gathered in a store cache.
-use Rattle.std.specs.Prelude.{◌≡◌, ℕ, ◌+◌, ◌<◌, ◌≤◌, ◌/◌, Bool, true, List, Option}
+use Rattle.std.specs.Prelude.{◌≡◌, ℕ, ◌+◌, ◌<◌, ◌≤◌, ◌/◌, ◌%◌, Bool, true, List, [], ◌∷◌, Option}
+use Rattle.std.specs.Prelude.{take}
+use Rattle.byteorder.specs.Endian.{big_bytes}
+use Rattle.z_regs.specs.declared.ranges.Range.{Range}
 use Rattle.bit_set.specs.Counts.{count_below}
 use Rattle.z_regs.specs.Prefix.{absolute_of}
 use Rattle.store_cache.specs.Overlay.{Overlay, has_block}
@@ -22,3 +25,10 @@ with_gathered prefix first bytes stores = record {
   overlay = laying stores.overlay (stores_at prefix first bytes);
   lasting = stores.lasting;
 }
+
+-- the only operand is a doubleword on its boundary, into which this value is stored
+pub record IsDoubleword (need : List Range) (bytes : List ℕ) (value : ℕ) : Type 0 where
+  pub first : ℕ
+  pub is : need ≡ record { first = first; length = 8; store = true } ∷ []
+  pub boundary : first % 8 ≡ 0
+  pub bytes_are : take 8 bytes ≡ big_bytes 8 value

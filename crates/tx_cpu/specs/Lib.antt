@@ -7,3 +7,4 @@ pub mod Blocks
 pub mod Refused
 pub mod Performed
 pub mod Gathered
+pub mod Advancing

@@ -6,10 +6,23 @@ ghost use Rattle.byteorder.specs.Endian.{big_bytes};
 ghost use Rattle.store_cache.specs.Stores.{lasting_bytes};
 ghost use Rattle.tx_serial.specs.Flat.{stores_at};
 ghost use Rattle.tx_progress.specs.Progress.{laying};
-ghost use Rattle.tx_cpu.specs.Gathered.{HasRoomFor, with_gathered};
+ghost use Rattle.std.specs.Prelude.{take, slice_get, All, Some, true};
+ghost use Rattle.z_regs.specs.Absolute.{IsAccessible};
+ghost use Rattle.z_instr.specs.Table.{entry_at};
+ghost use Rattle.tx_serial.specs.Flat.{operand_stores};
+ghost use Rattle.tx_serial.specs.Run.{lasting_of, stores_lastingly as lasts};
+ghost use Rattle.tx_cpu.specs.Performed.{StoresFirst, first_size};
+ghost use Rattle.tx_cpu.specs.Gathered.{HasRoomFor, IsDoubleword, with_gathered};
 
+use crate::performing::MOST_BYTES;
 use store_cache::StoreCache;
-use z_regs::place_of;
+use z_instr::instr::Instr;
+use z_instr::lookup::line;
+use z_instr::op::Op;
+use z_regs::{Range, Touches, place_of};
+
+/// The opcode of NTSTG.
+const STORE_LASTING: u16 = 0xE325;
 
 /// Gathers bytes that are stored from a real address on.
 pub fn gather(stores: &mut StoreCache, bytes: &[u8], first: u64, prefix: Option<u32>)
@@ -35,4 +48,53 @@ pub fn gather_lasting(stores: &mut StoreCache, value: u64, first: u64, prefix: O
         laying (lasting_bytes (stores_of stores.old).lasting) (stores_at prefix first (big_bytes 8 value)) }
 {
     stores.ntstg(place_of(prefix, first), value);
+}
+
+/// Whether the stores of the operation outlive an abort: it is NTSTG.
+fn stores_lastingly(op: Op) -> bool
+    ensures { result ≡ lasts (entry_at op.number) }
+{
+    line(op).opcode == STORE_LASTING
+}
+
+/// Gathers what an instruction stores in its first operand; no other is ever stored into. Of NTSTG that is
+/// `source`.
+pub fn gather_stores(
+    stores: &mut StoreCache,
+    instr: &Instr,
+    need: &Touches,
+    stored: &[u8; MOST_BYTES],
+    source: u64,
+    prefix: Option<u32>,
+)
+    requires prefix_in { IsTrue (is_prefix prefix) }
+    requires first { StoresFirst need.now }
+    requires accessible { All (IsAccessible prefix) need.now }
+    requires room { (r : Range) → slice_get need.now 0 ≡ Some r → r.store ≡ true
+        → HasRoomFor (stores_of stores.old).overlay prefix r.first r.length }
+    requires lasting { lasts (entry_at instr.now.op.number) ≡ true
+        → IsDoubleword need.now stored.now source }
+    ensures overlay { (stores_of stores.new).overlay ≡ laying (stores_of stores.old).overlay
+        (operand_stores prefix need.now (take (first_size need.now) stored.now)) }
+    ensures lasting { lasting_bytes (stores_of stores.new).lasting ≡
+        laying (lasting_bytes (stores_of stores.old).lasting) (lasting_of instr.now
+        (operand_stores prefix need.now (take (first_size need.now) stored.now))) }
+{
+    if need.count() == 0 {
+        return;
+    }
+    let first = need.at(0);
+    if !first.store {
+        return;
+    }
+    if stores_lastingly(instr.op) {
+        gather_lasting(stores, source, first.first, prefix);
+    } else {
+        gather(
+            stores,
+            &stored[..first.length as usize],
+            first.first,
+            prefix,
+        );
+    }
 }

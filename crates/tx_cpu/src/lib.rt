@@ -3,6 +3,7 @@
 //! to take. Each call is one equation with the definitions of tx_progress.
 #![tactic(auto)]
 
+mod advancing;
 mod attempt;
 mod gathering;
 mod interruption;

@@ -1,7 +1,7 @@
 -- A doubleword is gathered, and lasts.
-use Rattle.std.proofs.Common.{◌≡◌, ◌<◌, ◌/◌, ◌%◌, ap, ◌∙◌, arith}
+use Rattle.std.proofs.Common.{◌<◌, ◌/◌, ◌%◌, ap, ◌∙◌, arith}
 use Rattle.byteorder.specs.Endian.{big_bytes}
-use Rattle.z_regs.specs.Prefix.{storage_size, absolute_of}
+use Rattle.z_regs.specs.Prefix.{storage_size}
 use Rattle.z_regs.proofs.Exchange.{absolute_within}
 use Rattle.store_cache.specs.Overlay.{with_bytes, with_one}
 use Rattle.store_cache.specs.Stores.{Stores, lasting_bytes}
