@@ -15,3 +15,4 @@ pub mod OwnTurns
 pub mod OwnActs
 pub mod OwnEvents
 pub mod Stretched
+pub mod Potential

@@ -17,10 +17,10 @@ pub record BeginsNext (m : Setting) (s : State) (i : ℕ) : Type 0 where
   pub is_constrained : (entry_at begin.op.number).demand ≡ BeginConstrained
   pub goes : fate (flat_of m s).text (attempt_of m s i) ≡ Goes begin []
 
--- The CPU is in the middle of a constrained transaction. It is running. Nothing is left to be done before its next instruction.
--- Between attempts that is the begin. A live attempt is constrained and not nested, waits no turns, and has
--- completed at least one instruction and at most 33. Its CPU waits where it may: as long as its conflict aborts
--- ask, and not in the stop queue, which it joins with the last of them.
+-- The CPU is in the middle of a constrained transaction. It is running. Nothing is left to be done before
+-- its next instruction. Between attempts that is the begin. A live attempt is constrained and not nested,
+-- waits no turns, and has completed at least one instruction and at most 33. Its CPU waits where it may: as
+-- long as its conflict aborts ask, and not in the stop queue, which it joins with the last of them.
 pub record IsUnderWay (m : Setting) (s : State) (i : ℕ) : Type 0 where
   pub running : (cpu_of m s i).state ≡ Running
   pub no_block : (flat_of m s).pending i ≡ None

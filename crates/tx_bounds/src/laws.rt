@@ -1,5 +1,5 @@
 //! Laws of the retry ladder. Each law is the contract of a function that does nothing.
-ghost use Rattle.std.specs.Prelude.{◌≡◌, ◌≢◌, ◌↔◌, ℕ, ◌≤◌, true, List, [], AllPairs};
+ghost use Rattle.std.specs.Prelude.{◌≡◌, ◌≢◌, ◌↔◌, ℕ, ◌+◌, ◌<◌, ◌≤◌, true, List, [], AllPairs};
 ghost use Rattle.tx_journal.specs.declared.events.Event.{Event};
 ghost use Rattle.tx_keeping.specs.Views.{AreKnown};
 ghost use Rattle.tx_ladder.specs.Waiting.{waits_in};
@@ -7,7 +7,9 @@ ghost use Rattle.tx_meaning.specs.Hits.{hits};
 ghost use Rattle.tx_meaning.specs.Limits.{Setting};
 ghost use Rattle.tx_meaning.specs.Meaning.{IsSetting, meaning};
 ghost use Rattle.tx_meaning.specs.State.{is_live, is_head};
-ghost use Rattle.tx_meaning.specs.Stretches.{stretch_of};
+ghost use Rattle.tx_meaning.specs.Stretches.{stretch_of, left, left_by, bound, attempt_turns};
+ghost use Rattle.tx_ladder.specs.Parameters.{Parameters};
+ghost use Rattle.tx_ladder.specs.Rungs.{delay_after};
 ghost use Rattle.tx_bounds.specs.Stretches.{IsUnderWay};
 ghost use Rattle.tx_serial.specs.Alike.{AgreeInText};
 ghost use Rattle.tx_serial.specs.Attempt.{at_rest};
@@ -37,9 +39,9 @@ pub fn conflict_aborts_lead_to_the_stop_queue()
         → is_head (meaning m events) i ≡ true }
 {}
 
-/// Whether a constrained begin goes, outside transactions, depends on the text, on the prefix and on the address
-/// alone, and not on registers, condition code, mask or other storage: where it has gone once, it goes again on a
-/// CPU with that prefix at that address, over storage with that text.
+/// Whether a constrained begin goes, outside transactions, depends on the text, on the prefix and on the
+/// address alone, and not on registers, condition code, mask or other storage: where it has gone once, it
+/// goes again on a CPU with that prefix at that address, over storage with that text.
 pub fn a_constrained_begin_goes_again()
     ensures { (text : List ℕ) (s t : Storage) (c d : Cpu) (i : Instr) (ranges : List Range)
         → (entry_at i.op.number).demand ≡ BeginConstrained → d.prefix ≡ c.prefix → d.address ≡ c.address
@@ -47,14 +49,44 @@ pub fn a_constrained_begin_goes_again()
         → fate text (at_rest t d) ≡ Goes i [] }
 {}
 
-/// While a stretch of a CPU is open, from the start of its first constrained attempt to the commit or the program
-/// interruption that ends the transaction, the CPU is in the middle of a constrained transaction, whatever aborts
-/// its attempts. It is running, and nothing is left to be done before its next instruction; between attempts that is
-/// the begin, which goes. A live attempt is constrained and not nested, waits no turns, has completed from 1 to 33 instructions, and
-/// fewer of its requests were rejected than would starve it. The CPU is in the stop queue exactly where it has as
-/// many conflict aborts as lead there; then it waits no turns, and has a live attempt only as the head. Otherwise it
-/// waits no longer than its conflict aborts ask.
+/// While a stretch of a CPU is open, from the start of its first constrained attempt to the commit or the
+/// program interruption that ends the transaction, the CPU is in the middle of a constrained transaction,
+/// whatever aborts its attempts. It is running, and nothing is left to be done before its next instruction;
+/// between attempts that is the begin, which goes. A live attempt is constrained and not nested, waits no
+/// turns, has completed from 1 to 33 instructions, and fewer of its requests were rejected than would
+/// starve it. The CPU is in the stop queue exactly where it has as many conflict aborts as lead there; then
+/// it waits no turns, and has a live attempt only as the head. Otherwise it waits no longer than its
+/// conflict aborts ask.
 pub fn an_open_stretch_is_a_transaction_under_way()
     ensures { (m : Setting) (events : List Event) (i : ℕ) → IsSetting m → AreKnown m events
         → (stretch_of m events i).is_open ≡ true → IsUnderWay m (meaning m events) i }
+{}
+
+/// While a stretch of a CPU is open, at least one turn is left to its transaction, by the count of the
+/// turns that it can still need.
+pub fn turns_are_left_to_an_open_stretch()
+    ensures { (m : Setting) (events : List Event) (i : ℕ) → IsSetting m → AreKnown m events
+        → (stretch_of m events i).is_open ≡ true → 1 ≤ left m (meaning m events) i }
+{}
+
+/// The count of the turns that a constrained transaction can still need goes down the ladder, by its
+/// numbers: the conflict aborts `a`, the turns `d` to be waited, and of the live attempt the completed
+/// instructions `n` and the rejected requests `r`. With the first instruction it is one below the bound.
+/// One instruction more, one reject more and one turn less to be waited each lower it by one. A conflict
+/// abort lowers it by two or more, on each rung and at the last. An abort from outside raises it by less
+/// than the turns of one attempt.
+pub fn what_is_left_goes_down_the_ladder()
+    ensures begun { (p : Parameters) → 0 < p.stop → 1 + left_by p 0 0 1 0 ≡ bound p }
+    ensures executed { (p : Parameters) (a d n r : ℕ) → n ≤ 33 → r < p.starve
+        → left_by p a d (n + 1) r + 1 ≡ left_by p a d n r }
+    ensures rejected { (p : Parameters) (a d n r : ℕ) → a < p.stop → n ≤ 33 → r < p.starve
+        → left_by p a d n (r + 1) + 1 ≡ left_by p a d n r }
+    ensures delayed { (p : Parameters) (a d n r : ℕ) → a < p.stop
+        → left_by p a d n r + 1 ≡ left_by p a (d + 1) n r }
+    ensures climbed { (p : Parameters) (a n r : ℕ) → a + 1 < p.stop → n ≤ 33 → r < p.starve
+        → left_by p (a + 1) (delay_after p (a + 1)) 0 0 + 2 ≤ left_by p a 0 n r }
+    ensures joined { (p : Parameters) (a n r : ℕ) → a + 1 ≡ p.stop → n ≤ 33 → r < p.starve
+        → left_by p (a + 1) 0 0 0 + 2 ≤ left_by p a 0 n r }
+    ensures outside { (p : Parameters) (a n r : ℕ) → n ≤ 33 → r < p.starve
+        → left_by p a 0 0 0 + 1 ≤ left_by p a 0 n r + attempt_turns p }
 {}
