@@ -16,3 +16,4 @@ pub mod OwnActs
 pub mod OwnEvents
 pub mod Stretched
 pub mod Potential
+pub mod OwnEnds

@@ -1,5 +1,5 @@
 //! Laws of the retry ladder. Each law is the contract of a function that does nothing.
-ghost use Rattle.std.specs.Prelude.{◌≡◌, ◌≢◌, ◌↔◌, ℕ, ◌+◌, ◌<◌, ◌≤◌, true, List, [], AllPairs};
+ghost use Rattle.std.specs.Prelude.{◌≡◌, ◌≢◌, ◌↔◌, ℕ, ◌+◌, ◌<◌, ◌≤◌, ◌⊎◌, true, List, [], AllPairs};
 ghost use Rattle.tx_journal.specs.declared.events.Event.{Event};
 ghost use Rattle.tx_keeping.specs.Views.{AreKnown};
 ghost use Rattle.tx_ladder.specs.Waiting.{waits_in};
@@ -7,14 +7,20 @@ ghost use Rattle.tx_meaning.specs.Hits.{hits};
 ghost use Rattle.tx_meaning.specs.Limits.{Setting};
 ghost use Rattle.tx_meaning.specs.Meaning.{IsSetting, meaning};
 ghost use Rattle.tx_meaning.specs.State.{is_live, is_head};
-ghost use Rattle.tx_meaning.specs.Stretches.{stretch_of, left, left_by, bound, attempt_turns};
+ghost use Rattle.tx_meaning.specs.Stretches.{stretch_of, is_end_by, left, left_by, bound, attempt_turns};
 ghost use Rattle.tx_ladder.specs.Parameters.{Parameters};
 ghost use Rattle.tx_ladder.specs.Rungs.{delay_after};
 ghost use Rattle.tx_bounds.specs.Stretches.{IsUnderWay};
 ghost use Rattle.tx_serial.specs.Alike.{AgreeInText};
 ghost use Rattle.tx_serial.specs.Attempt.{at_rest};
-ghost use Rattle.tx_serial.specs.Fate.{Goes, fate};
-ghost use Rattle.tx_serial.specs.Flat.{Storage};
+ghost use Rattle.tx_serial.specs.Fate.{Goes, Ends, fate};
+ghost use Rattle.tx_serial.specs.Flat.{Storage, FlatState};
+ghost use Rattle.tx_control.specs.Nesting.{is_constrained};
+ghost use Rattle.tx_control.specs.declared.causes.Why.{Why};
+ghost use Rattle.tx_control.specs.declared.causes.Why.TheVariants.{FetchOverflow, StoreOverflow};
+ghost use Rattle.tx_progress.specs.Local.{Local};
+ghost use Rattle.tx_progress.specs.Reached.{IsFollowed};
+ghost use Rattle.tx_progress.specs.Trial.{fate_by_progress};
 ghost use Rattle.z_instr.specs.Table.{entry_at};
 ghost use Rattle.z_instr.specs.declared.instr.Instr.{Instr};
 ghost use Rattle.z_instr.specs.declared.operand.Demand.TheVariants.{BeginConstrained};
@@ -89,4 +95,13 @@ pub fn what_is_left_goes_down_the_ladder()
         → left_by p (a + 1) 0 0 0 + 2 ≤ left_by p a 0 n r }
     ensures outside { (p : Parameters) (a n r : ℕ) → n ≤ 33 → r < p.starve
         → left_by p a 0 0 0 + 1 ≤ left_by p a 0 n r + attempt_turns p }
+{}
+
+/// Where a test of its next instruction ends a constrained attempt, it does so by a program interruption, or
+/// because the footprint would overflow: never as restricted, too deep or filtered.
+pub fn a_test_ends_a_constrained_attempt_by_a_program_interruption()
+    ensures { (f : FlatState) (i : ℕ) (local : Local) (why : Why) → IsFollowed f i local
+        → is_constrained local.attempt.nest ≡ true
+        → fate_by_progress f.text f.storage local.attempt ≡ Ends why
+        → (is_end_by why ≡ true) ⊎ ((why ≡ FetchOverflow) ⊎ (why ≡ StoreOverflow)) }
 {}
