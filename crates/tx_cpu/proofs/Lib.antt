@@ -15,3 +15,4 @@ pub mod GatheredBlocks
 pub mod LastingDoublewords
 pub mod GatheredStores
 pub mod Advances
+pub mod Goes

@@ -8,3 +8,4 @@ pub mod Refused
 pub mod Performed
 pub mod Gathered
 pub mod Advancing
+pub mod Going

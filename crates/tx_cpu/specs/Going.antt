@@ -1,0 +1,31 @@
+-- What holds of an instruction that goes.
+use Rattle.std.specs.Prelude.{◌≡◌, ℕ, ◌+◌, ◌<◌, ◌≤◌, ◌%◌, true, false, ◌&&◌, nat_eq, length, All, List, [], ◌∷◌, Some}
+use Rattle.z_regs.specs.Absolute.{IsAccessible}
+use Rattle.z_regs.specs.Cpu.{Cpu}
+use Rattle.z_regs.specs.Prefix.{storage_size}
+use Rattle.z_regs.specs.declared.ranges.Range.{Range}
+use Rattle.z_instr.specs.declared.instr.Instr.{Instr}
+use Rattle.z_instr.specs.Roles.{is_end, block_named}
+use Rattle.z_instr.specs.Table.{entry_at}
+use Rattle.tx_serial.specs.Fate.{operands}
+use Rattle.tx_serial.specs.Run.{stores_lastingly}
+use Rattle.tx_cpu.specs.Advancing.{MayAdvance}
+use Rattle.tx_cpu.specs.Tracked.{Tracked}
+
+-- the only operand is a doubleword on its boundary
+pub record IsStoredDoubleword (need : List Range) : Type 0 where
+  pub first : ℕ
+  pub is : need ≡ record { first = first; length = 8; store = true } ∷ []
+  pub boundary : first % 8 ≡ 0
+
+-- Its operands are those of the CPU, and accessible; the CPU is in storage, and so is the block that an outermost
+-- begin names; a live attempt may advance by it, unless it ends the last begin that is open; and NTSTG stores a
+-- doubleword on its boundary.
+pub record MayGo (t : Tracked) (c : Cpu) (i : Instr) (need : List Range) : Type 0 where
+  pub operands_are : need ≡ operands i c
+  pub accessible : All (IsAccessible c.prefix) need
+  pub place : c.address < storage_size
+  pub block : t.nest ≡ [] → (a : ℕ) → block_named i c.general ≡ Some a → a + 256 ≤ storage_size
+  pub advances : 0 < length t.nest → (is_end (entry_at i.op.number) && nat_eq (length t.nest) 1) ≡ false
+      → MayAdvance t i c.prefix need
+  pub lasting : stores_lastingly (entry_at i.op.number) ≡ true → IsStoredDoubleword need
