@@ -1,5 +1,5 @@
 -- What the tests have found of an instruction that goes.
-use Rattle.std.proofs.Common.{◌≡◌, ℕ, suc, ◌+◌, ◌/◌, ◌%◌, ◌<◌, ◌≤◌, Bool, true, false, List, [], ◌∷◌, Option}
+use Rattle.std.proofs.Common.{◌≡◌, ℕ, suc, ◌/◌, ◌%◌, ◌<◌, ◌≤◌, Bool, true, false, List, [], ◌∷◌, Option}
 use Rattle.std.proofs.Common.{Some, None, refl, sym, ap, subst, ◌∙◌, arith, length, ltb}
 use Rattle.std.specs.Prelude.{◌&&◌, ◌||◌, not, nat_eq, nat_lt, nat_le, if◌then◌else◌, is_some, All, map, Ok, Err, Result}
 use Rattle.std.specs.List.{list_any}
@@ -14,12 +14,11 @@ use Rattle.z_instr.specs.declared.operand.Demand.{Demand}
 use Rattle.z_instr.specs.declared.operand.Demand.TheVariants.{Boundary}
 use Rattle.z_instr.specs.declared.operand.Operands.{Operands}
 use Rattle.z_instr.specs.declared.operand.Operands.TheVariants.{Stored}
-use Rattle.z_instr.specs.declared.operand.Size.{Size}
 use Rattle.z_instr.specs.declared.operand.Size.TheVariants.{Doubleword}
-use Rattle.z_instr.specs.Access.{accessible_pages, text_pages, lies_in, unfetched}
+use Rattle.z_instr.specs.Access.{accessible_pages, text_pages, unfetched}
 use Rattle.z_instr.specs.Operands.{spans, spans_in, unspecified, unspecified_in, inaccessible, first_address, from_up}
 use Rattle.z_instr.specs.Operands.{specification}
-use Rattle.z_instr.specs.Roles.{begins, is_end, block_named}
+use Rattle.z_instr.specs.Roles.{begins, is_end}
 use Rattle.z_instr.specs.Table.{Entry, entry_at}
 use Rattle.z_instr.proofs.SmallOperands.{sizes}
 use Rattle.z_touch.specs.Refusals.{range_of, at_fetch}
@@ -35,7 +34,7 @@ use Rattle.tx_footprint.specs.declared.footprint.Overflow.TheVariants.{Fetch, St
 use Rattle.tx_serial.specs.Fate.{Fate, Goes, Ends, Stops, Refusal, Excepts, Because, fate_after, first_refusal}
 use Rattle.tx_serial.specs.Fate.{operands, fetch_refusal, instruction_at, unreadable, excepted, aborts_where}
 use Rattle.tx_serial.specs.Fate.{restricted_refusal, specified_refusal, depth_refusal, operand_refusal}
-use Rattle.tx_serial.specs.Fate.{overflow_in, overflow_of, length_at}
+use Rattle.tx_serial.specs.Fate.{overflow_in, overflow_of}
 use Rattle.tx_serial.specs.Flat.{Storage}
 use Rattle.tx_serial.specs.Run.{stores_lastingly}
 use Rattle.tx_serial.proofs.FreeOperands.{inside_operands, inside_block}
@@ -43,12 +42,10 @@ use Rattle.tx_progress.specs.Progress.{Progress}
 use Rattle.tx_progress.specs.Trial.{at_hand, fetched, tried, tests_by, fate_by_progress, text_refusal_by}
 use Rattle.tx_progress.specs.Trial.{place_refusal_by, overflow_refusal_by, constraint_refusal, breach_refusal}
 use Rattle.tx_progress.proofs.Rows.{any_row, begins_are_barred}
-use Rattle.tx_cpu.specs.Advancing.{MayAdvance}
 use Rattle.tx_cpu.specs.Going.{MayGo, IsStoredDoubleword}
 use Rattle.tx_cpu.specs.Tracked.{Tracked, IsSound, progress}
 use Rattle.tx_cpu.proofs.Agreeing.{fetched_text, length_some}
 use Rattle.tx_cpu.proofs.Reached.{accessible_spans}
-use Rattle.tx_cpu.proofs.Tests.{not-excepted}
 
 -- ---- no test has found anything
 
