@@ -64,7 +64,7 @@ pub ended-so : (e : Ended) (c : Cpu) (bytes : List ℕ) (n : ℕ) (o : Outcome)
     → outcome_from e c bytes ≡ trimmed n o → e ≡ ended_of o
 ended-so e c bytes n o h = sym (ended-back e c bytes) ∙ ap ended_of h ∙ ended-trimmed n o
 
-abbrev stored_in : Outcome → List ℕ
+abbrev pub stored_in : Outcome → List ℕ
 stored_in (Did c bytes) = bytes
 stored_in (Overflowed c bytes) = bytes
 stored_in Divides = []

@@ -16,3 +16,4 @@ pub mod LastingDoublewords
 pub mod GatheredStores
 pub mod Advances
 pub mod Goes
+pub mod LastingStores

@@ -17,6 +17,11 @@ ghost use Rattle.tx_cpu.specs.Performed.{ended_in, IsLeft, trimmed, outcome_from
 ghost use Rattle.tx_cpu.specs.Performed.{ended_of};
 ghost use Rattle.tx_cpu.specs.Performed.{is_transaction, transaction_in, lasting_size, first_bytes};
 ghost use Rattle.tx_cpu.specs.Tracked.{progress};
+ghost use Rattle.tx_cpu.specs.Gathered.{IsDoubleword};
+ghost use Rattle.tx_cpu.specs.Going.{IsStoredDoubleword};
+ghost use Rattle.tx_serial.specs.Run.{stores_lastingly};
+ghost use Rattle.z_effect.specs.Registers.{register as register_of};
+ghost use Rattle.z_instr.specs.Table.{entry_at};
 ghost use Rattle.tx_progress.specs.Trial.{outcome_by};
 ghost use Rattle.z_effect.specs.One.{length_of};
 ghost use Rattle.z_effect.specs.TransactionEffect.{transaction_effect};
@@ -225,6 +230,8 @@ pub fn perform<V: Bytes>(
         (progress attempt.now (cpu_of image.old))) }
     ensures image { cpu_of image.new ≡ cpu_after (cpu_of image.old) (outcome_by
         (storage_of (V.bytes base.now)) instr.now need.now (progress attempt.now (cpu_of image.old))) }
+    ensures lasting { stores_lastingly (entry_at instr.now.op.number) ≡ true → IsStoredDoubleword need.now
+        → IsDoubleword need.now stored.new (register_of (cpu_of image.old) instr.now.r1) }
 {
     let depth = attempt.nest().depth();
     fetch(attempt, need, image.prefix, scratch, base);
