@@ -1,5 +1,6 @@
 -- An attempt is sound with one instruction more.
-use Rattle.std.proofs.Common.{◌≡◌, ◌≢◌, ℕ, zero, suc, ◌+◌, ◌-◌, ◌/◌, ◌<◌, ◌≤◌, Bool, true, false, List, [], ◌∷◌}
+use Rattle.std.proofs.Common.{◌≡◌, ◌≢◌, ℕ, zero, suc, ◌+◌, ◌-◌, ◌/◌}
+use Rattle.std.proofs.Common.{◌<◌, ◌≤◌, Bool, true, false, List, [], ◌∷◌}
 use Rattle.std.proofs.Common.{◌++◌, Option, Some, None, refl, sym, ap, subst, ◌∙◌, arith, length, take}
 use Rattle.std.proofs.Common.{replicate, length-append}
 use Rattle.std.specs.Prelude.{◌==◌, if◌then◌else◌, slice_get, is_some, All}
@@ -126,7 +127,8 @@ at-all P prefix a (x ∷ xs) h =
           subst (λ n. P (absolute_of prefix n)) next (h (suc k) under)),
     )
 
-operand-all-by : (P : ℕ → Type 0) (prefix : Option ℕ) (r : Range) (rs : List Range) (bytes : List ℕ) (b : Bool)
+operand-all-by : (P : ℕ
+    → Type 0) (prefix : Option ℕ) (r : Range) (rs : List Range) (bytes : List ℕ) (b : Bool)
     → r.store ≡ b → StoresFirst (r ∷ rs)
     → (r.store ≡ true → (k : ℕ) → k < r.length → P (absolute_of prefix (r.first + k)))
     → AllAt P (stores_by prefix (r ∷ rs) bytes)

@@ -41,7 +41,8 @@ no-stores prefix (q ∷ rs) r bytes get e first =
     none-stores prefix (q ∷ rs) (take (first_size (q ∷ rs)) bytes) (store, first)
 
 pub some-stores : (prefix : Option ℕ) (rs : List Range) (r : Range) (bytes : List ℕ) → slice_get rs 0 ≡ Some r
-    → r.store ≡ true → StoresFirst rs → stores_by prefix rs bytes ≡ stores_at prefix r.first (take r.length bytes)
+    → r.store ≡ true → StoresFirst rs
+    → stores_by prefix rs bytes ≡ stores_at prefix r.first (take r.length bytes)
 some-stores prefix [] r bytes get e first = absurd (cc)
 some-stores prefix (q ∷ rs) r bytes get e first =
     let same : r ≡ q = cc in

@@ -1,7 +1,8 @@
 -- What the tests have found of an instruction that goes.
 use Rattle.std.proofs.Common.{◌≡◌, ℕ, suc, ◌/◌, ◌%◌, ◌<◌, ◌≤◌, Bool, true, false, List, [], ◌∷◌, Option}
 use Rattle.std.proofs.Common.{Some, None, refl, sym, ap, subst, ◌∙◌, arith, length, ltb}
-use Rattle.std.specs.Prelude.{◌&&◌, ◌||◌, not, nat_eq, nat_lt, nat_le, if◌then◌else◌, is_some, All, map, Ok, Err, Result}
+use Rattle.std.specs.Prelude.{◌&&◌, ◌||◌, not, nat_eq, nat_lt, nat_le}
+use Rattle.std.specs.Prelude.{if◌then◌else◌, is_some, All, map, Ok, Err, Result}
 use Rattle.std.specs.List.{list_any}
 use Rattle.std.proofs.lemmas.Bool.{true≢false, or_left, and_parts}
 use Rattle.std.proofs.lemmas.Bool.Decides.{nat_tests}
@@ -16,7 +17,8 @@ use Rattle.z_instr.specs.declared.operand.Operands.{Operands}
 use Rattle.z_instr.specs.declared.operand.Operands.TheVariants.{Stored}
 use Rattle.z_instr.specs.declared.operand.Size.TheVariants.{Doubleword}
 use Rattle.z_instr.specs.Access.{accessible_pages, text_pages, unfetched}
-use Rattle.z_instr.specs.Operands.{spans, spans_in, unspecified, unspecified_in, inaccessible, first_address, from_up}
+use Rattle.z_instr.specs.Operands.{spans, spans_in, unspecified}
+use Rattle.z_instr.specs.Operands.{unspecified_in, inaccessible, first_address, from_up}
 use Rattle.z_instr.specs.Operands.{specification}
 use Rattle.z_instr.specs.Roles.{begins, is_end}
 use Rattle.z_instr.specs.Table.{Entry, entry_at}
@@ -31,7 +33,8 @@ use Rattle.tx_constraint.specs.Operations.{is_permitted, ends}
 use Rattle.tx_footprint.specs.Touched.{Sets, sets_of, touching, fit_of}
 use Rattle.tx_footprint.specs.declared.footprint.Overflow.{Overflow}
 use Rattle.tx_footprint.specs.declared.footprint.Overflow.TheVariants.{Fetch, Store}
-use Rattle.tx_serial.specs.Fate.{Fate, Goes, Ends, Stops, Refusal, Excepts, Because, fate_after, first_refusal}
+use Rattle.tx_serial.specs.Fate.{Fate, Goes, Ends, Stops}
+use Rattle.tx_serial.specs.Fate.{Refusal, Excepts, Because, fate_after, first_refusal}
 use Rattle.tx_serial.specs.Fate.{operands, fetch_refusal, instruction_at, unreadable, excepted, aborts_where}
 use Rattle.tx_serial.specs.Fate.{restricted_refusal, specified_refusal, depth_refusal, operand_refusal}
 use Rattle.tx_serial.specs.Fate.{overflow_in, overflow_of}
@@ -146,7 +149,8 @@ unbroken-of : (breach : Kept → Option ℕ) (i : Instr) (o : Option Kept) (k : 
 unbroken-of breach i o k e h =
     unbroken i (breach k) (sym (ap (constraint_refusal breach i) e) ∙ h)
 
-first-not : (b : Bool) (n : ℕ) (rest : Option ℕ) → (if b then Some n else rest) ≡ None → (b ≡ false) × (rest ≡ None)
+first-not : (b : Bool) (n : ℕ) (rest : Option ℕ) → (if b then Some n else rest) ≡ None
+    → (b ≡ false) × (rest ≡ None)
 first-not true n rest h = absurd (cc)
 first-not false n rest h = (refl, h)
 
@@ -290,7 +294,8 @@ has-kept : (o : Option Kept) (A : Type 0) → is_some o ≡ true → ((k : Kept)
 has-kept None A h f = absurd (true≢false (sym h))
 has-kept (Some k) A h f = f k refl
 
-pub goes-so : (text : List ℕ) (s : Storage) (t : Tracked) (c : Cpu) (i : Instr) (need : List Range) → IsSound t
+pub goes-so : (text : List ℕ) (s : Storage) (t : Tracked) (c : Cpu) (i : Instr) (need : List Range)
+    → IsSound t
     → fate_by_progress text s (progress t c) ≡ Goes i need → MayGo t c i need
 goes-so text s t c i need sound h =
     let q = progress t c in

@@ -1,5 +1,6 @@
 -- What holds of an instruction that goes.
-use Rattle.std.specs.Prelude.{◌≡◌, ℕ, ◌+◌, ◌<◌, ◌≤◌, ◌%◌, true, false, ◌&&◌, nat_eq, length, All, List, [], ◌∷◌, Some}
+use Rattle.std.specs.Prelude.{◌≡◌, ℕ, ◌+◌, ◌<◌, ◌≤◌, ◌%◌, true, false}
+use Rattle.std.specs.Prelude.{◌&&◌, nat_eq, length, All, List, [], ◌∷◌, Some}
 use Rattle.z_regs.specs.Absolute.{IsAccessible}
 use Rattle.z_regs.specs.Cpu.{Cpu}
 use Rattle.z_regs.specs.Prefix.{storage_size}
@@ -18,8 +19,10 @@ pub record IsStoredDoubleword (need : List Range) : Type 0 where
   pub is : need ≡ record { first = first; length = 8; store = true } ∷ []
   pub boundary : first % 8 ≡ 0
 
--- Its operands are those of the CPU, and accessible; the CPU is in storage, and so is the block that an outermost
--- begin names; a live attempt may advance by it, unless it ends the last begin that is open; and NTSTG stores a
+-- Its operands are those of the CPU, and accessible; the CPU is in storage, and so is the block that
+-- an outermost
+-- begin names; a live attempt may advance by it, unless it ends the last begin that is open; and NTSTG
+-- stores a
 -- doubleword on its boundary.
 pub record MayGo (t : Tracked) (c : Cpu) (i : Instr) (need : List Range) : Type 0 where
   pub operands_are : need ≡ operands i c

@@ -294,7 +294,8 @@ impl Attempt {
     pub fn begin(&mut self, instr: &Instr, before: &CpuImage)
         requires rests { self.old.count ≡ 0 }
         requires begins { is_begun (entry_at instr.now.op.number) ≡ true }
-        requires block { (a : ℕ) → block_named instr.now before.now.general ≡ Some a → a + 256 ≤ storage_size }
+        requires block { (a : ℕ) → block_named instr.now before.now.general ≡ Some a
+            → a + 256 ≤ storage_size }
         requires place { before.now.address < storage_size }
         ensures value { (c : Cpu) → progress self.new c ≡
             advanced instr.now [] c [] (resting (cpu_of before.now)) }

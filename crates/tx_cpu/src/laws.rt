@@ -19,10 +19,13 @@ pub fn the_next_instruction_is_text()
         → SameText text s t → fate_by_progress text t q ≡ fate_by_progress text s q }
 {}
 
-/// Of an instruction that goes, its operands are accessible; the CPU is in storage, and so is the block that an
-/// outermost begin names; and a sound attempt that is live may go on by it, unless it ends the last begin that
+/// Of an instruction that goes, its operands are accessible; the CPU is in storage, and so is the
+/// block that an
+/// outermost begin names; and a sound attempt that is live may go on by it, unless it ends the last
+/// begin that
 /// is open. The operand of NTSTG is a doubleword on its boundary.
 pub fn what_goes_may_be_executed()
-    ensures { (text : List ℕ) (s : Storage) (t : Tracked) (c : Cpu) (i : Instr) (need : List Range) → IsSound t
+    ensures { (text : List ℕ) (s : Storage) (t : Tracked) (c : Cpu) (i : Instr) (need : List Range)
+        → IsSound t
         → fate_by_progress text s (progress t c) ≡ Goes i need → MayGo t c i need }
 {}
