@@ -250,7 +250,8 @@ advanced-sound t i general prefix need bytes nest f k s sound live may ok access
     let end = (get-all prefix need r accessible get).end in
     absolute_within prefix (r.first + j) ok (omega (arith, end, lt)) in
     let there = operand-all (λ a. sets.blocks (a / BLOCK_SIZE) ≡ true) prefix need bytes first
-    (λ r get store j lt. or_right ((sets_of t.footprint).blocks (absolute_of prefix (r.first + j) / BLOCK_SIZE))
+    (λ r get store j lt. or_right ((sets_of t.footprint).blocks (absolute_of prefix
+    (r.first + j) / BLOCK_SIZE))
     (stores_block (absolute_ranges prefix need) (absolute_of prefix (r.first + j) / BLOCK_SIZE))
     (block-there prefix need r j ok accessible first get store lt)) in
     let within = operand-all (λ a. a < storage_size) prefix need bytes first ends in

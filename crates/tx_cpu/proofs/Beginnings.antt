@@ -101,7 +101,8 @@ began-by p i need o d image attempt old live rests en ei ea ec =
       };
       told = done.Began;
     } in
-    whole ∙ ap (λ (rs : List Range). executed_where false true i rs (beside p old) (Did d.cpu d.bytes)) (sym en)
+    whole ∙ ap (λ (rs : List Range). executed_where false true i rs (beside p old) (Did d.cpu d.bytes))
+    (sym en)
 
 pub began-is : (p : Parts) (i : Instr) (need : List Range) (o : Outcome) (image : Cpu) (attempt : Tracked)
     (old : List ℕ) → IsDone o → nat_lt 0 p.attempt.count ≡ false

@@ -75,7 +75,11 @@ stored_in (Aborts code) = []
 after-is : (p : Parts) (image x : Cpu) (w v : Option Waiting) (new : List ℕ) (s : Storage) (told : Done)
     (turns d : ℕ) → ((c : Cpu) → progress p.attempt c ≡ resting c) → image ≡ x → w ≡ v → storage_of new ≡ s
     → turns ≡ d → told ≡ told_of image.state turns
-    → ◌≡◌ {A = Executed} (record { after = beside (record p { image = image; waiting = w }) new; told = told })
+    → ◌≡◌ {A = Executed} (record {
+      after = beside
+          (record p { image = image; waiting = w }) new;
+      told = told;
+    })
     (record {
       after = record {
         local = record { cpu = x; attempt = resting x; pending = p.pending; waiting = v };
@@ -115,7 +119,11 @@ outside-by : (p : Parts) (i : Instr) (need : List Range) (o : Outcome) (c image 
     → w ≡ waiting_outside image.prefix (length_of i) (ended_of o) p.waiting
     → storage_of new ≡ storage_outside p.image.prefix need (ended_of o) bytes (storage_of old)
     → turns ≡ delay_given i p.image → told ≡ told_of image.state turns
-    → ◌≡◌ {A = Executed} (record { after = beside (record p { image = image; waiting = w }) new; told = told })
+    → ◌≡◌ {A = Executed} (record {
+      after = beside
+          (record p { image = image; waiting = w }) new;
+      told = told;
+    })
     (done_outside i (beside p old) (outside i need (beside p old) o))
 outside-by p i need (Did x all) c image bytes w old new told turns live rests first eo ec ei ew es ed et =
     let stored : storage_of new ≡ laid_over (storage_of old) (operand_stores p.image.prefix need all) =
@@ -147,7 +155,8 @@ outside-by p i need Divides c image bytes w old new told turns live rests first 
     (delay_given i (local_of p).cpu) rests same waits es
     (ed ∙ ap (delay_given i) (sym (cpu-rests p live))) et
 outside-by p i need (Aborts code) c image bytes w old new told turns live rests first eo ec ei ew es ed et =
-    after-is p image p.image w p.waiting new (storage_of old) told turns (delay_given i (local_of p).cpu) rests
+    after-is p image p.image w p.waiting new (storage_of old) told turns (delay_given i
+    (local_of p).cpu) rests
     (ei ∙ ec) ew es (ed ∙ ap (delay_given i) (sym (cpu-rests p live))) et
     ∙ unchanged-is p old (delay_given i (local_of p).cpu) live rests
 
@@ -158,7 +167,11 @@ pub outside-is : (p : Parts) (i : Instr) (need : List Range) (o : Outcome) (e : 
     → image ≡ cpu_outside n c (outcome_from e c []) → w ≡ waiting_outside image.prefix n e p.waiting
     → storage_of new ≡ storage_outside p.image.prefix need e bytes (storage_of old)
     → turns ≡ delay_given i p.image → told ≡ told_of image.state turns
-    → ◌≡◌ {A = Executed} (record { after = beside (record p { image = image; waiting = w }) new; told = told })
+    → ◌≡◌ {A = Executed} (record {
+      after = beside
+          (record p { image = image; waiting = w }) new;
+      told = told;
+    })
     (done_outside i (beside p old) (outside i need (beside p old) o))
 outside-is p i need o e c image bytes w old new told turns n live rests first eo ec en ei ew es ed et =
     let ee : e ≡ ended_of o = ended-so e c bytes (first_size need) o eo in

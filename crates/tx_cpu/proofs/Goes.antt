@@ -334,7 +334,8 @@ goes-so text s t c i need sound h =
             (sym found.touches) (few-octowords kept i (operands i c) (place_kept kept ek g.0));
         fits = ap (λ (rs : List Range). fit_of (touching (sets_of t.footprint) (absolute_ranges c.prefix rs)))
             found.touches
-            ∙ fits-so t.nest (touching (sets_of t.footprint) (absolute_ranges c.prefix (operands i c))) some k.0;
+            ∙ fits-so t.nest (touching (sets_of t.footprint) (absolute_ranges c.prefix
+            (operands i c))) some k.0;
       };
       lasting = λ is. lasting-so i c (length t.nest) need is (unexcepted i _ d.0) found.touches;
     }

@@ -189,10 +189,12 @@ pub none-stores : (prefix : Option ℕ) (rs : List Range) (bytes : List ℕ) →
 none-stores prefix [] bytes h = refl
 none-stores prefix (r ∷ rs) bytes h =
     ap (λ b. cond b (stores_at prefix r.first (take r.length bytes)
-    ++ operand_stores prefix rs (drop r.length bytes)) (operand_stores prefix rs bytes)) h.0 ∙ none-stores prefix rs bytes h.1
+    ++ operand_stores prefix rs (drop r.length bytes))
+    (operand_stores prefix rs bytes)) h.0 ∙ none-stores prefix rs bytes h.1
 
 stores-by : (prefix : Option ℕ) (r : Range) (rs : List Range) (bytes : List ℕ) (b : Bool) → StoresNone rs
-    → cond b (stores_at prefix r.first (take r.length bytes) ++ operand_stores prefix rs (drop r.length bytes))
+    → cond b (stores_at prefix r.first (take r.length bytes) ++ operand_stores prefix rs
+    (drop r.length bytes))
     (operand_stores prefix rs bytes)
     ≡ stores_at prefix r.first (take (cond b r.length 0) bytes)
 stores-by prefix r rs bytes true none =
