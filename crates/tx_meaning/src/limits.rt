@@ -12,12 +12,15 @@ pub const MOST_TICK: u32 = 1_000_000;
 /// The most external events.
 pub const MOST_EXTERNALS: u32 = 4_194_304;
 
-/// How long a machine may run, and how often it is interrupted.
-#[derive(Drop)]
+/// How long a machine may run, and how often it is interrupted from outside. Contracts see plain numbers.
+#[derive(Clone, Copy, Debug, PartialEq, Eq)]
 pub struct Limits {
-    turns: u32,
-    tick: u32,
-    externals: u32,
+    /// The counted turns that each CPU may have, from 1 to [`MOST_TURNS`].
+    pub turns: u32,
+    /// The counted turns from one tick of a CPU to the next, at most [`MOST_TICK`]; 0 where no turn is a tick.
+    pub tick: u32,
+    /// The external events that there may be, at most [`MOST_EXTERNALS`].
+    pub externals: u32,
 }
 
 impl Model for Limits {
