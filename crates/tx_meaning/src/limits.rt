@@ -33,4 +33,6 @@ impl Model for Limits {
     ghost view = { λ l. record { turns = l.turns; tick = l.tick; externals = l.externals } };
 
     ghost invariant = { λ l. AreAllowed record { turns = l.turns; tick = l.tick; externals = l.externals } };
+
+    ghost inverse = { λ v. record { turns = v.turns; tick = v.tick; externals = v.externals } };
 }
