@@ -361,11 +361,16 @@ may_act false true queue i e = let n : Some outcome.Spent ≡ None = e in cc
 may_act false false [] i e = inl refl
 may_act false false (head ∷ rest) i e = inr (may_in (is_first i (head ∷ rest)) (waits_in rest i) _ _ e)
 
+-- while the stop queue is not empty, only its head has a turn that is not idle
+pub may_go_on : (m : Setting) (i : ℕ) (k : Kept) → k_idle m k i ≡ None
+    → (k.state.queue ≡ []) ⊎ (is_first i k.state.queue ≡ true)
+unfolding k_idle
+may_go_on m i k e = may_act (kept_finished k i) (is_spent m.limits (k.state.numbers i)) k.state.queue i e
+
 turn_begins : (m : Setting) (i : ℕ) (k : Kept) → k_idle m k i ≡ None → Between m k
     → During m i (with_state (with_event (event.Turn i) (counting_turn i k.state)) k)
-unfolding k_idle
 turn_begins m i k e b =
-    let may = may_act (kept_finished k i) (is_spent m.limits (k.state.numbers i)) k.state.queue i e in
+    let may = may_go_on m i k e in
     let d : During m i k = record {
       parms = b.parms;
       is = turning_begun m.image.parms.stop (aborts_of k) k.state.queue (is_live k.state) b.is i may;

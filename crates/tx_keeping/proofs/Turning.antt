@@ -377,13 +377,13 @@ module _ (m : Setting) (s : IsSetting m) where
       let on = (t.each i).followed.acts (sym (live_is m k t i) ∙ live) in
       let x : false ≡ true = sym off ∙ on in cc)
 
-  pending_rests : (i : ℕ) (k : Kept) (b : Pending) → Truth m k → (k.locals i).pending ≡ Some b
+  pub pending_rests : (i : ℕ) (k : Kept) (b : Pending) → Truth m k → (k.locals i).pending ≡ Some b
       → is_live k.state i ≡ false
   pending_rests i k b t is =
       not_live i k t
       (and_right (is_running (k.locals i).cpu.state) (is_none (k.locals i).pending) (ap is_none is))
 
-  waiting_rests : (i : ℕ) (k : Kept) (w : Waiting) → Truth m k → (k.locals i).waiting ≡ Some w
+  pub waiting_rests : (i : ℕ) (k : Kept) (w : Waiting) → Truth m k → (k.locals i).waiting ≡ Some w
       → is_live k.state i ≡ false
   waiting_rests i k w t is =
       not_live i k t
@@ -539,7 +539,7 @@ module _ (m : Setting) (s : IsSetting m) where
       let n = k.state.numbers i in
       rules_ok (is_tick m.limits n.turns) (nat_lt 0 n.delay) i k g within unfinished
 
-  idle_is : (i : ℕ) (k : Kept) → Truth m k → idle m k.state i ≡ k_idle m k i
+  pub idle_is : (i : ℕ) (k : Kept) → Truth m k → idle m k.state i ≡ k_idle m k i
   unfolding idle k_idle
   idle_is i k t =
       ap (λ (f : FlatState). idle_by m.limits (is_none (f.pending i)
