@@ -12,3 +12,6 @@ pub mod Ready
 pub mod Resting
 pub mod Ended
 pub mod Applied
+pub mod Begun
+pub mod Room
+pub mod Aborted

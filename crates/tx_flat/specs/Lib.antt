@@ -7,3 +7,4 @@ pub mod Refused
 pub mod Coming
 pub mod Moved
 pub mod Slots
+pub mod Left

@@ -17,7 +17,7 @@ use std::alloc::Global;
 use z_regs::{Guard, RunState, Storage};
 
 /// Whether a CPU runs, and nothing is pending for it.
-fn may_act(slot: &Slot) -> bool
+pub(crate) fn may_act(slot: &Slot) -> bool
     ensures { result ≡ acts (cpu_of slot.now.image).state (pending_of slot.now.pending) }
 {
     matches!(slot.image.state, RunState::Running) && slot.pending.is_none()

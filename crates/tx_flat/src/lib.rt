@@ -2,6 +2,7 @@
 //! on plain copies of storage. The definitions are those of `tx_serial`.
 #![tactic(auto)]
 
+pub mod abort;
 mod advance;
 pub mod attempt;
 mod coming;
