@@ -17,3 +17,6 @@ pub mod OwnEvents
 pub mod Stretched
 pub mod Potential
 pub mod OwnEnds
+pub mod Room
+pub mod Barred
+pub mod Paid

@@ -1,7 +1,7 @@
 -- What aborts, turns of other CPUs and interruptions of them leave of a CPU in the middle of a constrained
 -- transaction.
-use Rattle.std.proofs.Common.{◌≡◌, ◌≢◌, ℕ, Bool, true, false}
-use Rattle.std.proofs.Common.{refl, sym, ap, ◌∙◌, subst}
+use Rattle.std.proofs.Common.{◌≡◌, ◌≢◌, ℕ, ◌+◌, ◌<◌, ◌≤◌, Bool, true, false, Some, None}
+use Rattle.std.proofs.Common.{refl, sym, ap, ◌∙◌, subst, arith}
 use Rattle.std.specs.Prelude.{if◌then◌else◌}
 use Rattle.std.proofs.lemmas.Bool.{true≢false, cases_eq}
 use borrow.Enum.Arm.{by_way}
@@ -12,15 +12,16 @@ use Rattle.tx_serial.specs.Flat.{at_put}
 use Rattle.tx_progress.specs.Local.{Local, left_behind, aborted}
 use Rattle.tx_meaning.specs.Limits.{Setting}
 use Rattle.tx_meaning.specs.State.{Numbers, State, is_live}
-use Rattle.tx_meaning.specs.Stretches.{is_end_by}
+use Rattle.tx_meaning.specs.Stretches.{is_end_by, left_by}
 use Rattle.tx_meaning.specs.Changes.{with_numbers, without_attempt, aborting}
 use Rattle.tx_meaning.proofs.Walk.{at_put_case, at_put_kept, cause_case, conflict_on}
 use Rattle.tx_keeping.specs.Kept.{Kept}
 use Rattle.tx_keeping.specs.Moves.{standing_after, k_aborting, k_rejecting, k_rejected}
-use Rattle.tx_keeping.specs.Turn.{k_external, k_interrupting, k_turn, next_address}
+use Rattle.tx_keeping.specs.Turn.{k_external, k_interrupting, k_turn, k_idle, next_address}
 use Rattle.tx_bounds.proofs.Resuming.{Leads}
 use Rattle.tx_bounds.proofs.UnderWay.{HoldsOf, HoldsOfBelow, Amid, SameStanding, holds_same, holds_quiet}
-use Rattle.tx_bounds.proofs.UnderWay.{amid_same, amid_left, abort_rung, put_here, lives}
+use Rattle.tx_bounds.proofs.UnderWay.{amid_same, amid_left, abort_rung, put_here, lives, Rung}
+use Rattle.tx_bounds.proofs.Paid.{left_of, left_same, live_left, dead_left, climbed}
 use Rattle.tx_bounds.proofs.Walk.{Walk, in_a_turn}
 
 pub put_other : {A : Type 0} (table : ℕ → A) (i : ℕ) (v : A) (c : ℕ) → c ≢ i → at_put table i v c ≡ table c
@@ -118,11 +119,15 @@ module _ (m : Setting) (c : ℕ) (k : Kept) (w : Why) (at : ℕ) where
 
 -- ---- what other CPUs do
 
--- what is kept of the CPU, where an abort would lead, and how many attempts it has started
-pub record Kept_at (m : Setting) (busy : Bool) (c attempts : ℕ) (k : Kept) : Type 0 where
+-- what is kept of the CPU, where an abort would lead, how many attempts it has started, and in the middle of a
+-- constrained transaction how many turns are left to it; a conflict can abort its attempt only below the stop
+pub record Kept_at (m : Setting) (busy : Bool) (c attempts most : ℕ) (k : Kept) : Type 0 where
   pub holds : HoldsOf m busy c k
   pub well : is_live k.state c ≡ true → (k.standings c).constrained ≡ true → Leads (k.locals c)
   pub started : (k.state.numbers c).attempts ≡ attempts
+  pub few : busy ≡ true → is_live k.state c ≡ true → (k.state.numbers c).completed ≤ 33
+  pub below : busy ≡ true → is_live k.state c ≡ true → (k.standings c).aborts < m.image.parms.stop
+  pub paid : busy ≡ true → left_of m c k ≤ most
 
 pub record SameAt (c : ℕ) (k t : Kept) : Type 0 where
   pub completed : (t.state.numbers c).completed ≡ (k.state.numbers c).completed
@@ -131,7 +136,12 @@ pub record SameAt (c : ℕ) (k t : Kept) : Type 0 where
   pub standing : SameStanding (k.standings c) (t.standings c)
   pub local : t.locals c ≡ k.locals c
 
-module _ (m : Setting) (busy : Bool) (c attempts : ℕ) where
+pub same_left : (m : Setting) (c : ℕ) (k t : Kept) → SameAt c k t → left_of m c t ≡ left_of m c k
+same_left m c k t s =
+    left_same m.image.parms (k.state.numbers c).completed (k.state.numbers c).delay (t.state.numbers c).completed
+    (t.state.numbers c).delay (k.standings c) (t.standings c) s.completed s.delay s.standing
+
+module _ (m : Setting) (busy : Bool) (c attempts most : ℕ) where
   pub same_holds : (k t : Kept) → SameAt c k t → HoldsOf m busy c k → HoldsOf m busy c t
   same_holds k t s h =
       holds_same m busy (k.state.numbers c).completed (k.state.numbers c).delay (t.state.numbers c).completed
@@ -143,13 +153,20 @@ module _ (m : Setting) (busy : Bool) (c attempts : ℕ) where
         waiting = ap (λ (x : Local). x.waiting) s.local;
       }) h
 
-  pub same_kept : (k t : Kept) → SameAt c k t → Kept_at m busy c attempts k → Kept_at m busy c attempts t
+  pub same_kept : (k t : Kept) → SameAt c k t → Kept_at m busy c attempts most k
+      → Kept_at m busy c attempts most t
   same_kept k t s p = record {
     holds = same_holds k t s p.holds;
     well = λ live kind.
         subst Leads (sym s.local)
         (p.well (sym (ap lives s.completed) ∙ live) (sym s.standing.constrained ∙ kind));
     started = s.started ∙ p.started;
+    few = λ is live.
+        subst (λ n. n ≤ 33) (sym s.completed) (p.few is (sym (ap lives s.completed) ∙ live));
+    below = λ is live.
+        subst (λ n. n < m.image.parms.stop) (sym s.standing.aborts)
+        (p.below is (sym (ap lives s.completed) ∙ live));
+    paid = λ is. subst (λ n. n ≤ most) (sym (same_left m c k t s)) (p.paid is);
   }
 
 pub same_parts : (c : ℕ) (k t : Kept) → t.state.numbers c ≡ k.state.numbers c
@@ -172,9 +189,42 @@ pub goes_on_behind : (stored : Bool) (line : ℕ) → is_end_by (conflict_on sto
 goes_on_behind true line = refl
 goes_on_behind false line = refl
 
-module _ (m : Setting) (busy : Bool) (c attempts i : ℕ) (other : c ≢ i) where
+-- a conflict aborts the CPU's attempt
+conflict_counts : (stored : Bool) (line : ℕ) (st : Standing) → st.constrained ≡ true
+    → (standing_after (conflict_on stored line) st).aborts ≡ st.aborts + 1
+conflict_counts true line st kind = ap (λ b. if b then st.aborts + 1 else st.aborts) kind
+conflict_counts false line st kind = ap (λ b. if b then st.aborts + 1 else st.aborts) kind
+
+module _ (m : Setting) (c : ℕ) (k : Kept) (w : Why) (at : ℕ) (goes_on : is_end_by w ≡ false)
+    (counts : (standing_after w (k.standings c)).aborts ≡ (k.standings c).aborts + 1) where
+  -- behind a conflict abort
+  pub conflict_left : (n r : ℕ) → (k.standings c).parms ≡ m.image.parms → (k.state.numbers c).delay ≡ 0
+      → (k.standings c).aborts < m.image.parms.stop → n ≤ 33 → r < m.image.parms.starve
+      → left_of m c (k_aborting c w at k) + 2
+      ≤ left_by m.image.parms (k.standings c).aborts 0 n r
+  unfolding k_aborting
+  conflict_left n r parms none below few fewer =
+      let t = k_aborting c w at k in
+      let rung : Rung m.image.parms (k.standings c).aborts 0 (standing_after w (k.standings c)).aborts
+      (t.state.numbers c).delay =
+      subst (λ d. Rung m.image.parms (k.standings c).aborts d (standing_after w (k.standings c)).aborts
+      (t.state.numbers c).delay) none
+      (subst (λ p. Rung p (k.standings c).aborts (k.state.numbers c).delay
+      (standing_after w (k.standings c)).aborts (t.state.numbers c).delay) parms
+      (abort_rung c (k.standings c) _ w k.state goes_on)) in
+      let after : left_of m c t
+      ≡ left_by m.image.parms (standing_after w (k.standings c)).aborts (t.state.numbers c).delay 0 0 =
+      dead_left m.image.parms (t.state.numbers c).completed (t.state.numbers c).delay (t.standings c)
+      (aborted_completed m c k w at)
+      ∙ ap (λ (s : Standing). left_by m.image.parms s.aborts (t.state.numbers c).delay 0 0)
+      (aborted_standing m c k w at) in
+      let step = climbed m.image.parms (k.standings c).aborts (standing_after w (k.standings c)).aborts
+      (t.state.numbers c).delay n r rung counts below few fewer in
+      omega (arith, after, step)
+
+module _ (m : Setting) (busy : Bool) (c attempts most i : ℕ) (other : c ≢ i) where
   abbrev P : Kept → Type 0
-  P = Kept_at m busy c attempts
+  P = Kept_at m busy c attempts most
 
   numbers_elsewhere : (v : Numbers) (s : State) → (with_numbers i v s).numbers c ≡ s.numbers c
   numbers_elsewhere v s = put_other s.numbers i v c other
@@ -191,22 +241,44 @@ module _ (m : Setting) (busy : Bool) (c attempts i : ℕ) (other : c ≢ i) wher
       (λ d. put_other t.numbers j (record (t.numbers j) { delay = d }) c ne ∙ here) here here)
       (put_other k.standings j _ c ne) (put_other k.locals j _ c ne)
 
-  aborted_here : (j : ℕ) (w : Why) (at : ℕ) (k : Kept) → is_end_by w ≡ false → j ≡ c → is_live k.state j ≡ true
-      → P k → P (k_aborting j w at k)
-  aborted_here j w at k goes_on e live p =
+  aborted_paid : (stored : Bool) (line at : ℕ) (k : Kept) → is_live k.state c ≡ true → P k → busy ≡ true
+      → left_of m c (k_aborting c (conflict_on stored line) at k) ≤ most
+  aborted_paid stored line at k live p is =
+      let kind = (p.holds.amid is).kind live in
+      let none = p.holds.rests live in
+      let st = k.standings c in
+      let n = (k.state.numbers c).completed in
+      let r = st.requests_rejected in
+      let step = conflict_left m c k (conflict_on stored line) at (goes_on_behind stored line)
+      (conflict_counts stored line st kind) n r p.holds.parms none (p.below is live) (p.few is live)
+      (p.holds.fewer live kind) in
+      let here : left_of m c k ≡ left_by m.image.parms st.aborts 0 n r =
+      live_left m.image.parms n (k.state.numbers c).delay st live
+      ∙ ap (λ d. left_by m.image.parms st.aborts d n r) none in
+      let paid = p.paid is in
+      omega (arith, step, here, paid)
+
+  aborted_here : (j : ℕ) (stored : Bool) (line at : ℕ) (k : Kept) → j ≡ c → is_live k.state j ≡ true
+      → P k → P (k_aborting j (conflict_on stored line) at k)
+  aborted_here j stored line at k e live p =
+      let w = conflict_on stored line in
+      let goes_on = goes_on_behind stored line in
       let lives_here : is_live k.state c ≡ true = ap (is_live k.state) (sym e) ∙ live in
       subst (λ x. P (k_aborting x w at k)) (sym e) (record {
         holds = aborted_holds m c k w at m.image.parms.starve busy goes_on lives_here (p.well lives_here) p.holds;
         well = λ x. absurd (true≢false (sym x ∙ aborted_dead m c k w at));
         started = aborted_attempts m c k w at ∙ p.started;
+        few = λ is x. absurd (true≢false (sym x ∙ aborted_dead m c k w at));
+        below = λ is x. absurd (true≢false (sym x ∙ aborted_dead m c k w at));
+        paid = λ is. aborted_paid stored line at k lives_here p is;
       })
 
   holder_aborted : (k : Kept) (j line : ℕ) (stored : Bool) (at : ℕ) → is_live k.state j ≡ true → P k
       → P (k_aborting j (conflict_on stored line) at k)
   holder_aborted k j line stored at live p =
       by_way (cases_eq j c)
-      (λ e. aborted_here j (conflict_on stored line) at k (goes_on_behind stored line) e live p)
-      (λ ne. same_kept m busy c attempts k _ (aborted_elsewhere j (conflict_on stored line) at k
+      (λ e. aborted_here j stored line at k e live p)
+      (λ ne. same_kept m busy c attempts most k _ (aborted_elsewhere j (conflict_on stored line) at k
       (λ e. ne (sym e))) p)
 
   rejected_number : {B : Type 0} (f : Numbers → B) (k : Kept) (j : ℕ)
@@ -241,32 +313,38 @@ module _ (m : Setting) (busy : Bool) (c attempts i : ℕ) (other : c ≢ i) wher
   elsewhere : (k t : Kept) → t.state.numbers c ≡ k.state.numbers c → t.standings c ≡ k.standings c
       → t.locals c ≡ k.locals c → P k → P t
   elsewhere k t numbers standing local p =
-      same_kept m busy c attempts k t (same_parts c k t numbers standing local) p
+      same_kept m busy c attempts most k t (same_parts c k t numbers standing local) p
 
-  interrupted_by : (k : Kept) (live : Bool) → P k → P (k_interrupting live i k).kept
-  interrupted_by k true p =
-      let u = k_aborting i External (next_address k i) k in
-      let q = same_kept m busy c attempts k u (aborted_elsewhere i External (next_address k i) k other) p in
-      elsewhere u (k_interrupting true i k).kept refl refl refl q
-  interrupted_by k false p = elsewhere k _ refl refl refl p
+  interrupted_by : (k : Kept) (live : Bool) → SameAt c k (k_interrupting live i k).kept
+  interrupted_by k true =
+      let s = aborted_elsewhere i External (next_address k i) k other in
+      record {
+        completed = s.completed;
+        delay = s.delay;
+        started = s.started;
+        standing = s.standing;
+        local = s.local;
+      }
+  interrupted_by k false = same_parts c k _ refl refl refl
 
-  pub interrupted_elsewhere : (k : Kept) → P k → P (k_external i k).kept
+  -- another CPU is interrupted from outside
+  pub interrupted_elsewhere : (k : Kept) → SameAt c k (k_external i k).kept
   unfolding k_external
-  interrupted_elsewhere k p = interrupted_by k (is_live k.state i) p
+  interrupted_elsewhere k = interrupted_by k (is_live k.state i)
 
   walked : Walk m i P P P
   walked = record {
     asking = record {
       asks = λ k p. elsewhere k _ (numbers_elsewhere _ k.state) refl refl p;
       holds = λ k held p. elsewhere k _ refl refl refl p;
-      rejects = λ k j ne live head p. same_kept m busy c attempts k _ (rejected_elsewhere k j) p;
+      rejects = λ k j ne live head p. same_kept m busy c attempts most k _ (rejected_elsewhere k j) p;
       aborts = λ k j line stored at ne live p. holder_aborted k j line stored at live p;
     };
     refused = λ k p. p;
-    starved = λ k at live p. same_kept m busy c attempts k _ (aborted_elsewhere i _ at k other) p;
+    starved = λ k at live p. same_kept m busy c attempts most k _ (aborted_elsewhere i _ at k other) p;
     nothing = λ k p. p;
     leaves = λ k after p. elsewhere k _ refl refl (put_other k.locals i _ c other) p;
-    ends = λ k w at own p. same_kept m busy c attempts k _ (aborted_elsewhere i w at k other) p;
+    ends = λ k w at own p. same_kept m busy c attempts most k _ (aborted_elsewhere i w at k other) p;
     steps = λ k after p. elsewhere k _ refl refl (put_other k.locals i _ c other) p;
     pauses = λ k after turns p.
         elsewhere k _ (numbers_elsewhere _ k.state) refl (put_other k.locals i _ c other) p;
@@ -281,10 +359,10 @@ module _ (m : Setting) (busy : Bool) (c attempts i : ℕ) (other : c ≢ i) wher
         elsewhere k _ (numbers_elsewhere _ k.state) (put_other k.standings i _ c other)
         (put_other k.locals i _ c other) p;
     waits = λ k p. elsewhere k _ (numbers_elsewhere _ k.state) refl refl p;
-    interrupted = λ k p. interrupted_elsewhere k p;
+    interrupted = λ k p. same_kept m busy c attempts most k _ (interrupted_elsewhere k) p;
   }
 
-  pub other_turn : (k : Kept) → P k → P (k_turn m i k).kept
-  other_turn k p =
-      in_a_turn m i P P P walked k (λ o e. p)
+  pub other_turn : (k : Kept) → k_idle m k i ≡ None → P k → P (k_turn m i k).kept
+  other_turn k ready p =
+      in_a_turn m i P P P walked k (λ o e. let n : None ≡ Some o = sym ready ∙ e in absurd (cc))
       (λ e. elsewhere k _ (numbers_elsewhere _ k.state) refl refl p)

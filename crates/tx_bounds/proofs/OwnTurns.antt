@@ -3,12 +3,15 @@ use Rattle.std.proofs.Common.{◌≡◌, ◌≢◌, ℕ, ◌+◌, ◌<◌, ◌�
 use Rattle.std.proofs.Common.{Option, Some, None, refl, sym, ap, ◌∙◌, subst, arith, inl, inr, length-append}
 use Rattle.std.specs.Prelude.{◌⊎◌, if◌then◌else◌, nat_lt, min, ◌-◌, ◌^◌, ◌&&◌, ◌||◌, ◌==◌}
 use Rattle.std.specs.List.{list_any}
-use Rattle.std.proofs.lemmas.Bool.{true≢false, ltb-true, or_left, or_right, eq-eqb, and_from, eqb-false}
+use Rattle.std.proofs.lemmas.Bool.{true≢false, ltb-true, or_left, or_right, eq-eqb, and_from, eqb-false, cases_lt}
+use borrow.Enum.Arm.{by_way}
 use Rattle.std.proofs.lemmas.List.{drop-append-le}
 use Rattle.std.proofs.lemmas.List.Folds.{list_any-append}
 use Rattle.tx_control.specs.declared.causes.Why.{Why}
 use Rattle.tx_control.specs.declared.causes.Why.TheVariants.{Starved}
-use Rattle.tx_ladder.specs.Rungs.{Standing, rejected, is_starved}
+use Rattle.tx_ladder.specs.Rungs.{Standing, rejected, is_starved, next_rung}
+use Rattle.tx_ladder.specs.declared.ladder.Next.{Next}
+use Rattle.tx_ladder.specs.declared.ladder.Next.TheVariants.{Plain, Delay, Queue}
 use Rattle.tx_journal.specs.declared.entries.Entry.{Entry}
 use Rattle.tx_journal.specs.declared.entries.Entry.TheVariants.{Abort}
 use Rattle.tx_progress.specs.Local.{Local}
@@ -17,20 +20,22 @@ use Rattle.tx_progress.specs.Progress as progress
 use Rattle.tx_meaning.specs.declared.asking.Need.{Need}
 use Rattle.tx_meaning.specs.declared.asking.Reject.{Reject}
 use Rattle.tx_meaning.specs.Limits.{Setting}
-use Rattle.tx_meaning.specs.State.{Numbers, State, is_live}
-use Rattle.tx_meaning.specs.Stretches.{is_end_by, is_end_of, ends_transaction}
-use Rattle.tx_meaning.specs.Changes.{with_numbers, without_attempt, aborting}
-use Rattle.tx_meaning.proofs.Walk.{at_put_kept, cause_case}
+use Rattle.tx_meaning.specs.State.{Numbers, State, is_live, is_head}
+use Rattle.tx_meaning.specs.Stretches.{is_end_by, is_end_of, ends_transaction, left_by, bound}
+use Rattle.tx_meaning.specs.Changes.{with_numbers, without_attempt, aborting, on_rung}
+use Rattle.tx_meaning.proofs.Walk.{at_put_kept, cause_case, conflict_on}
 use Rattle.tx_keeping.specs.Kept.{Kept, with_state}
-use Rattle.tx_keeping.specs.Moves.{k_aborting, k_rejected, k_rejecting}
+use Rattle.tx_keeping.specs.Moves.{k_aborting, k_rejected, k_rejecting, standing_after}
 use Rattle.tx_keeping.specs.Asking.{k_get_lines}
 use Rattle.tx_keeping.specs.Turn.{KTurned, k_ends_by, next_address, k_refused_turn, k_once_given, k_with_lines}
 use Rattle.tx_bounds.proofs.Resuming.{Resumes, Leads, leads}
 use Rattle.tx_bounds.proofs.UnderWay.{HoldsOf, HoldsOfBelow, AmidOf, lives, holds_less}
 use Rattle.tx_bounds.proofs.UnderWay.{put_here, amid_same}
-use Rattle.tx_bounds.proofs.OtherTurns.{put_other, aborted_attempts}
+use Rattle.tx_bounds.proofs.OtherTurns.{put_other, aborted_attempts, same_left, conflict_left}
 use Rattle.tx_bounds.proofs.OtherTurns.{aborted_quiet, aborted_holds, SameAt, same_parts}
 use Rattle.tx_bounds.proofs.OtherTurns.{same_holds, aborted_elsewhere}
+use Rattle.tx_bounds.proofs.Paid.{left_of, left_now, left_refused, live_left}
+use Rattle.tx_bounds.proofs.Stopping.{first_joined}
 use Rattle.tx_bounds.proofs.Walk.{Asks, lines_got, Behind}
 
 not_more : {A : Type 0} (a b : ℕ) → b ≡ a → nat_lt a b ≡ true → A
@@ -44,6 +49,12 @@ ends_last c h t e le is =
     ∙ or_right (list_any (is_end_of c) (drop (length h) t)) (is_end_of c e || false)
     (or_left (is_end_of c e) false is)
 
+-- the head of the queue stays where others join it
+rung_first : (i : ℕ) (next : Next) (s : State) (c : ℕ) → is_head s c ≡ true → is_head (on_rung i next s) c ≡ true
+rung_first i Plain s c h = h
+rung_first i (Delay turns) s c h = h
+rung_first i Queue s c h = first_joined s.queue i c h
+
 aborted_history : (i : ℕ) (st : Standing) (n : ℕ) (w : Why) (s : State)
     → (aborting i st n w s).history ≡ s.history ++ Abort i n w ∷ []
 unfolding aborting
@@ -51,16 +62,22 @@ aborted_history i st n w s =
     ap (λ h. h ++ Abort i n w ∷ [])
     (cause_case (λ r. r.history ≡ s.history) i st w (without_attempt i s) refl (λ d. refl) refl refl)
 
--- what an event of the CPU leaves: where a transaction was under way, it has ended or goes on; where none was, one
+-- a transaction is under way, and with what its turn costs no more is left to it than this
+pub record Continues (m : Setting) (c cost most : ℕ) (t : Kept) : Type 0 where
+  pub amid : AmidOf m c t
+  pub paid : left_of m c t + cost ≤ most
+
+-- what an event leaves of the CPU: where a transaction was under way, it has ended or goes on; where none was, one
 -- is under way once a constrained attempt has started
-pub record After (m : Setting) (c : ℕ) (busy : Bool) (before : State) (t : Kept) : Type 0 where
+pub record After (m : Setting) (c : ℕ) (busy : Bool) (cost most : ℕ) (before : State) (t : Kept) : Type 0 where
   pub holds : HoldsOf m false c t
-  pub ends : busy ≡ true → (ends_transaction before t.state c ≡ true) ⊎ AmidOf m c t
+  pub ends : busy ≡ true → (ends_transaction before t.state c ≡ true) ⊎ Continues m c cost most t
   pub starts : busy ≡ false → nat_lt (before.numbers c).attempts (t.state.numbers c).attempts ≡ true
-      → is_live t.state c ≡ true → (t.standings c).constrained ≡ true → AmidOf m c t
+      → is_live t.state c ≡ true → (t.standings c).constrained ≡ true
+      → Continues m c 1 (bound m.image.parms) t
 
 -- in the turn, while the CPU asks
-pub record Own (m : Setting) (c : ℕ) (busy : Bool) (before : State) (l : Local) (u : Kept) : Type 0 where
+pub record Own (m : Setting) (c : ℕ) (busy : Bool) (most : ℕ) (before : State) (l : Local) (u : Kept) : Type 0 where
   pub holds : HoldsOf m busy c u
   pub well : is_live u.state c ≡ true → (u.standings c).constrained ≡ true → Resumes (u.locals c)
   pub longer : length before.history ≤ length u.state.history
@@ -68,25 +85,36 @@ pub record Own (m : Setting) (c : ℕ) (busy : Bool) (before : State) (l : Local
   pub rests : (u.state.numbers c).delay ≡ 0
   pub local : u.locals c ≡ l
   pub live : is_live u.state c ≡ progress.is_live (u.locals c).attempt
+  pub counted : (u.state.numbers c).completed ≡ l.attempt.count
+  pub first : m.image.parms.stop ≤ (u.standings c).aborts → is_head u.state c ≡ true
+  pub paid : busy ≡ true → left_of m c u ≤ most
 
--- behind a reject
-pub record Rejected (m : Setting) (c : ℕ) (busy : Bool) (before : State) (l : Local) (u : Kept) : Type 0 where
+-- behind a reject, which the head of the queue never gets
+pub record Rejected (m : Setting) (c : ℕ) (busy : Bool) (most : ℕ) (before : State) (l : Local) (u : Kept)
+    : Type 0 where
   pub mid : Kept
-  pub own : Own m c busy before l mid
+  pub own : Own m c busy most before l mid
+  pub other : is_head mid.state c ≡ false
   pub is : u ≡ k_rejected c mid
 
-module _ (m : Setting) (c : ℕ) (busy : Bool) (before : State) where
+-- what is known of the attempt of a constrained transaction in the turn
+pub record Attempted (busy : Bool) (l : Local) : Type 0 where
+  pub few : busy ≡ true → l.attempt.count ≤ 33
+  pub alive : busy ≡ true → progress.is_live l.attempt ≡ true
+
+module _ (m : Setting) (c : ℕ) (busy : Bool) (cost most : ℕ) (before : State) where
   pub stays : (t : Kept) → HoldsOf m busy c t
-      → (t.state.numbers c).attempts ≡ (before.numbers c).attempts → After m c busy before t
-  stays t h same = record {
+      → (t.state.numbers c).attempts ≡ (before.numbers c).attempts
+      → (busy ≡ true → left_of m c t + cost ≤ most) → After m c busy cost most before t
+  stays t h same paid = record {
     holds = holds_less m busy (t.state.numbers c).completed (t.state.numbers c).delay (t.standings c) (t.locals c)
         h;
-    ends = λ is. inr (h.amid is);
+    ends = λ is. inr (record { amid = h.amid is; paid = paid is });
     starts = λ is more. not_more (before.numbers c).attempts (t.state.numbers c).attempts same more;
   }
 
   pub plain : (t : Kept) → (busy ≡ true → ⊥) → HoldsOf m false c t
-      → (t.state.numbers c).attempts ≡ (before.numbers c).attempts → After m c busy before t
+      → (t.state.numbers c).attempts ≡ (before.numbers c).attempts → After m c busy cost most before t
   plain t never h same = record {
     holds = h;
     ends = λ is. absurd (never is);
@@ -94,7 +122,7 @@ module _ (m : Setting) (c : ℕ) (busy : Bool) (before : State) where
   }
 
   pub over : (t : Kept) → ends_transaction before t.state c ≡ true → HoldsOf m false c t
-      → (t.state.numbers c).attempts ≡ (before.numbers c).attempts → After m c busy before t
+      → (t.state.numbers c).attempts ≡ (before.numbers c).attempts → After m c busy cost most before t
   over t ends h same = record {
     holds = h;
     ends = λ is. inl ends;
@@ -113,37 +141,44 @@ module _ (m : Setting) (c : ℕ) (busy : Bool) (before : State) where
       ∙ ends_last c before.history u.state.history (Abort c n w) longer
       (and_from (c == c) (is_end_by w) (eq-eqb c c refl) is)
 
-  own_abort_by : (most : ℕ) (u : Kept) (w : Why) (at : ℕ) (ends : Bool) → is_end_by w ≡ ends
-      → is_live u.state c ≡ true → HoldsOfBelow m most busy c u
+  own_abort_by : (fewest : ℕ) (u : Kept) (w : Why) (at : ℕ) (ends : Bool) → is_end_by w ≡ ends
+      → is_live u.state c ≡ true → HoldsOfBelow m fewest busy c u
       → ((u.standings c).constrained ≡ true → Leads (u.locals c))
       → length before.history ≤ length u.state.history
       → (u.state.numbers c).attempts ≡ (before.numbers c).attempts
-      → After m c busy before (k_aborting c w at u)
-  own_abort_by most u w at true e live h well longer same =
-      over (k_aborting c w at u) (ends_by_abort u w at longer e) (aborted_quiet m c u w at most busy h)
+      → (busy ≡ true → is_end_by w ≡ false → left_of m c (k_aborting c w at u) + cost ≤ most)
+      → After m c busy cost most before (k_aborting c w at u)
+  own_abort_by fewest u w at true e live h well longer same paid =
+      over (k_aborting c w at u) (ends_by_abort u w at longer e) (aborted_quiet m c u w at fewest busy h)
       (aborted_attempts m c u w at ∙ same)
-  own_abort_by most u w at false e live h well longer same =
-      stays (k_aborting c w at u) (aborted_holds m c u w at most busy e live well h)
-      (aborted_attempts m c u w at ∙ same)
+  own_abort_by fewest u w at false e live h well longer same paid =
+      stays (k_aborting c w at u) (aborted_holds m c u w at fewest busy e live well h)
+      (aborted_attempts m c u w at ∙ same) (λ is. paid is e)
 
-  pub own_abort : (most : ℕ) (u : Kept) (w : Why) (at : ℕ) → is_live u.state c ≡ true
-      → HoldsOfBelow m most busy c u
+  pub own_abort : (fewest : ℕ) (u : Kept) (w : Why) (at : ℕ) → is_live u.state c ≡ true
+      → HoldsOfBelow m fewest busy c u
       → ((u.standings c).constrained ≡ true → Leads (u.locals c))
       → length before.history ≤ length u.state.history
       → (u.state.numbers c).attempts ≡ (before.numbers c).attempts
-      → After m c busy before (k_aborting c w at u)
-  own_abort most u w at live h well longer same =
-      own_abort_by most u w at (is_end_by w) refl live h well longer same
+      → (busy ≡ true → is_end_by w ≡ false → left_of m c (k_aborting c w at u) + cost ≤ most)
+      → After m c busy cost most before (k_aborting c w at u)
+  own_abort fewest u w at live h well longer same paid =
+      own_abort_by fewest u w at (is_end_by w) refl live h well longer same paid
 
-  -- ---- questions
+-- ---- questions
 
+module _ (m : Setting) (c : ℕ) (busy : Bool) (most : ℕ) (before : State) where
   module _ (l : Local) where
     abbrev P : Kept → Type 0
-    P = Own m c busy before l
+    P = Own m c busy most before l
 
-    pub own_same : (u t : Kept) → SameAt c u t → length u.state.history ≤ length t.state.history → P u → P t
-    own_same u t s longer p = record {
-      holds = same_holds m busy c (before.numbers c).attempts u t s p.holds;
+    abbrev F : Kept → Type 0
+    F = After m c busy 1 most before
+
+    pub own_same : (u t : Kept) → SameAt c u t → length u.state.history ≤ length t.state.history
+        → (is_head u.state c ≡ true → is_head t.state c ≡ true) → P u → P t
+    own_same u t s longer first p = record {
+      holds = same_holds m busy c (before.numbers c).attempts most u t s p.holds;
       well = λ live kind.
           subst Resumes (sym s.local)
           (p.well (sym (ap lives s.completed) ∙ live) (sym s.standing.constrained ∙ kind));
@@ -152,12 +187,16 @@ module _ (m : Setting) (c : ℕ) (busy : Bool) (before : State) where
       rests = s.delay ∙ p.rests;
       local = s.local ∙ p.local;
       live = ap lives s.completed ∙ p.live ∙ ap (λ (x : Local). progress.is_live x.attempt) (sym s.local);
+      counted = s.completed ∙ p.counted;
+      first = λ full. first (p.first (subst (λ n. m.image.parms.stop ≤ n) s.standing.aborts full));
+      paid = λ is. subst (λ n. n ≤ most) (sym (same_left m c u t s)) (p.paid is);
     }
 
     pub own_parts : (u t : Kept) → t.state.numbers c ≡ u.state.numbers c → t.standings c ≡ u.standings c
-        → t.locals c ≡ u.locals c → length u.state.history ≤ length t.state.history → P u → P t
-    own_parts u t numbers standing local longer p =
-        own_same u t (same_parts c u t numbers standing local) longer p
+        → t.locals c ≡ u.locals c → length u.state.history ≤ length t.state.history
+        → (is_head u.state c ≡ true → is_head t.state c ≡ true) → P u → P t
+    own_parts u t numbers standing local longer first p =
+        own_same u t (same_parts c u t numbers standing local) longer first p
 
     pub own_number : (u : Kept) (v : Numbers) → v.completed ≡ (u.state.numbers c).completed
         → v.delay ≡ (u.state.numbers c).delay → v.attempts ≡ (u.state.numbers c).attempts → P u
@@ -170,7 +209,15 @@ module _ (m : Setting) (c : ℕ) (busy : Bool) (before : State) where
           started = ap (λ (n : Numbers). n.attempts) now ∙ started;
           standing = record { parms = refl; aborts = refl; constrained = refl; refused = refl };
           local = refl;
-        }) (omega arith) p
+        }) (omega arith) (λ h. h) p
+
+    first_behind : (j line : ℕ) (stored : Bool) (at : ℕ) (u : Kept) → is_head u.state c ≡ true
+        → is_head (k_aborting j (conflict_on stored line) at u).state c ≡ true
+    unfolding k_aborting aborting
+    first_behind j line true at u h =
+        rung_first j (next_rung (u.standings j)) (without_attempt j u.state) c h
+    first_behind j line false at u h =
+        rung_first j (next_rung (u.standings j)) (without_attempt j u.state) c h
 
     longer_behind : (j : ℕ) (w : Why) (at : ℕ) (u : Kept)
         → length u.state.history ≤ length (k_aborting j w at u).state.history
@@ -185,16 +232,21 @@ module _ (m : Setting) (c : ℕ) (busy : Bool) (before : State) where
     holder_rejects u j ne p =
         let other : c ≢ j = λ e. ne (sym e) in
         own_parts u (k_rejecting j u) (put_other u.state.numbers j _ c other) (put_other u.standings j _ c other)
-        refl (omega arith) p
+        refl (omega arith) (λ h. h) p
 
-    own_asks : Asks c P (Rejected m c busy before l)
+    own_asks : Asks c P (Rejected m c busy most before l)
     own_asks = record {
       asks = λ u p. own_number u _ refl refl refl p;
-      holds = λ u held p. own_parts u _ refl refl refl (omega arith) p;
-      rejects = λ u j ne live head p. record { mid = k_rejecting j u; own = holder_rejects u j ne p; is = refl };
+      holds = λ u held p. own_parts u _ refl refl refl (omega arith) (λ h. h) p;
+      rejects = λ u j ne live head p. record {
+        mid = k_rejecting j u;
+        own = holder_rejects u j ne p;
+        other = head;
+        is = refl;
+      };
       aborts = λ u j line stored at ne live p.
-          own_same u _ (aborted_elsewhere m busy c 0 j (λ e. ne (sym e)) j _ at u (λ e. ne (sym e)))
-          (longer_behind j _ at u) p;
+          own_same u _ (aborted_elsewhere m busy c 0 0 j (λ e. ne (sym e)) j _ at u (λ e. ne (sym e)))
+          (longer_behind j _ at u) (first_behind j line stored at u) p;
     }
 
     -- ---- a reject
@@ -237,16 +289,16 @@ module _ (m : Setting) (c : ℕ) (busy : Bool) (before : State) where
     live_there u = ap lives (rejected_number (λ (v : Numbers). v.completed) u (λ v a b. refl))
 
     -- one more request was rejected
-    rejected_holds : (most : ℕ) (u : Kept) → P u
+    rejected_holds : (fewest : ℕ) (u : Kept) → P u
         → (is_live u.state c ≡ true → (u.standings c).constrained ≡ true
-        → (rejected (u.standings c)).requests_rejected < most)
-        → HoldsOfBelow m most busy c (k_rejected c u)
-    rejected_holds most u p fewer = record {
+        → (rejected (u.standings c)).requests_rejected < fewest)
+        → HoldsOfBelow m fewest busy c (k_rejected c u)
+    rejected_holds fewest u p fewer = record {
       parms = rejected_standing (λ (s : Standing). s.parms) u refl ∙ p.holds.parms;
       rests = λ live. rejected_number (λ (v : Numbers). v.delay) u (λ v a b. refl) ∙ p.rests;
       fewer = λ live kind.
           let now : is_live u.state c ≡ true = sym (live_there u) ∙ live in
-          subst (λ x. x < most) (sym (refused_now u now))
+          subst (λ x. x < fewest) (sym (refused_now u now))
           (fewer now (sym (rejected_standing (λ (s : Standing). s.constrained) u refl) ∙ kind));
       amid = λ is. rejected_amid u p is;
     }
@@ -289,43 +341,108 @@ module _ (m : Setting) (c : ℕ) (busy : Bool) (before : State) where
         leads (u.locals c) (p.well (sym (live_there u) ∙ live)
         (sym (rejected_standing (λ (s : Standing). s.constrained) u refl) ∙ kind))
 
-    turned_by : (u : Kept) (r : Reject) (live starved : Bool) → P u
-        → is_live (k_rejected c u).state c ≡ live → is_starved ((k_rejected c u).standings c) ≡ starved
-        → After m c busy before (k_refused_turn (live && starved) c r (k_rejected c u)).kept
-    unfolding k_ends_by
-    turned_by u r true true p live starved =
-        let t = k_rejected c u in
-        own_abort (m.image.parms.starve + 1) t Starved (next_address t c) live (starves u p)
-        (rejected_leads u p live) p.longer
-        (rejected_number (λ (v : Numbers). v.attempts) u (λ v a b. refl) ∙ p.started)
-    turned_by u r false starved p live e =
-        stays (k_rejected c u)
-        (survives u p (ap (λ b. b && is_starved ((k_rejected c u).standings c)) live))
-        (rejected_number (λ (v : Numbers). v.attempts) u (λ v a b. refl) ∙ p.started)
-    turned_by u r true false p live e =
-        stays (k_rejected c u)
-        (survives u p (ap (λ b. b && is_starved ((k_rejected c u).standings c)) live ∙ e))
-        (rejected_number (λ (v : Numbers). v.attempts) u (λ v a b. refl) ∙ p.started)
+    -- ---- what is left behind a reject
 
-    turned_away : (u : Kept) (r : Reject) → Rejected m c busy before l u
-        → After m c busy before
-        (k_refused_turn (is_live u.state c && is_starved (u.standings c)) c r u).kept
-    turned_away u r q =
-        subst (λ x. After m c busy before
-        (k_refused_turn (is_live x.state c && is_starved (x.standings c)) c r x).kept) (sym q.is)
-        (turned_by q.mid r (is_live (k_rejected c q.mid).state c) (is_starved ((k_rejected c q.mid).standings c))
-        q.own refl refl)
+    one_refused : (r starve : ℕ) → r < starve → starve ≤ 2 ^ 32 - 1 → min (r + 1) (2 ^ 32 - 1) ≡ r + 1
+    one_refused r starve less most = omega arith
 
-    given_own : (o : Option Reject) (u : Kept) (next : Kept → KTurned)
-        → Behind P (Rejected m c busy before l) o u
-        → ((t : Kept) → P t → After m c busy before (next t).kept)
-        → After m c busy before (k_once_given c o u next).kept
-    given_own None u next p go = go u p
-    given_own (Some r) u next q go = turned_away u r q
+    module _ (small : m.image.parms.starve ≤ 2 ^ 32 - 1) (a : Attempted busy l) where
+      below_stop : (u : Kept) → P u → is_head u.state c ≡ false → (u.standings c).aborts < m.image.parms.stop
+      below_stop u p other =
+          by_way (cases_lt (u.standings c).aborts m.image.parms.stop) (λ less. less)
+          (λ full. absurd (true≢false (sym (p.first full) ∙ other)))
 
-    pub lines_own : (needs : List Need) (u : Kept) (next : Kept → KTurned) → P u
-        → ((t : Kept) → P t → After m c busy before (next t).kept)
-        → After m c busy before (k_with_lines m c needs u next).kept
-    lines_own needs u next p go =
-        let a = k_get_lines m c needs u in
-        given_own a.reject a.kept next (lines_got m c P (Rejected m c busy before l) own_asks needs needs u p) go
+      alive_now : (u : Kept) → P u → busy ≡ true → is_live u.state c ≡ true
+      alive_now u p is =
+          p.live ∙ ap (λ (x : Local). progress.is_live x.attempt) p.local ∙ a.alive is
+
+      few_now : (u : Kept) → P u → busy ≡ true → (u.state.numbers c).completed ≤ 33
+      few_now u p is = subst (λ n. n ≤ 33) (sym p.counted) (a.few is)
+
+      rejected_paid : (u : Kept) → P u → is_head u.state c ≡ false → busy ≡ true
+          → left_of m c (k_rejected c u) + 1 ≤ most
+      rejected_paid u p other is =
+          let t = k_rejected c u in
+          let n = (u.state.numbers c).completed in
+          let d = (u.state.numbers c).delay in
+          let live = alive_now u p is in
+          let kind = (p.holds.amid is).kind live in
+          let fewer = p.holds.fewer live kind in
+          let completed = rejected_number (λ (v : Numbers). v.completed) u (λ v a b. refl) in
+          let delay = rejected_number (λ (v : Numbers). v.delay) u (λ v a b. refl) in
+          let aborts = rejected_standing (λ (s : Standing). s.aborts) u refl in
+          let refused : (t.standings c).requests_rejected ≡ (u.standings c).requests_rejected + 1 =
+          refused_now u live ∙ one_refused (u.standings c).requests_rejected m.image.parms.starve fewer small in
+          let same : left_of m c t ≡ left_now m.image.parms n d (t.standings c) =
+          (λ k. left_now m.image.parms (completed k) (delay k) (t.standings c)) in
+          let step = left_refused m.image.parms n d (u.standings c) (t.standings c) live (few_now u p is)
+          (below_stop u p other) aborts refused fewer in
+          let paid = p.paid is in
+          omega (arith, same, step, paid)
+
+      starved_paid : (u : Kept) (at : ℕ) → P u → is_head u.state c ≡ false → busy ≡ true
+          → left_of m c (k_aborting c Starved at (k_rejected c u)) + 1 ≤ most
+      starved_paid u at p other is =
+          let t = k_rejected c u in
+          let live = alive_now u p is in
+          let kind = (p.holds.amid is).kind live in
+          let n = (u.state.numbers c).completed in
+          let st = u.standings c in
+          let aborts : (t.standings c).aborts ≡ st.aborts = rejected_standing (λ (s : Standing). s.aborts) u refl in
+          let kept : (t.standings c).constrained ≡ true =
+          rejected_standing (λ (s : Standing). s.constrained) u refl ∙ kind in
+          let none : (t.state.numbers c).delay ≡ 0 =
+          rejected_number (λ (v : Numbers). v.delay) u (λ v a b. refl) ∙ p.rests in
+          let counts : (standing_after Starved (t.standings c)).aborts ≡ (t.standings c).aborts + 1 =
+          ap (λ b. if b then (t.standings c).aborts + 1 else (t.standings c).aborts) kept in
+          let below : (t.standings c).aborts < m.image.parms.stop =
+          subst (λ x. x < m.image.parms.stop) (sym aborts) (below_stop u p other) in
+          let step = conflict_left m c t Starved at refl counts n st.requests_rejected
+          (rejected_standing (λ (s : Standing). s.parms) u refl ∙ p.holds.parms) none below (few_now u p is)
+          (p.holds.fewer live kind) in
+          let here : left_of m c u ≡ left_by m.image.parms (t.standings c).aborts 0 n st.requests_rejected =
+          live_left m.image.parms n (u.state.numbers c).delay st live
+          ∙ (λ k. left_by m.image.parms (sym aborts k) (p.rests k) n st.requests_rejected) in
+          let paid = p.paid is in
+          omega (arith, step, here, paid)
+
+      turned_by : (u : Kept) (r : Reject) (live starved : Bool) → P u → is_head u.state c ≡ false
+          → is_live (k_rejected c u).state c ≡ live → is_starved ((k_rejected c u).standings c) ≡ starved
+          → F (k_refused_turn (live && starved) c r (k_rejected c u)).kept
+      unfolding k_ends_by
+      turned_by u r true true p other live starved =
+          let t = k_rejected c u in
+          own_abort m c busy 1 most before (m.image.parms.starve + 1) t Starved (next_address t c) live
+          (starves u p) (rejected_leads u p live) p.longer
+          (rejected_number (λ (v : Numbers). v.attempts) u (λ v a b. refl) ∙ p.started)
+          (λ is goes. starved_paid u (next_address t c) p other is)
+      turned_by u r false starved p other live e =
+          stays m c busy 1 most before (k_rejected c u)
+          (survives u p (ap (λ b. b && is_starved ((k_rejected c u).standings c)) live))
+          (rejected_number (λ (v : Numbers). v.attempts) u (λ v a b. refl) ∙ p.started)
+          (rejected_paid u p other)
+      turned_by u r true false p other live e =
+          stays m c busy 1 most before (k_rejected c u)
+          (survives u p (ap (λ b. b && is_starved ((k_rejected c u).standings c)) live ∙ e))
+          (rejected_number (λ (v : Numbers). v.attempts) u (λ v a b. refl) ∙ p.started)
+          (rejected_paid u p other)
+
+      turned_away : (u : Kept) (r : Reject) → Rejected m c busy most before l u
+          → F (k_refused_turn (is_live u.state c && is_starved (u.standings c)) c r u).kept
+      turned_away u r q =
+          subst (λ x. F (k_refused_turn (is_live x.state c && is_starved (x.standings c)) c r x).kept) (sym q.is)
+          (turned_by q.mid r (is_live (k_rejected c q.mid).state c)
+          (is_starved ((k_rejected c q.mid).standings c)) q.own q.other refl refl)
+
+      given_own : (o : Option Reject) (u : Kept) (next : Kept → KTurned)
+          → Behind P (Rejected m c busy most before l) o u
+          → ((t : Kept) → P t → F (next t).kept) → F (k_once_given c o u next).kept
+      given_own None u next p go = go u p
+      given_own (Some r) u next q go = turned_away u r q
+
+      pub lines_own : (needs : List Need) (u : Kept) (next : Kept → KTurned) → P u
+          → ((t : Kept) → P t → F (next t).kept) → F (k_with_lines m c needs u next).kept
+      lines_own needs u next p go =
+          let a = k_get_lines m c needs u in
+          given_own a.reject a.kept next
+          (lines_got m c P (Rejected m c busy most before l) own_asks needs needs u p) go

@@ -50,13 +50,13 @@ rungs_sum parms a (suc n) =
 
 -- ---- below the stop, and at it
 
-left_below : (parms : Parameters) (a d n r : ℕ) → a < parms.stop
+pub left_below : (parms : Parameters) (a d n r : ℕ) → a < parms.stop
     → left_by parms a d n r ≡ attempt_turns parms - n - r + d + later_rungs parms a + 34
 left_below parms a d n r less =
     ap (λ b. if b then (attempt_turns parms - n - r + d + later_rungs parms a + 34) else (34 - n))
     (lt-ltb a parms.stop less)
 
-left_at : (parms : Parameters) (a d n r : ℕ) → parms.stop ≤ a → left_by parms a d n r ≡ 34 - n
+pub left_at : (parms : Parameters) (a d n r : ℕ) → parms.stop ≤ a → left_by parms a d n r ≡ 34 - n
 left_at parms a d n r least =
     ap (λ b. if b then (attempt_turns parms - n - r + d + later_rungs parms a + 34) else (34 - n))
     (le-ltb a parms.stop least)

@@ -104,9 +104,9 @@ pub record Between (m : Setting) (k : Kept) : Type 0 where
   pub parms : AllBy m k
   pub is : Stopping m.image.parms.stop (aborts_of k) k.state.queue (is_live k.state)
 
-record During (m : Setting) (i : ℕ) (k : Kept) : Type 0 where
-  parms : AllBy m k
-  is : Turning m.image.parms.stop (aborts_of k) k.state.queue (is_live k.state) i
+pub record During (m : Setting) (i : ℕ) (k : Kept) : Type 0 where
+  pub parms : AllBy m k
+  pub is : Turning m.image.parms.stop (aborts_of k) k.state.queue (is_live k.state) i
 
 record Refused (m : Setting) (i : ℕ) (k : Kept) : Type 0 where
   during : During m i k
@@ -367,7 +367,7 @@ pub may_go_on : (m : Setting) (i : ℕ) (k : Kept) → k_idle m k i ≡ None
 unfolding k_idle
 may_go_on m i k e = may_act (kept_finished k i) (is_spent m.limits (k.state.numbers i)) k.state.queue i e
 
-turn_begins : (m : Setting) (i : ℕ) (k : Kept) → k_idle m k i ≡ None → Between m k
+pub turn_begins : (m : Setting) (i : ℕ) (k : Kept) → k_idle m k i ≡ None → Between m k
     → During m i (with_state (with_event (event.Turn i) (counting_turn i k.state)) k)
 turn_begins m i k e b =
     let may = may_go_on m i k e in
@@ -377,7 +377,7 @@ turn_begins m i k e b =
     } in
     still m i k _ refl (λ x. refl) (λ x. refl) (same_live i _ k.state refl) d
 
-happened : (m : Setting) (e : Event) (k : Kept) → 0 < m.image.parms.stop → Between m k
+pub happened : (m : Setting) (e : Event) (k : Kept) → 0 < m.image.parms.stop → Between m k
     → Between m (k_happen m e k).kept
 unfolding k_happen
 happened m (event.Turn i) k some b =
@@ -393,9 +393,9 @@ unfolding keeping_from
 all_happened m [] k some b = b
 all_happened m (e ∷ rest) k some b = all_happened m rest (k_happen m e k).kept some (happened m e k some b)
 
-at_first : (m : Setting) → 0 < m.image.parms.stop → Between m (kept_beginning m)
+pub between_first : (m : Setting) → 0 < m.image.parms.stop → Between m (kept_beginning m)
 unfolding kept_beginning Once
-at_first m some = record {
+between_first m some = record {
   parms = λ x. refl;
   is = record {
     counted = record {
@@ -409,7 +409,7 @@ at_first m some = record {
 }
 
 pub between : (m : Setting) (events : List Event) → 0 < m.image.parms.stop → Between m (keeping m events)
-between m events some = all_happened m events (kept_beginning m) some (at_first m some)
+between m events some = all_happened m events (kept_beginning m) some (between_first m some)
 
 pub some_stop : (m : Setting) → IsSetting m → 0 < m.image.parms.stop
 some_stop m s = let least = s.image.allowed.stop.0 in omega arith

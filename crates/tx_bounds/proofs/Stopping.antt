@@ -125,7 +125,7 @@ last_first : (q : List ℕ) (i x : ℕ) → is_first x q ≡ true → x ≢ i �
 last_first [] i x first ne = first
 last_first (head ∷ rest) i x first ne = last_first_by head rest i x (head == i) refl first ne
 
-first_joined : (q : List ℕ) (j x : ℕ) → is_first x q ≡ true → is_first x (q ++ j ∷ []) ≡ true
+pub first_joined : (q : List ℕ) (j x : ℕ) → is_first x q ≡ true → is_first x (q ++ j ∷ []) ≡ true
 first_joined [] j x first = let n : false ≡ true = first in cc
 first_joined (head ∷ rest) j x first = first
 

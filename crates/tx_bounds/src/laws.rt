@@ -1,5 +1,6 @@
 //! Laws of the retry ladder. Each law is the contract of a function that does nothing.
-ghost use Rattle.std.specs.Prelude.{◌≡◌, ◌≢◌, ◌↔◌, ℕ, ◌+◌, ◌<◌, ◌≤◌, ◌⊎◌, true, List, [], AllPairs};
+ghost use Rattle.std.specs.Prelude.{◌≡◌, ◌≢◌, ◌↔◌, ℕ, ◌+◌, ◌*◌, ◌<◌, ◌≤◌, ◌⊎◌, true, false, List, [], Some, None};
+ghost use Rattle.std.specs.Prelude.{AllPairs};
 ghost use Rattle.tx_journal.specs.declared.events.Event.{Event};
 ghost use Rattle.tx_keeping.specs.Views.{AreKnown};
 ghost use Rattle.tx_ladder.specs.Waiting.{waits_in};
@@ -8,7 +9,10 @@ ghost use Rattle.tx_meaning.specs.Limits.{Setting};
 ghost use Rattle.tx_meaning.specs.Meaning.{IsSetting, meaning};
 ghost use Rattle.tx_meaning.specs.State.{is_live, is_head};
 ghost use Rattle.tx_meaning.specs.Stretches.{stretch_of, is_end_by, left, left_by, bound, attempt_turns};
-ghost use Rattle.tx_ladder.specs.Parameters.{Parameters};
+ghost use Rattle.tx_meaning.specs.Stretches.{stretch_after, ends_transaction};
+ghost use Rattle.tx_meaning.specs.Turn.{happen};
+ghost use Rattle.tx_constraint.specs.Kept.{Kept};
+ghost use Rattle.tx_ladder.specs.Parameters.{Parameters, usual};
 ghost use Rattle.tx_ladder.specs.Rungs.{delay_after};
 ghost use Rattle.tx_bounds.specs.Stretches.{IsUnderWay};
 ghost use Rattle.tx_serial.specs.Alike.{AgreeInText};
@@ -20,18 +24,19 @@ ghost use Rattle.tx_control.specs.declared.causes.Why.{Why};
 ghost use Rattle.tx_control.specs.declared.causes.Why.TheVariants.{FetchOverflow, StoreOverflow};
 ghost use Rattle.tx_progress.specs.Local.{Local};
 ghost use Rattle.tx_progress.specs.Reached.{IsFollowed};
-ghost use Rattle.tx_progress.specs.Trial.{fate_by_progress};
+ghost use Rattle.tx_progress.specs.Trial.{fate_by_progress, place_refusal_by, overflow_refusal_by};
+ghost use Rattle.z_effect.specs.One.{one};
+ghost use Rattle.z_effect.specs.Outcome.{Aborts};
 ghost use Rattle.z_instr.specs.Table.{entry_at};
 ghost use Rattle.z_instr.specs.declared.instr.Instr.{Instr};
 ghost use Rattle.z_instr.specs.declared.operand.Demand.TheVariants.{BeginConstrained};
 ghost use Rattle.z_regs.specs.Cpu.{Cpu};
+ghost use Rattle.z_regs.specs.Prefix.{is_prefix};
 ghost use Rattle.z_regs.specs.declared.ranges.Range.{Range};
 
 /// After every list of events the history counts for no CPU more conflict aborts than the number at which it
-/// joins
-/// the stop queue. Those with so many are the CPUs of the queue, each of them once in it; and of them only
-/// the
-/// head has a live attempt.
+/// joins the stop queue. Those with so many are the CPUs of the queue, each of them once in it; and of them
+/// only the head has a live attempt.
 pub fn conflict_aborts_lead_to_the_stop_queue()
     ensures few { (m : Setting) (events : List Event) (i : ℕ) → IsSetting m → AreKnown m events
         → hits m.image (meaning m events).history i ≤ m.image.parms.stop }
@@ -97,11 +102,52 @@ pub fn what_is_left_goes_down_the_ladder()
         → left_by p a 0 0 0 + 1 ≤ left_by p a 0 n r + attempt_turns p }
 {}
 
+/// While a stretch of a CPU is open, the counted turns that the CPU has had in it and those that are left to its
+/// transaction stay within the bound, and within the turns of one attempt more for each interruption from
+/// outside that came to the CPU in it. So a constrained transaction that nothing interrupts is at its end by
+/// the turn whose number is the bound: 1,072 with the usual numbers. And its end is a commit or a program
+/// interruption, as an entry of the history.
+pub fn a_constrained_transaction_has_few_turns()
+    ensures within { (m : Setting) (events : List Event) (i : ℕ) → IsSetting m → AreKnown m events
+        → (stretch_of m events i).is_open ≡ true
+        → (stretch_of m events i).age + left m (meaning m events) i
+        ≤ bound m.image.parms + attempt_turns m.image.parms * (stretch_of m events i).externals }
+    ensures uninterrupted { (m : Setting) (events : List Event) (i : ℕ) → IsSetting m → AreKnown m events
+        → (stretch_of m events i).is_open ≡ true → (stretch_of m events i).externals ≡ 0
+        → (stretch_of m events i).age < bound m.image.parms }
+    ensures usual { (m : Setting) (events : List Event) (i : ℕ) → IsSetting m → AreKnown m events
+        → m.image.parms ≡ usual
+        → (stretch_of m events i).is_open ≡ true → (stretch_of m events i).externals ≡ 0
+        → (stretch_of m events i).age < 1072 }
+    ensures ended { (m : Setting) (events : List Event) (e : Event) (i : ℕ)
+        → (stretch_of m events i).is_open ≡ true
+        → (stretch_after m (meaning m events) e i (stretch_of m events i)).is_open ≡ false
+        → ends_transaction (meaning m events) (happen m e (meaning m events)).state i ≡ true }
+{}
+
+/// An instruction of a constrained attempt that keeps the constraint on operands has room in the footprint: all
+/// operands lie in at most four octowords, so in at most four lines and four blocks.
+pub fn a_constrained_footprint_has_room()
+    ensures { (f : FlatState) (i : ℕ) (local : Local) (kept : Kept) (instr : Instr) → IsFollowed f i local
+        → is_prefix local.cpu.prefix ≡ true → local.attempt.constraint ≡ Some kept
+        → place_refusal_by local.attempt instr ≡ None → overflow_refusal_by local.attempt instr ≡ None }
+{}
+
+/// An instruction that the constraints permit does not abort the transaction that it is executed in.
+pub fn a_permitted_instruction_does_not_abort()
+    ensures { (i : Instr) (c : Cpu) (depth code : ℕ) (bytes : List ℕ)
+        → (entry_at i.op.number).permitted ≡ true → one i c depth bytes ≢ Aborts code }
+{}
+
 /// Where a test of its next instruction ends a constrained attempt, it does so by a program interruption, or
-/// because the footprint would overflow: never as restricted, too deep or filtered.
+/// because the footprint would overflow: never as restricted, too deep or filtered. On a CPU with a prefix that
+/// it may have the footprint does not overflow.
 pub fn a_test_ends_a_constrained_attempt_by_a_program_interruption()
-    ensures { (f : FlatState) (i : ℕ) (local : Local) (why : Why) → IsFollowed f i local
+    ensures causes { (f : FlatState) (i : ℕ) (local : Local) (why : Why) → IsFollowed f i local
         → is_constrained local.attempt.nest ≡ true
         → fate_by_progress f.text f.storage local.attempt ≡ Ends why
         → (is_end_by why ≡ true) ⊎ ((why ≡ FetchOverflow) ⊎ (why ≡ StoreOverflow)) }
+    ensures ends { (f : FlatState) (i : ℕ) (local : Local) (why : Why) → IsFollowed f i local
+        → is_prefix local.cpu.prefix ≡ true → is_constrained local.attempt.nest ≡ true
+        → fate_by_progress f.text f.storage local.attempt ≡ Ends why → is_end_by why ≡ true }
 {}
