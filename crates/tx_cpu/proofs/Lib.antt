@@ -17,3 +17,5 @@ pub mod GatheredStores
 pub mod Advances
 pub mod Goes
 pub mod LastingStores
+pub mod Inside
+pub mod Preparing

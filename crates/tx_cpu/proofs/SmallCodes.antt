@@ -1,7 +1,8 @@
 -- The codes of exceptions that tests find are small, so an interruption code has room for one bit more.
 use Rattle.std.proofs.Common.{◌≡◌, ℕ, ◌<◌, Bool, true, false, List, [], ◌∷◌, Option, Some, None, sym}
 use Rattle.std.proofs.Common.{subst, lit<, length, arith}
-use Rattle.std.specs.Prelude.{◌&&◌, not, map, nat_eq, nat_le, ◌%◌, if◌then◌else◌, Result, Ok, Err}
+use Rattle.std.specs.Prelude.{◌&&◌, not, map, nat_eq, nat_le, nat_lt, ◌%◌, if◌then◌else◌}
+use Rattle.std.specs.Prelude.{Result, Ok, Err}
 use Rattle.std.specs.List.{list_any, list_all}
 use Rattle.z_instr.specs.declared.instr.Instr.{Instr}
 use Rattle.z_instr.specs.declared.operand.Operands.{Operands}
@@ -29,7 +30,7 @@ use Rattle.tx_serial.specs.Fate.{Fate, Goes, Ends, Stops, Refusal, Excepts, Beca
 use Rattle.tx_serial.specs.Fate.{excepted}
 use Rattle.tx_serial.specs.Fate.{aborts_where, first_refusal, fetch_refusal, instruction_at, unreadable}
 use Rattle.tx_serial.specs.Fate.{overflow_of, overflow_in, operands}
-use Rattle.tx_progress.specs.Progress.{Progress}
+use Rattle.tx_progress.specs.Progress.{Progress, is_live, advanced}
 use Rattle.tx_progress.specs.Trial.{at_hand, breach_refusal, constraint_refusal, tried, fetched}
 use Rattle.tx_progress.specs.Trial.{fate_by_progress}
 use Rattle.tx_progress.specs.Trial.{tests_by, text_refusal_by, place_refusal_by, overflow_refusal_by}
@@ -39,7 +40,20 @@ use Rattle.z_instr.specs.Roles.{begins as begins_one}
 use Rattle.z_regs.specs.Absolute.{absolute_ranges}
 use Rattle.tx_footprint.specs.Touched.{touching}
 use Rattle.tx_constraint.specs.Kept.{next_text_breach, next_operand_breach}
-use Rattle.tx_cpu.specs.Plans.{HasRoom, HasPlanRoom, fate_of}
+use Rattle.tx_progress.specs.Local.{Beside}
+use Rattle.tx_progress.specs.Doing.{executed, executed_where, inside, outside, closed_by, told_of}
+use Rattle.tx_progress.specs.Doing.{delay_given, stores_of}
+use Rattle.tx_progress.specs.declared.done.Done.{Done}
+use Rattle.tx_progress.specs.declared.done.Done.TheVariants as done
+use Rattle.tx_control.specs.declared.codes.TheConstants.{FIXED_POINT_OVERFLOW, FIXED_POINT_DIVIDE}
+use Rattle.z_regs.specs.declared.image.RunState.{RunState}
+use Rattle.z_regs.specs.declared.image.RunState.TheVariants.{Running, Halted, Interrupted}
+use Rattle.z_regs.specs.declared.ranges.Range.{Range}
+use Rattle.z_effect.specs.After.{exception}
+use Rattle.z_effect.specs.One.{length_of}
+use Rattle.z_effect.specs.Outcome.{Outcome, Did, Divides, Aborts}
+use Rattle.z_effect.specs.Outcome as outcome
+use Rattle.tx_cpu.specs.Plans.{HasRoom, HasPlanRoom, HasDoneRoom, fate_of}
 use Rattle.tx_cpu.specs.declared.plan.Plan.{Plan}
 use Rattle.tx_cpu.specs.declared.plan.Plan.TheVariants as plan
 
@@ -214,3 +228,43 @@ plan-room (plan.Stops e) h = tt
 pub planned-room : (text : List ℕ) (storage : Storage) (q : Progress) (p : Plan)
     → fate_of p ≡ fate_by_progress text storage q → HasPlanRoom p
 planned-room text storage q p e = plan-room p (subst IsRoomy (sym e) (fate-room text storage q))
+
+-- ---- an instruction that was executed
+
+closed-room : (q : Progress) (nest : List begins.Begin) (b : Beside) → HasDoneRoom (closed_by q nest b).told
+closed-room q [] b = tt
+closed-room q (outermost ∷ inner) b = tt
+
+paused-room : (b : Bool) (delay : ℕ) → HasDoneRoom (if b then done.Paused delay else done.Stepped)
+paused-room true delay = tt
+paused-room false delay = tt
+
+told-room : (state : RunState) (delay : ℕ) → HasDoneRoom (told_of state delay)
+told-room (Interrupted code) delay = tt
+told-room Running delay = paused-room (nat_lt 0 delay) delay
+told-room Halted delay = paused-room (nat_lt 0 delay) delay
+
+inside-room : (i : Instr) (ranges : List Range) (b : Beside) (o : Outcome)
+    → HasDoneRoom (inside i ranges b o).told
+inside-room i ranges b (Did c bytes) =
+    let q = b.local.attempt in
+    let next = advanced i ranges c (stores_of ranges bytes q) q in
+    closed-room next next.nest b
+inside-room i ranges b (outcome.Overflowed c bytes) =
+    cause-room _ (exception FIXED_POINT_OVERFLOW (length_of i)) (lit< tt)
+inside-room i ranges b Divides = cause-room _ (exception FIXED_POINT_DIVIDE (length_of i)) (lit< tt)
+inside-room i ranges b (Aborts code) = tt
+
+where-room : (live begin : Bool) (i : Instr) (ranges : List Range) (b : Beside) (o : Outcome)
+    → HasDoneRoom (executed_where live begin i ranges b o).told
+where-room true begin i ranges b o = inside-room i ranges b o
+where-room false true i ranges b o = tt
+where-room false false i ranges b o =
+    told-room (outside i ranges b o).local.cpu.state (delay_given i b.local.cpu)
+
+pub executed-room : (i : Instr) (ranges : List Range) (b : Beside) (told : Done)
+    → told ≡ (executed i ranges b).told → HasDoneRoom told
+unfolding executed
+executed-room i ranges b told e =
+    subst HasDoneRoom (sym e)
+    (where-room (is_live b.local.attempt) (begins_one (entry_at i.op.number)) i ranges b _)

@@ -20,7 +20,7 @@ ghost use Rattle.store_cache.specs.Stores.{lasting_bytes};
 ghost use Rattle.tx_footprint.specs.Touched.{sets_of};
 ghost use Rattle.tx_control.specs.Nesting.{outermost_mask, outermost_block};
 ghost use Rattle.tx_progress.specs.Progress.{resting, seen_through};
-ghost use Rattle.tx_cpu.specs.Tracked.{Tracked, progress};
+ghost use Rattle.tx_cpu.specs.Tracked.{Tracked, IsSound, progress};
 ghost use Rattle.tx_cpu.specs.Parts.{storage_of};
 ghost use Rattle.tx_cpu.specs.Same.{AreSameParts, AreSameConstraints};
 ghost use Rattle.std.specs.Prelude.{◌↔◌, IsTrue, All, if◌then◌else◌};
@@ -123,6 +123,7 @@ impl Attempt {
     /// What holds of every attempt: before the first instruction there is nothing, and behind it a begin is
     /// open. The block that the outermost begin names lies in storage.
     pub fn is_sound(&self)
+        ensures sound { IsSound self.now }
         ensures rests { self.now.count ≡ 0 → (c : Cpu) → progress self.now c ≡ resting c }
         ensures opens { 0 < self.now.count → 0 < length self.now.nest }
         ensures block { (a : ℕ) → outermost_block self.now.nest ≡ Some a → a + 256 ≤ storage_size }

@@ -1,7 +1,7 @@
 //! The CPU.
-ghost use Rattle.z_instr.specs.Roles.{begins, block_named};
+ghost use Rattle.z_instr.specs.Roles.{begins as is_begun, is_end as is_ended, block_named};
 ghost use Rattle.z_instr.specs.Table.{entry_at};
-ghost use Rattle.std.specs.Prelude.{ℕ, Some, ◌+◌, ◌≤◌};
+ghost use Rattle.std.specs.Prelude.{ℕ, Some, ◌+◌, ◌≤◌, ◌^◌, ◌&&◌, nat_eq};
 ghost use Rattle.std.specs.Prelude.{◌≡◌, ◌<◌, ◌↔◌, IsTrue, IfOk, is_some, length, true, false, All};
 ghost use Rattle.z_regs.specs.Cpu.{cpu_of};
 ghost use Rattle.z_regs.specs.Prefix.{storage_size};
@@ -9,33 +9,38 @@ ghost use Rattle.tx_footprint.specs.Touched.{sets_of};
 ghost use Rattle.tx_serial.specs.Remains.{pending_after as pends_after};
 ghost use Rattle.tx_progress.specs.Progress.{is_live, seen_through};
 ghost use Rattle.tx_progress.specs.Local.{settled, aborted, block_stored, interruption_taken};
-ghost use Rattle.tx_progress.specs.Doing.{stopped, executed_where};
+ghost use Rattle.tx_progress.specs.Doing.{stopped, executed, executed_where, inside};
 ghost use Rattle.tx_progress.specs.Trial.{fate_by_progress, outcome_by};
 ghost use Rattle.tx_serial.specs.Fate.{operands};
 ghost use Rattle.z_regs.specs.Absolute.{IsAccessible};
 ghost use Rattle.std.specs.FinSet.{items};
 ghost use Rattle.tx_cpu.specs.Parts.{local_of, beside, storage_of};
+ghost use Rattle.tx_cpu.specs.Going.{MayGo};
 ghost use Rattle.tx_cpu.specs.Plans.{fate_of, levels_of, address_of, HasRoom, HasPlanRoom};
+ghost use Rattle.tx_cpu.specs.Plans.{IsPrepared, IsPlanPrepared, HasDoneRoom};
 ghost use Rattle.tx_cpu.specs.Same.{AreSameAttempts};
 
 use crate::attempt::Attempt;
 use crate::interruption::{leave, load, store, waiting_after, waiting_with};
 use crate::outside::{delay_after, end_outside, store_outside, told, waiting_outside};
 use crate::pending::{Block, pending_after};
-use crate::performing::{MOST_BYTES, perform};
+use crate::performing::{Ended, MOST_BYTES, perform};
 use crate::plan::{Plan, next_plan};
+use crate::refusal::cause_in;
 use crate::storing::put_all;
 use std::alloc::Global;
 use std::marker::Model;
 use tx_abort::block_of;
+use tx_control::codes::{FIXED_POINT_DIVIDE, FIXED_POINT_OVERFLOW};
 use tx_control::{Exception, Why};
 use tx_footprint::Footprint;
 use tx_journal::Image;
 use tx_progress::done::Done;
-use z_effect::interrupt;
+use z_effect::{exception, interrupt};
 use z_instr::format::length_in;
 use z_instr::instr::Instr;
 use z_instr::lookup::line;
+use z_instr::roles::{begins, is_end};
 use z_regs::{Bytes, CpuImage, NoMemory, STORAGE_SIZE, Storage, Touches, Waiting};
 
 /// One CPU. Contracts speak of what is kept of it (`local_of`): the CPU as the history leaves it, its
@@ -138,12 +143,12 @@ impl Cpu {
     }
 
     /// What comes of the next instruction. Its bytes are read from the storage of the image, where they are
-    /// as
-    /// long as the program runs.
+    /// as long as the program runs. An instruction that goes may be executed then.
     pub fn prepare(&self, text: &Image) -> Plan
         ensures value { fate_of result ≡ fate_by_progress (items text.now.guard) (storage_of text.now.storage)
             (local_of self.now).attempt }
         ensures code { HasPlanRoom result }
+        ensures prepared { IsPlanPrepared (local_of self.now).attempt result }
     {
         let _count = text.cpu_count();
         next_plan(&self.attempt, &self.image, &text.storage, &text.guard)
@@ -211,7 +216,7 @@ impl Cpu {
     /// Executes the outermost begin.
     fn execute_begin<V: Bytes>(&mut self, instr: &Instr, need: &Touches, base: &V) -> Done
         requires rests { is_live (local_of self.old).attempt ≡ false }
-        requires begins { begins (entry_at instr.now.op.number) ≡ true }
+        requires begins { is_begun (entry_at instr.now.op.number) ≡ true }
         requires need { need.now ≡ operands instr.now (local_of self.old).attempt.cpu }
         requires accessible { All (IsAccessible (local_of self.old).attempt.cpu.prefix) need.now }
         requires block { (a : ℕ) → block_named instr.now (local_of self.old).attempt.cpu.general ≡ Some a
@@ -237,6 +242,84 @@ impl Cpu {
         self.saved = before;
         self.attempt.begin(instr, &before);
         Done::Began
+    }
+
+    /// Whether the instruction ends the last begin that is open.
+    fn is_last(&self, instr: &Instr) -> bool
+        ensures { result ≡
+            (is_ended (entry_at instr.now.op.number) && nat_eq (length self.now.attempt.nest) 1) }
+    {
+        is_end(instr.op) && self.attempt.nest().depth() == 1
+    }
+
+    /// Executes an instruction inside a transaction.
+    fn execute_inside<V: Bytes>(&mut self, instr: &Instr, need: &Touches, base: &mut V) -> Done
+        requires live { is_live (local_of self.old).attempt ≡ true }
+        requires goes { MayGo self.old.attempt self.old.image instr.now need.now }
+        requires count { (local_of self.old).attempt.count + 1 < 2 ^ 32 }
+        requires size { length (V.bytes base.old) ≡ storage_size }
+        ensures value { record { after = beside self.new (V.bytes base.new); told = result } ≡
+            inside instr.now need.now (beside self.old (V.bytes base.old))
+            (outcome_by (storage_of (V.bytes base.old)) instr.now need.now (local_of self.old).attempt) }
+        ensures size { length (V.bytes base.new) ≡ storage_size }
+    {
+        self.attempt.is_sound();
+        let before = self.image;
+        let length = length_in(line(instr.op).format);
+        let mut stored = [0; MOST_BYTES];
+        let ended = perform(
+            &self.attempt,
+            instr,
+            need,
+            &mut self.image,
+            &mut self.scratch,
+            &mut stored,
+            base,
+        );
+        match ended {
+            Ended::Completed => {
+                if self.is_last(instr) {
+                    let count = self.attempt.count() + 1;
+                    self.attempt.commit(base);
+                    return Done::Committed(count);
+                }
+                self.attempt.advance(instr, need, &stored, &before);
+                self.attempt.is_sound();
+                Done::Stepped
+            }
+            Ended::Exceeded => {
+                self.attempt.advance(instr, need, &stored, &before);
+                let overflow = exception(FIXED_POINT_OVERFLOW, length);
+                Done::Ended(cause_in(self.attempt.nest(), overflow))
+            }
+            Ended::Suppressed => {
+                let divide = exception(FIXED_POINT_DIVIDE, length);
+                Done::Ended(cause_in(self.attempt.nest(), divide))
+            }
+            Ended::Aborting(code) => Done::Ended(Why::Tabort(code)),
+        }
+    }
+
+    /// Executes an instruction that `prepare` has found to go, with its operands, and tells what came of it.
+    /// Where it ends its transaction by a cause, nothing is aborted yet, and a program exception among these
+    /// leaves room for the bit that an abort adds to its code.
+    pub fn execute<V: Bytes>(&mut self, instr: &Instr, need: &Touches, base: &mut V) -> Done
+        requires prepared { IsPrepared (local_of self.old).attempt instr.now need.now }
+        requires count { (local_of self.old).attempt.count + 1 < 2 ^ 32 }
+        requires size { length (V.bytes base.old) ≡ storage_size }
+        ensures value { record { after = beside self.new (V.bytes base.new); told = result } ≡
+            executed instr.now need.now (beside self.old (V.bytes base.old)) }
+        ensures code { HasDoneRoom result }
+        ensures size { length (V.bytes base.new) ≡ storage_size }
+    {
+        self.attempt.is_sound();
+        if self.attempt.is_live() {
+            return self.execute_inside(instr, need, base);
+        }
+        if begins(instr.op) {
+            return self.execute_begin(instr, need, base);
+        }
+        self.execute_outside(instr, need, base)
     }
 
     /// Aborts the attempt by this cause; `at` is the address that the diagnostic block tells. Gives how many

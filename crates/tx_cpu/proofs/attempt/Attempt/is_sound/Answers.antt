@@ -2,7 +2,7 @@
 use Rattle.std.proofs.Common.{◌≡◌, subst}
 use Rattle.z_regs.specs.Cpu.{Cpu}
 use Rattle.tx_progress.specs.Progress.{resting}
-use Rattle.tx_cpu.specs.Tracked.{Tracked, progress}
+use Rattle.tx_cpu.specs.Tracked.{Tracked, IsSound, progress}
 use Rattle.tx_cpu.proofs.Resting.{progress-rests}
 use Rattle.tx_cpu.proofs.attempt.Attempt.is_sound.Goals as goal
 
@@ -10,3 +10,6 @@ pub returns-clause-rests : goal.returns-clause-rests
 returns-clause-rests c =
     subst (λ (t : Tracked). t.count ≡ 0 → (x : Cpu) → progress t x ≡ resting x) c.self.view_is
     (λ none x. progress-rests _ x none (c.self.invariant.rests none))
+
+pub returns-clause-sound : goal.returns-clause-sound
+returns-clause-sound c = subst IsSound c.self.view_is c.self.invariant
