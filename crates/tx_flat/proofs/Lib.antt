@@ -15,3 +15,5 @@ pub mod Applied
 pub mod Begun
 pub mod Room
 pub mod Aborted
+pub mod Stepping
+pub mod Machines

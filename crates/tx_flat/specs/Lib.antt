@@ -8,3 +8,5 @@ pub mod Coming
 pub mod Moved
 pub mod Slots
 pub mod Left
+pub mod Outside
+pub mod Machine

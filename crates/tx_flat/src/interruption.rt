@@ -64,7 +64,7 @@ fn new_status(storage: &Storage, prefix: Option<u32>) -> [u8; 16]
 }
 
 /// The code of the interruption that a CPU has met.
-fn code_of(state: RunState) -> u16
+pub(crate) fn code_of(state: RunState) -> u16
     ensures { result ≡ interruption_code state }
 {
     match state {

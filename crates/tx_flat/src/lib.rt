@@ -6,12 +6,17 @@ pub mod abort;
 mod advance;
 pub mod attempt;
 mod coming;
+mod dispatch;
 pub mod ending;
 pub mod entries;
 mod execution;
+mod flat;
 pub mod interruption;
+pub mod outside;
 mod reading;
 mod refusals;
 pub mod running;
 pub mod slot;
 mod storing;
+
+pub use flat::Flat;

@@ -19,7 +19,7 @@ use tx_footprint::Footprint;
 use z_regs::{CpuImage, Guard, NoMemory, Storage};
 
 /// No instruction yet.
-fn rest(alloc: Global, storage: &Storage, image: &CpuImage) -> Result<Attempt, NoMemory>
+pub fn rest(alloc: Global, storage: &Storage, image: &CpuImage) -> Result<Attempt, NoMemory>
     requires { length storage.now ≡ storage_size }
     ensures { IfOk result (λ a. Shows (function_of storage.now) a
         (at_rest (function_of storage.now) (cpu_of image.now))) }

@@ -1,0 +1,125 @@
+//! One instruction outside transactions.
+ghost use Rattle.std.specs.Prelude.{◌≡◌, length, None};
+ghost use Rattle.std.specs.FinSet.{items};
+ghost use Rattle.z_regs.specs.Cpu.{cpu_of};
+ghost use Rattle.z_regs.specs.Prefix.{storage_size};
+ghost use Rattle.z_effect.specs.After.{AreInside, ranges_of};
+ghost use Rattle.tx_serial.specs.Apply.{apply};
+ghost use Rattle.tx_serial.specs.Attempt.{at_rest};
+ghost use Rattle.tx_serial.specs.Remains.{waiting_with as waits_with};
+ghost use Rattle.tx_journal.specs.declared.entries.Entry.TheVariants as entry;
+ghost use Rattle.tx_flat.specs.Bytes.{function_of};
+ghost use Rattle.tx_flat.specs.Outside.{HasStopped, HasEnded, IsPerformed};
+ghost use Rattle.tx_flat.specs.Shows.{Shows};
+ghost use Rattle.tx_flat.specs.Slots.{IsApplied};
+
+use crate::attempt::Attempt;
+use crate::coming::{Next, coming};
+use crate::entries::may_act;
+use crate::execution::{Completion, execute};
+use crate::running::rest;
+use crate::slot::{ApplyFault, Slot};
+use crate::storing::exchanged;
+use std::alloc::Global;
+use tx_control::Exception;
+use tx_control::codes::{FIXED_POINT_DIVIDE, FIXED_POINT_OVERFLOW};
+use z_effect::{exception, interrupt};
+use z_instr::format::length_in;
+use z_instr::instr::Instr;
+use z_instr::lookup::line;
+use z_instr::roles::begins;
+use z_regs::{CpuImage, Guard, RunState, Storage, Waiting};
+
+/// The interruption that then waits on a CPU with a prefix, behind an instruction of so many bytes.
+fn waiting_on(prefix: Option<u32>, length: u8) -> Option<Waiting>
+    ensures { result ≡ waits_with prefix length None }
+{
+    match prefix {
+        None => None,
+        Some(_) => Some(Waiting {
+            length,
+            block: None,
+        }),
+    }
+}
+
+/// An exception interrupts the program before the instruction has changed anything.
+fn stop(slot: &mut Slot, exception: Exception)
+    ensures { HasStopped exception slot.old slot.new }
+{
+    interrupt(&mut slot.image, exception);
+    slot.waiting = waiting_on(slot.image.prefix, exception.length);
+}
+
+/// An instruction of so many bytes has left this CPU and come to its end: where it was an exception, that
+/// interrupts the program.
+fn end(slot: &mut Slot, image: CpuImage, completion: Completion, length: u8)
+    ensures { HasEnded length completion (cpu_of image) slot.old slot.new }
+{
+    slot.image = image;
+    match completion {
+        Completion::Completed => {}
+        Completion::Overflowed => {
+            slot.image.state = RunState::Interrupted(FIXED_POINT_OVERFLOW);
+            slot.waiting = waiting_on(image.prefix, length);
+        }
+        Completion::Divides => stop(slot, exception(FIXED_POINT_DIVIDE, length)),
+        Completion::Aborts(_) => {}
+    }
+}
+
+/// An instruction that goes is performed. `a` is a run without an instruction, on storage and this CPU.
+fn perform(
+    alloc: Global,
+    storage: &mut Storage,
+    slot: &mut Slot,
+    mut a: Attempt,
+    instr: &Instr,
+) -> Result<(), ApplyFault>
+    requires size { length storage.old ≡ storage_size }
+    requires shown { Shows (function_of storage.old) a
+        (at_rest (function_of storage.old) (cpu_of slot.old.image)) }
+    requires inside { AreInside (ranges_of instr.now (cpu_of a.image)) a.seen }
+    ensures { IsPerformed instr.now storage.old storage.new slot.old slot.new result }
+{
+    let completion = execute(instr, &mut a.image, &mut a.seen, 0);
+    let Ok(new) = exchanged(alloc, &a.seen, slot.image.prefix) else {
+        return Err(ApplyFault::Memory);
+    };
+    *storage = new;
+    end(slot, a.image, completion, length_in(line(instr.op).format));
+    Ok(())
+}
+
+/// The next instruction of a CPU outside transactions, or the exception that comes there; a begin that goes
+/// does not fit. Nothing changes where the entry does not fit, and for want of memory.
+pub fn step(
+    alloc: Global,
+    storage: &mut Storage,
+    guard: &Guard,
+    slot: &mut Slot,
+) -> Result<(), ApplyFault>
+    requires { length storage.old ≡ storage_size }
+    ensures { IsApplied (λ f i. apply f (entry.Step i)) (items guard.now) storage.old storage.new slot.old
+        slot.new result }
+{
+    if !may_act(slot) {
+        return Err(ApplyFault::Misfit);
+    }
+    let Ok(a) = rest(alloc, storage, &slot.image) else {
+        return Err(ApplyFault::Memory);
+    };
+    match coming(&a, guard) {
+        Next::Ends(_) => Err(ApplyFault::Misfit),
+        Next::Stops(exception) => {
+            stop(slot, exception);
+            Ok(())
+        }
+        Next::Goes(instr, _) => {
+            if begins(instr.op) {
+                return Err(ApplyFault::Misfit);
+            }
+            perform(alloc, storage, slot, a, &instr)
+        }
+    }
+}
