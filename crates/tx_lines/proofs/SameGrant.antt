@@ -1,5 +1,5 @@
 -- A grant by the lines that a turn needs is one by its needs.
-use Rattle.std.proofs.Common.{◌≡◌, ℕ, Bool, true, false, List, [], ◌∷◌, refl, sym, ap, ◌∙◌, is_some, map, Some}
+use Rattle.std.proofs.Common.{◌≡◌, ℕ, Bool, true, false, List, [], ◌∷◌, refl, ap, ◌∙◌, is_some, map, Some}
 use Rattle.std.specs.Prelude.{◌&&◌, ◌||◌, not, ◌==◌}
 use Rattle.std.specs.List.{list_any, filter, range_with_len}
 use Rattle.line_table.specs.declared.table.TheConstants.{LINES}
@@ -8,8 +8,8 @@ use Rattle.tx_footprint.specs.Touched.{Sets}
 use Rattle.tx_meaning.specs.declared.asking.Need.{Need}
 use Rattle.tx_meaning.specs.Changes as meaning
 use Rattle.tx_meaning.specs.Changes.{granting, is_needed, is_spare, spare_line, lowest, giving_up, has_room}
-use Rattle.tx_lines.specs.Next.{passing_from, first_of}
-use Rattle.tx_lines.specs.Spare.{is_unused, may_give_up, lowest_spare, with_room, granted}
+use Rattle.tx_lines.specs.Next.{first_of}
+use Rattle.tx_lines.specs.Spare.{may_give_up, lowest_spare, with_room, granted}
 use Rattle.tx_lines.proofs.Next.{from_first}
 
 abbrev pub lines_of_needs : List Need → List ℕ

@@ -1,6 +1,6 @@
 //! Storage, and who holds its lines.
 ghost use Rattle.std.specs.Prelude.{◌≡◌, ◌≢◌, ℕ, ◌<◌, ◌≤◌, [], Some, None, IfOk, IfSome, IfNone, length, slice_index};
-ghost use Rattle.std.specs.Prelude.{false, true, is_some, slice_get, not, ◌==◌, ◌&&◌};
+ghost use Rattle.std.specs.Prelude.{false, true, is_some, slice_get, not, ◌==◌, ◌&&◌, ◌+◌, ◌^◌};
 ghost use Rattle.z_regs.specs.Prefix.{storage_size};
 ghost use Rattle.line_table.specs.declared.table.TheConstants.{LINES};
 ghost use Rattle.line_table.specs.Holders.{nobody, holding, against, is_against, lines_held, IsSound};
@@ -8,9 +8,10 @@ ghost use Rattle.tx_footprint.specs.Touched.{sets_of};
 ghost use Rattle.tx_meaning.specs.Asking.{is_there};
 ghost use Rattle.tx_meaning.specs.Changes.{left_to, granting, spare_line, is_spare, has_room, giving_up};
 ghost use Rattle.tx_progress.specs.Local.{aborted, block_stored, interruption_taken};
+ghost use Rattle.tx_progress.specs.Doing.{executed};
 ghost use Rattle.tx_progress.specs.Progress.{is_live};
 ghost use Rattle.tx_cpu.specs.Parts.{local_of};
-ghost use Rattle.tx_cpu.specs.Plans.{HasRoom};
+ghost use Rattle.tx_cpu.specs.Plans.{HasRoom, HasDoneRoom, IsPrepared};
 ghost use Rattle.tx_lines.specs.Owned.{Owned, holders_in, with_lines};
 ghost use Rattle.tx_lines.specs.Spare.{is_unused, lowest_spare, granted};
 ghost use Rattle.tx_lines.specs.Next.{next_against, stands_against};
@@ -19,10 +20,11 @@ use line_table::{LineTable, MOST_HELD, Mode};
 use std::alloc::Global;
 use std::marker::Model;
 use tx_control::Why;
-use tx_cpu::Cpu;
+use tx_cpu::{Cpu, Done};
 use tx_footprint::Footprint;
 use tx_meaning::Need;
-use z_regs::Storage;
+use z_instr::instr::Instr;
+use z_regs::{Storage, Touches};
 
 /// There was no memory.
 #[derive(Clone, Copy, Debug, PartialEq, Eq)]
@@ -197,6 +199,21 @@ impl Lines {
         ensures sound { IsSound (holders_in self.now) }
     {
         self.table.mode_of(cpu, line).is_some() || self.table.held(cpu) < MOST_HELD
+    }
+
+    /// Executes an instruction that the CPU has found to go, with its operands, and tells what came of it. Where
+    /// it ends its transaction by a cause, nothing is aborted yet.
+    pub fn execute(&mut self, cpu: &mut Cpu, instr: &Instr, need: &Touches) -> Done
+        requires prepared { IsPrepared (local_of cpu.old).attempt instr.now need.now }
+        requires count { (local_of cpu.old).attempt.count + 1 < 2 ^ 32 }
+        ensures value { record { after = with_lines cpu.new self.new; told = result } ≡
+            executed instr.now need.now (with_lines cpu.old self.old) }
+        ensures code { HasDoneRoom result }
+        ensures cpus { self.new.cpus ≡ self.old.cpus }
+        ensures held { holders_in self.new ≡ holders_in self.old }
+    {
+        let _size = self.storage.as_slice();
+        cpu.execute(instr, need, &mut self.storage)
     }
 
     /// Aborts the live attempt of a CPU by this cause; `at` is the address that the diagnostic block tells. What
