@@ -3,11 +3,11 @@ use Rattle.std.proofs.Common.{◌≡◌, ◌≢◌, ℕ, ◌+◌, ◌<◌, Bool,
 use Rattle.std.proofs.Common.{refl, sym, ap}
 use Rattle.std.proofs.Common.{subst, ◌∙◌, ◌⊎◌, inl, inr, arith, length}
 use Rattle.std.specs.Prelude.{◌&&◌, ◌||◌, nat_lt, if◌then◌else◌}
+use Rattle.std.proofs.Math.Bool.{and-false}
 use Rattle.std.proofs.lemmas.Bool.{true≢false, lt-ltb}
 use Rattle.z_regs.specs.Cpu.{Cpu, cpu_of}
-use Rattle.z_regs.specs.Prefix.{storage_size, is_prefix}
+use Rattle.z_regs.specs.Prefix.{storage_size}
 use Rattle.z_regs.specs.Seen.{seen_by}
-use Rattle.z_regs.proofs.Exchange.{seen_twice}
 use Rattle.tx_control.specs.declared.begins.Begin.{Begin}
 use Rattle.tx_control.specs.Nesting.{outermost_mask, outermost_block, is_constrained}
 use Rattle.tx_control.specs.declared.causes.Why.{Why}
@@ -27,18 +27,16 @@ use Rattle.tx_serial.specs.Remains.{resumed_at, address_in, interrupted_after}
 use Rattle.tx_serial.specs.Run.{run as runs}
 use Rattle.tx_serial.proofs.Copies.{run_prefix}
 use Rattle.tx_serial.proofs.SameCauses.{same_cause}
-use Rattle.tx_flat.specs.Bytes.{function_of}
 use Rattle.tx_flat.specs.Left.{HasRoom, told_in, told_by, resumed_by, block_by, cpu_left, pending_left}
 use Rattle.tx_flat.specs.Left.{waiting_left}
-use Rattle.tx_flat.specs.Shows.{Shows, IsRun, IsRunOf, EndsInTime, mark_of, begin_at, begin_length}
+use Rattle.tx_flat.specs.Shows.{Shows, IsRun, IsRunOf, mark_of, begin_at, begin_length}
 use Rattle.tx_flat.specs.Slots.{Holds, holding, pending_of}
 use Rattle.tx_flat.specs.declared.attempt.Attempt.{Attempt}
 use Rattle.tx_flat.specs.declared.attempt.Mark.{Mark}
 use Rattle.tx_flat.specs.declared.attempt.Mark.TheVariants.{Open, Committed, Overflowed, Missing}
 use Rattle.tx_flat.specs.declared.slot.Slot.{Slot}
-use Rattle.tx_flat.proofs.Applied.{held}
+use Rattle.tx_flat.proofs.Applied.{held, seen_back}
 use Rattle.tx_flat.proofs.Begun.{HasBegin, begun, begins_inside}
-use Rattle.tx_flat.proofs.Laid.{read_as, length-bytes}
 use Rattle.tx_flat.proofs.Resting.{some_state}
 use Rattle.tx_flat.proofs.Room.{RoomIn, own_room}
 
@@ -71,21 +69,18 @@ some_by p m e (inr o) h = subst (λ x. HasBegin x p.nest) (e ∙ o) h
 room_of : (o : Option Why) (why : Why) (rest : Bool) → RoomIn o → (is_cause o why || rest) ≡ true
     → rest ≡ false → HasRoom why
 room_of None why rest h e never = absurd (true≢false (sym e ∙ never))
-room_of (Some own) why rest h e never = subst HasRoom (same_cause own why (first (is_cause (Some own) why) e)) h
+room_of (Some own) why rest h e never =
+    subst HasRoom (same_cause own why (first (is_cause (Some own) why) e)) h
   where
     first : (b : Bool) → (b || rest) ≡ true → b ≡ true
     first true g = refl
     first false g = absurd (true≢false (sym g ∙ never))
 
-none_comes : (b : Bool) → (b && false) ≡ false
-none_comes true = refl
-none_comes false = refl
-
 room_by : (text : List ℕ) (p : Run) (why : Why) → fits text p why ≡ true → HasRoom why
 unfolding fits
 room_by text p (Program e) h =
-    room_of (ending text p) (Program e) (is_open p.mark && false) (own_room text p) h (none_comes (is_open
-    p.mark))
+    room_of (ending text p) (Program e) (is_open p.mark && false) (own_room text p) h
+    (and-false (is_open p.mark))
 room_by text p _ h = tt
 
 -- ---- what is kept of an attempt to which the cause fits
@@ -143,13 +138,6 @@ module _ (bytes text : List ℕ) (c : Cpu) (n : ℕ) (a b : Attempt) (seen : Lis
   has_room = its.room
 
 -- ---- what the run leaves
-
-seen_back : (s : Storage) (prefix : Option ℕ) (seen t : List ℕ) → is_prefix prefix ≡ true
-    → seen ≡ seen_by prefix (bytes_of s) → EndsInTime s → t ≡ seen_by prefix seen → function_of t ≡ s
-seen_back s prefix seen t ok shown ends e =
-    let whole : t ≡ bytes_of s =
-    e ∙ ap (seen_by prefix) shown ∙ seen_twice prefix (bytes_of s) ok (length-bytes s) in
-    read_as t s (ap (λ (l : List ℕ). length l) whole ∙ length-bytes s) whole ends
 
 told_so : (base : Storage) (a : Attempt) (p : Run) (m : Mark) → Shows base a p → a.mark ≡ m
     → told_in m a.last.at a.image.address ≡ address_in (mark_of m) (last_step p.steps) p.cpu.address
@@ -252,8 +240,7 @@ may_not_abort f i n why may =
     (ap (λ b. b && (nat_lt 0 n && fits f.text (runs f i n) why)) may)
 
 no_and : (a b : Bool) → b ≡ false → (a && b) ≡ false
-no_and true b e = e
-no_and false b e = refl
+no_and a b e = ap (λ x. a && x) e ∙ and-false a
 
 pub none_aborted : (f : FlatState) (i n : ℕ) (why : Why) → n ≡ 0 → apply f (Abort i n why) ≡ None
 unfolding apply
@@ -262,9 +249,9 @@ none_aborted f i n why none =
     (no_and (may_act f i) (nat_lt 0 n && fits f.text (runs f i n) why)
     (ap (λ b. b && fits f.text (runs f i n) why) (ap (nat_lt 0) none)))
 
-pub unfit : (f : FlatState) (i n : ℕ) (bytes text : List ℕ) (s : Slot) (a : Attempt) (why : Why) (answer : Bool)
-    → Holds f i bytes text s → IsRunOf bytes text (cpu_of s.image) n a → Fits text a why answer → answer ≡ false
-    → apply f (Abort i n why) ≡ None
+pub unfit : (f : FlatState) (i n : ℕ) (bytes text : List ℕ) (s : Slot) (a : Attempt) (why : Why)
+    (answer : Bool) → Holds f i bytes text s → IsRunOf bytes text (cpu_of s.image) n a
+    → Fits text a why answer → answer ≡ false → apply f (Abort i n why) ≡ None
 unfolding apply
 unfit f i n bytes text s a why answer h is fit never =
     let p = runs f i n in

@@ -20,7 +20,7 @@ use Rattle.tx_flat.specs.Bytes.{function_of}
 use Rattle.tx_flat.specs.declared.attempt.Attempt.{Attempt}
 use Rattle.tx_flat.specs.declared.slot.Slot.{Slot}
 use Rattle.tx_flat.specs.declared.slot.Block.{Block}
-use Rattle.tx_flat.specs.Shows.{Shows, IsRunOf, mark_of}
+use Rattle.tx_flat.specs.Shows.{Shows, IsRunOf, EndsInTime, mark_of}
 use Rattle.tx_flat.specs.Slots.{Holds, holding, pending_of, acts, commits}
 use Rattle.tx_flat.proofs.Laid.{read_as, length-bytes}
 
@@ -65,13 +65,19 @@ may f i bytes text s b c h e is =
 
 -- ---- a commit
 
+-- a copy in the order of absolute addresses again
+pub seen_back : (s : Storage) (prefix : Option ℕ) (seen t : List ℕ) → is_prefix prefix ≡ true
+    → seen ≡ seen_by prefix (bytes_of s) → EndsInTime s → t ≡ seen_by prefix seen → function_of t ≡ s
+seen_back s prefix seen t ok shown ends e =
+    let whole : t ≡ bytes_of s =
+    e ∙ ap (seen_by prefix) shown ∙ seen_twice prefix (bytes_of s) ok (length-bytes s) in
+    read_as t s (ap (λ (l : List ℕ). length l) whole ∙ length-bytes s) whole ends
+
 pub copy_back : (base : Storage) (a : Attempt) (p : Run) (prefix : Option ℕ) (t : List ℕ) → Shows base a p
     → is_prefix prefix ≡ true → p.cpu.prefix ≡ prefix → t ≡ seen_by prefix a.seen → function_of t ≡ p.copy
 copy_back base a p prefix t shows ok same e =
-    let whole : t ≡ bytes_of p.copy =
-    e ∙ ap (seen_by prefix) (shows.copy ∙ ap (λ x. seen_by x (bytes_of p.copy)) same)
-    ∙ seen_twice prefix (bytes_of p.copy) ok (length-bytes p.copy) in
-    read_as t p.copy (ap (λ (s : List ℕ). length s) whole ∙ length-bytes p.copy) whole shows.copy_ends
+    seen_back p.copy prefix a.seen t ok (shows.copy ∙ ap (λ x. seen_by x (bytes_of p.copy)) same)
+    shows.copy_ends e
 
 not_missing : (m : run.Mark) → m ≡ run.Committed → m ≢ run.Missing
 not_missing m e h = by (sym e ∙ h)
