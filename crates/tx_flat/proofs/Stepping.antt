@@ -1,12 +1,11 @@
 -- One instruction outside transactions, and states before and after it.
-use Rattle.std.proofs.Common.{◌≡◌, ℕ, true, false, List, Option, Some, None}
+use Rattle.std.proofs.Common.{◌≡◌, ℕ, true, false, List, Some, None}
 use Rattle.std.proofs.Common.{sym, ap, subst, ◌∙◌, length}
 use Rattle.std.specs.Prelude.{not, Result, Ok, Err}
 use Rattle.z_regs.specs.Cpu.{Cpu, cpu_of}
-use Rattle.z_regs.specs.Prefix.{storage_size, is_prefix}
+use Rattle.z_regs.specs.Prefix.{storage_size}
 use Rattle.z_regs.specs.Seen.{seen_by}
 use Rattle.z_regs.specs.declared.ranges.Range.{Range}
-use Rattle.z_regs.proofs.Exchange.{seen_twice}
 use Rattle.z_instr.specs.declared.instr.Instr.{Instr}
 use Rattle.z_instr.specs.Roles.{begins}
 use Rattle.z_instr.specs.Table.{entry_at}
@@ -33,22 +32,13 @@ use Rattle.tx_flat.specs.declared.slot.Slot.{Slot}
 use Rattle.tx_flat.specs.Bytes.{function_of}
 use Rattle.tx_flat.specs.Done.{IsExecuted, completion_of, outcome_at}
 use Rattle.tx_flat.specs.Outside.{HasStopped, HasEnded, IsPerformed, cpu_ended, waiting_ended}
-use Rattle.tx_flat.specs.Shows.{EndsInTime, Shows}
+use Rattle.tx_flat.specs.Shows.{Shows}
 use Rattle.tx_flat.specs.Slots.{Holds, holding, pending_of, IsApplied}
-use Rattle.tx_flat.proofs.Applied.{held, put_back}
+use Rattle.tx_flat.proofs.Applied.{held, put_back, seen_back}
 use Rattle.tx_flat.proofs.Inside.{inside}
 use Rattle.tx_flat.proofs.Fetched.{copy_size}
-use Rattle.tx_flat.proofs.Laid.{read_as, length-bytes, listed, ends}
+use Rattle.tx_flat.proofs.Laid.{listed, ends}
 use Rattle.tx_flat.proofs.Settled.{same_outcome, stored_copy, ends_still}
-
--- ---- storage back in the order of absolute addresses
-
-pub back : (x : Storage) (prefix : Option ℕ) (seen t : List ℕ) → is_prefix prefix ≡ true
-    → seen ≡ seen_by prefix (bytes_of x) → EndsInTime x → t ≡ seen_by prefix seen → function_of t ≡ x
-back x prefix seen t ok copy ends e =
-    let whole : t ≡ bytes_of x =
-    e ∙ ap (seen_by prefix) copy ∙ seen_twice prefix (bytes_of x) ok (length-bytes x) in
-    read_as t x (ap (λ (s : List ℕ). length s) whole ∙ length-bytes x) whole ends
 
 -- ---- what an instruction leaves
 
@@ -82,7 +72,7 @@ module _ (i : Instr) (s t : List ℕ) (old new : Slot) (seen seen_after : List �
       let copy : seen ≡ seen_by old.image.prefix (bytes_of (function_of s)) =
       h.copy ∙ ap (seen_by old.image.prefix) (sym (listed s h.size)) in
       let x = laid_over (function_of s) (operand_stores old.image.prefix (operands i here) bytes) in
-      back x old.image.prefix seen_after t ok
+      seen_back x old.image.prefix seen_after t ok
       (e ∙ stored_copy i resting (function_of s) seen bytes ok copy h.inside)
       (ends_still i resting (function_of s) seen bytes ok (copy_size seen resting ok copy) h.inside (ends s
       h.size))
@@ -104,7 +94,7 @@ module _ (i : Instr) (s t : List ℕ) (old new : Slot) (seen seen_after : List �
   -- nothing is stored
   unstored : seen_after ≡ seen → function_of t ≡ function_of s
   unstored e =
-      back (function_of s) old.image.prefix seen_after t old.image.prefix_in
+      seen_back (function_of s) old.image.prefix seen_after t old.image.prefix_in
       (e ∙ h.copy ∙ ap (seen_by old.image.prefix) (sym (listed s h.size))) (ends s h.size) h.again
 
   -- by its outcome
