@@ -1,0 +1,2 @@
+-- Tables of CPUs.
+pub mod Tables

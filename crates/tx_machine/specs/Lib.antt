@@ -1,0 +1,3 @@
+-- All that a machine keeps, as data.
+pub mod Works
+pub mod Ready

@@ -1,0 +1,12 @@
+//! The machine: up to sixteen CPUs that share one storage. What happens to it is one event after the other: a
+//! turn of a CPU, or an interruption of it from outside.
+#![tactic(auto)]
+
+pub mod asking;
+pub mod slot;
+pub mod works;
+
+pub use slot::Tally;
+
+#[cfg(test)]
+mod tests;

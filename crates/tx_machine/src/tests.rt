@@ -1,0 +1,1 @@
+//! Expected values are those of an independent model of the machine.
