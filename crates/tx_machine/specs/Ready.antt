@@ -9,9 +9,23 @@ use Rattle.tx_cpu.specs.Parts.{local_of}
 use Rattle.tx_lines.specs.Owned.{holders_in}
 use Rattle.tx_meaning.specs.declared.asking.Need.{Need}
 use Rattle.tx_meaning.specs.Changes.{is_needed}
-use Rattle.tx_meaning.specs.State.{is_live}
+use Rattle.tx_meaning.specs.State.{is_live, is_head}
 use Rattle.tx_keeping.specs.Kept.{Kept, kept_footprint}
+use Rattle.std.specs.Prelude.{Some}
+use Rattle.z_regs.specs.declared.ranges.Range.{Range}
+use Rattle.z_regs.specs.declared.waiting.Waiting.{Waiting}
+use Rattle.z_instr.specs.declared.instr.Instr.{Instr}
+use Rattle.tx_serial.specs.Flat.{Storage, Pending}
+use Rattle.tx_serial.specs.History.{start_of}
+use Rattle.tx_serial.specs.Fate.{Goes}
+use Rattle.tx_progress.specs.Trial.{fate_by_progress}
+use Rattle.tx_meaning.specs.Limits.{Setting}
+use Rattle.tx_meaning.specs.Needs.{operand_needs, block_needs, interruption_needs}
+use Rattle.tx_keeping.specs.Kept.{text_of}
 use Rattle.tx_machine.specs.Works.{Works, Seat, numbers_of}
+
+abbrev pub image_storage : Setting → Storage
+image_storage m = (start_of m.image).storage
 
 -- ---- the ladder and the stop queue
 
@@ -21,9 +35,10 @@ pub record MayClimb (k : Kept) (i : ℕ) : Type 0 where
   pub below : (k.standings i).constrained ≡ true → (k.standings i).aborts < (k.standings i).parms.stop
   pub out : (k.standings i).constrained ≡ true → waits_in k.state.queue i ≡ false
 
--- in a turn of one CPU, those of all others that are live
-abbrev pub MayAsk : ℕ → Kept → Type 0
-MayAsk i k = (j : ℕ) → j ≢ i → is_live k.state j ≡ true → MayClimb k j
+-- in a turn of one CPU: those of all others that are live, and its own unless it is the head of the stop queue
+pub record MayAsk (i : ℕ) (k : Kept) : Type 0 where
+  pub others : (j : ℕ) → j ≢ i → is_live k.state j ≡ true → MayClimb k j
+  pub own : is_head k.state i ≡ false → MayClimb k i
 
 -- ---- the history
 
@@ -42,3 +57,20 @@ pub record MayHold (i : ℕ) (needs : List Need) (k : Kept) : Type 0 where
   pub within : lines_held k.state.held i ≤ MOST_HELD
   pub few : count_below LINES (λ line.
       ((kept_footprint k i).fetched line || (kept_footprint k i).stored line) || is_needed needs line) ≤ MOST_HELD
+
+-- ---- a turn
+
+-- what a turn of a CPU asks of what is kept: the ladder, the lines that it can need, that the next instruction is
+-- the one that the image's storage says, and that nothing is taken inside a transaction
+pub record MayTurn (m : Setting) (i : ℕ) (k : Kept) : Type 0 where
+  pub asks : MayAsk i k
+  pub goes : (instr : Instr) (ranges : List Range)
+      → fate_by_progress (text_of m) k.storage (k.locals i).attempt ≡ Goes instr ranges
+      → MayHold i (operand_needs (k.locals i).attempt.cpu.prefix ranges) k
+  pub stores : (b : Pending) → (k.locals i).pending ≡ Some b
+      → MayHold i (block_needs (k.locals i).attempt.cpu.prefix b) k
+  pub takes : (w : Waiting) → (k.locals i).waiting ≡ Some w
+      → MayHold i (interruption_needs (k.locals i).attempt.cpu.prefix w) k
+  pub rests : (w : Waiting) → (k.locals i).waiting ≡ Some w → is_live k.state i ≡ false
+  pub text : fate_by_progress (text_of m) (image_storage m) (k.locals i).attempt
+      ≡ fate_by_progress (text_of m) k.storage (k.locals i).attempt
