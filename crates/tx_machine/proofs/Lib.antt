@@ -1,2 +1,3 @@
 -- Tables of CPUs.
 pub mod Tables
+pub mod Turns

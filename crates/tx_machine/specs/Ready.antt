@@ -1,5 +1,5 @@
 -- What holds whenever a machine asks or aborts, so that what it keeps has room for what comes of it.
-use Rattle.std.specs.Prelude.{◌≡◌, ◌≢◌, ℕ, ◌+◌, ◌<◌, ◌≤◌, ◌×◌, ◌||◌, Bool, true, false, List, length, nat_lt, All}
+use Rattle.std.specs.Prelude.{◌≡◌, ◌≢◌, ℕ, ◌+◌, ◌*◌, ◌<◌, ◌≤◌, ◌×◌, ◌||◌, Bool, true, false, List, length, nat_lt, All}
 use Rattle.bit_set.specs.Counts.{count_below}
 use Rattle.line_table.specs.declared.table.TheConstants.{LINES, MOST_HELD}
 use Rattle.line_table.specs.Holders.{lines_held}
@@ -20,6 +20,7 @@ use Rattle.tx_serial.specs.History.{start_of}
 use Rattle.tx_serial.specs.Fate.{Goes}
 use Rattle.tx_progress.specs.Trial.{fate_by_progress}
 use Rattle.tx_meaning.specs.Limits.{Setting}
+use Rattle.tx_meaning.specs.declared.limits.TheConstants.{MOST_TURNS}
 use Rattle.tx_meaning.specs.Needs.{operand_needs, block_needs, interruption_needs}
 use Rattle.tx_keeping.specs.Kept.{text_of}
 use Rattle.tx_machine.specs.Works.{Works, Seat, numbers_of}
@@ -74,3 +75,20 @@ pub record MayTurn (m : Setting) (i : ℕ) (k : Kept) : Type 0 where
   pub rests : (w : Waiting) → (k.locals i).waiting ≡ Some w → is_live k.state i ≡ false
   pub text : fate_by_progress (text_of m) (image_storage m) (k.locals i).attempt
       ≡ fate_by_progress (text_of m) k.storage (k.locals i).attempt
+
+-- ---- counts
+
+-- each attempt and each completed instruction took a turn, and a turn asks at most 128 questions: for at most 8
+-- lines, each of at most 15 other CPUs
+pub record IsCounted (s : Seat) : Type 0 where
+  pub turns : s.tally.turns ≤ MOST_TURNS
+  pub attempts : s.tally.attempts ≤ s.tally.turns
+  pub completed : (numbers_of s).completed ≤ s.tally.turns
+  pub asked : s.tally.asked ≤ 128 * s.tally.turns
+  pub rejected : s.tally.rejected ≤ s.tally.asked
+
+-- the turn that is counted last has done nothing yet but ask, and may ask so many more questions
+pub record HasTurn (s : Seat) (questions : ℕ) : Type 0 where
+  pub attempts : s.tally.attempts < s.tally.turns
+  pub completed : (numbers_of s).completed < s.tally.turns
+  pub asked : s.tally.asked + questions ≤ 128 * s.tally.turns
