@@ -3,6 +3,10 @@ use Rattle.std.specs.Prelude.{◌≡◌, ◌≢◌, ℕ, ◌+◌, ◌*◌, ◌<�
 use Rattle.bit_set.specs.Counts.{count_below}
 use Rattle.line_table.specs.declared.table.TheConstants.{LINES, MOST_HELD}
 use Rattle.line_table.specs.Holders.{lines_held}
+use Rattle.tx_control.specs.declared.causes.Why.{Why}
+use Rattle.tx_control.specs.declared.causes.Why.TheVariants.{External, Program, FetchConflict}
+use Rattle.tx_control.specs.declared.causes.Why.TheVariants.{StoreConflict, FetchOverflow, StoreOverflow}
+use Rattle.tx_control.specs.declared.causes.Why.TheVariants.{Restricted, Filtered, Depth, Starved, Tabort}
 use Rattle.tx_ladder.specs.Waiting.{waits_in}
 use Rattle.tx_footprint.specs.Touched.{Sets}
 use Rattle.tx_cpu.specs.Parts.{local_of}
@@ -35,6 +39,20 @@ image_storage m = (start_of m.image).storage
 pub record MayClimb (k : Kept) (i : ℕ) : Type 0 where
   pub below : (k.standings i).constrained ≡ true → (k.standings i).aborts < (k.standings i).parms.stop
   pub out : (k.standings i).constrained ≡ true → waits_in k.state.queue i ≡ false
+
+-- the attempt of the CPU can be aborted for this cause
+abbrev pub MayEndBy : Why → Kept → ℕ → Type 0
+MayEndBy (FetchConflict line) k i = MayClimb k i
+MayEndBy (StoreConflict line) k i = MayClimb k i
+MayEndBy Starved k i = MayClimb k i
+MayEndBy (Program e) k i = Unit {0}
+MayEndBy External k i = Unit {0}
+MayEndBy FetchOverflow k i = Unit {0}
+MayEndBy StoreOverflow k i = Unit {0}
+MayEndBy Restricted k i = Unit {0}
+MayEndBy (Filtered e) k i = Unit {0}
+MayEndBy Depth k i = Unit {0}
+MayEndBy (Tabort code) k i = Unit {0}
 
 -- in a turn of one CPU: those of all others that are live, and its own unless it is the head of the stop queue
 pub record MayAsk (i : ℕ) (k : Kept) : Type 0 where

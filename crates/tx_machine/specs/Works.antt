@@ -1,5 +1,5 @@
 -- What a machine keeps: of each CPU, of storage and of what was written down; and what this stands for.
-use Rattle.std.specs.Prelude.{◌≡◌, ℕ, ◌≤◌, List, get_or}
+use Rattle.std.specs.Prelude.{◌≡◌, ℕ, ◌≤◌, List, length, get_or}
 use Rattle.tx_ladder.specs.Rungs.{Standing}
 use Rattle.tx_journal.specs.declared.entries.Entry.{Entry}
 use Rattle.tx_journal.specs.declared.events.Event.{Event}
@@ -67,3 +67,11 @@ seats_of rest slots i = get_or slots i rest
 
 abbrev pub kept_by : Seat → Works → Kept
 kept_by rest w = kept_from (seats_of rest w.slots) w
+
+-- ---- what never changes
+
+-- as many CPUs, and as much room
+pub record IsSameSize (old new : Works) : Type 0 where
+  pub cpus : length new.slots ≡ length old.slots
+  pub room : new.room ≡ old.room
+  pub events_room : new.events_room ≡ old.events_room
