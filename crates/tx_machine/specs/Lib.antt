@@ -1,3 +1,4 @@
 -- All that a machine keeps, as data.
 pub mod Works
 pub mod Ready
+pub mod Machine

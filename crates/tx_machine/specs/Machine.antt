@@ -1,0 +1,98 @@
+-- What a machine is seen as, and what it stands for.
+use Rattle.std.specs.Prelude.{◌≡◌, ℕ, ◌+◌, ◌*◌, ◌≤◌, Bool, true, false, ◌&&◌, ◌==◌, List, [], ◌∷◌, ◌++◌, length}
+use Rattle.std.specs.Prelude.{Option, Some, None, if◌then◌else◌, is_none, count_by}
+use Rattle.z_regs.specs.declared.waiting.Waiting.{Waiting}
+use Rattle.tx_journal.specs.Content.{Content}
+use Rattle.tx_journal.specs.declared.entries.Entry.{Entry}
+use Rattle.tx_journal.specs.declared.entries.Entry.TheVariants.{Step, Commit, Abort, Tdb, Interrupt}
+use Rattle.tx_journal.specs.declared.events.Event.{Event}
+use Rattle.tx_ladder.specs.Rungs.{fresh}
+use Rattle.tx_serial.specs.History.{no_cpu}
+use Rattle.tx_serial.specs.Flat.{Pending}
+use Rattle.tx_cpu.specs.Parts.{Parts}
+use Rattle.tx_meaning.specs.declared.asking.Reject.{Reject}
+use Rattle.tx_meaning.specs.Limits.{RunLimits, Setting}
+use Rattle.tx_meaning.specs.Meaning.{IsSetting, AreEvents, meaning, is_external}
+use Rattle.tx_meaning.specs.State.{State, cpus_of}
+use Rattle.tx_meaning.specs.Turn.{Turned, happen}
+use Rattle.tx_keeping.specs.Keeping.{keeping}
+use Rattle.tx_machine.specs.Works.{Seat, Works, kept_by}
+
+-- its image, its limits, the recorded events, and the reject in the last event, where there was one
+pub record Seen : Type 0 where
+  pub image : Content
+  pub limits : RunLimits
+  pub events : List Event
+  pub reject : Option Reject
+
+abbrev pub setting_of : Seen → Setting
+setting_of s = record { image = s.image; limits = s.limits }
+
+-- the meaning of its events
+abbrev pub state_of : Seen → State
+state_of s = meaning (setting_of s) s.events
+
+-- a machine from which nothing has happened
+abbrev pub opened : Content → RunLimits → Seen
+opened image limits = record { image = image; limits = limits; events = []; reject = None }
+
+-- one event more
+abbrev pub event_of : Seen → Event → Turned
+event_of s e = happen (setting_of s) e (state_of s)
+
+abbrev pub after : Seen → Event → Seen
+after s e = record s { events = (event_of s e).state.events; reject = (event_of s e).reject }
+
+-- ---- counted in the history
+
+abbrev pub commits_of : ℕ → Entry → Bool
+commits_of i (Commit j n) = j == i
+commits_of i (Step j) = false
+commits_of i (Abort j n why) = false
+commits_of i (Tdb j) = false
+commits_of i (Interrupt j) = false
+
+abbrev pub aborts_of : ℕ → Entry → Bool
+aborts_of i (Abort j n why) = j == i
+aborts_of i (Step j) = false
+aborts_of i (Commit j n) = false
+aborts_of i (Tdb j) = false
+aborts_of i (Interrupt j) = false
+
+-- ---- what is kept beside it
+
+-- the seat behind the last CPU
+abbrev pub nobody : Setting → Seat
+nobody m = record {
+  cpu = record {
+    image = no_cpu;
+    saved = no_cpu;
+    attempt = record {
+      nest = [];
+      footprint = record { fetched = []; stored = []; blocks = [] };
+      constraint = None;
+      stores = record { blocks = []; bytes = []; marks = []; values = []; value_marks = [] };
+      count = 0;
+      resumes_at = 0;
+    };
+    pending = None;
+    waiting = None;
+  };
+  ladder = fresh m.image.parms;
+  tally = record { attempts = 0; delay = 0; turns = 0; asked = 0; rejected = 0 };
+}
+
+-- the most events that can be recorded
+abbrev pub most_events : Setting → ℕ
+most_events m = cpus_of m * m.limits.turns + m.limits.externals
+
+-- what is kept is what the recorded events mean, and there is room for all that can still happen; `left` counts
+-- the external events that may still come
+pub record Stands (m : Setting) (w : Works) (left : ℕ) : Type 0 where
+  pub setting : IsSetting m
+  pub events : AreEvents m w.events
+  pub kept : kept_by (nobody m) w ≡ keeping m w.events
+  pub cpus : length w.slots ≡ cpus_of m
+  pub left : count_by is_external w.events + left ≡ m.limits.externals
+  pub room : most_events m ≤ w.room
+  pub events_room : most_events m ≤ w.events_room

@@ -1,0 +1,140 @@
+//! The machine, as programs use it.
+ghost use Rattle.std.specs.Prelude.{◌≡◌, ℕ, ◌+◌, ◌<◌, ◌≤◌, ◌↔◌, IfOk, IsTrue, List, [], ◌∷◌, ◌++◌, length, slice_get};
+ghost use Rattle.std.specs.Prelude.{count_by, None, Option, get_or};
+ghost use Rattle.std.specs.Arc.{arc_value};
+ghost use Rattle.z_regs.specs.Cpu.{cpu_of};
+ghost use Rattle.z_regs.specs.Prefix.{storage_size};
+ghost use Rattle.tx_journal.specs.Image.{cpu_of_event};
+ghost use Rattle.tx_meaning.specs.Idle.{is_ready, is_finished, is_spent};
+ghost use Rattle.tx_meaning.specs.Meaning.{is_external};
+ghost use Rattle.tx_meaning.specs.State as meaning;
+ghost use Rattle.tx_machine.specs.Machine.{Seen, setting_of, state_of, opened, event_of, after, commits_of, aborts_of};
+
+use crate::slot::Slot;
+use crate::works::Works;
+use std::alloc::Global;
+use std::marker::Model;
+use std::sync::Arc;
+use tx_journal::{Entry, Event, Image};
+use tx_meaning::{Limits, Outcome, Reject};
+use z_regs::CpuImage;
+
+/// There was no memory.
+#[derive(Clone, Copy, Debug, PartialEq, Eq)]
+pub struct NoMemory;
+
+/// What is counted of one CPU.
+#[derive(Clone, Copy, Debug, PartialEq, Eq)]
+pub struct Counts {
+    /// Its counted turns.
+    pub turns: u32,
+    /// Its questions to holders of lines.
+    pub asked: u64,
+    /// Those of them that were answered by a reject.
+    pub rejected: u64,
+    /// Its transactions that have committed.
+    pub commits: u32,
+    /// Its attempts that were aborted.
+    pub aborts: u32,
+}
+
+/// CPUs that share one storage, after events. Contracts see a machine as its image, its limits, the recorded
+/// events, and the reject in the last event; all else that it shows is the meaning of those events.
+#[derive(Drop)]
+pub struct Machine {
+    image: Arc<Image>,
+    limits: Limits,
+    works: Works,
+    externals_left: u32,
+    reject: Option<Reject>,
+}
+
+impl Model for Machine {
+    ghost use Rattle.std.specs.Arc.{arc_value};
+    ghost use Rattle.tx_machine.specs.Machine.{Seen, Stands};
+
+    ghost Value = { Seen };
+
+    ghost view = { λ m. record {
+      image = arc_value m.image;
+      limits = m.limits;
+      events = m.works.events;
+      reject = m.reject;
+    } };
+
+    ghost invariant = { λ m. Stands record { image = arc_value m.image; limits = m.limits } m.works m.externals_left };
+}
+
+impl Machine {
+    /// What is recorded, in order: every event but turns that were idle.
+    pub fn events(&self) -> &[Event]
+        ensures { result.now ≡ self.now.events }
+    {
+        self.works.events.as_slice()
+    }
+
+    /// The serial history: what has taken effect, in order.
+    pub fn journal(&self) -> &[Entry]
+        ensures { result.now ≡ (state_of self.now).history }
+    {
+        self.works.history.as_slice()
+    }
+
+    /// What the machine started from.
+    pub fn image(&self) -> &Image
+        ensures { result.now ≡ self.now.image }
+    {
+        &self.image
+    }
+
+    /// The same image, to be kept beside the machine. The error is want of memory.
+    pub fn shared_image(&self) -> Result<Arc<Image>, NoMemory>
+        ensures { IfOk result (λ image. arc_value image ≡ self.now.image) }
+    {
+        Arc::try_clone(&self.image).map_err(|_| NoMemory)
+    }
+
+    /// How long it may run.
+    pub fn limits(&self) -> Limits
+        ensures { result ≡ self.now.limits }
+    {
+        self.limits
+    }
+
+    /// How many external events may still come.
+    pub fn externals_left(&self) -> u32
+        ensures { count_by is_external self.now.events + result ≡ self.now.limits.externals }
+    {
+        self.externals_left
+    }
+
+    /// The holder and the line of the reject in the last event; None exactly where there was none in it.
+    pub fn last_reject(&self) -> Option<Reject>
+        ensures { result ≡ self.now.reject }
+    {
+        self.reject
+    }
+
+    /// The CPU as its program sees it, in its attempt where one is live.
+    pub fn cpu(&self, cpu: u32) -> &CpuImage
+        requires { cpu < length self.now.image.cpus }
+        ensures { cpu_of result.now ≡ meaning.cpu_of (setting_of self.now) (state_of self.now) cpu }
+    {
+        self.works.slots[cpu as usize].cpu.image()
+    }
+
+    /// The byte of storage at an absolute address, as the history leaves it.
+    pub fn byte(&self, address: u32) -> u8
+        requires { address < storage_size }
+        ensures { result ≡ (meaning.flat_of (setting_of self.now) (state_of self.now)).storage address }
+    {
+        self.works.lines.byte(address)
+    }
+
+    /// The CPU at the head of the stop queue; None exactly where the queue is empty.
+    pub fn queue_head(&self) -> Option<u32>
+        ensures { result ≡ slice_get (state_of self.now).queue 0 }
+    {
+        self.works.queue.head()
+    }
+}
