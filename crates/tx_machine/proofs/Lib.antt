@@ -1,3 +1,4 @@
 -- Tables of CPUs.
 pub mod Tables
 pub mod Turns
+pub mod Shown

@@ -1,20 +1,17 @@
 -- What is kept between events is all that a turn asks of it.
 use Rattle.std.proofs.Common.{◌≡◌, ◌≢◌, ℕ, ◌+◌, ◌<◌, Bool, true, false, List, [], Some, None, refl, sym, ap}
 use Rattle.std.proofs.Common.{◌∙◌, subst, arith}
-use Rattle.std.specs.Prelude.{◌⊎◌, ◌&&◌, nat_lt, is_none, ◌∷◌}
-use Rattle.std.proofs.lemmas.Bool.{cases_Bool, and_left, and_right}
+use Rattle.std.specs.Prelude.{◌⊎◌, nat_lt, ◌∷◌}
+use Rattle.std.proofs.lemmas.Bool.{cases_Bool}
 use borrow.Enum.Arm.{by_way}
 use Rattle.z_regs.specs.Prefix.{is_prefix}
-use Rattle.z_regs.specs.Cpu.{Cpu}
 use Rattle.z_regs.specs.declared.waiting.Waiting.{Waiting}
 use Rattle.z_instr.specs.declared.instr.Instr.{Instr}
 use Rattle.z_regs.specs.declared.ranges.Range.{Range}
 use Rattle.tx_ladder.specs.Waiting.{waits_in}
-use Rattle.tx_journal.specs.declared.events.Event.{Event}
 use Rattle.tx_journal.specs.declared.events.Event.TheVariants as event
-use Rattle.tx_serial.specs.Flat.{Pending, FlatState}
+use Rattle.tx_serial.specs.Flat.{Pending}
 use Rattle.tx_serial.specs.Fate.{Goes}
-use Rattle.tx_serial.specs.Apply.{is_running, may_act}
 use Rattle.tx_serial.specs.History.{start_of}
 use Rattle.tx_progress.specs.Local.{Local}
 use Rattle.tx_progress.specs.Trial.{fate_by_progress}
@@ -28,15 +25,14 @@ use Rattle.tx_meaning.specs.Needs.{operand_needs, block_needs, interruption_need
 use Rattle.tx_meaning.specs.State.{Numbers, is_live, is_first}
 use Rattle.tx_meaning.specs.Changes.{counting_turn, with_event}
 use Rattle.tx_meaning.proofs.Walk.{at_put_kept}
-use Rattle.tx_meaning.specs.Idle.{is_spent}
-use Rattle.tx_keeping.specs.Kept.{Kept, text_of, kept_flat, kept_finished, with_state}
+use Rattle.tx_keeping.specs.Kept.{Kept, text_of, kept_flat, with_state}
 use Rattle.tx_keeping.specs.Turn.{k_idle}
-use Rattle.tx_keeping.proofs.Truth.{Truth, live_is, kept_is, same_text}
+use Rattle.tx_keeping.proofs.Truth.{Truth, kept_is, same_text}
 use Rattle.tx_keeping.proofs.Moves.{IsGood}
-use Rattle.tx_keeping.proofs.Needed.{waits_stopped}
-use Rattle.tx_keeping.proofs.Room.{AllWithin, HasRoom}
+use Rattle.tx_keeping.proofs.Turning.{waiting_rests, pending_rests}
+use Rattle.tx_keeping.proofs.Room.{AllWithin}
 use Rattle.tx_keeping.proofs.Few.{resting_room, instruction_room, small_interruption, few_interruption}
-use Rattle.tx_bounds.proofs.Stopping.{Counted, Turning, turning_begun}
+use Rattle.tx_bounds.proofs.Stopping.{Counted, turning_begun}
 use Rattle.tx_bounds.proofs.Stopped.{Between, may_go_on}
 use Rattle.tx_machine.specs.Ready.{MayClimb, MayAsk, MayHold, MayTurn, image_storage}
 
@@ -73,25 +69,6 @@ may_ask m i k b may =
 -- ---- the turn
 
 module _ (m : Setting) (s : IsSetting m) where
-  not_live : (i : ℕ) (k : Kept) → Truth m k → may_act (kept_flat m k) i ≡ false → is_live k.state i ≡ false
-  not_live i k t off =
-      by_way (cases_Bool (is_live k.state i))
-      (λ live. absurd (let on = (t.each i).followed.acts (sym (live_is m k t i) ∙ live) in
-      let x : false ≡ true = sym off ∙ on in cc)) (λ off. off)
-
-  waiting_rests : (i : ℕ) (k : Kept) (w : Waiting) → Truth m k → (k.locals i).waiting ≡ Some w
-      → is_live k.state i ≡ false
-  waiting_rests i k w t is =
-      not_live i k t
-      (and_left (is_running (k.locals i).cpu.state) (is_none (k.locals i).pending)
-      (waits_stopped m.image k.state.history (kept_flat m k) s.image t.replayed i w is))
-
-  pending_rests : (i : ℕ) (k : Kept) (b : Pending) → Truth m k → (k.locals i).pending ≡ Some b
-      → is_live k.state i ≡ false
-  pending_rests i k b t is =
-      not_live i k t
-      (and_right (is_running (k.locals i).cpu.state) (is_none (k.locals i).pending) (ap is_none is))
-
   -- the next instruction is read from the image's storage
   image_text : (i : ℕ) (k : Kept) → Truth m k
       → fate_by_progress (text_of m) (image_storage m) (k.locals i).attempt
@@ -116,14 +93,14 @@ module _ (m : Setting) (s : IsSetting m) where
     stores = λ block is. record {
       within = within i;
       few = (resting_room m k i (k.locals i).attempt.cpu.prefix (stored block.address 256 ∷ []) g
-          (pending_rests i k block g.truth is) (omega arith, tt) (omega arith)).few;
+          (pending_rests m s i k block g.truth is) (omega arith, tt) (omega arith)).few;
     };
     takes = λ w is. record {
       within = within i;
       few = (resting_room m k i (k.locals i).attempt.cpu.prefix (interruption_ranges w.block) g
-          (waiting_rests i k w g.truth is) (small_interruption w.block) (few_interruption w.block)).few;
+          (waiting_rests m s i k w g.truth is) (small_interruption w.block) (few_interruption w.block)).few;
     };
-    rests = λ w is. waiting_rests i k w g.truth is;
+    rests = λ w is. waiting_rests m s i k w g.truth is;
     text = image_text i k g.truth;
   }
 
