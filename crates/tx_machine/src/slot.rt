@@ -31,7 +31,11 @@ pub struct Slot {
 impl Model for Slot {
     ghost use Rattle.tx_machine.specs.Works.{Seat};
 
+    ghost use Rattle.tx_machine.specs.Ready.{IsCounted};
+
     ghost Value = { Seat };
 
     ghost view = { λ s. record { cpu = s.cpu; ladder = s.ladder; tally = s.tally } };
+
+    ghost invariant = { λ s. IsCounted record { cpu = s.cpu; ladder = s.ladder; tally = s.tally } };
 }
