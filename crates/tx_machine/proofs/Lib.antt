@@ -2,3 +2,4 @@
 pub mod Tables
 pub mod Turns
 pub mod Shown
+pub mod Most
