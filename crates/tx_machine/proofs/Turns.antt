@@ -1,21 +1,38 @@
 -- What is kept between events is all that a turn asks of it.
 use Rattle.std.proofs.Common.{◌≡◌, ◌≢◌, ℕ, ◌+◌, ◌<◌, Bool, true, false, List, [], Some, None, refl, sym, ap}
 use Rattle.std.proofs.Common.{◌∙◌, subst, arith}
-use Rattle.std.specs.Prelude.{◌⊎◌, nat_lt, ◌∷◌}
-use Rattle.std.proofs.lemmas.Bool.{cases_Bool}
+use Rattle.std.specs.Prelude.{◌⊎◌, ◌≤◌, nat_lt, nat_le, ◌∷◌, Option, length, map, All}
+use Rattle.std.proofs.lemmas.Bool.{cases_Bool, ltb-true, and_parts}
 use borrow.Enum.Arm.{by_way}
-use Rattle.z_regs.specs.Prefix.{is_prefix}
+use Rattle.z_regs.specs.Prefix.{is_prefix, is_accessible, area_size, storage_size}
 use Rattle.z_regs.specs.declared.waiting.Waiting.{Waiting}
 use Rattle.z_instr.specs.declared.instr.Instr.{Instr}
 use Rattle.z_regs.specs.declared.ranges.Range.{Range}
 use Rattle.tx_ladder.specs.Waiting.{waits_in}
 use Rattle.tx_journal.specs.declared.events.Event.TheVariants as event
-use Rattle.tx_serial.specs.Flat.{Pending}
+use Rattle.tx_serial.specs.Flat.{Pending, FlatState}
 use Rattle.tx_serial.specs.Fate.{Goes}
 use Rattle.tx_serial.specs.History.{start_of}
 use Rattle.tx_progress.specs.Local.{Local}
 use Rattle.tx_progress.specs.Trial.{fate_by_progress}
-use Rattle.tx_progress.proofs.Facts.{keeps_prefix}
+use Rattle.tx_progress.proofs.Facts.{keeps_prefix, quiet_nest}
+use Rattle.tx_progress.proofs.Parts.{followed_fate}
+use Rattle.tx_progress.proofs.Standing.{tests_find_nothing}
+use Rattle.tx_progress.specs.Progress.{Progress}
+use Rattle.tx_progress.specs.Reached.{IsFollowed, progress_of}
+use Rattle.tx_serial.proofs.Passing.{passes}
+use Rattle.tx_serial.proofs.FreeOperands.{inside_operands}
+use Rattle.tx_serial.specs.Attempt.{Run}
+use Rattle.tx_serial.specs.Fate.{fate, excepted, operands}
+use Rattle.tx_serial.specs.Run.{run}
+use Rattle.tx_serial.specs.Text.{IsPlaced}
+use Rattle.z_instr.specs.Operands.{spans}
+use Rattle.z_instr.specs.Table.{entry_at}
+use Rattle.z_instr.proofs.SmallOperands.{count, sizes}
+use Rattle.z_touch.specs.Refusals.{range_of}
+use Rattle.tx_cpu.proofs.Reached.{accessible_spans}
+use Rattle.z_regs.specs.Absolute.{IsAccessible}
+use Rattle.std.proofs.Math.ListN.{length-map}
 use Rattle.tx_progress.proofs.Lines.{text_there}
 use Rattle.tx_cpu.proofs.Agreeing.{fate_by_progress-alike}
 use Rattle.z_regs.specs.Prefix.{absolute_of}
@@ -27,14 +44,14 @@ use Rattle.tx_meaning.specs.Changes.{counting_turn, with_event}
 use Rattle.tx_meaning.proofs.Walk.{at_put_kept}
 use Rattle.tx_keeping.specs.Kept.{Kept, text_of, kept_flat, with_state}
 use Rattle.tx_keeping.specs.Turn.{k_idle}
-use Rattle.tx_keeping.proofs.Truth.{Truth, kept_is, same_text}
+use Rattle.tx_keeping.proofs.Truth.{Truth, kept_is, same_text, live_is}
 use Rattle.tx_keeping.proofs.Moves.{IsGood}
 use Rattle.tx_keeping.proofs.Turning.{waiting_rests, pending_rests}
 use Rattle.tx_keeping.proofs.Room.{AllWithin}
 use Rattle.tx_keeping.proofs.Few.{resting_room, instruction_room, small_interruption, few_interruption}
 use Rattle.tx_bounds.proofs.Stopping.{Counted, turning_begun}
 use Rattle.tx_bounds.proofs.Stopped.{Between, may_go_on}
-use Rattle.tx_machine.specs.Ready.{MayClimb, MayAsk, MayHold, MayTurn, image_storage}
+use Rattle.tx_machine.specs.Ready.{MayClimb, MayAsk, MayHold, MayTurn, IsInReach, image_storage}
 
 -- ---- the ladder and the stop queue
 
@@ -65,6 +82,49 @@ may_ask m i k b may =
           climbs m k b i (by_way (cases_Bool (waits_in k.state.queue i))
           (λ in_it. absurd (let n : true ≡ false = sym (t.own in_it) ∙ off in cc)) (λ out. out));
     }
+
+-- ---- operands
+
+unexcepted : (i : Instr) (o : Option ℕ) → excepted i o ≡ None → o ≡ None
+unexcepted i None h = refl
+unexcepted i (Some code) h = absurd (cc)
+
+in_reach_of : (text : List ℕ) (p : Run) (instr : Instr) (ranges : List Range)
+    → fate text p ≡ Goes instr ranges → IsInReach p.cpu.prefix ranges
+in_reach_of text p instr ranges goes =
+    let pass = passes text p instr ranges goes in
+    let nothing = tests_find_nothing text p instr pass.passed in
+    let c = p.cpu in
+    let ss = spans instr c.general c.condition in
+    let operands = (entry_at instr.op.number).operands in
+    let fields = count operands instr c.general c.condition in
+    let few : length (map range_of ss) ≤ 2 = omega (arith, length-map ss range_of, fields) in
+    let inside = inside_operands text instr c (length p.nest) (unexcepted instr _ nothing.accessible) in
+    record {
+      few = subst (λ rs. length rs ≤ 2) (sym pass.touches) few;
+      accessible = subst (All (IsAccessible c.prefix)) (sym pass.touches)
+          (accessible_spans c.prefix ss (sizes operands instr c.general c.condition) inside);
+    }
+
+in_reach : (f : FlatState) (i : ℕ) (local : Local) (instr : Instr) (ranges : List Range) → IsFollowed f i local
+    → fate_by_progress f.text f.storage local.attempt ≡ Goes instr ranges
+    → IsInReach local.attempt.cpu.prefix ranges
+unfolding progress_of
+in_reach f i local instr ranges h goes =
+    subst (λ (q : Progress). IsInReach q.cpu.prefix ranges) h.attempt
+    (in_reach_of f.text (run f i local.attempt.count) instr ranges (followed_fate f i local h ∙ goes))
+
+-- ---- a block that is pending
+
+last_inside : (prefix : Option ℕ) (a : ℕ) → is_accessible prefix a ≡ true → a < storage_size
+last_inside None a h = ltb-true a storage_size (and_parts (nat_le area_size a) (nat_lt a storage_size) h).1
+last_inside (Some p) a h = ltb-true a storage_size h
+
+block_inside : (prefix : Option ℕ) (text : List ℕ) (b : Pending) → IsPlaced prefix text b
+    → b.address + 256 ≤ storage_size
+block_inside prefix text b placed =
+    let last = last_inside prefix (b.address + 255) (placed.free 255 (omega arith)).accessible in
+    omega (arith, last)
 
 -- ---- the turn
 
@@ -101,6 +161,12 @@ module _ (m : Setting) (s : IsSetting m) where
           (waiting_rests m s i k w g.truth is) (small_interruption w.block) (few_interruption w.block)).few;
     };
     rests = λ w is. waiting_rests m s i k w g.truth is;
+    rested = λ off. quiet_nest (kept_flat m k) i (k.locals i) (g.truth.each i).followed
+        (sym (live_is m k g.truth i) ∙ off);
+    inside = λ block is.
+        let kept = kept_is m s k g.truth in
+        block_inside (k.locals i).cpu.prefix (text_of m) block (kept.blocks i block is);
+    reach = λ instr ranges is. in_reach (kept_flat m k) i (k.locals i) instr ranges (g.truth.each i).followed is;
     text = image_text i k g.truth;
   }
 
@@ -124,5 +190,8 @@ counted_turn_may m i k t = record {
   stores = λ b is. let h = t.stores b is in record { within = h.within; few = h.few };
   takes = λ w is. let h = t.takes w is in record { within = h.within; few = h.few };
   rests = λ w is. still_live i i k ∙ t.rests w is;
+  rested = λ off. t.rested (sym (still_live i i k) ∙ off);
+  inside = t.inside;
+  reach = t.reach;
   text = t.text;
 }

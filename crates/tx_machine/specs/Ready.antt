@@ -15,13 +15,16 @@ use Rattle.tx_meaning.specs.declared.asking.Need.{Need}
 use Rattle.tx_meaning.specs.Changes.{is_needed}
 use Rattle.tx_meaning.specs.State.{is_live, is_head}
 use Rattle.tx_keeping.specs.Kept.{Kept, kept_footprint}
-use Rattle.std.specs.Prelude.{Some}
+use Rattle.std.specs.Prelude.{Some, Option}
+use Rattle.z_regs.specs.Prefix.{storage_size}
+use Rattle.z_regs.specs.Absolute.{IsAccessible}
 use Rattle.z_regs.specs.declared.ranges.Range.{Range}
 use Rattle.z_regs.specs.declared.waiting.Waiting.{Waiting}
 use Rattle.z_instr.specs.declared.instr.Instr.{Instr}
 use Rattle.tx_serial.specs.Flat.{Storage, Pending}
 use Rattle.tx_serial.specs.History.{start_of}
 use Rattle.tx_serial.specs.Fate.{Goes}
+use Rattle.tx_progress.specs.Progress.{resting}
 use Rattle.tx_progress.specs.Trial.{fate_by_progress}
 use Rattle.tx_meaning.specs.Limits.{Setting}
 use Rattle.tx_meaning.specs.declared.limits.TheConstants.{MOST_TURNS}
@@ -79,8 +82,14 @@ pub record MayHold (i : ℕ) (needs : List Need) (k : Kept) : Type 0 where
 
 -- ---- a turn
 
+-- operands that an instruction can have: at most two, each of it accessible
+pub record IsInReach (prefix : Option ℕ) (ranges : List Range) : Type 0 where
+  pub few : length ranges ≤ 2
+  pub accessible : All (IsAccessible prefix) ranges
+
 -- what a turn of a CPU asks of what is kept: the ladder, the lines that it can need, that the next instruction is
--- the one that the image's storage says, and that nothing is taken inside a transaction
+-- the one that the image's storage says, that nothing is taken inside a transaction, and that what is left to do
+-- lies in storage
 pub record MayTurn (m : Setting) (i : ℕ) (k : Kept) : Type 0 where
   pub asks : MayAsk i k
   pub goes : (instr : Instr) (ranges : List Range)
@@ -91,6 +100,11 @@ pub record MayTurn (m : Setting) (i : ℕ) (k : Kept) : Type 0 where
   pub takes : (w : Waiting) → (k.locals i).waiting ≡ Some w
       → MayHold i (interruption_needs (k.locals i).attempt.cpu.prefix w) k
   pub rests : (w : Waiting) → (k.locals i).waiting ≡ Some w → is_live k.state i ≡ false
+  pub rested : is_live k.state i ≡ false → (k.locals i).attempt ≡ resting (k.locals i).cpu
+  pub inside : (b : Pending) → (k.locals i).pending ≡ Some b → b.address + 256 ≤ storage_size
+  pub reach : (instr : Instr) (ranges : List Range)
+      → fate_by_progress (text_of m) k.storage (k.locals i).attempt ≡ Goes instr ranges
+      → IsInReach (k.locals i).attempt.cpu.prefix ranges
   pub text : fate_by_progress (text_of m) (image_storage m) (k.locals i).attempt
       ≡ fate_by_progress (text_of m) k.storage (k.locals i).attempt
 
