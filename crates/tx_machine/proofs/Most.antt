@@ -1,7 +1,8 @@
 -- How many events can be recorded.
 use Rattle.std.proofs.Common.{◌≡◌, ℕ, suc, ◌+◌, ◌*◌, ◌<◌, ◌≤◌, List, [], ◌∷◌, ◌++◌, length, refl, sym, ap, ◌∙◌, subst}
 use Rattle.std.proofs.Common.{arith}
-use Rattle.std.specs.Prelude.{All, count_by}
+use Rattle.std.specs.Prelude.{All, count_by, cond}
+use Rattle.std.proofs.lemmas.List.Sums.{sum_by_push, sum_by-append}
 use Rattle.std.proofs.Math.ListN.{length-append}
 use Rattle.std.proofs.lemmas.List.Elements.{All-append}
 use Rattle.tx_journal.specs.Image.{cpu_of_event}
@@ -16,11 +17,21 @@ use Rattle.tx_meaning.proofs.Books.{few_turns, all_externals}
 use Rattle.tx_keeping.specs.Views.{AreKnown}
 use Rattle.tx_machine.specs.Machine.{most_events}
 
+abbrev if_turn : Event → ℕ
+if_turn e = cond (is_turn e) 1 0
+
+abbrev if_external : Event → ℕ
+if_external e = cond (is_external e) 1 0
+
 -- an event is a turn, or comes from outside
 one_event : (e : Event) (rest : List Event) → length rest ≡ count_by is_turn rest + count_by is_external rest
     → length (e ∷ rest) ≡ count_by is_turn (e ∷ rest) + count_by is_external (e ∷ rest)
-one_event (event.Turn i) rest same = omega arith
-one_event (event.External i) rest same = omega arith
+one_event (event.Turn i) rest same =
+    omega (arith, sum_by-append if_turn (event.Turn i ∷ []) rest, sum_by-append if_external (event.Turn i ∷ []) rest,
+    same)
+one_event (event.External i) rest same =
+    omega (arith, sum_by-append if_turn (event.External i ∷ []) rest,
+    sum_by-append if_external (event.External i ∷ []) rest, same)
 
 by_kinds : (events : List Event) → length events ≡ count_by is_turn events + count_by is_external events
 by_kinds [] = refl

@@ -14,7 +14,7 @@ use Rattle.tx_meaning.specs.Turn.{Turned, happen}
 use Rattle.tx_meaning.proofs.Books.{turn_booked, external_booked, idle_or_not}
 use Rattle.tx_keeping.specs.Kept.{Kept, kept_beginning}
 use Rattle.tx_keeping.specs.Keeping.{keeping, keeping_from}
-use Rattle.tx_keeping.specs.Turn.{k_happen, k_idle, k_turn_where}
+use Rattle.tx_keeping.specs.Turn.{k_happen, k_idle, k_turn, k_turn_where}
 use Rattle.tx_keeping.specs.Views.{AreKnown, turned_of}
 use Rattle.tx_keeping.proofs.Events.{keeping_is, keeping_good, happens_alike, held_so}
 use Rattle.tx_keeping.proofs.Moves.{IsGood}

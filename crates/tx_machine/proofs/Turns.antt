@@ -12,7 +12,7 @@ use Rattle.tx_ladder.specs.Waiting.{waits_in}
 use Rattle.tx_journal.specs.declared.events.Event.TheVariants as event
 use Rattle.tx_serial.specs.Flat.{Pending, FlatState}
 use Rattle.tx_serial.specs.Fate.{Goes}
-use Rattle.tx_serial.specs.History.{start_of}
+use Rattle.tx_serial.specs.History.{start_of, replay_from}
 use Rattle.tx_progress.specs.Local.{Local}
 use Rattle.tx_progress.specs.Trial.{fate_by_progress}
 use Rattle.tx_progress.proofs.Facts.{keeps_prefix, quiet_nest}

@@ -86,13 +86,13 @@ nobody m = record {
 abbrev pub most_events : Setting → ℕ
 most_events m = cpus_of m * m.limits.turns + m.limits.externals
 
--- what is kept is what the recorded events mean, and there is room for all that can still happen; `left` counts
--- the external events that may still come
-pub record Stands (m : Setting) (w : Works) (left : ℕ) : Type 0 where
+-- what is kept is what the recorded events mean, and there is room for all that can still happen; so many external
+-- events may still come
+pub record Stands (m : Setting) (w : Works) (remaining : ℕ) : Type 0 where
   pub setting : IsSetting m
   pub events : AreEvents m w.events
   pub kept : kept_by (nobody m) w ≡ keeping m w.events
   pub cpus : length w.slots ≡ cpus_of m
-  pub left : count_by is_external w.events + left ≡ m.limits.externals
+  pub externals : count_by is_external w.events + remaining ≡ m.limits.externals
   pub room : most_events m ≤ w.room
   pub events_room : most_events m ≤ w.events_room

@@ -1,5 +1,5 @@
 -- What holds whenever a machine asks or aborts, so that what it keeps has room for what comes of it.
-use Rattle.std.specs.Prelude.{◌≡◌, ◌≢◌, ℕ, ◌+◌, ◌*◌, ◌<◌, ◌≤◌, ◌×◌, ◌||◌, Bool, true, false, List, length, nat_lt, All}
+use Rattle.std.specs.Prelude.{◌≡◌, ◌≢◌, ℕ, ◌+◌, ◌*◌, ◌<◌, ◌≤◌, ◌||◌, Bool, true, false, List, length, nat_lt, All}
 use Rattle.bit_set.specs.Counts.{count_below}
 use Rattle.line_table.specs.declared.table.TheConstants.{LINES, MOST_HELD}
 use Rattle.line_table.specs.Holders.{lines_held}
