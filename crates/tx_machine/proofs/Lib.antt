@@ -1,5 +1,11 @@
 -- Tables of CPUs.
 pub mod Tables
+pub mod Seats
+pub mod Made
+pub mod Climbing
+pub mod Told
+pub mod Own
+pub mod Places
 pub mod Turns
 pub mod Shown
 pub mod Most

@@ -1,4 +1,5 @@
 -- All that a machine keeps, as data.
 pub mod Works
 pub mod Ready
+pub mod Steps
 pub mod Machine

@@ -75,3 +75,9 @@ pub record IsSameSize (old new : Works) : Type 0 where
   pub cpus : length new.slots ≡ length old.slots
   pub room : new.room ≡ old.room
   pub events_room : new.events_room ≡ old.events_room
+
+-- besides, nothing is written down
+pub record KeepsBooks (old new : Works) : Type 0 where
+  pub size : IsSameSize old new
+  pub history : new.history ≡ old.history
+  pub events : new.events ≡ old.events

@@ -3,6 +3,7 @@
 #![tactic(auto)]
 
 pub mod asking;
+pub mod ending;
 pub mod slot;
 pub mod works;
 
