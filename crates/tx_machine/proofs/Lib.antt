@@ -9,3 +9,4 @@ pub mod Places
 pub mod Turns
 pub mod Shown
 pub mod Most
+pub mod Read

@@ -2,7 +2,11 @@
 use Rattle.std.specs.Prelude.{◌≡◌, ℕ, ◌+◌, ◌*◌, ◌≤◌, Bool, true, false, ◌&&◌, ◌==◌, List, [], ◌∷◌, ◌++◌, length}
 use Rattle.std.specs.Prelude.{Option, Some, None, if◌then◌else◌, is_none, count_by}
 use Rattle.z_regs.specs.declared.waiting.Waiting.{Waiting}
-use Rattle.tx_journal.specs.Content.{Content}
+use Rattle.std.specs.Prelude.{refl}
+use Rattle.std.specs.Coded.{Coded, code_by, coded×, coded_ℕ, coded_list, coded_option}
+use Rattle.tx_journal.specs.contracts.events.Event as event
+use Rattle.tx_meaning.specs.contracts.asking.Reject as reject
+use Rattle.tx_journal.specs.Content.{Content, content_code}
 use Rattle.tx_journal.specs.declared.entries.Entry.{Entry}
 use Rattle.tx_journal.specs.declared.entries.Entry.TheVariants.{Step, Commit, Abort, Tdb, Interrupt}
 use Rattle.tx_journal.specs.declared.events.Event.{Event}
@@ -31,6 +35,23 @@ setting_of s = record { image = s.image; limits = s.limits }
 -- the meaning of its events
 abbrev pub state_of : Seen → State
 state_of s = meaning (setting_of s) s.events
+
+-- a code, by which the check tells values apart
+abbrev limits_code : Coded RunLimits
+limits_code =
+    code_by (ℕ × (ℕ × ℕ)) (coded× coded_ℕ (coded× coded_ℕ coded_ℕ))
+    (λ l. (l.turns, (l.tick, l.externals)))
+    (λ p. record { turns = p.0; tick = p.1.0; externals = p.1.1 })
+    (λ _. refl)
+
+abbrev pub seen_code : Coded Seen
+seen_code =
+    code_by (Content × (RunLimits × (List Event × Option Reject)))
+    (coded× content_code (coded× limits_code (coded× (coded_list event.the_row.coded)
+    (coded_option reject.the_row.coded))))
+    (λ s. (s.image, (s.limits, (s.events, s.reject))))
+    (λ p. record { image = p.0; limits = p.1.0; events = p.1.1.0; reject = p.1.1.1 })
+    (λ _. refl)
 
 -- a machine from which nothing has happened
 abbrev pub opened : Content → RunLimits → Seen

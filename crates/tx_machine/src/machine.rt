@@ -51,9 +51,11 @@ pub struct Machine {
 
 impl Model for Machine {
     ghost use Rattle.std.specs.Arc.{arc_value};
-    ghost use Rattle.tx_machine.specs.Machine.{Seen, Stands};
+    ghost use Rattle.tx_machine.specs.Machine.{Seen, seen_code, Stands};
 
     ghost Value = { Seen };
+
+    ghost coded = { seen_code };
 
     ghost view = { λ m. record {
       image = arc_value m.image;
