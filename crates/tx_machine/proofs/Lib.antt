@@ -5,6 +5,7 @@ pub mod Made
 pub mod Climbing
 pub mod Told
 pub mod Own
+pub mod Acts
 pub mod Places
 pub mod Turns
 pub mod Shown

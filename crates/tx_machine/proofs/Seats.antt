@@ -8,7 +8,11 @@ use Rattle.tx_ladder.specs.Rungs.{Standing, fresh, after_conflict}
 use Rattle.tx_control.specs.declared.causes.Why.{Why}
 use Rattle.tx_serial.specs.Flat.{at_put, Storage}
 use Rattle.tx_serial.specs.History.{no_cpu}
-use Rattle.tx_progress.specs.Local.{Local, Beside, aborted}
+use Rattle.z_regs.specs.declared.ranges.Range.{Range}
+use Rattle.z_instr.specs.declared.instr.Instr.{Instr}
+use Rattle.tx_control.specs.declared.exceptions.Exception.{Exception}
+use Rattle.tx_progress.specs.Local.{Local, Beside, aborted, block_stored, interruption_taken}
+use Rattle.tx_progress.specs.Doing.{Executed, executed, stopped}
 use Rattle.tx_cpu.specs.Parts.{local_of}
 use Rattle.tx_lines.specs.Owned.{Owned, storage_in, holders_in, with_lines}
 use Rattle.tx_meaning.specs.State.{Numbers, State, is_live}
@@ -17,6 +21,8 @@ use Rattle.tx_machine.specs.declared.slot.Tally.{Tally}
 use Rattle.tx_machine.specs.Works.{Seat, Works, numbers_of, seats_of, kept_by}
 use Rattle.tx_machine.specs.Ready.{IsCounted}
 use Rattle.tx_machine.specs.Steps.{k_left, k_raised, k_begun}
+use Rattle.tx_machine.proofs.Told.{block-counted, taken-counted, stopped-counted}
+use Rattle.tx_machine.proofs.Own.{completed-most}
 use Rattle.tx_machine.proofs.Tables.{each, listed, list_put, read_of_put, put_as_is}
 
 -- a seat, where no other is at hand
@@ -95,7 +101,8 @@ put-is rest old i t lines known =
 
 -- ---- the CPU is left so
 
-left-old : (rest : Seat) (old : Works) (i : ℕ) (s t : Seat) (lines : Owned) (b : Beside) → i < length old.slots
+left-old : (rest : Seat) (old : Works) (i : ℕ) (s t : Seat) (lines : Owned) (b : Beside) → i < length
+    old.slots
     → s ≡ seats_of rest old.slots i → t.ladder ≡ s.ladder → t.tally ≡ s.tally → with_lines t.cpu lines ≡ b
     → holders_in lines ≡ holders_in old.lines
     → kept_by rest (record old { slots = set old.slots i t; lines = lines }) ≡ k_left i b (kept_by rest old)
@@ -133,7 +140,8 @@ pub left-is : (rest : Seat) (old now : Works) (i : ℕ) (s t : Seat) (lines : Ow
 left-is rest old now i s t lines f at ladder tally after held =
     let is : s ≡ seats_of rest old.slots i =
     seat-is old now i s rest at ∙ ap (λ (w : Works). seats_of rest w.slots i) (sym at.view) in
-    left-old rest old i s t lines (f (with_lines s.cpu old.lines)) (known-of old now i s at) is ladder tally after
+    left-old rest old i s t lines (f (with_lines s.cpu old.lines)) (known-of old now i s at) is ladder tally
+    after
     held
     ∙ (λ x. k_left i (f (record { local = local_of (is x).cpu; storage = storage_in old.lines }))
     (kept_by rest old))
@@ -149,7 +157,8 @@ raised-old rest old i s l known is ladder =
     let k = kept_by rest old in
     let same : at_put k.locals i (local_of s.cpu) ≡ k.locals =
     put_as_is k.locals i (local_of s.cpu) (ap (λ (s : Seat). local_of s.cpu) is) in
-    let stands : l ≡ after_conflict (k.standings i) = ladder ∙ ap (λ (s : Seat). after_conflict s.ladder) is in
+    let stands : l ≡ after_conflict (k.standings i) = ladder ∙ ap (λ (s : Seat). after_conflict s.ladder) is
+    in
     let numbers : at_put k.state.numbers i (numbers_of (record s { ladder = l })) ≡ k.state.numbers =
     put_as_is k.state.numbers i (numbers_of (record s { ladder = l }))
     (ap (λ (l : Standing). numbers_of (record s { ladder = l })) ladder ∙ ap numbers_of is) in
@@ -192,3 +201,42 @@ unfolding aborted
 aborted-counted s t lines after why at c tally left =
     let none : (local_of t.cpu).attempt.count ≡ 0 = ap (λ (b : Beside). b.local.attempt.count) left in
     counted-again s t c tally (omega arith)
+
+pub left-counted : (s t : Seat) (after : Owned) (b : Beside) → IsCounted s → t.tally ≡ s.tally
+    → with_lines t.cpu after ≡ b → b.local.attempt.count ≤ s.tally.turns → IsCounted t
+left-counted s t after b c tally left few =
+    let same : (local_of t.cpu).attempt.count ≡ b.local.attempt.count =
+    ap (λ (b : Beside). b.local.attempt.count) left in
+    counted-again s t c tally (omega arith)
+
+pub stored-counted : (s t : Seat) (lines after : Owned) → IsCounted s → t.tally ≡ s.tally
+    → with_lines t.cpu after ≡ block_stored (with_lines s.cpu lines) → IsCounted t
+stored-counted s t lines after c tally left =
+    let same = block-counted (with_lines s.cpu lines) in
+    let few = c.completed in
+    left-counted s t after (block_stored (with_lines s.cpu lines)) c tally left (omega arith)
+
+pub interrupted-counted : (s t : Seat) (lines after : Owned) → IsCounted s → t.tally ≡ s.tally
+    → nat_lt 0 (local_of s.cpu).attempt.count ≡ false
+    → with_lines t.cpu after ≡ interruption_taken (with_lines s.cpu lines) → IsCounted t
+interrupted-counted s t lines after c tally rests left =
+    let same = taken-counted (with_lines s.cpu lines) rests in
+    let few = c.completed in
+    left-counted s t after (interruption_taken (with_lines s.cpu lines)) c tally left (omega arith)
+
+pub halted-counted : (s t : Seat) (e : Exception) → IsCounted s → t.tally ≡ s.tally
+    → nat_lt 0 (local_of s.cpu).attempt.count ≡ false → local_of t.cpu ≡ stopped e (local_of s.cpu) →
+    IsCounted t
+halted-counted s t e c tally rests left =
+    let same = stopped-counted e (local_of s.cpu) rests in
+    let now : (local_of t.cpu).attempt.count ≡ (stopped e (local_of s.cpu)).attempt.count =
+    ap (λ (l : Local). l.attempt.count) left in
+    let few = c.completed in
+    counted-again s t c tally (omega arith)
+
+pub executed-counted : (s t : Seat) (i : Instr) (need : List Range) (lines after : Owned) → IsCounted s
+    → t.tally ≡ s.tally → (local_of s.cpu).attempt.count < s.tally.turns
+    → with_lines t.cpu after ≡ (executed i need (with_lines s.cpu lines)).after → IsCounted t
+executed-counted s t i need lines after c tally room left =
+    let most = completed-most i need (with_lines s.cpu lines) in
+    left-counted s t after (executed i need (with_lines s.cpu lines)).after c tally left (omega arith)

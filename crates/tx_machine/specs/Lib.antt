@@ -2,4 +2,5 @@
 pub mod Works
 pub mod Ready
 pub mod Steps
+pub mod Turned
 pub mod Machine

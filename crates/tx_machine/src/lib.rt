@@ -2,6 +2,7 @@
 //! turn of a CPU, or an interruption of it from outside.
 #![tactic(auto)]
 
+pub mod acting;
 pub mod asking;
 pub mod ending;
 pub mod slot;
