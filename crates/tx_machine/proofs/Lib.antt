@@ -1,6 +1,11 @@
 -- Tables of CPUs.
 pub mod Tables
 pub mod Seats
+pub mod Changed
+pub mod Leaves
+pub mod Against
+pub mod Questions
+pub mod Granted
 pub mod Made
 pub mod Climbing
 pub mod Told

@@ -5,6 +5,7 @@
 pub mod acting;
 pub mod asking;
 pub mod ending;
+pub mod getting;
 pub mod slot;
 pub mod works;
 
