@@ -16,3 +16,4 @@ pub mod Turns
 pub mod Shown
 pub mod Most
 pub mod Read
+pub mod Opened

@@ -47,6 +47,7 @@ use Rattle.tx_keeping.specs.Turn.{k_idle}
 use Rattle.tx_keeping.proofs.Truth.{Truth, kept_is, same_text, live_is}
 use Rattle.tx_keeping.proofs.Moves.{IsGood}
 use Rattle.tx_keeping.proofs.Turning.{waiting_rests, pending_rests}
+use Rattle.tx_keeping.proofs.Needed.{ends_live, stops_not_live}
 use Rattle.tx_keeping.proofs.Room.{AllWithin}
 use Rattle.tx_keeping.proofs.Few.{resting_room, instruction_room, small_interruption, few_interruption}
 use Rattle.tx_bounds.proofs.Stopping.{Counted, turning_begun}
@@ -167,6 +168,10 @@ module _ (m : Setting) (s : IsSetting m) where
         let kept = kept_is m s k g.truth in
         block_inside (k.locals i).cpu.prefix (text_of m) block (kept.blocks i block is);
     reach = λ instr ranges is. in_reach (kept_flat m k) i (k.locals i) instr ranges (g.truth.each i).followed is;
+    ends = λ why is. live_is m k g.truth i
+        ∙ ends_live (kept_flat m k) i (k.locals i) why (g.truth.each i).followed is;
+    stops = λ e is. live_is m k g.truth i
+        ∙ stops_not_live (kept_flat m k) i (k.locals i) e (g.truth.each i).followed is;
     text = image_text i k g.truth;
   }
 
@@ -193,5 +198,7 @@ counted_turn_may m i k t = record {
   rested = λ off. t.rested (sym (still_live i i k) ∙ off);
   inside = t.inside;
   reach = t.reach;
+  ends = λ why is. still_live i i k ∙ t.ends why is;
+  stops = λ e is. still_live i i k ∙ t.stops e is;
   text = t.text;
 }

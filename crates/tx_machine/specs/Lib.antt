@@ -5,3 +5,4 @@ pub mod Asks
 pub mod Steps
 pub mod Turned
 pub mod Machine
+pub mod Opened

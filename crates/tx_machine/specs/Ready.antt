@@ -23,7 +23,8 @@ use Rattle.z_regs.specs.declared.waiting.Waiting.{Waiting}
 use Rattle.z_instr.specs.declared.instr.Instr.{Instr}
 use Rattle.tx_serial.specs.Flat.{Storage, Pending}
 use Rattle.tx_serial.specs.History.{start_of}
-use Rattle.tx_serial.specs.Fate.{Goes}
+use Rattle.tx_control.specs.declared.exceptions.Exception.{Exception}
+use Rattle.tx_serial.specs.Fate.{Goes, Ends, Stops}
 use Rattle.tx_progress.specs.Progress.{resting}
 use Rattle.tx_progress.specs.Trial.{fate_by_progress}
 use Rattle.tx_meaning.specs.Limits.{Setting}
@@ -105,6 +106,10 @@ pub record MayTurn (m : Setting) (i : ℕ) (k : Kept) : Type 0 where
   pub reach : (instr : Instr) (ranges : List Range)
       → fate_by_progress (text_of m) k.storage (k.locals i).attempt ≡ Goes instr ranges
       → IsInReach (k.locals i).attempt.cpu.prefix ranges
+  pub ends : (why : Why) → fate_by_progress (text_of m) k.storage (k.locals i).attempt ≡ Ends why
+      → is_live k.state i ≡ true
+  pub stops : (e : Exception) → fate_by_progress (text_of m) k.storage (k.locals i).attempt ≡ Stops e
+      → is_live k.state i ≡ false
   pub text : fate_by_progress (text_of m) (image_storage m) (k.locals i).attempt
       ≡ fate_by_progress (text_of m) k.storage (k.locals i).attempt
 

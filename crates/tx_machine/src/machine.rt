@@ -12,7 +12,7 @@ ghost use Rattle.tx_machine.specs.Machine.{Seen, setting_of, state_of, opened, e
 
 use crate::slot::Slot;
 use crate::works::Works;
-use std::alloc::Global;
+use std::alloc::{AllocError, Global};
 use std::marker::Model;
 use std::sync::Arc;
 use tx_journal::{Entry, Event, Image};
@@ -22,6 +22,12 @@ use z_regs::CpuImage;
 /// There was no memory.
 #[derive(Clone, Copy, Debug, PartialEq, Eq)]
 pub struct NoMemory;
+
+impl From<AllocError> for NoMemory {
+    fn from(_error: AllocError) -> NoMemory {
+        NoMemory
+    }
+}
 
 /// What is counted of one CPU.
 #[derive(Clone, Copy, Debug, PartialEq, Eq)]
@@ -93,7 +99,7 @@ impl Machine {
     pub fn shared_image(&self) -> Result<Arc<Image>, NoMemory>
         ensures { IfOk result (λ image. arc_value image ≡ self.now.image) }
     {
-        Arc::try_clone(&self.image).map_err(|_| NoMemory)
+        Ok(Arc::try_clone(&self.image)?)
     }
 
     /// How long it may run.

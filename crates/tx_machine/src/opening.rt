@@ -1,0 +1,84 @@
+//! What a machine keeps before anything has happened.
+ghost use Rattle.std.specs.Prelude.{◌≡◌, ◌≤◌, [], IfOk, length, map, take};
+ghost use Rattle.z_regs.specs.Cpu.{cpu_of};
+ghost use Rattle.tx_journal.specs.Content.{Content};
+ghost use Rattle.line_table.specs.Holders.{nobody};
+ghost use Rattle.tx_progress.specs.Local.{settled};
+ghost use Rattle.tx_cpu.specs.Parts.{local_of};
+ghost use Rattle.tx_lines.specs.Owned.{holders_in};
+ghost use Rattle.tx_machine.specs.Opened.{AreUnused, IsUnused};
+
+use crate::machine::NoMemory;
+use crate::slot::{Slot, Tally};
+use crate::works::Works;
+use std::alloc::Global;
+use tx_cpu::Cpu;
+use tx_journal::Image;
+use tx_ladder::{Ladder, Parms, StopQueue};
+use tx_lines::Lines;
+use z_regs::CpuImage;
+
+/// A CPU that starts like this.
+fn slot_of(alloc: Global, start: CpuImage, parms: Parms) -> Result<Slot, NoMemory>
+    ensures cpu { IfOk result (λ slot. local_of slot.cpu ≡ settled (cpu_of start)) }
+    ensures unused { IfOk result (λ slot. IsUnused parms slot) }
+{
+    let Ok(cpu) = Cpu::open(alloc, start) else {
+        return Err(NoMemory);
+    };
+    Ok(Slot {
+        cpu,
+        ladder: Ladder::new(parms),
+        tally: Tally {
+            attempts: 0,
+            delay: 0,
+            turns: 0,
+            asked: 0,
+            rejected: 0,
+        },
+    })
+}
+
+/// A slot for each CPU.
+fn slots_of(alloc: Global, cpus: &[CpuImage], parms: Parms) -> Result<Vec<Slot>, NoMemory>
+    ensures { IfOk result (λ slots. AreUnused parms (map cpu_of cpus.now) slots.items) }
+{
+    let mut slots = Vec::new(alloc);
+    for start in cpus {
+        let slot = slot_of(alloc, *start, parms)?;
+        let Ok(()) = slots.push(slot) else {
+            return Err(NoMemory);
+        };
+    }
+    Ok(slots)
+}
+
+impl Works {
+    /// All that is kept of an image from which nothing has happened, with room for so many events. The error is
+    /// want of memory.
+    pub fn open(alloc: Global, image: &Image, most: usize) -> Result<Works, NoMemory>
+        ensures slots { IfOk result (λ w. AreUnused image.now.parms image.now.cpus w.slots) }
+        ensures bytes { IfOk result (λ w. w.lines.bytes ≡ image.now.storage) }
+        ensures held { IfOk result (λ w. holders_in w.lines ≡ nobody) }
+        ensures queue { IfOk result (λ w. w.queue ≡ []) }
+        ensures history { IfOk result (λ w. w.history ≡ []) }
+        ensures events { IfOk result (λ w. w.events ≡ []) }
+        ensures room { IfOk result (λ w. most ≤ w.room) }
+        ensures events_room { IfOk result (λ w. most ≤ w.events_room) }
+    {
+        let cpus = image.cpu_count();
+        let Ok(lines) = Lines::open(alloc, image.storage.as_slice(), cpus) else {
+            return Err(NoMemory);
+        };
+        let Ok(queue) = StopQueue::open(alloc, cpus) else {
+            return Err(NoMemory);
+        };
+        Ok(Works {
+            slots: slots_of(alloc, image.cpus.as_slice(), image.parms)?,
+            lines,
+            queue,
+            history: Vec::with_capacity(alloc, most)?,
+            events: Vec::with_capacity(alloc, most)?,
+        })
+    }
+}
