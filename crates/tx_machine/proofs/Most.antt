@@ -27,11 +27,19 @@ if_external e = cond (is_external e) 1 0
 one_event : (e : Event) (rest : List Event) → length rest ≡ count_by is_turn rest + count_by is_external rest
     → length (e ∷ rest) ≡ count_by is_turn (e ∷ rest) + count_by is_external (e ∷ rest)
 one_event (event.Turn i) rest same =
-    omega (arith, sum_by-append if_turn (event.Turn i ∷ []) rest, sum_by-append if_external (event.Turn i ∷ []) rest,
-    same)
+    omega (
+      arith,
+      sum_by-append if_turn (event.Turn i ∷ []) rest,
+      sum_by-append if_external (event.Turn i ∷ []) rest,
+      same,
+    )
 one_event (event.External i) rest same =
-    omega (arith, sum_by-append if_turn (event.External i ∷ []) rest,
-    sum_by-append if_external (event.External i ∷ []) rest, same)
+    omega (
+      arith,
+      sum_by-append if_turn (event.External i ∷ []) rest,
+      sum_by-append if_external (event.External i ∷ []) rest,
+      same,
+    )
 
 by_kinds : (events : List Event) → length events ≡ count_by is_turn events + count_by is_external events
 by_kinds [] = refl

@@ -178,9 +178,19 @@ overflow_in_own [] sets = tt
 overflow_in_own (outermost ∷ inner) sets = overflow_own (fit_of sets)
 
 tests_own : (text : List ℕ) (s : Storage) (q : Progress) (i : Instr) → AreOwn (tests_by text s q i)
-tests_own text s q i =
-    (constraint_own _ i q.constraint, (where_own _ Restricted tt, (excepted_own i _, (where_own _ Depth tt,
-    (excepted_own i _, (constraint_own _ i q.constraint, (overflow_in_own q.nest _, tt)))))))
+tests_own text s q i = (
+  constraint_own _ i q.constraint,
+  (
+    where_own _ Restricted tt,
+    (
+      excepted_own i _,
+      (
+        where_own _ Depth tt,
+        (excepted_own i _, (constraint_own _ i q.constraint, (overflow_in_own q.nest _, tt))),
+      ),
+    ),
+  ),
+)
 
 abbrev EndsOwn : Fate → Type 0
 EndsOwn (Ends why) = IsOwn why
@@ -201,7 +211,7 @@ fetched_own : (text : List ℕ) (s : Storage) (q : Progress) (refusal : Option �
     → EndsOwn (fetched text s q refusal i)
 fetched_own text s q (Some code) i = after_own q.nest (Excepts _) tt
 fetched_own text s q None None = after_own q.nest (Excepts _) tt
-fetched_own text s q None (Some i) = 
+fetched_own text s q None (Some i) =
     tried_own q i (first_refusal (tests_by text s q i)) (first_own (tests_by text s q i) (tests_own text s q i))
 
 pub fate-own : (text : List ℕ) (s : Storage) (q : Progress) (why : Why)

@@ -66,8 +66,7 @@ abbrev pub entries_owed : ℕ → State → ℕ
 entries_owed cpus s = length s.history + count_below cpus (is_live s)
 
 -- what is kept of the asker is what was, and all that may be asked of what is kept still may. The questions
--- were
--- so many at most.
+-- were so many at most.
 pub record AskLeaves (cpus questions i : ℕ) (k after : Kept) : Type 0 where
   pub local : after.locals i ≡ k.locals i
   pub completed : (after.state.numbers i).completed ≡ (k.state.numbers i).completed

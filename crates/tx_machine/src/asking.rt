@@ -171,8 +171,7 @@ impl Works {
     }
 
     /// One question: a CPU asks a holder for a line, as it needs it. The reject, if the holder rejects the
-    /// request;
-    /// else the holder stands against it no longer.
+    /// request; else the holder stands against it no longer.
     pub fn ask(&mut self, cpu: u32, need: Need, holder: u32) -> Option<Refused>
         requires cpu { cpu < length self.old.slots }
         requires holder { holder < length self.old.slots }
@@ -182,8 +181,8 @@ impl Works {
         requires ready { (rest : Seat) → IsReady 1 cpu self.old (kept_by rest self.old) }
         ensures kept { (rest : Seat) → asked_by rest self.new (rejected_in result)
             ≡ k_ask_one cpu need holder (kept_by rest self.old) }
-        ensures starved { (rest : Seat) → IfSome result (λ r. r.starved ≡ is_cpu_starved
-            (kept_by rest self.new) cpu) }
+        ensures starved { (rest : Seat) → IfSome result
+            (λ r. r.starved ≡ is_cpu_starved (kept_by rest self.new) cpu) }
         ensures size { IsSameSize self.old self.new }
     {
         let asker = self.asker(cpu);
@@ -222,8 +221,7 @@ impl Works {
     }
 
     /// A CPU asks all others that stand against its request for a line, until one rejects it. The reject,
-    /// if one
-    /// does; else nobody stands against the request any more.
+    /// if one does; else nobody stands against the request any more.
     pub fn ask_all(&mut self, cpu: u32, need: Need) -> Option<Refused>
         requires cpu { cpu < length self.old.slots }
         requires line { need.line < LINES }
@@ -238,8 +236,8 @@ impl Works {
             → AskLeaves (length self.old.slots) 16 cpu (kept_by rest self.old) (kept_by rest self.new) }
         ensures refused { (rest : Seat) → is_some result ≡ true
             → is_head (kept_by rest self.new).state cpu ≡ false }
-        ensures starved { (rest : Seat) → IfSome result (λ r. r.starved ≡ is_cpu_starved
-            (kept_by rest self.new) cpu) }
+        ensures starved { (rest : Seat) → IfSome result
+            (λ r. r.starved ≡ is_cpu_starved (kept_by rest self.new) cpu) }
     {
         let mut at = 0;
         while let Some(holder) = self.next_against(cpu, need, at) {

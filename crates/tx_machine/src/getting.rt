@@ -33,8 +33,8 @@ impl Works {
         self.lines.is_there(cpu, need)
     }
 
-    /// The CPU gets a line that nobody stands against. Where it holds as many as it may, it gives up one that
-    /// neither its attempt nor this turn needs, whose lines are `needed`.
+    /// The CPU gets a line that nobody stands against. Where it holds as many as it may, it gives up one
+    /// that neither its attempt nor this turn needs, whose lines are `needed`.
     fn take_line(&mut self, cpu: u32, need: Need, needed: &[u32])
         requires cpu { cpu < length self.old.slots }
         requires line { need.line < LINES }
@@ -51,9 +51,8 @@ impl Works {
     }
 
     /// The CPU gets one of the lines that a turn needs, which are `needed`: where it does not hold it as it
-    /// needs
-    /// it, it asks all that stand against that. The reject, if one rejects its request; else the line is
-    /// there.
+    /// needs it, it asks all that stand against that. The reject, if one rejects its request; else the line
+    /// is there.
     pub fn get_line(&mut self, cpu: u32, need: Need, needed: &[u32]) -> Option<Refused>
         requires cpu { cpu < length self.old.slots }
         requires line { need.line < LINES }
@@ -69,8 +68,8 @@ impl Works {
             → AskLeaves (length self.old.slots) 16 cpu (kept_by rest self.old) (kept_by rest self.new) }
         ensures refused { (rest : Seat) → is_some result ≡ true
             → is_head (kept_by rest self.new).state cpu ≡ false }
-        ensures starved { (rest : Seat) → IfSome result (λ r. r.starved ≡ is_cpu_starved
-            (kept_by rest self.new) cpu) }
+        ensures starved { (rest : Seat) → IfSome result
+            (λ r. r.starved ≡ is_cpu_starved (kept_by rest self.new) cpu) }
     {
         if self.is_there(cpu, need) {
             return None;
@@ -100,8 +99,8 @@ impl Works {
             → AskLeaves (length self.old.slots) 128 cpu (kept_by rest self.old) (kept_by rest self.new) }
         ensures refused { (rest : Seat) → is_some result ≡ true
             → is_head (kept_by rest self.new).state cpu ≡ false }
-        ensures starved { (rest : Seat) → IfSome result (λ r. r.starved ≡ is_cpu_starved
-            (kept_by rest self.new) cpu) }
+        ensures starved { (rest : Seat) → IfSome result
+            (λ r. r.starved ≡ is_cpu_starved (kept_by rest self.new) cpu) }
     {
         for line in lines {
             let refused = self.get_line(cpu, need_for(ranges, *line), lines);
@@ -113,10 +112,8 @@ impl Works {
     }
 
     /// The CPU gets the lines that ranges by absolute addresses need, in rising order, until one of its
-    /// requests
-    /// is rejected. There are at most four ranges, each of at most 256 bytes. The reject, if there is one;
-    /// else
-    /// the lines are there.
+    /// requests is rejected. There are at most four ranges, each of at most 256 bytes. The reject, if there
+    /// is one; else the lines are there.
     pub fn get_lines(&mut self, cpu: u32, ranges: &Touches) -> Option<Refused>
         requires cpu { cpu < length self.old.slots }
         requires small { All (λ r. r.length ≤ 256) ranges.now }
@@ -129,15 +126,17 @@ impl Works {
             → asked_by rest self.new (rejected_in result)
             ≡ k_get_lines m cpu (needs_of ranges.now) (kept_by rest self.old) }
         ensures size { IsSameSize self.old self.new }
-        ensures own { (rest : Seat) → (kept_by rest self.new).locals cpu ≡ (kept_by rest self.old).locals
-            cpu }
+        ensures own { (rest : Seat)
+            → (kept_by rest self.new).locals cpu ≡ (kept_by rest self.old).locals cpu }
         ensures asks { (rest : Seat) → MayAsk cpu (kept_by rest self.new) }
         ensures room { (rest : Seat) → owed self.new (kept_by rest self.new) ≤ self.new.room }
+        ensures owed_no_more { (rest : Seat)
+            → owed self.new (kept_by rest self.new) ≤ owed self.old (kept_by rest self.old) }
         ensures turn { (rest : Seat) → HasTurn (seats_of rest self.new.slots cpu) 0 }
         ensures refused { (rest : Seat) → is_some result ≡ true
             → is_head (kept_by rest self.new).state cpu ≡ false }
-        ensures starved { (rest : Seat) → IfSome result (λ r. r.starved ≡ is_cpu_starved
-            (kept_by rest self.new) cpu) }
+        ensures starved { (rest : Seat) → IfSome result
+            (λ r. r.starved ≡ is_cpu_starved (kept_by rest self.new) cpu) }
     {
         let lines = lines_needed(ranges);
         self.get_each(cpu, ranges, lines.as_slice())
