@@ -1,21 +1,28 @@
 -- What is kept before anything has happened is what the machine that keeps begins with.
 use Rattle.std.proofs.Common.{◌≡◌, ℕ, zero, suc, ◌+◌, ◌<◌, List, [], ◌∷◌, ◌++◌, refl, sym, ap, ◌∙◌, length, map, take}
-use Rattle.std.proofs.Common.{add-one}
+use Rattle.std.proofs.Common.{add-one, arith, subst}
 use Rattle.std.proofs.Math.Seq.{take-suc}
 use Rattle.std.proofs.lemmas.List.{map-append}
-use Rattle.std.specs.Prelude.{All, get_or}
+use Rattle.std.specs.Prelude.{All, ◌≤◌, count_by, get_or}
 use Rattle.std.proofs.Math.ListN.{length-map}
-use Rattle.std.proofs.lemmas.List.Elements.{All-head, All-tail, All-push}
+use Rattle.std.proofs.lemmas.List.Elements.{All-head, All-tail, All-push, All-nil}
 use Rattle.z_regs.specs.Cpu.{Cpu, cpu_of}
 use Rattle.z_regs.specs.declared.image.CpuImage.{CpuImage}
 use Rattle.line_table.specs.Holders as lines
+use Rattle.slot_index.specs.Slots.{slot_in}
+use Rattle.store_cache.specs.Entries.{stores_of, items_of}
+use Rattle.store_cache.specs.Stores.{lasting_bytes}
 use Rattle.tx_ladder.specs.Parameters.{Parameters}
 use Rattle.tx_serial.specs.History.{cpu_at, no_cpu, start_of}
 use Rattle.tx_progress.specs.Local.{Local, settled}
 use Rattle.tx_lines.specs.Owned.{holders_in}
 use Rattle.tx_meaning.specs.Limits.{Setting}
+use Rattle.tx_meaning.specs.Meaning.{IsSetting, is_external}
+use Rattle.tx_meaning.specs.State.{cpus_of}
+use Rattle.tx_journal.specs.Image.{cpu_of_event}
 use Rattle.tx_keeping.specs.Kept.{kept_beginning}
-use Rattle.tx_machine.specs.Machine.{nobody}
+use Rattle.tx_keeping.specs.Keeping.{keeping, keeping_from}
+use Rattle.tx_machine.specs.Machine.{Stands, nobody, most_events}
 use Rattle.tx_machine.specs.Works.{Seat, Works, kept_by, numbers_of}
 use Rattle.tx_machine.specs.Opened.{IsUnused, AreUnused, kept_of_seat}
 
@@ -28,11 +35,12 @@ tail_of [] = []
 tail_of (l ∷ ls) = ls
 
 no_more : (l : Local) (ls : List Local) → [] ≡ l ∷ ls → ⊥
-no_more l ls e = let n : length [] ≡ length (l ∷ ls) = ap length e in cc
+no_more l ls e = let n : 0 ≡ suc (length ls) = ap (λ (xs : List Local). length xs) e in cc
 
 local_at : (slots : List Seat) (cpus : List Cpu) (rest : Seat) → kept_of_seat rest ≡ settled no_cpu
     → map kept_of_seat slots ≡ map settled cpus → (i : ℕ)
     → kept_of_seat (get_or slots i rest) ≡ settled (cpu_at cpus i)
+unfolding head_of tail_of
 local_at [] [] rest is same i = is
 local_at [] (c ∷ cs) rest is same i = absurd (no_more (settled c) (map settled cs) same)
 local_at (s ∷ ss) [] rest is same i = absurd (no_more (kept_of_seat s) (map kept_of_seat ss) (sym same))
@@ -59,13 +67,17 @@ pub record IsAtStart (m : Setting) (w : Works) : Type 0 where
   pub history : w.history ≡ []
   pub events : w.events ≡ []
 
+nobody_rests : (m : Setting) → kept_of_seat (nobody m) ≡ settled no_cpu
+unfolding stores_of lasting_bytes items_of slot_in
+nobody_rests m = refl
+
 pub begins : (m : Setting) (w : Works) → IsAtStart m w → kept_by (nobody m) w ≡ kept_beginning m
 unfolding kept_beginning start_of
 begins m w s i =
     let seat = λ (x : ℕ). get_or w.slots x (nobody m) in
     let unused = λ (x : ℕ). unused_at m.image.parms w.slots (nobody m) record { ladder = refl; tally = refl }
     s.slots.each x in
-    let local = λ (x : ℕ). local_at w.slots m.image.cpus (nobody m) refl s.slots.kept x in
+    let local = λ (x : ℕ). local_at w.slots m.image.cpus (nobody m) (nobody_rests m) s.slots.kept x in
     record {
       state = record {
         history = s.history i;
@@ -106,4 +118,24 @@ one_more_slot parms starts i start slots slot lt is u kept unused =
           ∙ ap (λ l. l ++ kept_of_seat slot ∷ []) u.kept
           ∙ ap (λ k. map settled (map cpu_of (take i starts)) ++ k ∷ []) kept ∙ sym cpus;
       each = All-push (IsUnused parms) slots slot u.each unused;
+    }
+
+-- a machine that is opened
+pub stands : (m : Setting) (w : Works) (most remaining : ℕ) → IsSetting m → IsAtStart m w
+    → remaining ≡ m.limits.externals → most ≡ most_events m → most ≤ w.room → most ≤ w.events_room
+    → Stands m w remaining
+unfolding keeping_from
+stands m w most remaining s start left is room events_room =
+    let none : count_by is_external w.events ≡ 0 = ap (count_by is_external) start.events in
+    record {
+      setting = s;
+      events = record {
+        known = subst (All (λ e. cpu_of_event e < cpus_of m)) (sym start.events) (All-nil (λ e. cpu_of_event e < cpus_of m));
+        externals = omega (arith, none);
+      };
+      kept = begins m w start ∙ ap (keeping m) (sym start.events);
+      cpus = as_many m.image.parms m.image.cpus w.slots start.slots;
+      externals = omega (arith, none, left);
+      room = omega (arith, is, room);
+      events_room = omega (arith, is, events_room);
     }

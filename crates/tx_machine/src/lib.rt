@@ -6,6 +6,8 @@ pub mod acting;
 pub mod asking;
 pub mod ending;
 pub mod getting;
+pub mod machine;
+pub mod opening;
 pub mod slot;
 pub mod works;
 

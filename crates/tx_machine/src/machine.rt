@@ -74,6 +74,23 @@ impl Model for Machine {
 }
 
 impl Machine {
+    /// A machine of an image, from which nothing has happened. It has room for all that can be recorded, so no
+    /// event takes memory. The error is want of memory.
+    pub fn open(alloc: Global, image: Arc<Image>, limits: Limits) -> Result<Machine, NoMemory>
+        ensures { IfOk result (λ machine. machine ≡ opened (arc_value image) limits) }
+    {
+        let externals_left = limits.externals;
+        let most = image.cpu_count() as usize * limits.turns as usize + externals_left as usize;
+        let works = Works::open(alloc, &image, most)?;
+        Ok(Machine {
+            image,
+            limits,
+            works,
+            externals_left,
+            reject: None,
+        })
+    }
+
     /// What is recorded, in order: every event but turns that were idle.
     pub fn events(&self) -> &[Event]
         ensures { result.now ≡ self.now.events }
