@@ -275,8 +275,8 @@ module _ (m : Setting) (busy : Bool) (c : ℕ) (before : State) (most i : ℕ) (
   unfolding k_aborting
   abort_other w at k n =
       let count = (k.locals i).attempt.count in
-      one_more (Abort i count w) (not_mine (is_end_by w)) (aborted_history i (k.standings i) count w k.state)
-      n
+      one_more (Abort i count w) (not_mine (is_end_by w))
+      (aborted_history i (k.standings i) count w k.state) n
 
   numbers_elsewhere : (v : Numbers) (s : State) → (with_numbers i v s).numbers c ≡ s.numbers c
   numbers_elsewhere v s = put_other s.numbers i v c other

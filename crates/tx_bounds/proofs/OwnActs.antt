@@ -206,9 +206,8 @@ module _ (m : Setting) (c : ℕ) (busy : Bool) (most : ℕ) (before : State) (l 
     pub done : (begins (entry_at i.op.number) || is_end (entry_at i.op.number)) ≡ true → IsDone o
 
   -- an instruction that overflows neither begins nor ends a transaction
-  plain_by : (x y : Bool) (cpu : Cpu) (bytes : List ℕ) → ((x || y)
-      ≡ true → IsDone (effect.Overflowed cpu bytes))
-      → (x ≡ false) × (y ≡ false)
+  plain_by : (x y : Bool) (cpu : Cpu) (bytes : List ℕ)
+      → ((x || y) ≡ true → IsDone (effect.Overflowed cpu bytes)) → (x ≡ false) × (y ≡ false)
   plain_by true y cpu bytes done = let d = done refl in let n = d.is in absurd (cc)
   plain_by false true cpu bytes done = let d = done refl in let n = d.is in absurd (cc)
   plain_by false false cpu bytes done = (refl, refl)
@@ -216,8 +215,8 @@ module _ (m : Setting) (c : ℕ) (busy : Bool) (most : ℕ) (before : State) (l 
   same_nest : (i : Instr) (general : List ℕ) (nest : List Begin) → begins (entry_at i.op.number) ≡ false
       → is_end (entry_at i.op.number) ≡ false → nest_after i general nest ≡ nest
   same_nest i general nest x y =
-      (λ k. if x k then nest ++ begin_of i general ∷ [] else
-      (if y k then take (length nest - 1) nest else nest))
+      (λ k. if x k then nest ++ begin_of i general ∷ []
+      else (if y k then take (length nest - 1) nest else nest))
 
   -- what an instruction inside it leaves
   acts_inside : (t : Kept) (i : Instr) (ranges : List Range) (at : ℕ) (o : Outcome)
@@ -293,8 +292,8 @@ module _ (m : Setting) (c : ℕ) (busy : Bool) (most : ℕ) (before : State) (l 
   opened_parts : (t : Kept) (i : Instr) (ranges : List Range) (o : Outcome)
       → SameParts (t.locals c) (opened i ranges (beside t c) o).local
   opened_parts t i ranges (Did cpu bytes) = record { cpu = refl; pending = refl; waiting = refl }
-  opened_parts t i ranges (effect.Overflowed cpu bytes) = record
-      { cpu = refl; pending = refl; waiting = refl }
+  opened_parts t i ranges (effect.Overflowed cpu bytes) =
+      record { cpu = refl; pending = refl; waiting = refl }
   opened_parts t i ranges Divides = record { cpu = refl; pending = refl; waiting = refl }
   opened_parts t i ranges (Aborts code) = record { cpu = refl; pending = refl; waiting = refl }
 

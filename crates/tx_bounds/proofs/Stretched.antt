@@ -237,9 +237,8 @@ module _ (m : Setting) (s : IsSetting m) (c : ℕ) (busy : Bool) (some : 0 < m.i
       let u = with_state (with_event (event.External i) k.state) k in
       let t = (k_external i u).kept in
       let same = interrupted_elsewhere m busy c k.state 0 i other u in
-      let held : HoldsOf m busy c u = record
-      { parms = h.parms; rests = h.rests; fewer = h.fewer; amid = h.amid }
-      in
+      let held : HoldsOf m busy c u =
+      record { parms = h.parms; rests = h.rests; fewer = h.fewer; amid = h.amid } in
       let left = same_left m c u t same in
       subst (λ x. After m c busy 0 (left_of m c k + extra x turns) k.state t)
       (sym (ne_eqb i c (λ e. other (sym e))))
