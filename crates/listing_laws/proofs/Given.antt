@@ -1,6 +1,6 @@
 -- The assembler's fields of the operands that the disassembler prints are those of the instruction.
 use Rattle.std.proofs.Common.{◌≡◌, ℕ, suc, ◌+◌, ◌-◌, ◌/◌, ◌%◌, ◌<◌, ◌≤◌, ◌^◌, Bool, true, false, not}
-use Rattle.std.proofs.Common.{◌&&◌, ◌||◌, List, [], ◌∷◌}
+use Rattle.std.proofs.Common.{◌&&◌, ◌||◌, List, [], ◌∷◌, cond}
 use Rattle.std.proofs.Common.{map, Option, Some, None, refl, ap, ap₂, ◌∙◌, arith, lt-ltb, ◌⊎◌}
 use Rattle.std.proofs.Common.{inl, inr}
 use Rattle.std.specs.Prelude.{ℤ, pos, negsuc, ◌+ℤ◌, ◌-ℤ◌, ◌==◌, if◌then◌else◌, nat_le}
@@ -20,14 +20,15 @@ use Rattle.z_instr.specs.Reading.{modulo}
 use Rattle.z_instr.proofs.Within.{Fits, registers_of, numbers_of}
 use Rattle.z_list.proofs.Distances.{immediate_is_close}
 use Rattle.z_operands.specs.Operands.{◌>>=◌, register, displacement, immediate, length_code, half, jump}
-use Rattle.z_operands.specs.Operands.{with_slot, fields_from, form_in, lacks_value}
+use Rattle.z_operands.specs.Operands.{with_slot, fields_from, form_in, lacks_value, register_or_mask}
+use Rattle.z_operands.specs.Operands.{immediate_or_target}
 use Rattle.z_operands.specs.declared.operand.Operand as read
 use Rattle.z_operands.specs.declared.operand.Operand.TheVariants.{Plain, Short, Full}
 use Rattle.z_operands.specs.declared.operand.Slot.{Slot}
 use Rattle.z_operands.specs.declared.operand.Slot.TheVariants as slot
 use Rattle.z_list.specs.declared.parts.Operand.{Operand}
 use Rattle.z_list.specs.declared.parts.Operand.TheVariants.{Number, Target, Indexed, Based, Counted}
-use Rattle.z_list.specs.Operands.{fields_of, operands_in}
+use Rattle.z_list.specs.Operands.{fields_of, operands_in, first, immediate as spelled_immediate}
 
 -- what the assembler reads of an operand that was printed, at an address
 abbrev pub made : ℕ → Operand → read.Operand
@@ -275,43 +276,69 @@ near_half : (z : ℤ) → is_within (halfwords true) z ≡ true → is_within ne
 near_half (pos n) h = let few : n < 32768 = ltb-true n 32768 h in lt-ltb n (2 ^ 31) (omega arith)
 near_half (negsuc n) h = let few : n < 32768 = ltb-true n 32768 h in lt-ltb n (2 ^ 31) (omega arith)
 
-near_half_signed : (s : Bool) (z : ℤ) → (not true || s) ≡ true → is_within (halfwords s) z ≡ true
-    → is_within near_jump z ≡ true
-near_half_signed true z signs h = near_half z h
-near_half_signed false z signs h = cc
+-- a distance to a target is near; an immediate may be any
+abbrev IsNearTarget : Bool → ℤ → Type 0
+IsNearTarget rel z = (rel ≡ true) → is_within near_jump z ≡ true
 
-near_signed : (s : Bool) (z : ℤ) → (not true || s) ≡ true → is_within (full s) z ≡ true
-    → is_within near_jump z ≡ true
-near_signed true (pos n) signs h = h
-near_signed true (negsuc n) signs h = h
-near_signed false z signs h = cc
+near_half_signed : (s rel : Bool) (z : ℤ) → (not rel || s) ≡ true → is_within (halfwords s) z ≡ true
+    → IsNearTarget rel z
+near_half_signed true rel z signs h e = near_half z h
+near_half_signed false true z signs h e = cc
+near_half_signed false false z signs h e = cc
+
+near_signed : (s rel : Bool) (z : ℤ) → (not rel || s) ≡ true → is_within (full s) z ≡ true
+    → IsNearTarget rel z
+near_signed true rel (pos n) signs h e = h
+near_signed true rel (negsuc n) signs h e = h
+near_signed false true z signs h e = cc
+near_signed false false z signs h e = cc
 
 -- ---- format by format
 
 module _ (here : ℕ) (low : here < 2 ^ 32) where
+  -- a register in front, or a mask in its place
+  in_front : (m : Bool) (i : Instr) (ss : List Slot) (os : List read.Operand) → i.r1 < cond m 1 16
+      → i.mask < cond m 16 1
+      → fields_from here (register_or_mask m ∷ ss) (made here (first m (fields_of i)) ∷ os) no_fields
+      ≡ fields_from here ss os (fields i.r1 0 0 0 0 (pos 0) 0 (pos 0) (pos 0) i.mask)
+  in_front true i ss os r k =
+      goes here _ _ _ _ _ _ (mask_slot here i.mask (fields 0 0 0 0 0 (pos 0) 0 (pos 0) (pos 0) 0) k)
+      ∙ ap (λ q. fields_from here ss os (fields q 0 0 0 0 (pos 0) 0 (pos 0) (pos 0) i.mask)) (none r)
+  in_front false i ss os r k =
+      goes here _ _ _ _ _ _ (first_slot here i.r1 (fields 0 0 0 0 0 (pos 0) 0 (pos 0) (pos 0) 0) r)
+      ∙ ap (λ q. fields_from here ss os (fields i.r1 0 0 0 0 (pos 0) 0 (pos 0) (pos 0) q)) (none k)
+
+  -- an immediate, or a target in its place
+  immediate_or : (rel : Bool) (i : Instr) (f : Fields) → IsNearTarget rel i.imm
+      → with_slot here (immediate_or_target rel) (made here (spelled_immediate rel (fields_of i))) f
+      ≡ Some (record f { imm = i.imm })
+  immediate_or true i f near = target_slot here i.imm f (jump_is here i.imm low (near refl))
+  immediate_or false i f near = immediate_slot here i.imm f (immediate_is i.imm (immediate_is_close i))
+
+  -- a register or a mask, and an immediate or a target
+  by_immediate : (rel m o : Bool) (i : Instr) → i.r1 < cond m 1 16 → i.mask < cond m 16 1
+      → IsNearTarget rel i.imm
+      → fields_from here (form_in RI m rel o) (map (made here) (operands_in RI rel m o (fields_of i))) no_fields
+      ≡ Some (fields i.r1 0 0 0 0 (pos 0) 0 (pos 0) i.imm i.mask)
+  by_immediate rel m o i r k near =
+      in_front m i _ _ r k
+      ∙ goes here _ _ _ _ _ _ (immediate_or rel i (fields i.r1 0 0 0 0 (pos 0) 0 (pos 0) (pos 0) i.mask) near)
+      ∙ ends here (fields i.r1 0 0 0 0 (pos 0) 0 (pos 0) i.imm i.mask)
+
   -- no row has both a mask for its first register and no second one, and targets have signs
   pub given : (f : Format) (s rel m o : Bool) (i : Instr) → (m && o) ≡ false → (not rel || s) ≡ true
       → Fits (limits_in f s m o) i
       → fields_from here (form_in f m rel o) (map (made here) (operands_in f rel m o (fields_of i)))
       no_fields ≡ Some (fields_of i)
-  given RR s rel false false i single signs fits =
-      let a = registers_of (limits_in RR s false false) i fits in
-      let n = numbers_of (limits_in RR s false false) i fits in
-      goes here _ _ _ _ _ _ (first_slot here _ (fields 0 0 0 0 0 (pos 0) 0 (pos 0) (pos 0) 0) (a.r1_in))
-      ∙ goes here _ _ _ _ _ _ (second_slot here _ (fields i.r1 0 0 0 0 (pos 0) 0 (pos 0) (pos 0) 0)
+  given RR s rel m false i single signs fits =
+      let a = registers_of (limits_in RR s m false) i fits in
+      let n = numbers_of (limits_in RR s m false) i fits in
+      in_front m i _ _ (a.r1_in) (a.mask_in)
+      ∙ goes here _ _ _ _ _ _ (second_slot here _ (fields i.r1 0 0 0 0 (pos 0) 0 (pos 0) (pos 0) i.mask)
       (a.r2_in))
-      ∙ ends here (fields i.r1 i.r2 0 0 0 (pos 0) 0 (pos 0) (pos 0) 0)
+      ∙ ends here (fields i.r1 i.r2 0 0 0 (pos 0) 0 (pos 0) (pos 0) i.mask)
       ∙ ap Some (filled refl refl (none (a.r3_in)) (none (a.x_in)) (none (a.b_in)) (nought (n.d_in)) (none
-      (a.b2_in)) (nought (n.d2_in)) (nought (n.imm_in)) (none (a.mask_in)))
-  given RR s rel true false i single signs fits =
-      let a = registers_of (limits_in RR s true false) i fits in
-      let n = numbers_of (limits_in RR s true false) i fits in
-      goes here _ _ _ _ _ _ (mask_slot here _ (fields 0 0 0 0 0 (pos 0) 0 (pos 0) (pos 0) 0) (a.mask_in))
-      ∙ goes here _ _ _ _ _ _ (second_slot here _ (fields 0 0 0 0 0 (pos 0) 0 (pos 0) (pos 0) i.mask)
-      (a.r2_in))
-      ∙ ends here (fields 0 i.r2 0 0 0 (pos 0) 0 (pos 0) (pos 0) i.mask)
-      ∙ ap Some (filled (none (a.r1_in)) refl (none (a.r3_in)) (none (a.x_in)) (none (a.b_in)) (nought
-      (n.d_in)) (none (a.b2_in)) (nought (n.d2_in)) (nought (n.imm_in)) refl)
+      (a.b2_in)) (nought (n.d2_in)) (nought (n.imm_in)) refl)
   given RR s rel false true i single signs fits =
       let a = registers_of (limits_in RR s false true) i fits in
       let n = numbers_of (limits_in RR s false true) i fits in
@@ -328,24 +355,15 @@ module _ (here : ℕ) (low : here < 2 ^ 32) where
       ∙ ends here (fields 0 0 0 0 0 (pos 0) 0 (pos 0) i.imm 0)
       ∙ ap Some (filled (none (a.r1_in)) (none (a.r2_in)) (none (a.r3_in)) (none (a.x_in)) (none (a.b_in))
       (nought (n.d_in)) (none (a.b2_in)) (nought (n.d2_in)) refl (none (a.mask_in)))
-  given RX s rel false o i single signs fits =
-      let a = registers_of (limits_in RX s false o) i fits in
-      let n = numbers_of (limits_in RX s false o) i fits in
-      goes here _ _ _ _ _ _ (first_slot here _ (fields 0 0 0 0 0 (pos 0) 0 (pos 0) (pos 0) 0) (a.r1_in))
-      ∙ goes here _ _ _ _ _ _ (indexed_slot here _ _ _ (fields i.r1 0 0 0 0 (pos 0) 0 (pos 0) (pos 0) 0)
-      (displacement_is i.d (long_is _ i.d (displacements RX s false o) (n.d_in))) (a.x_in) (a.b_in))
-      ∙ ends here (fields i.r1 0 0 i.x i.b i.d 0 (pos 0) (pos 0) 0)
+  given RX s rel m o i single signs fits =
+      let a = registers_of (limits_in RX s m o) i fits in
+      let n = numbers_of (limits_in RX s m o) i fits in
+      in_front m i _ _ (a.r1_in) (a.mask_in)
+      ∙ goes here _ _ _ _ _ _ (indexed_slot here _ _ _ (fields i.r1 0 0 0 0 (pos 0) 0 (pos 0) (pos 0) i.mask)
+      (displacement_is i.d (long_is _ i.d (displacements RX s m o) (n.d_in))) (a.x_in) (a.b_in))
+      ∙ ends here (fields i.r1 0 0 i.x i.b i.d 0 (pos 0) (pos 0) i.mask)
       ∙ ap Some (filled refl (none (a.r2_in)) (none (a.r3_in)) refl refl refl (none (a.b2_in)) (nought
-      (n.d2_in)) (nought (n.imm_in)) (none (a.mask_in)))
-  given RX s rel true o i single signs fits =
-      let a = registers_of (limits_in RX s true o) i fits in
-      let n = numbers_of (limits_in RX s true o) i fits in
-      goes here _ _ _ _ _ _ (mask_slot here _ (fields 0 0 0 0 0 (pos 0) 0 (pos 0) (pos 0) 0) (a.mask_in))
-      ∙ goes here _ _ _ _ _ _ (indexed_slot here _ _ _ (fields 0 0 0 0 0 (pos 0) 0 (pos 0) (pos 0) i.mask)
-      (displacement_is i.d (long_is _ i.d (displacements RX s true o) (n.d_in))) (a.x_in) (a.b_in))
-      ∙ ends here (fields 0 0 0 i.x i.b i.d 0 (pos 0) (pos 0) i.mask)
-      ∙ ap Some (filled (none (a.r1_in)) (none (a.r2_in)) (none (a.r3_in)) refl refl refl (none (a.b2_in))
-      (nought (n.d2_in)) (nought (n.imm_in)) refl)
+      (n.d2_in)) (nought (n.imm_in)) refl)
   given RRE s rel m false i single signs fits =
       let a = registers_of (limits_in RRE s m false) i fits in
       let n = numbers_of (limits_in RRE s m false) i fits in
@@ -393,78 +411,18 @@ module _ (here : ℕ) (low : here < 2 ^ 32) where
       ∙ ends here (fields i.r1 0 0 i.x i.b i.d 0 (pos 0) (pos 0) 0)
       ∙ ap Some (filled refl (none (a.r2_in)) (none (a.r3_in)) refl refl refl (none (a.b2_in)) (nought
       (n.d2_in)) (nought (n.imm_in)) (none (a.mask_in)))
-  given RI s false false o i single signs fits =
-      let a = registers_of (limits_in RI s false o) i fits in
-      let n = numbers_of (limits_in RI s false o) i fits in
-      goes here _ _ _ _ _ _ (first_slot here _ (fields 0 0 0 0 0 (pos 0) 0 (pos 0) (pos 0) 0) (a.r1_in))
-      ∙ goes here _ _ _ _ _ _ (immediate_slot here _ (fields i.r1 0 0 0 0 (pos 0) 0 (pos 0) (pos 0) 0)
-      (immediate_is i.imm (immediate_is_close i)))
-      ∙ ends here (fields i.r1 0 0 0 0 (pos 0) 0 (pos 0) i.imm 0)
+  given RI s rel m o i single signs fits =
+      let a = registers_of (limits_in RI s m o) i fits in
+      let n = numbers_of (limits_in RI s m o) i fits in
+      by_immediate rel m o i (a.r1_in) (a.mask_in) (near_half_signed s rel i.imm signs (n.imm_in))
       ∙ ap Some (filled refl (none (a.r2_in)) (none (a.r3_in)) (none (a.x_in)) (none (a.b_in)) (nought
-      (n.d_in)) (none (a.b2_in)) (nought (n.d2_in)) refl (none (a.mask_in)))
-  given RI s true false o i single signs fits =
-      let a = registers_of (limits_in RI s false o) i fits in
-      let n = numbers_of (limits_in RI s false o) i fits in
-      goes here _ _ _ _ _ _ (first_slot here _ (fields 0 0 0 0 0 (pos 0) 0 (pos 0) (pos 0) 0) (a.r1_in))
-      ∙ goes here _ _ _ _ _ _ (target_slot here _ (fields i.r1 0 0 0 0 (pos 0) 0 (pos 0) (pos 0) 0)
-      (jump_is here i.imm low (near_half_signed s i.imm signs (n.imm_in))))
-      ∙ ends here (fields i.r1 0 0 0 0 (pos 0) 0 (pos 0) i.imm 0)
+      (n.d_in)) (none (a.b2_in)) (nought (n.d2_in)) refl refl)
+  given RIL s rel m o i single signs fits =
+      let a = registers_of (limits_in RIL s m o) i fits in
+      let n = numbers_of (limits_in RIL s m o) i fits in
+      by_immediate rel m o i (a.r1_in) (a.mask_in) (near_signed s rel i.imm signs (n.imm_in))
       ∙ ap Some (filled refl (none (a.r2_in)) (none (a.r3_in)) (none (a.x_in)) (none (a.b_in)) (nought
-      (n.d_in)) (none (a.b2_in)) (nought (n.d2_in)) refl (none (a.mask_in)))
-  given RI s false true o i single signs fits =
-      let a = registers_of (limits_in RI s true o) i fits in
-      let n = numbers_of (limits_in RI s true o) i fits in
-      goes here _ _ _ _ _ _ (mask_slot here _ (fields 0 0 0 0 0 (pos 0) 0 (pos 0) (pos 0) 0) (a.mask_in))
-      ∙ goes here _ _ _ _ _ _ (immediate_slot here _ (fields 0 0 0 0 0 (pos 0) 0 (pos 0) (pos 0) i.mask)
-      (immediate_is i.imm (immediate_is_close i)))
-      ∙ ends here (fields 0 0 0 0 0 (pos 0) 0 (pos 0) i.imm i.mask)
-      ∙ ap Some (filled (none (a.r1_in)) (none (a.r2_in)) (none (a.r3_in)) (none (a.x_in)) (none (a.b_in))
-      (nought (n.d_in)) (none (a.b2_in)) (nought (n.d2_in)) refl refl)
-  given RI s true true o i single signs fits =
-      let a = registers_of (limits_in RI s true o) i fits in
-      let n = numbers_of (limits_in RI s true o) i fits in
-      goes here _ _ _ _ _ _ (mask_slot here _ (fields 0 0 0 0 0 (pos 0) 0 (pos 0) (pos 0) 0) (a.mask_in))
-      ∙ goes here _ _ _ _ _ _ (target_slot here _ (fields 0 0 0 0 0 (pos 0) 0 (pos 0) (pos 0) i.mask)
-      (jump_is here i.imm low (near_half_signed s i.imm signs (n.imm_in))))
-      ∙ ends here (fields 0 0 0 0 0 (pos 0) 0 (pos 0) i.imm i.mask)
-      ∙ ap Some (filled (none (a.r1_in)) (none (a.r2_in)) (none (a.r3_in)) (none (a.x_in)) (none (a.b_in))
-      (nought (n.d_in)) (none (a.b2_in)) (nought (n.d2_in)) refl refl)
-  given RIL s false false o i single signs fits =
-      let a = registers_of (limits_in RIL s false o) i fits in
-      let n = numbers_of (limits_in RIL s false o) i fits in
-      goes here _ _ _ _ _ _ (first_slot here _ (fields 0 0 0 0 0 (pos 0) 0 (pos 0) (pos 0) 0) (a.r1_in))
-      ∙ goes here _ _ _ _ _ _ (immediate_slot here _ (fields i.r1 0 0 0 0 (pos 0) 0 (pos 0) (pos 0) 0)
-      (immediate_is i.imm (immediate_is_close i)))
-      ∙ ends here (fields i.r1 0 0 0 0 (pos 0) 0 (pos 0) i.imm 0)
-      ∙ ap Some (filled refl (none (a.r2_in)) (none (a.r3_in)) (none (a.x_in)) (none (a.b_in)) (nought
-      (n.d_in)) (none (a.b2_in)) (nought (n.d2_in)) refl (none (a.mask_in)))
-  given RIL s true false o i single signs fits =
-      let a = registers_of (limits_in RIL s false o) i fits in
-      let n = numbers_of (limits_in RIL s false o) i fits in
-      goes here _ _ _ _ _ _ (first_slot here _ (fields 0 0 0 0 0 (pos 0) 0 (pos 0) (pos 0) 0) (a.r1_in))
-      ∙ goes here _ _ _ _ _ _ (target_slot here _ (fields i.r1 0 0 0 0 (pos 0) 0 (pos 0) (pos 0) 0)
-      (jump_is here i.imm low (near_signed s i.imm signs (n.imm_in))))
-      ∙ ends here (fields i.r1 0 0 0 0 (pos 0) 0 (pos 0) i.imm 0)
-      ∙ ap Some (filled refl (none (a.r2_in)) (none (a.r3_in)) (none (a.x_in)) (none (a.b_in)) (nought
-      (n.d_in)) (none (a.b2_in)) (nought (n.d2_in)) refl (none (a.mask_in)))
-  given RIL s false true o i single signs fits =
-      let a = registers_of (limits_in RIL s true o) i fits in
-      let n = numbers_of (limits_in RIL s true o) i fits in
-      goes here _ _ _ _ _ _ (mask_slot here _ (fields 0 0 0 0 0 (pos 0) 0 (pos 0) (pos 0) 0) (a.mask_in))
-      ∙ goes here _ _ _ _ _ _ (immediate_slot here _ (fields 0 0 0 0 0 (pos 0) 0 (pos 0) (pos 0) i.mask)
-      (immediate_is i.imm (immediate_is_close i)))
-      ∙ ends here (fields 0 0 0 0 0 (pos 0) 0 (pos 0) i.imm i.mask)
-      ∙ ap Some (filled (none (a.r1_in)) (none (a.r2_in)) (none (a.r3_in)) (none (a.x_in)) (none (a.b_in))
-      (nought (n.d_in)) (none (a.b2_in)) (nought (n.d2_in)) refl refl)
-  given RIL s true true o i single signs fits =
-      let a = registers_of (limits_in RIL s true o) i fits in
-      let n = numbers_of (limits_in RIL s true o) i fits in
-      goes here _ _ _ _ _ _ (mask_slot here _ (fields 0 0 0 0 0 (pos 0) 0 (pos 0) (pos 0) 0) (a.mask_in))
-      ∙ goes here _ _ _ _ _ _ (target_slot here _ (fields 0 0 0 0 0 (pos 0) 0 (pos 0) (pos 0) i.mask)
-      (jump_is here i.imm low (near_signed s i.imm signs (n.imm_in))))
-      ∙ ends here (fields 0 0 0 0 0 (pos 0) 0 (pos 0) i.imm i.mask)
-      ∙ ap Some (filled (none (a.r1_in)) (none (a.r2_in)) (none (a.r3_in)) (none (a.x_in)) (none (a.b_in))
-      (nought (n.d_in)) (none (a.b2_in)) (nought (n.d2_in)) refl refl)
+      (n.d_in)) (none (a.b2_in)) (nought (n.d2_in)) refl refl)
   given RS s rel m false i single signs fits =
       let a = registers_of (limits_in RS s m false) i fits in
       let n = numbers_of (limits_in RS s m false) i fits in

@@ -1,5 +1,5 @@
 -- Numbers, signs and marks as words of a line.
-use Rattle.std.proofs.Common.{◌≡◌, ℕ, suc, ◌+◌, ◌-◌, ◌<◌, ◌^◌, Bool, true, ◌&&◌}
+use Rattle.std.proofs.Common.{◌≡◌, ℕ, suc, ◌+◌, ◌-◌, ◌<◌, ◌^◌, Bool, true, false, not, ◌&&◌, ◌||◌}
 use Rattle.std.proofs.Common.{List, [], ◌∷◌, ◌++◌}
 use Rattle.std.proofs.Common.{length, map, get_or, Some, None, is_some, refl, ap, ap₂}
 use Rattle.std.proofs.Common.{◌∙◌, arith, cond}
@@ -17,7 +17,8 @@ use Rattle.std.proofs.lemmas.Bool.Decides.{nat_tests}
 use Rattle.z_text.specs.Line.{is_inked}
 use Rattle.z_text.specs.Numbers.{number_behind, number_of}
 use Rattle.z_text.specs.Tokens.{kind_at, size_for, continues_number, begins_quote}
-use Rattle.z_text.specs.Tokens.{mark_of}
+use Rattle.z_text.specs.Tokens.{mark_of, is_bad_piece, is_numeric}
+use Rattle.z_text.specs.declared.token.TokenKind.{TokenKind}
 use Rattle.z_text.specs.declared.token.TokenKind.TheVariants.{Name, Number, Hex, Sign, Open, Close, Comma}
 use Rattle.z_text.specs.declared.token.TokenKind.TheVariants.{Star}
 use Rattle.listing_laws.proofs.Words.{Word, word, IsCut}
@@ -129,84 +130,40 @@ comma = word Comma (44 ∷ [])
 abbrev pub star : Word
 star = word Star (42 ∷ [])
 
+mark_cut : (k : TokenKind) (b : ℕ) (rest : List ℕ) → kind_at (b ∷ rest) ≡ Some k
+    → size_for (Some k) (b ∷ rest) ≡ 1 → is_bad_piece (Some k) 1 ≡ false → is_numeric k ≡ false
+    → to_ascii_uppercase b ≡ b → not (b == 32) ≡ true → nat_lt 31 b ≡ true → IsCut (word k (b ∷ [])) rest
+mark_cut k b rest kind size fair number capital inked visible = record {
+  some = omega arith;
+  kind = kind;
+  size = size;
+  fair = fair;
+  number = ap (λ t. not t || is_some (number_of k (b ∷ []))) number;
+  capital = ap (λ c. c ∷ []) capital;
+  inked = and_from _ _ inked refl;
+  visible = and_from _ _ visible refl;
+}
+
 pub plus_cut : (rest : List ℕ) → IsCut plus rest
 unfolding kind_at
-plus_cut rest = record {
-  some = omega arith;
-  kind = refl;
-  size = refl;
-  fair = refl;
-  number = refl;
-  capital
-      = refl;
-  inked = refl;
-  visible = refl;
-}
+plus_cut rest = mark_cut Sign 43 rest refl refl refl refl refl refl refl
 
 pub minus_cut : (rest : List ℕ) → IsCut minus rest
 unfolding kind_at
-minus_cut rest = record {
-  some = omega arith;
-  kind = refl;
-  size = refl;
-  fair = refl;
-  number = refl;
-  capital
-      = refl;
-  inked = refl;
-  visible = refl;
-}
+minus_cut rest = mark_cut Sign 45 rest refl refl refl refl refl refl refl
 
 pub opening_cut : (rest : List ℕ) → IsCut opening rest
 unfolding kind_at
-opening_cut rest = record {
-  some = omega arith;
-  kind = refl;
-  size = refl;
-  fair = refl;
-  number = refl;
-  capital = refl;
-  inked = refl;
-  visible = refl;
-}
+opening_cut rest = mark_cut Open 40 rest refl refl refl refl refl refl refl
 
 pub closing_cut : (rest : List ℕ) → IsCut closing rest
 unfolding kind_at
-closing_cut rest = record {
-  some = omega arith;
-  kind = refl;
-  size = refl;
-  fair = refl;
-  number = refl;
-  capital = refl;
-  inked = refl;
-  visible = refl;
-}
+closing_cut rest = mark_cut Close 41 rest refl refl refl refl refl refl refl
 
 pub comma_cut : (rest : List ℕ) → IsCut comma rest
 unfolding kind_at
-comma_cut rest = record {
-  some = omega arith;
-  kind = refl;
-  size = refl;
-  fair = refl;
-  number = refl;
-  capital
-      = refl;
-  inked = refl;
-  visible = refl;
-}
+comma_cut rest = mark_cut Comma 44 rest refl refl refl refl refl refl refl
 
 pub star_cut : (rest : List ℕ) → IsCut star rest
 unfolding kind_at
-star_cut rest = record {
-  some = omega arith;
-  kind = refl;
-  size = refl;
-  fair = refl;
-  number = refl;
-  capital
-      = refl;
-  inked = refl;
-  visible = refl;
-}
+star_cut rest = mark_cut Star 42 rest refl refl refl refl refl refl refl

@@ -19,8 +19,8 @@ use Rattle.z_operands.specs.declared.operand.Atom.{Atom}
 use Rattle.z_operands.specs.declared.operand.Atom.TheVariants as atoms
 use Rattle.z_list.specs.declared.parts.Operand.{Operand}
 use Rattle.z_list.specs.declared.parts.Operand.TheVariants.{Number, Target, Indexed, Based, Counted}
-use Rattle.listing_laws.proofs.Words.{Word, tokens_for, Lie}
-use Rattle.listing_laws.proofs.Numbers.{number, closing, comma, number_is}
+use Rattle.listing_laws.proofs.Words.{Word, word, tokens_for, Lie}
+use Rattle.listing_laws.proofs.Numbers.{number, closing, comma, star, number_is}
 use Rattle.listing_laws.proofs.Spelled.{signed_then, target_then, one_then, two_then, operand_then, further}
 use Rattle.listing_laws.proofs.Spelled.{words_of, IsNear, AreFew, AreAllFew}
 
@@ -237,9 +237,21 @@ module _ (line : List ℕ) (labels : Table) (here : ℕ) where
             n near) lie.1 lie.2.0 first);
       }
 
-  target_parts : (z : ℤ) (ws : List Word) (at : ℕ) → IsNear z → Lie line at (target_then z ws) → EndWords ws
-      → AreRead at (target_then z ws) ws (atoms.Value (Some (pos here +ℤ z)) ∷ [])
-  target_parts (pos n) ws at near lie ends =
+  -- the tokens of an asterisk, a sign and a number with so many digits
+  abbrev sum_tokens : ℕ → ℕ → List Token
+  sum_tokens at digits =
+      let sign = at + 1 in
+      let first = sign + 1 in
+      record { first = at; end = sign; kind = kinds.Star }
+      ∷ record { first = sign; end = first; kind = kinds.Sign }
+      ∷ record { first = first; end = first + digits; kind = kinds.Number } ∷ []
+
+  -- words for these tokens, which have this value
+  sum_parts : (c n : ℕ) (value : ℤ) (ws : List Word) (at : ℕ)
+      → Lie line at (star ∷ word kinds.Sign (c ∷ []) ∷ number n ∷ ws) → EndWords ws
+      → v (sum_tokens at (length (decimal n))) ≡ Some value
+      → AreRead at (star ∷ word kinds.Sign (c ∷ []) ∷ number n ∷ ws) ws (atoms.Value (Some value) ∷ [])
+  sum_parts c n value ws at lie ends is =
       let sign = at + 1 in
       let first = sign + 1 in
       let end = first + length (decimal n) in
@@ -247,36 +259,27 @@ module _ (line : List ℕ) (labels : Table) (here : ℕ) where
         place = end;
         lie = lie.2.2.2;
         parts_are =
-            sum_atom v (record { first = at; end = sign; kind = kinds.Star }) (record {
-              first = sign;
-              end =
-                  first;
-              kind = kinds.Sign;
-            })
+            sum_atom v (record { first = at; end = sign; kind = kinds.Star })
+            (record { first = sign; end = first; kind = kinds.Sign })
             (record { first = first; end = end; kind = kinds.Number }) (tokens_for end ws) refl refl refl
             (ends_at ws end ends)
-            ∙ ap (λ (x : Option ℤ). atoms.Value x ∷ parts end ws)
-            (ahead_value n at sign sign first first end (number_fits n near) lie.2.1 lie.2.2.0);
+            ∙ ap (λ (x : Option ℤ). atoms.Value x ∷ parts end ws) is;
       }
+
+  target_parts : (z : ℤ) (ws : List Word) (at : ℕ) → IsNear z → Lie line at (target_then z ws) → EndWords ws
+      → AreRead at (target_then z ws) ws (atoms.Value (Some (pos here +ℤ z)) ∷ [])
+  target_parts (pos n) ws at near lie ends =
+      let sign = at + 1 in
+      let first = sign + 1 in
+      sum_parts 43 n (pos here +ℤ pos n) ws at lie ends
+      (ahead_value n at sign sign first first (first + length (decimal n)) (number_fits n near) lie.2.1
+      lie.2.2.0)
   target_parts (negsuc n) ws at near lie ends =
       let sign = at + 1 in
       let first = sign + 1 in
-      let end = first + length (decimal (suc n)) in
-      record {
-        place = end;
-        lie = lie.2.2.2;
-        parts_are =
-            sum_atom v (record { first = at; end = sign; kind = kinds.Star }) (record {
-              first = sign;
-              end =
-                  first;
-              kind = kinds.Sign;
-            })
-            (record { first = first; end = end; kind = kinds.Number }) (tokens_for end ws) refl refl refl
-            (ends_at ws end ends)
-            ∙ ap (λ (x : Option ℤ). atoms.Value x ∷ parts end ws)
-            (back_value n at sign sign first first end (near_fits n near) lie.2.1 lie.2.2.0);
-      }
+      sum_parts 45 (suc n) (pos here +ℤ negsuc n) ws at lie ends
+      (back_value n at sign sign first first (first + length (decimal (suc n))) (near_fits n near) lie.2.1
+      lie.2.2.0)
 
   few_fits : (n : ℕ) → n < 1000 → n < 2 ^ 64
   few_fits n h = omega arith

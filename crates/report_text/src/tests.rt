@@ -107,9 +107,8 @@ SCHEDULE 12
 END
 ";
 
-#[test]
-fn a_report_in_mid_run(rt: HostRuntime) -> Result<(), Fail> {
-    let alloc = rt.alloc();
+/// The CPUs of this report.
+fn unfinished_cpus() -> [Processor; 3] {
     let mut image = CpuImage::entering(0x4010);
     image.state = RunState::Interrupted(0x0206);
     image.condition = 3;
@@ -129,6 +128,28 @@ fn a_report_in_mid_run(rt: HostRuntime) -> Result<(), Fail> {
     image.state = RunState::Interrupted(0x0218);
     image.condition = 3;
     let third = processor(image, 2, 0, 1);
+    [first, second, third]
+}
+
+/// The events of this report.
+static UNFINISHED_EVENTS: [Event; 12] = [
+    Event::Turn(0),
+    Event::Turn(0),
+    Event::Turn(0),
+    Event::Turn(0),
+    Event::Turn(0),
+    Event::Turn(0),
+    Event::Turn(1),
+    Event::Turn(1),
+    Event::Turn(1),
+    Event::Turn(1),
+    Event::Turn(2),
+    Event::Turn(2),
+];
+
+#[test]
+fn a_report_in_mid_run(rt: HostRuntime) -> Result<(), Fail> {
+    let alloc = rt.alloc();
     let shows = [
         Show {
             first: 0x9100,
@@ -149,28 +170,13 @@ fn a_report_in_mid_run(rt: HostRuntime) -> Result<(), Fail> {
         Entry::Step(1),
         Entry::Abort(2, 1, program(0x18)),
     ];
-    let (first_turn, second_turn, third_turn) = (Event::Turn(0), Event::Turn(1), Event::Turn(2));
-    let events = [
-        first_turn,
-        first_turn,
-        first_turn,
-        first_turn,
-        first_turn,
-        first_turn,
-        second_turn,
-        second_turn,
-        second_turn,
-        second_turn,
-        third_turn,
-        third_turn,
-    ];
     let text = report(
         alloc,
-        &[first, second, third],
+        &unfinished_cpus(),
         &shows,
         &storage,
         &history,
-        &events,
+        &UNFINISHED_EVENTS,
     )?;
     compare(&rt, text.as_slice(), UNFINISHED);
     Ok(())

@@ -1,5 +1,5 @@
--- The begin of a constrained transaction, at a CPU at rest, goes over the start's storage where it goes over the
--- storage that is kept.
+-- The begin of a constrained transaction, at a CPU at rest, goes over the start's storage where it goes over
+-- the storage that is kept.
 use Rattle.std.proofs.Common.{◌≡◌, ℕ, ◌-◌, Bool, true, false, List, [], ◌∷◌, ◌++◌, refl, sym, ap, ◌∙◌}
 use Rattle.std.proofs.Common.{length, take}
 use Rattle.std.specs.Prelude.{if◌then◌else◌}

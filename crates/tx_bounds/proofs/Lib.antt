@@ -20,3 +20,5 @@ pub mod OwnEnds
 pub mod Room
 pub mod Barred
 pub mod Paid
+pub mod News
+pub mod Heads

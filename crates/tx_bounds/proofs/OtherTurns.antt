@@ -2,12 +2,13 @@
 -- transaction.
 use Rattle.std.proofs.Common.{◌≡◌, ◌≢◌, ℕ, ◌+◌, ◌<◌, ◌≤◌, Bool, true, false, Some, None}
 use Rattle.std.proofs.Common.{refl, sym, ap, ◌∙◌, subst, arith}
-use Rattle.std.specs.Prelude.{if◌then◌else◌}
-use Rattle.std.proofs.lemmas.Bool.{true≢false, cases_eq}
+use Rattle.std.specs.Prelude.{if◌then◌else◌, ◌⊎◌, ◌&&◌, ◌==◌}
+use Rattle.std.proofs.lemmas.Bool.{true≢false, cases_eq, ne_eqb}
 use borrow.Enum.Arm.{by_way}
 use Rattle.tx_control.specs.declared.causes.Why.{Why}
 use Rattle.tx_control.specs.declared.causes.Why.TheVariants.{External, Program}
 use Rattle.tx_ladder.specs.Rungs.{Standing, rejecting, descended}
+use Rattle.tx_journal.specs.declared.entries.Entry.TheVariants.{Step, Commit, Abort, Tdb, Interrupt}
 use Rattle.tx_serial.specs.Flat.{at_put}
 use Rattle.tx_progress.specs.Local.{Local, left_behind, aborted}
 use Rattle.tx_meaning.specs.Limits.{Setting}
@@ -22,6 +23,8 @@ use Rattle.tx_bounds.proofs.Resuming.{Leads}
 use Rattle.tx_bounds.proofs.UnderWay.{HoldsOf, HoldsOfBelow, Amid, SameStanding, holds_same, holds_quiet}
 use Rattle.tx_bounds.proofs.UnderWay.{amid_same, amid_left, abort_rung, put_here, lives, Rung}
 use Rattle.tx_bounds.proofs.Paid.{left_of, left_same, live_left, dead_left, climbed}
+use Rattle.tx_bounds.proofs.News.{NoEnd, Calm, same_news, one_more, abort_news, aborted_history}
+use Rattle.tx_bounds.proofs.News.{standing_calm, standing_ended}
 use Rattle.tx_bounds.proofs.Walk.{Walk, in_a_turn}
 
 pub put_other : {A : Type 0} (table : ℕ → A) (i : ℕ) (v : A) (c : ℕ) → c ≢ i → at_put table i v c ≡ table c
@@ -53,7 +56,8 @@ aborted_number f i st n w s still =
 module _ (m : Setting) (c : ℕ) (k : Kept) (w : Why) (at : ℕ) where
   pub aborted_completed : ((k_aborting c w at k).state.numbers c).completed ≡ 0
   unfolding k_aborting
-  aborted_completed = aborted_number (λ (v : Numbers). v.completed) c (k.standings c) _ w k.state (λ v d. refl)
+  aborted_completed = aborted_number (λ (v : Numbers). v.completed) c (k.standings c) _ w k.state
+      (λ v d. refl)
 
   pub aborted_attempts : ((k_aborting c w at k).state.numbers c).attempts ≡ (k.state.numbers c).attempts
   unfolding k_aborting
@@ -70,11 +74,13 @@ module _ (m : Setting) (c : ℕ) (k : Kept) (w : Why) (at : ℕ) where
   unfolding k_aborting aborted
   aborted_local = put_here k.locals c (left_behind (k.locals c).cpu (k.locals c).attempt w at)
 
-  pub aborted_quiet : (most : ℕ) (busy : Bool) → HoldsOfBelow m most busy c k → HoldsOf m false c (k_aborting c w at k)
+  pub aborted_quiet : (most : ℕ) (busy : Bool) → HoldsOfBelow m most busy c k
+      → HoldsOf m false c (k_aborting c w at k)
   aborted_quiet most busy h =
       let t = k_aborting c w at k in
       holds_quiet m (t.state.numbers c).completed (t.state.numbers c).delay (t.standings c) (t.locals c)
-      (ap (λ (s : Standing). s.parms) aborted_standing ∙ parms_always w (k.standings c) ∙ h.parms) aborted_dead
+      (ap (λ (s : Standing). s.parms) aborted_standing ∙ parms_always w (k.standings c)
+      ∙ h.parms) aborted_dead
 
   aborted_rung : is_end_by w ≡ false → Amid m (k.state.numbers c).completed (k.state.numbers c).delay
       (k.standings c) (k.locals c) → is_live k.state c ≡ true → (k.state.numbers c).delay ≡ 0
@@ -84,10 +90,12 @@ module _ (m : Setting) (c : ℕ) (k : Kept) (w : Why) (at : ℕ) where
   unfolding k_aborting
   aborted_rung goes_on h live none parms leads =
       amid_left m (k.locals c) w at leads goes_on (k.state.numbers c).completed (k.state.numbers c).delay
-      ((k_aborting c w at k).state.numbers c).delay (k.standings c) (standing_after w (k.standings c)) refl live
+      ((k_aborting c w at k).state.numbers c).delay (k.standings c)
+      (standing_after w (k.standings c)) refl live
       none parms h (abort_rung c (k.standings c) _ w k.state goes_on)
 
-  pub aborted_amid : (most : ℕ) (busy : Bool) → is_end_by w ≡ false → is_live k.state c ≡ true → Leads (k.locals c)
+  pub aborted_amid : (most : ℕ) (busy : Bool) → is_end_by w ≡ false → is_live k.state c ≡ true
+      → Leads (k.locals c)
       → HoldsOfBelow m most busy c k → busy ≡ true
       → Amid m ((k_aborting c w at k).state.numbers c).completed ((k_aborting c w at k).state.numbers c).delay
       ((k_aborting c w at k).standings c) ((k_aborting c w at k).locals c)
@@ -96,7 +104,8 @@ module _ (m : Setting) (c : ℕ) (k : Kept) (w : Why) (at : ℕ) where
       let l = left_behind (k.locals c).cpu (k.locals c).attempt w at in
       amid_same m 0 (t.state.numbers c).delay (t.state.numbers c).completed (t.state.numbers c).delay
       (standing_after w (k.standings c)) (t.standings c) l (t.locals c) (ap lives aborted_completed) refl
-      (ap (λ (s : Standing). s.aborts) aborted_standing) (ap (λ (s : Standing). s.constrained) aborted_standing)
+      (ap (λ (s : Standing). s.aborts) aborted_standing)
+      (ap (λ (s : Standing). s.constrained) aborted_standing)
       (record {
         cpu = ap (λ (x : Local). x.cpu) aborted_local;
         pending = ap (λ (x : Local). x.pending) aborted_local;
@@ -119,12 +128,15 @@ module _ (m : Setting) (c : ℕ) (k : Kept) (w : Why) (at : ℕ) where
 
 -- ---- what other CPUs do
 
--- what is kept of the CPU, where an abort would lead, how many attempts it has started, and in the middle of a
--- constrained transaction how many turns are left to it; a conflict can abort its attempt only below the stop
-pub record Kept_at (m : Setting) (busy : Bool) (c attempts most : ℕ) (k : Kept) : Type 0 where
+-- what is kept of the CPU, where an abort would lead, how many attempts it has started, and in the middle of
+-- a constrained transaction how many turns are left to it; a conflict can abort its attempt only below the
+-- stop
+pub record Kept_at (m : Setting) (busy : Bool) (c : ℕ) (before : State) (most : ℕ) (k : Kept) : Type 0 where
   pub holds : HoldsOf m busy c k
   pub well : is_live k.state c ≡ true → (k.standings c).constrained ≡ true → Leads (k.locals c)
-  pub started : (k.state.numbers c).attempts ≡ attempts
+  pub started : (k.state.numbers c).attempts ≡ (before.numbers c).attempts
+  pub news : NoEnd c before.history k.state.history
+  pub calm : busy ≡ false → Calm c k
   pub few : busy ≡ true → is_live k.state c ≡ true → (k.state.numbers c).completed ≤ 33
   pub below : busy ≡ true → is_live k.state c ≡ true → (k.standings c).aborts < m.image.parms.stop
   pub paid : busy ≡ true → left_of m c k ≤ most
@@ -138,10 +150,17 @@ pub record SameAt (c : ℕ) (k t : Kept) : Type 0 where
 
 pub same_left : (m : Setting) (c : ℕ) (k t : Kept) → SameAt c k t → left_of m c t ≡ left_of m c k
 same_left m c k t s =
-    left_same m.image.parms (k.state.numbers c).completed (k.state.numbers c).delay (t.state.numbers c).completed
+    left_same m.image.parms (k.state.numbers c).completed (k.state.numbers c).delay
+    (t.state.numbers c).completed
     (t.state.numbers c).delay (k.standings c) (t.standings c) s.completed s.delay s.standing
 
-module _ (m : Setting) (busy : Bool) (c attempts most : ℕ) where
+pub same_calm : (c : ℕ) (k t : Kept) → SameAt c k t → Calm c k → Calm c t
+same_calm c k t s h = record {
+  none = s.standing.aborts ∙ h.none;
+  free = λ live. s.standing.constrained ∙ h.free (sym (ap lives s.completed) ∙ live);
+}
+
+module _ (m : Setting) (busy : Bool) (c : ℕ) (before : State) (most : ℕ) where
   pub same_holds : (k t : Kept) → SameAt c k t → HoldsOf m busy c k → HoldsOf m busy c t
   same_holds k t s h =
       holds_same m busy (k.state.numbers c).completed (k.state.numbers c).delay (t.state.numbers c).completed
@@ -153,14 +172,17 @@ module _ (m : Setting) (busy : Bool) (c attempts most : ℕ) where
         waiting = ap (λ (x : Local). x.waiting) s.local;
       }) h
 
-  pub same_kept : (k t : Kept) → SameAt c k t → Kept_at m busy c attempts most k
-      → Kept_at m busy c attempts most t
-  same_kept k t s p = record {
+  pub same_kept : (k t : Kept) → SameAt c k t
+      → (NoEnd c before.history k.state.history → NoEnd c before.history t.state.history)
+      → Kept_at m busy c before most k → Kept_at m busy c before most t
+  same_kept k t s news p = record {
     holds = same_holds k t s p.holds;
     well = λ live kind.
         subst Leads (sym s.local)
         (p.well (sym (ap lives s.completed) ∙ live) (sym s.standing.constrained ∙ kind));
     started = s.started ∙ p.started;
+    news = news p.news;
+    calm = λ off. same_calm c k t s (p.calm off);
     few = λ is live.
         subst (λ n. n ≤ 33) (sym s.completed) (p.few is (sym (ap lives s.completed) ∙ live));
     below = λ is live.
@@ -222,9 +244,39 @@ module _ (m : Setting) (c : ℕ) (k : Kept) (w : Why) (at : ℕ) (goes_on : is_e
       (t.state.numbers c).delay n r rung counts below few fewer in
       omega (arith, after, step)
 
-module _ (m : Setting) (busy : Bool) (c attempts most i : ℕ) (other : c ≢ i) where
+-- an abort leaves the CPU calm where it was
+module _ (m : Setting) (c : ℕ) (k : Kept) (w : Why) (at : ℕ) where
+  pub aborted_calm : is_live k.state c ≡ true → Calm c k → Calm c (k_aborting c w at k)
+  aborted_calm live h = record {
+    none = ap (λ (s : Standing). s.aborts) (aborted_standing m c k w at)
+        ∙ standing_calm w (k.standings c) h.none (h.free live);
+    free = λ alive. absurd (true≢false (sym alive ∙ aborted_dead m c k w at));
+  }
+
+  pub ended_calm : is_end_by w ≡ true → ((k.standings c).constrained ≡ true) ⊎ ((k.standings c).aborts ≡ 0)
+      → Calm c (k_aborting c w at k)
+  ended_calm is h = record {
+    none = ap (λ (s : Standing). s.aborts) (aborted_standing m c k w at)
+        ∙ standing_ended w (k.standings c) is h;
+    free = λ alive. absurd (true≢false (sym alive ∙ aborted_dead m c k w at));
+  }
+
+module _ (m : Setting) (busy : Bool) (c : ℕ) (before : State) (most i : ℕ) (other : c ≢ i) where
   abbrev P : Kept → Type 0
-  P = Kept_at m busy c attempts most
+  P = Kept_at m busy c before most
+
+  abbrev News : State → Type 0
+  News s = NoEnd c before.history s.history
+
+  not_mine : (b : Bool) → (i == c && b) ≡ false
+  not_mine b = ap (λ x. x && b) (ne_eqb i c (λ e. other (sym e)))
+
+  abort_other : (w : Why) (at : ℕ) (k : Kept) → News k.state → News (k_aborting i w at k).state
+  unfolding k_aborting
+  abort_other w at k n =
+      let count = (k.locals i).attempt.count in
+      one_more (Abort i count w) (not_mine (is_end_by w))
+      (aborted_history i (k.standings i) count w k.state) n
 
   numbers_elsewhere : (v : Numbers) (s : State) → (with_numbers i v s).numbers c ≡ s.numbers c
   numbers_elsewhere v s = put_other s.numbers i v c other
@@ -234,7 +286,8 @@ module _ (m : Setting) (busy : Bool) (c attempts most i : ℕ) (other : c ≢ i)
   aborted_elsewhere j w at k ne =
       let s = k.state in
       let t = without_attempt j s in
-      let here : t.numbers c ≡ s.numbers c = put_other s.numbers j (record (s.numbers j) { completed = 0 }) c ne
+      let here : t.numbers c ≡ s.numbers c = put_other s.numbers j
+      (record (s.numbers j) { completed = 0 }) c ne
       in
       same_parts c k (k_aborting j w at k)
       (cause_case (λ r. r.numbers c ≡ s.numbers c) j (k.standings j) w t here
@@ -265,9 +318,12 @@ module _ (m : Setting) (busy : Bool) (c attempts most i : ℕ) (other : c ≢ i)
       let goes_on = goes_on_behind stored line in
       let lives_here : is_live k.state c ≡ true = ap (is_live k.state) (sym e) ∙ live in
       subst (λ x. P (k_aborting x w at k)) (sym e) (record {
-        holds = aborted_holds m c k w at m.image.parms.starve busy goes_on lives_here (p.well lives_here) p.holds;
+        holds = aborted_holds m c k w at m.image.parms.starve busy goes_on lives_here
+            (p.well lives_here) p.holds;
         well = λ x. absurd (true≢false (sym x ∙ aborted_dead m c k w at));
         started = aborted_attempts m c k w at ∙ p.started;
+        news = abort_news c w at k goes_on p.news;
+        calm = λ off. aborted_calm m c k w at lives_here (p.calm off);
         few = λ is x. absurd (true≢false (sym x ∙ aborted_dead m c k w at));
         below = λ is x. absurd (true≢false (sym x ∙ aborted_dead m c k w at));
         paid = λ is. aborted_paid stored line at k lives_here p is;
@@ -278,8 +334,8 @@ module _ (m : Setting) (busy : Bool) (c attempts most i : ℕ) (other : c ≢ i)
   holder_aborted k j line stored at live p =
       by_way (cases_eq j c)
       (λ e. aborted_here j stored line at k e live p)
-      (λ ne. same_kept m busy c attempts most k _ (aborted_elsewhere j (conflict_on stored line) at k
-      (λ e. ne (sym e))) p)
+      (λ ne. same_kept m busy c before most k _ (aborted_elsewhere j (conflict_on stored line) at k
+      (λ e. ne (sym e))) (abort_news j (conflict_on stored line) at k (goes_on_behind stored line)) p)
 
   rejected_number : {B : Type 0} (f : Numbers → B) (k : Kept) (j : ℕ)
       → ((v : Numbers) (g : ℕ) → f (record v { given = g }) ≡ f v)
@@ -311,9 +367,9 @@ module _ (m : Setting) (busy : Bool) (c attempts most i : ℕ) (other : c ≢ i)
 
   -- tables that change at the other CPU alone
   elsewhere : (k t : Kept) → t.state.numbers c ≡ k.state.numbers c → t.standings c ≡ k.standings c
-      → t.locals c ≡ k.locals c → P k → P t
-  elsewhere k t numbers standing local p =
-      same_kept m busy c attempts most k t (same_parts c k t numbers standing local) p
+      → t.locals c ≡ k.locals c → (News k.state → News t.state) → P k → P t
+  elsewhere k t numbers standing local news p =
+      same_kept m busy c before most k t (same_parts c k t numbers standing local) news p
 
   interrupted_by : (k : Kept) (live : Bool) → SameAt c k (k_interrupting live i k).kept
   interrupted_by k true =
@@ -332,37 +388,56 @@ module _ (m : Setting) (busy : Bool) (c attempts most i : ℕ) (other : c ≢ i)
   unfolding k_external
   interrupted_elsewhere k = interrupted_by k (is_live k.state i)
 
+  interrupted_news_by : (k : Kept) (live : Bool) → News k.state → News (k_interrupting live i k).kept.state
+  interrupted_news_by k true n = same_news refl (abort_other External (next_address k i) k n)
+  interrupted_news_by k false n = same_news refl n
+
+  pub interrupted_news : (k : Kept) → News k.state → News (k_external i k).kept.state
+  unfolding k_external
+  interrupted_news k n = interrupted_news_by k (is_live k.state i) n
+
   walked : Walk m i P P P
   walked = record {
     asking = record {
-      asks = λ k p. elsewhere k _ (numbers_elsewhere _ k.state) refl refl p;
-      holds = λ k held p. elsewhere k _ refl refl refl p;
-      rejects = λ k j ne live head p. same_kept m busy c attempts most k _ (rejected_elsewhere k j) p;
+      asks = λ k p. elsewhere k _ (numbers_elsewhere _ k.state) refl refl (λ n. same_news refl n) p;
+      holds = λ k held p. elsewhere k _ refl refl refl (λ n. same_news refl n) p;
+      rejects = λ k j ne live head p.
+          same_kept m busy c before most k _ (rejected_elsewhere k j) (λ n. same_news refl n) p;
       aborts = λ k j line stored at ne live p. holder_aborted k j line stored at live p;
     };
     refused = λ k p. p;
-    starved = λ k at live p. same_kept m busy c attempts most k _ (aborted_elsewhere i _ at k other) p;
+    starved = λ k at live p.
+        same_kept m busy c before most k _ (aborted_elsewhere i _ at k other) (abort_other _ at k) p;
     nothing = λ k p. p;
-    leaves = λ k after p. elsewhere k _ refl refl (put_other k.locals i _ c other) p;
-    ends = λ k w at own p. same_kept m busy c attempts most k _ (aborted_elsewhere i w at k other) p;
-    steps = λ k after p. elsewhere k _ refl refl (put_other k.locals i _ c other) p;
+    leaves = λ k after p.
+        elsewhere k _ refl refl (put_other k.locals i _ c other) (λ n. same_news refl n) p;
+    ends = λ k w at own p.
+        same_kept m busy c before most k _ (aborted_elsewhere i w at k other) (abort_other w at k) p;
+    steps = λ k after p.
+        elsewhere k _ refl refl (put_other k.locals i _ c other) (λ n. one_more (Step i) refl refl n) p;
     pauses = λ k after turns p.
-        elsewhere k _ (numbers_elsewhere _ k.state) refl (put_other k.locals i _ c other) p;
-    stores = λ k p. elsewhere k _ refl refl (put_other k.locals i _ c other) p;
-    takes = λ k p. elsewhere k _ refl refl (put_other k.locals i _ c other) p;
+        elsewhere k _ (numbers_elsewhere _ k.state) refl (put_other k.locals i _ c other)
+        (λ n. one_more (Step i) refl refl n) p;
+    stores = λ k p.
+        elsewhere k _ refl refl (put_other k.locals i _ c other) (λ n. one_more (Tdb i) refl refl n) p;
+    takes = λ k p.
+        elsewhere k _ refl refl (put_other k.locals i _ c other) (λ n. one_more (Interrupt i) refl refl n) p;
     starts = λ k after live p.
         elsewhere k _ (numbers_elsewhere _ k.state) (put_other k.standings i _ c other)
-        (put_other k.locals i _ c other) p;
+        (put_other k.locals i _ c other) (λ n. same_news refl n) p;
     continues = λ k after live p.
-        elsewhere k _ (numbers_elsewhere _ k.state) refl (put_other k.locals i _ c other) p;
+        elsewhere k _ (numbers_elsewhere _ k.state) refl (put_other k.locals i _ c other)
+        (λ n. same_news refl n) p;
     commits = λ k n after live p.
         elsewhere k _ (numbers_elsewhere _ k.state) (put_other k.standings i _ c other)
-        (put_other k.locals i _ c other) p;
-    waits = λ k p. elsewhere k _ (numbers_elsewhere _ k.state) refl refl p;
-    interrupted = λ k p. same_kept m busy c attempts most k _ (interrupted_elsewhere k) p;
+        (put_other k.locals i _ c other)
+        (λ h. one_more (Commit i n) (ne_eqb i c (λ e. other (sym e))) refl h) p;
+    waits = λ k p. elsewhere k _ (numbers_elsewhere _ k.state) refl refl (λ n. same_news refl n) p;
+    interrupted = λ k p.
+        same_kept m busy c before most k _ (interrupted_elsewhere k) (interrupted_news k) p;
   }
 
   pub other_turn : (k : Kept) → k_idle m k i ≡ None → P k → P (k_turn m i k).kept
   other_turn k ready p =
       in_a_turn m i P P P walked k (λ o e. let n : None ≡ Some o = sym ready ∙ e in absurd (cc))
-      (λ e. elsewhere k _ (numbers_elsewhere _ k.state) refl refl p)
+      (λ e. elsewhere k _ (numbers_elsewhere _ k.state) refl refl (λ n. same_news refl n) p)

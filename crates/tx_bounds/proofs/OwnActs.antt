@@ -1,8 +1,9 @@
 -- What a CPU does in its own turn, once the lines are there.
-use Rattle.std.proofs.Common.{◌≡◌, ℕ, ◌+◌, ◌-◌, ◌<◌, ◌≤◌, Bool, true, false, List, [], ◌∷◌, ◌++◌, length, take}
-use Rattle.std.proofs.Common.{None, refl, sym, ap, ◌∙◌, subst, arith, inr}
-use Rattle.std.specs.Prelude.{if◌then◌else◌, nat_lt, ◌||◌}
-use Rattle.std.proofs.lemmas.Bool.{true≢false, or_left, eq-eqb}
+use Rattle.std.proofs.Common.{◌≡◌, ℕ, ◌+◌, ◌-◌, ◌<◌, ◌≤◌, Bool, true, false, List, [], ◌∷◌, ◌++◌, length}
+use Rattle.std.proofs.Common.{take}
+use Rattle.std.proofs.Common.{None, refl, sym, ap, ◌∙◌, subst, arith, inl, inr}
+use Rattle.std.specs.Prelude.{if◌then◌else◌, nat_lt, ◌||◌, ◌⊎◌}
+use Rattle.std.proofs.lemmas.Bool.{true≢false, or_left, eq-eqb, lt-ltb}
 use Rattle.z_regs.specs.declared.image.RunState.{RunState}
 use Rattle.z_regs.specs.declared.image.RunState.TheVariants.{Running, Halted, Interrupted}
 use Rattle.z_regs.specs.declared.ranges.Range.{Range}
@@ -45,6 +46,7 @@ use Rattle.tx_keeping.specs.Moves.{k_aborting, k_continuing, k_committing, k_sta
 use Rattle.tx_keeping.specs.Turn.{k_ends_by, next_address, k_inside, k_outside, k_done, k_executing}
 use Rattle.tx_bounds.proofs.Again.{IsConstrainedBegin, is_begin}
 use Rattle.tx_bounds.proofs.AtBegin.{constrained_demand, opens_so}
+use Rattle.tx_bounds.proofs.News.{Calm, IsBegun, same_news, not_ended, grown, lowered_calm}
 use Rattle.tx_bounds.proofs.Barred.{AbortsNot, permitted_not}
 use Rattle.tx_bounds.proofs.OwnEnds.{EndsIt, cause_so}
 use Rattle.tx_bounds.proofs.Paid.{left_of, left_now, left_more, left_started, left_begun}
@@ -54,7 +56,7 @@ use Rattle.tx_bounds.proofs.Resuming.{Leads, leads, leads_on}
 use Rattle.tx_bounds.proofs.UnderWay.{HoldsOf, AmidOf, lives, holds_same}
 use Rattle.tx_bounds.proofs.UnderWay.{holds_quiet, put_here, SameParts}
 use Rattle.tx_bounds.proofs.OtherTurns.{parms_always_by}
-use Rattle.tx_bounds.proofs.OwnTurns.{After, Own, stays, plain, over, own_abort, ends_last}
+use Rattle.tx_bounds.proofs.OwnTurns.{After, Own, stays, plain, over, own_abort, ends_last, known_kind}
 
 -- what an instruction outside transactions tells, that begins none
 abbrev StepTells : Done → Type 0
@@ -95,6 +97,11 @@ module _ (m : Setting) (c : ℕ) (busy : Bool) (most : ℕ) (before : State) (l 
       })
       p.holds
 
+  -- what changes at the CPU alone leaves it calm
+  after_calm : (t : Kept) (after : Beside) → Own m c busy most before l t → busy ≡ false
+      → Calm c (with_beside c after t)
+  after_calm t after p off = let calm = p.calm off in record { none = calm.none; free = calm.free }
+
   ends_inside : (t : Kept) (after : Beside) (w : Why) (at : ℕ) → Own m c busy most before l t
       → is_live t.state c ≡ true → SameParts (t.locals c) after.local
       → ((t.standings c).constrained ≡ true → Leads after.local) → (busy ≡ true → is_end_by w ≡ true)
@@ -102,16 +109,28 @@ module _ (m : Setting) (c : ℕ) (busy : Bool) (most : ℕ) (before : State) (l 
   ends_inside t after w at p live parts leads ends =
       own_abort m c busy 1 most before m.image.parms.starve (with_beside c after t) w at live
       (with_local t after p parts) (λ kind. subst Leads (sym (put_here t.locals c after.local)) (leads kind))
-      p.longer p.started (λ is goes. absurd (true≢false (sym (ends is) ∙ goes)))
+      p.news (after_calm t after p) p.started (λ is goes. absurd (true≢false (sym (ends is) ∙ goes)))
 
   committed_history : (t : Kept) (n : ℕ) (after : Beside) → Own m c busy most before l t
       → ends_transaction before (k_committing c n after t).state c ≡ true
   committed_history t n after p =
-      ends_last c before.history t.state.history (Commit c n) p.longer (eq-eqb c c refl)
+      ends_last c before.history t.state.history (Commit c n) (grown p.news) (eq-eqb c c refl)
 
-  commits : (t : Kept) (n : ℕ) (after : Beside) → Own m c busy most before l t
+  committed_calm : (t : Kept) (n : ℕ) (after : Beside) → Own m c busy most before l t
+      → is_live t.state c ≡ true
+      → Calm c (k_committing c n after t)
+  committed_calm t n after p live = record {
+    none = ap (λ (s : Standing). s.aborts) (put_here t.standings c _)
+        ∙ lowered_calm (t.standings c)
+        (known_kind m c busy 1 most before t (λ is. (p.holds.amid is).kind live) p.calm);
+    free = λ alive. absurd (true≢false (sym alive
+        ∙ ap (λ (v : Numbers). lives v.completed)
+        (put_here t.state.numbers c (record (t.state.numbers c) { completed = 0 }))));
+  }
+
+  commits : (t : Kept) (n : ℕ) (after : Beside) → Own m c busy most before l t → is_live t.state c ≡ true
       → F (k_committing c n after t)
-  commits t n after p =
+  commits t n after p live =
       let u = k_committing c n after t in
       let now = put_here t.state.numbers c (record (t.state.numbers c) { completed = 0 }) in
       let off : lives (u.state.numbers c).completed ≡ false = ap (λ (v : Numbers). lives v.completed) now in
@@ -119,9 +138,10 @@ module _ (m : Setting) (c : ℕ) (busy : Bool) (most : ℕ) (before : State) (l 
       ap (λ (s : Standing). s.parms) (put_here t.standings c _)
       ∙ parms_always_by (t.standings c).constrained (t.standings c) ∙ p.holds.parms in
       over m c busy 1 most before u (committed_history t n after p)
-      (holds_quiet m (u.state.numbers c).completed (u.state.numbers c).delay (u.standings c) (u.locals c) parms
+      (holds_quiet m (u.state.numbers c).completed (u.state.numbers c).delay (u.standings c)
+      (u.locals c) parms
       off)
-      (ap (λ (v : Numbers). v.attempts) now ∙ p.started)
+      (ap (λ (v : Numbers). v.attempts) now ∙ p.started) (committed_calm t n after p live)
 
   one_more : (n : ℕ) → lives n ≡ true → lives (n + 1) ≡ lives n
   one_more n live = lives_on n ∙ sym live
@@ -165,17 +185,20 @@ module _ (m : Setting) (c : ℕ) (busy : Bool) (most : ℕ) (before : State) (l 
       })
       p.holds)
       (ap (λ (v : Numbers). v.attempts) now ∙ p.started)
-      (continued_paid t after p live few)
+      (continued_paid t after p live few) (same_news refl p.news)
+      (λ off.
+      let calm = p.calm off in
+      record { none = calm.none; free = λ alive. calm.free live })
 
   closes : (t : Kept) (q : Progress) (nest : List Begin) (at : ℕ) → Own m c busy most before l t
       → is_live t.state c ≡ true → (busy ≡ true → l.attempt.count ≤ 33)
       → F (k_inside c at (closed_by q nest (beside t c)).after t (closed_by q nest (beside t c)).told).kept
-  closes t q [] at p live few = commits t q.count _ p
+  closes t q [] at p live few = commits t q.count _ p live
   closes t q (outermost ∷ inner) at p live few =
       continues t (going_on q (beside t c)) p live (record { cpu = refl; pending = refl; waiting = refl }) few
 
-  -- What is known of an instruction inside a constrained transaction: few came before it, it does not abort the
-  -- transaction itself, no program exception is filtered, and a begin and an end are completed.
+  -- What is known of an instruction inside a constrained transaction: few came before it, it does not abort
+  -- the transaction itself, no program exception is filtered, and a begin and an end are completed.
   pub record Inside (i : Instr) (o : Outcome) : Type 0 where
     pub few : busy ≡ true → l.attempt.count ≤ 33
     pub bars : busy ≡ true → AbortsNot o
@@ -183,8 +206,8 @@ module _ (m : Setting) (c : ℕ) (busy : Bool) (most : ℕ) (before : State) (l 
     pub done : (begins (entry_at i.op.number) || is_end (entry_at i.op.number)) ≡ true → IsDone o
 
   -- an instruction that overflows neither begins nor ends a transaction
-  plain_by : (x y : Bool) (cpu : Cpu) (bytes : List ℕ) → ((x || y) ≡ true → IsDone (effect.Overflowed cpu bytes))
-      → (x ≡ false) × (y ≡ false)
+  plain_by : (x y : Bool) (cpu : Cpu) (bytes : List ℕ)
+      → ((x || y) ≡ true → IsDone (effect.Overflowed cpu bytes)) → (x ≡ false) × (y ≡ false)
   plain_by true y cpu bytes done = let d = done refl in let n = d.is in absurd (cc)
   plain_by false true cpu bytes done = let d = done refl in let n = d.is in absurd (cc)
   plain_by false false cpu bytes done = (refl, refl)
@@ -192,7 +215,8 @@ module _ (m : Setting) (c : ℕ) (busy : Bool) (most : ℕ) (before : State) (l 
   same_nest : (i : Instr) (general : List ℕ) (nest : List Begin) → begins (entry_at i.op.number) ≡ false
       → is_end (entry_at i.op.number) ≡ false → nest_after i general nest ≡ nest
   same_nest i general nest x y =
-      (λ k. if x k then nest ++ begin_of i general ∷ [] else (if y k then take (length nest - 1) nest else nest))
+      (λ k. if x k then nest ++ begin_of i general ∷ []
+      else (if y k then take (length nest - 1) nest else nest))
 
   -- what an instruction inside it leaves
   acts_inside : (t : Kept) (i : Instr) (ranges : List Range) (at : ℕ) (o : Outcome)
@@ -209,7 +233,8 @@ module _ (m : Setting) (c : ℕ) (busy : Bool) (most : ℕ) (before : State) (l 
   acts_inside t i ranges at (effect.Overflowed cpu bytes) p live same runs known =
       let q = (t.locals c).attempt in
       let next = advanced i ranges cpu (stores_of ranges bytes q) q in
-      let off = plain_by (begins (entry_at i.op.number)) (is_end (entry_at i.op.number)) cpu bytes known.done in
+      let off = plain_by (begins (entry_at i.op.number)) (is_end (entry_at i.op.number)) cpu bytes known.done
+      in
       ends_inside t (going_on next (beside t c)) _ at p live
       (record { cpu = refl; pending = refl; waiting = refl })
       (λ kind. leads_on (t.locals c) i ranges cpu (stores_of ranges bytes q) (p.well live kind)
@@ -229,7 +254,8 @@ module _ (m : Setting) (c : ℕ) (busy : Bool) (most : ℕ) (before : State) (l 
   -- ---- outside transactions
 
   dead_holds : (t u : Kept) → Own m c busy most before l t → is_live t.state c ≡ false
-      → (u.state.numbers c).completed ≡ (t.state.numbers c).completed → (u.standings c).parms ≡ (t.standings c).parms
+      → (u.state.numbers c).completed ≡ (t.state.numbers c).completed
+      → (u.standings c).parms ≡ (t.standings c).parms
       → HoldsOf m false c u
   dead_holds t u p off completed parms =
       holds_quiet m (u.state.numbers c).completed (u.state.numbers c).delay (u.standings c) (u.locals c)
@@ -238,14 +264,25 @@ module _ (m : Setting) (c : ℕ) (busy : Bool) (most : ℕ) (before : State) (l 
   steps : (t : Kept) (after : Beside) (told : Done) → (busy ≡ true → ⊥) → Own m c busy most before l t
       → is_live t.state c ≡ false → StepTells told → F (k_outside c after t told).kept
   steps t after done.Stepped never p off is =
-      plain m c busy 1 most before _ never (dead_holds t (k_outside c after t done.Stepped).kept p off refl refl) p.started
+      plain m c busy 1 most before _ never
+      (dead_holds t (k_outside c after t done.Stepped).kept p off refl refl) p.started
+      (λ quiet. let calm = p.calm quiet in record { none = calm.none; free = calm.free })
   steps t after (done.Interrupted code) never p off is =
-      plain m c busy 1 most before _ never (dead_holds t (k_outside c after t (done.Interrupted code)).kept p off refl refl) p.started
+      plain m c busy 1 most before _ never
+      (dead_holds t (k_outside c after t (done.Interrupted code)).kept p off refl refl) p.started
+      (λ quiet. let calm = p.calm quiet in record { none = calm.none; free = calm.free })
   steps t after (done.Paused turns) never p off is =
       let now = put_here t.state.numbers c (record (t.state.numbers c) { delay = turns }) in
       plain m c busy 1 most before _ never
-      (dead_holds t (k_outside c after t (done.Paused turns)).kept p off (ap (λ (v : Numbers). v.completed) now) refl)
+      (dead_holds t (k_outside c after t (done.Paused turns)).kept p off
+      (ap (λ (v : Numbers). v.completed) now) refl)
       (ap (λ (v : Numbers). v.attempts) now ∙ p.started)
+      (λ quiet.
+      let calm = p.calm quiet in
+      record {
+        none = calm.none;
+        free = λ alive. calm.free (sym (ap (λ (v : Numbers). lives v.completed) now) ∙ alive);
+      })
   steps t after done.Began never p off is = absurd is
   steps t after (done.Committed n) never p off is = absurd is
   steps t after (done.Ended w) never p off is = absurd is
@@ -255,7 +292,8 @@ module _ (m : Setting) (c : ℕ) (busy : Bool) (most : ℕ) (before : State) (l 
   opened_parts : (t : Kept) (i : Instr) (ranges : List Range) (o : Outcome)
       → SameParts (t.locals c) (opened i ranges (beside t c) o).local
   opened_parts t i ranges (Did cpu bytes) = record { cpu = refl; pending = refl; waiting = refl }
-  opened_parts t i ranges (effect.Overflowed cpu bytes) = record { cpu = refl; pending = refl; waiting = refl }
+  opened_parts t i ranges (effect.Overflowed cpu bytes) =
+      record { cpu = refl; pending = refl; waiting = refl }
   opened_parts t i ranges Divides = record { cpu = refl; pending = refl; waiting = refl }
   opened_parts t i ranges (Aborts code) = record { cpu = refl; pending = refl; waiting = refl }
 
@@ -281,7 +319,8 @@ module _ (m : Setting) (c : ℕ) (busy : Bool) (most : ℕ) (before : State) (l 
         short = omega (arith, none);
         queued = λ full. none;
         running = λ off.
-            absurd (true≢false (sym (ap (λ (v : Numbers). lives v.completed) (put_here t.state.numbers c _)) ∙ off));
+            absurd (true≢false (sym (ap (λ (v : Numbers). lives v.completed) (put_here t.state.numbers c _))
+            ∙ off));
       }
 
   -- what is known of an instruction of a live attempt
@@ -332,7 +371,8 @@ module _ (m : Setting) (c : ℕ) (busy : Bool) (most : ℕ) (before : State) (l 
       ≡ left_now m.image.parms 1 n.delay (begun kind (t.standings c)) =
       (λ k. left_now m.image.parms (now k).completed (now k).delay
       (put_here t.standings c (begun kind (t.standings c)) k)) in
-      let step = left_started m.image.parms n.completed n.delay kind (t.standings c) (not_live n.completed off) some
+      let step = left_started m.image.parms n.completed n.delay kind (t.standings c)
+      (not_live n.completed off) some
       in
       let paid = p.paid is in
       omega (arith, same, step, paid)
@@ -355,8 +395,35 @@ module _ (m : Setting) (c : ℕ) (busy : Bool) (most : ℕ) (before : State) (l 
       let step = left_begun m.image.parms (t.standings c).aborts n.delay p.rests some in
       omega (arith, same, step)
 
+  -- where no transaction was under way, one is begun, or the attempt is not constrained
+  begun_or_calm : (t : Kept) (after : Beside) → Own m c busy most before l t → busy ≡ false → (kind : Bool)
+      → is_constrained after.local.attempt.nest ≡ kind
+      → Calm c (k_starting c after t) ⊎ IsBegun c before (k_starting c after t)
+  begun_or_calm t after p quiet true e =
+      let n = t.state.numbers c in
+      let now = put_here t.state.numbers c (record n {
+        completed = 1;
+        attempts = n.attempts + 1;
+        given = 0;
+        refused = 0;
+      }) in
+      let first = p.started in
+      inr (record {
+        more = ap (λ (v : Numbers). nat_lt (before.numbers c).attempts v.attempts) now
+            ∙ lt-ltb (before.numbers c).attempts (n.attempts + 1) (omega (arith, first));
+        live = ap (λ (v : Numbers). lives v.completed) now;
+        kind = ap (λ (x : Standing). x.constrained) (put_here t.standings c _) ∙ e;
+      })
+  begun_or_calm t after p quiet false e =
+      let calm = p.calm quiet in
+      inl (record {
+        none = ap (λ (x : Standing). x.aborts) (put_here t.standings c _) ∙ calm.none;
+        free = λ live. ap (λ (x : Standing). x.constrained) (put_here t.standings c _) ∙ e;
+      })
+
   starts : (t : Kept) (i : Instr) (ranges : List Range) (o : Outcome) → 0 < m.image.parms.starve
-      → 0 < m.image.parms.stop → IsDone o → Own m c busy most before l t → is_live t.state c ≡ false → begins (entry_at i.op.number) ≡ true → Next i
+      → 0 < m.image.parms.stop → IsDone o → Own m c busy most before l t → is_live t.state c ≡ false
+      → begins (entry_at i.op.number) ≡ true → Next i
       → F (k_starting c (opened i ranges (beside t c) o) t)
   starts t i ranges o some stop d p off begin n =
       let after = opened i ranges (beside t c) o in
@@ -382,6 +449,11 @@ module _ (m : Setting) (c : ℕ) (busy : Bool) (most : ℕ) (before : State) (l 
               amid = begun_amid t after i p so (n.at_start quiet so) n.pending n.waiting parts same;
               paid = begun_paid t after stop p;
             };
+        settles = record {
+          ended = λ is. absurd (true≢false (sym is
+              ∙ not_ended c before (k_starting c after t).state (same_news refl p.news)));
+          calm = λ quiet. begun_or_calm t after p quiet (is_constrained after.local.attempt.nest) refl;
+        };
       }
 
   -- ---- the instruction

@@ -1,5 +1,6 @@
 -- A test ends a constrained attempt by a program interruption, or by an overflow of its footprint.
-use Rattle.std.proofs.Common.{◌≡◌, ℕ, Bool, true, false, List, [], ◌∷◌, Option, Some, None, refl, sym, ap, ◌∙◌}
+use Rattle.std.proofs.Common.{◌≡◌, ℕ, Bool, true, false, List, [], ◌∷◌, Option, Some, None, refl, sym, ap}
+use Rattle.std.proofs.Common.{◌∙◌}
 use Rattle.std.proofs.Common.{subst, length, inl, inr}
 use Rattle.std.specs.Prelude.{◌⊎◌, ◌&&◌, ◌||◌, not, nat_le, cond, if◌then◌else◌, Result, Ok, Err}
 use Rattle.std.proofs.lemmas.Bool.{true≢false}
@@ -24,7 +25,8 @@ use Rattle.tx_footprint.specs.Touched.{Sets, fit_of}
 use Rattle.tx_footprint.specs.declared.footprint.Overflow.{Overflow}
 use Rattle.tx_footprint.specs.declared.footprint.Overflow.TheVariants.{Fetch, Store}
 use Rattle.tx_serial.specs.Fate.{Fate, Goes, Ends, Stops, Refusal, Excepts, Because, cause_in, fate_after}
-use Rattle.tx_serial.specs.Fate.{first_refusal, excepted, aborts_where, overflow_of, overflow_in, is_restricted}
+use Rattle.tx_serial.specs.Fate.{first_refusal, excepted, aborts_where, overflow_of, overflow_in}
+use Rattle.tx_serial.specs.Fate.{is_restricted}
 use Rattle.tx_serial.specs.Fate.{restricted_refusal, specified_refusal, depth_refusal, operand_refusal}
 use Rattle.tx_serial.specs.Fate.{fetch_refusal, instruction_at}
 use Rattle.tx_serial.specs.Flat.{FlatState, Storage}
@@ -71,7 +73,8 @@ not_both true false true x h e = absurd (true≢false (sym h))
 not_both true false false x h e = refl
 not_both false r a x h e = absurd (true≢false (sym e))
 
-free_of : (nest : List Begin) (n : ℕ) → (entry_at n).permitted ≡ true → is_restricted nest (entry_at n) ≡ false
+free_of : (nest : List Begin) (n : ℕ) → (entry_at n).permitted ≡ true
+    → is_restricted nest (entry_at n) ≡ false
 free_of [] n h = refl
 free_of (b ∷ bs) n h =
     not_both (entry_at n).permitted (entry_at n).restricted (sets_access_register (entry_at n))
@@ -127,7 +130,8 @@ module _ (Allowed : Why → Type 0) (program : (e : Exception) → Allowed (Prog
   FateSo (Ends w) = Allowed w
   FateSo (Stops e) = Unit {0}
 
-  after_so : (nest : List Begin) (r : Refusal) → effective_pifc nest ≡ 0 → Found (Some r) → FateSo (fate_after nest r)
+  after_so : (nest : List Begin) (r : Refusal) → effective_pifc nest ≡ 0 → Found (Some r)
+      → FateSo (fate_after nest r)
   after_so [] (Excepts e) none h = tt
   after_so (outermost ∷ inner) (Excepts e) none h = cause_so (outermost ∷ inner) e none
   after_so [] (Because w) none h = h
@@ -164,7 +168,8 @@ module _ (Allowed : Why → Type 0) (program : (e : Exception) → Allowed (Prog
   tests_so text storage q i kept some single room =
       let p = at_hand storage q in
       one_more_test (text_refusal_by q i) _ (constraint_so _ i q.constraint) (λ fine.
-      one_more_test (restricted_refusal p i) _ (where_so (is_restricted p.nest (entry_at i.op.number)) Restricted
+      one_more_test (restricted_refusal p i) _
+      (where_so (is_restricted p.nest (entry_at i.op.number)) Restricted
       (free_of q.nest i.op.number (permitted_of q i kept some fine))) (λ _.
       one_more_test (specified_refusal p i) _ (excepted_so i _) (λ _.
       one_more_test (depth_refusal p i) _ (where_so _ Depth
@@ -193,7 +198,8 @@ module _ (Allowed : Why → Type 0) (program : (e : Exception) → Allowed (Prog
       → FateSo (fate_by_progress text storage q)
   unfolding fate_by_progress
   fate_so text storage q kept some single none room =
-      fetched_so text storage q (fetch_refusal text (at_hand storage q)) (instruction_at (at_hand storage q)) kept
+      fetched_so text storage q (fetch_refusal text (at_hand storage q))
+      (instruction_at (at_hand storage q)) kept
       some single none room
 
 -- ---- the causes
@@ -248,7 +254,8 @@ ends_the_transaction f i l w is ok kind h =
     subst (FateSo EndsIt (λ e. refl)) h
     (fate_so EndsIt (λ e. refl) f.text f.storage l.attempt k.kept k.constraint k.single
     (pifc_none f i l is kind)
-    (λ instr fits. subst (Found EndsIt (λ e. refl)) (sym (has_room f i l k.kept instr is ok k.constraint fits)) tt))
+    (λ instr fits. subst (Found EndsIt (λ e. refl))
+    (sym (has_room f i l k.kept instr is ok k.constraint fits)) tt))
 
 -- ---- what goes is permitted
 
@@ -268,7 +275,8 @@ tried_goes : (q : Progress) (j i : Instr) (o : Option Refusal) (ranges : List Ra
 tried_goes q j i None ranges h = (refl, cc)
 tried_goes q j i (Some r) ranges h = absurd (ends_or_stops q.nest r i ranges h)
 
-fetched_goes : (text : List ℕ) (storage : Storage) (q : Progress) (o : Option ℕ) (read : Option Instr) (i : Instr)
+fetched_goes : (text : List ℕ) (storage : Storage) (q : Progress) (o : Option ℕ) (read : Option Instr)
+    (i : Instr)
     (ranges : List Range) → fetched text storage q o read ≡ Goes i ranges → text_refusal_by q i ≡ None
 fetched_goes text storage q (Some code) read i ranges h = absurd (ends_or_stops q.nest (Excepts _) i ranges h)
 fetched_goes text storage q None None i ranges h = absurd (ends_or_stops q.nest (Excepts _) i ranges h)
@@ -282,5 +290,6 @@ pub goes_permitted : (text : List ℕ) (storage : Storage) (q : Progress) (i : I
 unfolding fate_by_progress
 goes_permitted text storage q i ranges kept some h =
     permitted_of q i kept some
-    (fetched_goes text storage q (fetch_refusal text (at_hand storage q)) (instruction_at (at_hand storage q)) i
+    (fetched_goes text storage q (fetch_refusal text (at_hand storage q))
+    (instruction_at (at_hand storage q)) i
     ranges h)

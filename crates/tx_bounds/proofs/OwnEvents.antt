@@ -1,5 +1,5 @@
 -- An event of a CPU itself, in the middle of a constrained transaction or outside one.
-use Rattle.std.proofs.Common.{◌≡◌, ◌≢◌, ℕ, ◌+◌, ◌-◌, ◌^◌, ◌<◌, ◌≤◌, Bool, true, false, List, [], ◌∷◌, length}
+use Rattle.std.proofs.Common.{◌≡◌, ◌≢◌, ℕ, ◌+◌, ◌-◌, ◌^◌, ◌<◌, ◌≤◌, Bool, true, false, List, [], ◌∷◌}
 use Rattle.std.proofs.Common.{Option, Some, None, refl, sym, ap, ◌∙◌, subst, arith, inl, inr}
 use Rattle.std.specs.Prelude.{nat_lt}
 use Rattle.std.proofs.lemmas.Bool.{true≢false, ltb-false, ltb-true}
@@ -39,6 +39,7 @@ use Rattle.tx_keeping.specs.Asking.{k_get_each}
 use Rattle.tx_keeping.proofs.Truth.{Truth, live_is, kept_is}
 use Rattle.tx_bounds.proofs.AtBegin.{GoesNot, fate_at_rest, goes_now, goes_at_start, never_goes}
 use Rattle.tx_bounds.proofs.AtBegin.{same_instruction}
+use Rattle.tx_bounds.proofs.News.{NoEnd, Calm, same_news}
 use Rattle.tx_bounds.proofs.OtherTurns.{aborted_completed}
 use Rattle.tx_bounds.proofs.OwnEnds.{goes_permitted, pifc_none, ends_the_transaction}
 use Rattle.tx_bounds.proofs.Paid.{left_of, left_now, left_waited, left_outside}
@@ -61,7 +62,8 @@ never_attempted never = record { few = λ is. absurd (never is); alive = λ is. 
 idle_attempt : {busy : Bool} {l : Local} → busy ≡ false → Attempted busy l
 idle_attempt off = never_attempted (λ is. true≢false (sym is ∙ off))
 
-module _ (m : Setting) (s : IsSetting m) (c : ℕ) (busy : Bool) (before : State) (k : Kept) (t : Truth m k) where
+module _ (m : Setting) (s : IsSetting m) (c : ℕ) (busy : Bool) (before : State) (k : Kept)
+    (t : Truth m k) where
   abbrev l : Local
   l = k.locals c
 
@@ -99,8 +101,12 @@ module _ (m : Setting) (s : IsSetting m) (c : ℕ) (busy : Bool) (before : State
       omega (arith, step, same)
 
   -- the queue alone changes
-  goes_on_last : (cost most : ℕ) (u : Kept) → Continues m c cost most u → Continues m c cost most (k_to_tail c u)
+  goes_on_last : (cost most : ℕ) (u : Kept) → Continues m c cost most u
+      → Continues m c cost most (k_to_tail c u)
   goes_on_last cost most u h = record { amid = h.amid; paid = h.paid }
+
+  calm_last : (u : Kept) → Calm c u → Calm c (k_to_tail c u)
+  calm_last u h = record { none = h.none; free = h.free }
 
   tailed : (cost most : ℕ) (u : Kept) → After m c busy cost most before u
       → After m c busy cost most before (k_to_tail c u)
@@ -108,30 +114,36 @@ module _ (m : Setting) (s : IsSetting m) (c : ℕ) (busy : Bool) (before : State
     holds = a.holds;
     ends = λ is. by_way (a.ends is) (λ over. inl over) (λ on. inr (goes_on_last cost most u on));
     starts = λ off more live kind. goes_on_last 1 (bound m.image.parms) u (a.starts off more live kind);
+    settles = record {
+      ended = λ is. calm_last u (a.settles.ended is);
+      calm = λ off.
+          by_way (a.settles.calm off) (λ calm. inl (calm_last u calm))
+          (λ b. inr (record { more = b.more; live = b.live; kind = b.kind }));
+    };
   }
 
   module _ (cost most : ℕ) (cheap : cost ≤ 1)
       (paid : busy ≡ true → left_of m c k + attempt_turns m.image.parms ≤ most) where
     interrupted_by : (live : Bool) → is_live k.state c ≡ live → HoldsOf m busy c k
-        → length before.history ≤ length k.state.history
+        → NoEnd c before.history k.state.history → (busy ≡ false → Calm c k)
         → (k.state.numbers c).attempts ≡ (before.numbers c).attempts
         → After m c busy cost most before (k_interrupting live c k).kept
-    interrupted_by true live h longer same =
+    interrupted_by true live h news calm same =
         let a = own_abort m c busy cost most before m.image.parms.starve k External (next_address k c) live h
-        (λ kind. leads l (well_now live kind)) longer same
+        (λ kind. leads l (well_now live kind)) news calm same
         (λ is goes. let whole = paid is in let step = outside_paid h live is in
         omega (arith, whole, step, cheap)) in
         tailed cost most (k_aborting c External (next_address k c) k) a
-    interrupted_by false live h longer same =
+    interrupted_by false live h news calm same =
         let a = stays m c busy cost most before k h same
-        (λ is. let whole = paid is in omega (arith, whole, cheap)) in
+        (λ is. let whole = paid is in omega (arith, whole, cheap)) news calm in
         tailed cost most k a
 
-    pub own_external : HoldsOf m busy c k → length before.history ≤ length k.state.history
-        → (k.state.numbers c).attempts ≡ (before.numbers c).attempts
+    pub own_external : HoldsOf m busy c k → NoEnd c before.history k.state.history
+        → (busy ≡ false → Calm c k) → (k.state.numbers c).attempts ≡ (before.numbers c).attempts
         → After m c busy cost most before (k_external c k).kept
     unfolding k_external
-    own_external h longer same = interrupted_by (is_live k.state c) refl h longer same
+    own_external h news calm same = interrupted_by (is_live k.state c) refl h news calm same
 
   -- ---- a turn that waits
 
@@ -150,16 +162,19 @@ module _ (m : Setting) (s : IsSetting m) (c : ℕ) (busy : Bool) (before : State
   }
 
   own_wait : (most : ℕ) → nat_lt 0 (k.state.numbers c).delay ≡ true → HoldsOf m busy c k
+      → NoEnd c before.history k.state.history → (busy ≡ false → Calm c k)
       → (k.state.numbers c).attempts ≡ (before.numbers c).attempts
       → (k.standings c).aborts ≤ m.image.parms.stop → (busy ≡ true → left_of m c k ≤ most)
       → After m c busy 1 most before (with_state (waiting_turn c k.state) k)
-  own_wait most waits h same low paid =
+  own_wait most waits h news calm same low paid =
       let u = with_state (waiting_turn c k.state) k in
-      let now = put_here k.state.numbers c (record (k.state.numbers c) { delay = (k.state.numbers c).delay - 1 })
+      let now = put_here k.state.numbers c
+      (record (k.state.numbers c) { delay = (k.state.numbers c).delay - 1 })
       in
       let completed : (u.state.numbers c).completed ≡ (k.state.numbers c).completed =
       ap (λ (v : Numbers). v.completed) now in
-      let delay : (u.state.numbers c).delay ≡ (k.state.numbers c).delay - 1 = ap (λ (v : Numbers). v.delay) now
+      let delay : (u.state.numbers c).delay ≡ (k.state.numbers c).delay - 1 = ap
+      (λ (v : Numbers). v.delay) now
       in
       let some = ltb-true 0 (k.state.numbers c).delay waits in
       stays m c busy 1 most before u (record {
@@ -176,12 +191,18 @@ module _ (m : Setting) (s : IsSetting m) (c : ℕ) (busy : Bool) (before : State
       λ full. let none = queued full in absurd (omega (arith, none, some)) in
       let below : (k.standings c).aborts < m.image.parms.stop = omega (arith, low, apart) in
       let less : n.delay ≡ (u.state.numbers c).delay + 1 = omega (arith, delay, some) in
-      let step = left_waited m.image.parms n.completed n.delay (u.state.numbers c).delay (k.standings c) below less
+      let step = left_waited m.image.parms n.completed n.delay (u.state.numbers c).delay
+      (k.standings c) below less
       in
-      let here : left_of m c u ≡ left_now m.image.parms n.completed (u.state.numbers c).delay (k.standings c) =
+      let here : left_of m c u ≡ left_now m.image.parms n.completed (u.state.numbers c).delay
+      (k.standings c) =
       ap (λ x. left_now m.image.parms x (u.state.numbers c).delay (k.standings c)) completed in
       let whole = paid is in
       omega (arith, step, here, whole))
+      (same_news refl news)
+      (λ off.
+      let before_it = calm off in
+      record { none = before_it.none; free = λ live. before_it.free (sym (ap lives completed) ∙ live) })
 
   -- ---- what is left to do, and the next instruction
 
@@ -229,7 +250,8 @@ module _ (m : Setting) (s : IsSetting m) (c : ℕ) (busy : Bool) (before : State
           (sym (goes_now m s k t c a.begin a.is a.goes) ∙ fate_at_rest m s k t c (Goes i ranges) quiet h) in
           subst (λ (x : Instr). (entry_at x.op.number).demand ≡ BeginConstrained) same a.is;
       inside = λ live. known_inside i ranges live h;
-      at_start = λ quiet is. goes_at_start m s k t c i ranges is (fate_at_rest m s k t c (Goes i ranges) quiet h);
+      at_start = λ quiet is. goes_at_start m s k t c i ranges is
+          (fate_at_rest m s k t c (Goes i ranges) quiet h);
     }
 
     -- the begin of the transaction asks for no line
@@ -273,19 +295,20 @@ module _ (m : Setting) (s : IsSetting m) (c : ℕ) (busy : Bool) (before : State
         let quick = ends_live (kept_flat m k) c l w followed h in
         let live : is_live k.state c ≡ true = live_is m k t c ∙ quick in
         own_abort m c busy 1 most before m.image.parms.starve k w (next_address k c) live own.holds
-        (λ kind. leads l (well_now live kind)) own.longer own.started
+        (λ kind. leads l (well_now live kind)) own.news own.calm own.started
         (λ is goes. absurd (true≢false (sym (ends_the_transaction (kept_flat m k) c l w followed
         ((kept_is m s k t).prefixes c) (kind_now is quick) h) ∙ goes)))
     attempts (Stops e) pending waiting h =
         let quiet = stops_quiet (kept_flat m k) c l e followed h in
         let h2 = own.holds in
-        plain m c busy 1 most before (k_attempting m c k (Stops e)).kept (λ is. not_amid is (Stops e) quiet h tt)
+        plain m c busy 1 most before (k_attempting m c k (Stops e)).kept
+        (λ is. not_amid is (Stops e) quiet h tt)
         (record {
           parms = h2.parms;
           rests = h2.rests;
           fewer = h2.fewer;
           amid = λ is. absurd (true≢false (sym is));
-        }) own.started
+        }) own.started (λ off. let calm = own.calm off in record { none = calm.none; free = calm.free })
 
     none_some : {A B : Type 0} (o : Option A) (b : A) → o ≡ Some b → o ≡ None → B
     none_some o b e n = let x : Some b ≡ None = sym e ∙ n in absurd (cc)
@@ -296,24 +319,26 @@ module _ (m : Setting) (s : IsSetting m) (c : ℕ) (busy : Bool) (before : State
         lines_own m c busy most before l small (never_attempted (λ is. none_some l.pending b e
         (own.holds.amid is).pending)) (block_needs l.attempt.cpu.prefix b) k _ own
         (λ u p. let h = p.holds in
-        plain m c busy 1 most before (k_storing c u) (λ is. none_some l.pending b e (own.holds.amid is).pending)
+        plain m c busy 1 most before (k_storing c u)
+        (λ is. none_some l.pending b e (own.holds.amid is).pending)
         (record {
           parms = h.parms;
           rests = h.rests;
           fewer = h.fewer;
           amid = λ is. absurd (true≢false (sym is));
-        }) p.started)
+        }) p.started (λ off. let calm = p.calm off in record { none = calm.none; free = calm.free }))
     acts None (Some v) e f =
         lines_own m c busy most before l small (never_attempted (λ is. none_some l.waiting v f
         (own.holds.amid is).waiting)) (interruption_needs l.attempt.cpu.prefix v) k _ own
         (λ u p. let h = p.holds in
-        plain m c busy 1 most before (k_taking c u) (λ is. none_some l.waiting v f (own.holds.amid is).waiting)
+        plain m c busy 1 most before (k_taking c u)
+        (λ is. none_some l.waiting v f (own.holds.amid is).waiting)
         (record {
           parms = h.parms;
           rests = h.rests;
           fewer = h.fewer;
           amid = λ is. absurd (true≢false (sym is));
-        }) p.started)
+        }) p.started (λ off. let calm = p.calm off in record { none = calm.none; free = calm.free }))
     acts None None e f = attempts (fate_by_progress (text_of m) k.storage l.attempt) e f refl
 
   -- ---- the turn
@@ -321,32 +346,35 @@ module _ (m : Setting) (s : IsSetting m) (c : ℕ) (busy : Bool) (before : State
   module _ (some : 0 < m.image.parms.starve) (small : m.image.parms.starve ≤ 2 ^ 32 - 1)
       (stop : 0 < m.image.parms.stop) (low : (k.standings c).aborts ≤ m.image.parms.stop)
       (first : (k.standings c).aborts ≡ m.image.parms.stop → is_head k.state c ≡ true) where
-    own_now : (most : ℕ) → HoldsOf m busy c k → length before.history ≤ length k.state.history
-        → (k.state.numbers c).attempts ≡ (before.numbers c).attempts → nat_lt 0 (k.state.numbers c).delay ≡ false
+    own_now : (most : ℕ) → HoldsOf m busy c k → NoEnd c before.history k.state.history
+        → (busy ≡ false → Calm c k) → (k.state.numbers c).attempts ≡ (before.numbers c).attempts
+        → nat_lt 0 (k.state.numbers c).delay ≡ false
         → (busy ≡ true → left_of m c k ≤ most) → Own m c busy most before l k
-    own_now most h longer same off paid = record {
+    own_now most h news calm same off paid = record {
       holds = h;
       well = well_now;
-      longer = longer;
+      news = news;
+      calm = calm;
       started = same;
       rests = let low = ltb-false 0 (k.state.numbers c).delay off in omega (arith, low);
       local = refl;
       live = live_is m k t c;
       counted = (t.each c).count;
-      first = λ full. first (let e : (k.standings c).aborts ≡ m.image.parms.stop = omega (arith, full, low) in e);
+      first = λ full. first (let e : (k.standings c).aborts
+          ≡ m.image.parms.stop = omega (arith, full, low) in e);
       paid = paid;
     }
 
     pub own_ruled : (tick waits : Bool) (most : ℕ) → nat_lt 0 (k.state.numbers c).delay ≡ waits
-        → HoldsOf m busy c k → length before.history ≤ length k.state.history
+        → HoldsOf m busy c k → NoEnd c before.history k.state.history → (busy ≡ false → Calm c k)
         → (k.state.numbers c).attempts ≡ (before.numbers c).attempts
         → (busy ≡ true → left_of m c k + extra tick (attempt_turns m.image.parms) ≤ most)
         → After m c busy 1 most before (k_by_rules tick waits m c k).kept
-    own_ruled true waits most e h longer same paid =
-        own_external 1 most (omega arith) paid h longer same
-    own_ruled false true most e h longer same paid =
-        own_wait most e h same low (λ is. let whole = paid is in omega (arith, whole))
-    own_ruled false false most e h longer same paid =
+    own_ruled true waits most e h news calm same paid =
+        own_external 1 most (omega arith) paid h news calm same
+    own_ruled false true most e h news calm same paid =
+        own_wait most e h news calm same low (λ is. let whole = paid is in omega (arith, whole))
+    own_ruled false false most e h news calm same paid =
         acts most
-        (own_now most h longer same e (λ is. let whole = paid is in omega (arith, whole))) some small stop
+        (own_now most h news calm same e (λ is. let whole = paid is in omega (arith, whole))) some small stop
         l.pending l.waiting refl refl

@@ -1,9 +1,11 @@
 -- A CPU's own turn, and an interruption of it, in the middle of a constrained transaction or outside one.
-use Rattle.std.proofs.Common.{◌≡◌, ◌≢◌, ℕ, ◌+◌, ◌<◌, ◌≤◌, Bool, true, false, List, [], ◌∷◌, ◌++◌, length, drop}
-use Rattle.std.proofs.Common.{Option, Some, None, refl, sym, ap, ◌∙◌, subst, arith, inl, inr, length-append}
+use Rattle.std.proofs.Common.{◌≡◌, ◌≢◌, ℕ, ◌+◌, ◌<◌, ◌≤◌, Bool, true, false, List, [], ◌∷◌, ◌++◌, length}
+use Rattle.std.proofs.Common.{drop}
+use Rattle.std.proofs.Common.{Option, Some, None, refl, sym, ap, ◌∙◌, subst, arith, inl, inr}
 use Rattle.std.specs.Prelude.{◌⊎◌, if◌then◌else◌, nat_lt, min, ◌-◌, ◌^◌, ◌&&◌, ◌||◌, ◌==◌}
 use Rattle.std.specs.List.{list_any}
-use Rattle.std.proofs.lemmas.Bool.{true≢false, ltb-true, or_left, or_right, eq-eqb, and_from, eqb-false, cases_lt}
+use Rattle.std.proofs.lemmas.Bool.{true≢false, ltb-true, or_left, or_right, eq-eqb, and_from, eqb-false}
+use Rattle.std.proofs.lemmas.Bool.{cases_lt, cases_Bool}
 use borrow.Enum.Arm.{by_way}
 use Rattle.std.proofs.lemmas.List.{drop-append-le}
 use Rattle.std.proofs.lemmas.List.Folds.{list_any-append}
@@ -23,15 +25,20 @@ use Rattle.tx_meaning.specs.Limits.{Setting}
 use Rattle.tx_meaning.specs.State.{Numbers, State, is_live, is_head}
 use Rattle.tx_meaning.specs.Stretches.{is_end_by, is_end_of, ends_transaction, left_by, bound}
 use Rattle.tx_meaning.specs.Changes.{with_numbers, without_attempt, aborting, on_rung}
-use Rattle.tx_meaning.proofs.Walk.{at_put_kept, cause_case, conflict_on}
+use Rattle.tx_meaning.proofs.Walk.{at_put_kept, conflict_on}
 use Rattle.tx_keeping.specs.Kept.{Kept, with_state}
 use Rattle.tx_keeping.specs.Moves.{k_aborting, k_rejected, k_rejecting, standing_after}
 use Rattle.tx_keeping.specs.Asking.{k_get_lines}
-use Rattle.tx_keeping.specs.Turn.{KTurned, k_ends_by, next_address, k_refused_turn, k_once_given, k_with_lines}
+use Rattle.tx_keeping.specs.Turn.{KTurned, k_ends_by, next_address, k_refused_turn, k_once_given}
+use Rattle.tx_keeping.specs.Turn.{k_with_lines}
 use Rattle.tx_bounds.proofs.Resuming.{Resumes, Leads, leads}
 use Rattle.tx_bounds.proofs.UnderWay.{HoldsOf, HoldsOfBelow, AmidOf, lives, holds_less}
 use Rattle.tx_bounds.proofs.UnderWay.{put_here, amid_same}
-use Rattle.tx_bounds.proofs.OtherTurns.{put_other, aborted_attempts, same_left, conflict_left}
+use Rattle.tx_bounds.proofs.News.{NoEnd, Calm, Settles, settles_on, settles_calm, same_news, abort_news}
+use Rattle.tx_bounds.proofs.News.{grown}
+use Rattle.tx_bounds.proofs.News.{aborted_history}
+use Rattle.tx_bounds.proofs.OtherTurns.{put_other, aborted_attempts, same_left, conflict_left, same_calm}
+use Rattle.tx_bounds.proofs.OtherTurns.{goes_on_behind, aborted_calm, ended_calm}
 use Rattle.tx_bounds.proofs.OtherTurns.{aborted_quiet, aborted_holds, SameAt, same_parts}
 use Rattle.tx_bounds.proofs.OtherTurns.{same_holds, aborted_elsewhere}
 use Rattle.tx_bounds.proofs.Paid.{left_of, left_now, left_refused, live_left}
@@ -50,37 +57,35 @@ ends_last c h t e le is =
     (or_left (is_end_of c e) false is)
 
 -- the head of the queue stays where others join it
-rung_first : (i : ℕ) (next : Next) (s : State) (c : ℕ) → is_head s c ≡ true → is_head (on_rung i next s) c ≡ true
+rung_first : (i : ℕ) (next : Next) (s : State) (c : ℕ) → is_head s c ≡ true
+    → is_head (on_rung i next s) c ≡ true
 rung_first i Plain s c h = h
 rung_first i (Delay turns) s c h = h
 rung_first i Queue s c h = first_joined s.queue i c h
-
-aborted_history : (i : ℕ) (st : Standing) (n : ℕ) (w : Why) (s : State)
-    → (aborting i st n w s).history ≡ s.history ++ Abort i n w ∷ []
-unfolding aborting
-aborted_history i st n w s =
-    ap (λ h. h ++ Abort i n w ∷ [])
-    (cause_case (λ r. r.history ≡ s.history) i st w (without_attempt i s) refl (λ d. refl) refl refl)
 
 -- a transaction is under way, and with what its turn costs no more is left to it than this
 pub record Continues (m : Setting) (c cost most : ℕ) (t : Kept) : Type 0 where
   pub amid : AmidOf m c t
   pub paid : left_of m c t + cost ≤ most
 
--- what an event leaves of the CPU: where a transaction was under way, it has ended or goes on; where none was, one
--- is under way once a constrained attempt has started
-pub record After (m : Setting) (c : ℕ) (busy : Bool) (cost most : ℕ) (before : State) (t : Kept) : Type 0 where
+-- what an event leaves of the CPU: where a transaction was under way, it has ended or goes on; where none
+-- was, one is under way once a constrained attempt has started
+pub record After (m : Setting) (c : ℕ) (busy : Bool) (cost most : ℕ) (before : State)
+    (t : Kept) : Type 0 where
   pub holds : HoldsOf m false c t
   pub ends : busy ≡ true → (ends_transaction before t.state c ≡ true) ⊎ Continues m c cost most t
   pub starts : busy ≡ false → nat_lt (before.numbers c).attempts (t.state.numbers c).attempts ≡ true
       → is_live t.state c ≡ true → (t.standings c).constrained ≡ true
       → Continues m c 1 (bound m.image.parms) t
+  pub settles : Settles c busy before t
 
 -- in the turn, while the CPU asks
-pub record Own (m : Setting) (c : ℕ) (busy : Bool) (most : ℕ) (before : State) (l : Local) (u : Kept) : Type 0 where
+pub record Own (m : Setting) (c : ℕ) (busy : Bool) (most : ℕ) (before : State) (l : Local)
+    (u : Kept) : Type 0 where
   pub holds : HoldsOf m busy c u
   pub well : is_live u.state c ≡ true → (u.standings c).constrained ≡ true → Resumes (u.locals c)
-  pub longer : length before.history ≤ length u.state.history
+  pub news : NoEnd c before.history u.state.history
+  pub calm : busy ≡ false → Calm c u
   pub started : (u.state.numbers c).attempts ≡ (before.numbers c).attempts
   pub rests : (u.state.numbers c).delay ≡ 0
   pub local : u.locals c ≡ l
@@ -105,28 +110,36 @@ pub record Attempted (busy : Bool) (l : Local) : Type 0 where
 module _ (m : Setting) (c : ℕ) (busy : Bool) (cost most : ℕ) (before : State) where
   pub stays : (t : Kept) → HoldsOf m busy c t
       → (t.state.numbers c).attempts ≡ (before.numbers c).attempts
-      → (busy ≡ true → left_of m c t + cost ≤ most) → After m c busy cost most before t
-  stays t h same paid = record {
-    holds = holds_less m busy (t.state.numbers c).completed (t.state.numbers c).delay (t.standings c) (t.locals c)
+      → (busy ≡ true → left_of m c t + cost ≤ most) → NoEnd c before.history t.state.history
+      → (busy ≡ false → Calm c t) → After m c busy cost most before t
+  stays t h same paid news calm = record {
+    holds = holds_less m busy (t.state.numbers c).completed (t.state.numbers c).delay (t.standings c)
+        (t.locals c)
         h;
     ends = λ is. inr (record { amid = h.amid is; paid = paid is });
     starts = λ is more. not_more (before.numbers c).attempts (t.state.numbers c).attempts same more;
+    settles = settles_on c busy before t news calm;
   }
 
   pub plain : (t : Kept) → (busy ≡ true → ⊥) → HoldsOf m false c t
-      → (t.state.numbers c).attempts ≡ (before.numbers c).attempts → After m c busy cost most before t
-  plain t never h same = record {
+      → (t.state.numbers c).attempts ≡ (before.numbers c).attempts → (busy ≡ false → Calm c t)
+      → After m c busy cost most before t
+  plain t never h same calm = record {
     holds = h;
     ends = λ is. absurd (never is);
     starts = λ is more. not_more (before.numbers c).attempts (t.state.numbers c).attempts same more;
+    settles = settles_calm c busy before t
+        (by_way (cases_Bool busy) (λ is. absurd (never is)) (λ off. calm off));
   }
 
   pub over : (t : Kept) → ends_transaction before t.state c ≡ true → HoldsOf m false c t
-      → (t.state.numbers c).attempts ≡ (before.numbers c).attempts → After m c busy cost most before t
-  over t ends h same = record {
+      → (t.state.numbers c).attempts ≡ (before.numbers c).attempts → Calm c t
+      → After m c busy cost most before t
+  over t ends h same calm = record {
     holds = h;
     ends = λ is. inl ends;
     starts = λ is more. not_more (before.numbers c).attempts (t.state.numbers c).attempts same more;
+    settles = settles_calm c busy before t calm;
   }
 
   -- ---- the CPU's attempt is aborted
@@ -141,29 +154,37 @@ module _ (m : Setting) (c : ℕ) (busy : Bool) (cost most : ℕ) (before : State
       ∙ ends_last c before.history u.state.history (Abort c n w) longer
       (and_from (c == c) (is_end_by w) (eq-eqb c c refl) is)
 
+  -- the attempt that ends was constrained, or no conflict abort is counted
+  pub known_kind : (u : Kept) → (busy ≡ true → (u.standings c).constrained ≡ true) → (busy ≡ false → Calm c u)
+      → ((u.standings c).constrained ≡ true) ⊎ ((u.standings c).aborts ≡ 0)
+  known_kind u kind calm = by_way (cases_Bool busy) (λ is. inl (kind is)) (λ off. inr (calm off).none)
+
   own_abort_by : (fewest : ℕ) (u : Kept) (w : Why) (at : ℕ) (ends : Bool) → is_end_by w ≡ ends
       → is_live u.state c ≡ true → HoldsOfBelow m fewest busy c u
       → ((u.standings c).constrained ≡ true → Leads (u.locals c))
-      → length before.history ≤ length u.state.history
+      → NoEnd c before.history u.state.history → (busy ≡ false → Calm c u)
       → (u.state.numbers c).attempts ≡ (before.numbers c).attempts
       → (busy ≡ true → is_end_by w ≡ false → left_of m c (k_aborting c w at u) + cost ≤ most)
       → After m c busy cost most before (k_aborting c w at u)
-  own_abort_by fewest u w at true e live h well longer same paid =
-      over (k_aborting c w at u) (ends_by_abort u w at longer e) (aborted_quiet m c u w at fewest busy h)
+  own_abort_by fewest u w at true e live h well news calm same paid =
+      over (k_aborting c w at u) (ends_by_abort u w at (grown news) e)
+      (aborted_quiet m c u w at fewest busy h)
       (aborted_attempts m c u w at ∙ same)
-  own_abort_by fewest u w at false e live h well longer same paid =
+      (ended_calm m c u w at e (known_kind u (λ is. (h.amid is).kind live) calm))
+  own_abort_by fewest u w at false e live h well news calm same paid =
       stays (k_aborting c w at u) (aborted_holds m c u w at fewest busy e live well h)
-      (aborted_attempts m c u w at ∙ same) (λ is. paid is e)
+      (aborted_attempts m c u w at ∙ same) (λ is. paid is e) (abort_news c w at u e news)
+      (λ off. aborted_calm m c u w at live (calm off))
 
   pub own_abort : (fewest : ℕ) (u : Kept) (w : Why) (at : ℕ) → is_live u.state c ≡ true
       → HoldsOfBelow m fewest busy c u
       → ((u.standings c).constrained ≡ true → Leads (u.locals c))
-      → length before.history ≤ length u.state.history
+      → NoEnd c before.history u.state.history → (busy ≡ false → Calm c u)
       → (u.state.numbers c).attempts ≡ (before.numbers c).attempts
       → (busy ≡ true → is_end_by w ≡ false → left_of m c (k_aborting c w at u) + cost ≤ most)
       → After m c busy cost most before (k_aborting c w at u)
-  own_abort fewest u w at live h well longer same paid =
-      own_abort_by fewest u w at (is_end_by w) refl live h well longer same paid
+  own_abort fewest u w at live h well news calm same paid =
+      own_abort_by fewest u w at (is_end_by w) refl live h well news calm same paid
 
 -- ---- questions
 
@@ -175,14 +196,18 @@ module _ (m : Setting) (c : ℕ) (busy : Bool) (most : ℕ) (before : State) whe
     abbrev F : Kept → Type 0
     F = After m c busy 1 most before
 
-    pub own_same : (u t : Kept) → SameAt c u t → length u.state.history ≤ length t.state.history
+    abbrev News : State → Type 0
+    News s = NoEnd c before.history s.history
+
+    pub own_same : (u t : Kept) → SameAt c u t → (News u.state → News t.state)
         → (is_head u.state c ≡ true → is_head t.state c ≡ true) → P u → P t
-    own_same u t s longer first p = record {
-      holds = same_holds m busy c (before.numbers c).attempts most u t s p.holds;
+    own_same u t s news first p = record {
+      holds = same_holds m busy c before most u t s p.holds;
       well = λ live kind.
           subst Resumes (sym s.local)
           (p.well (sym (ap lives s.completed) ∙ live) (sym s.standing.constrained ∙ kind));
-      longer = let first = p.longer in omega (arith, first, longer);
+      news = news p.news;
+      calm = λ off. same_calm c u t s (p.calm off);
       started = s.started ∙ p.started;
       rests = s.delay ∙ p.rests;
       local = s.local ∙ p.local;
@@ -193,10 +218,10 @@ module _ (m : Setting) (c : ℕ) (busy : Bool) (most : ℕ) (before : State) whe
     }
 
     pub own_parts : (u t : Kept) → t.state.numbers c ≡ u.state.numbers c → t.standings c ≡ u.standings c
-        → t.locals c ≡ u.locals c → length u.state.history ≤ length t.state.history
+        → t.locals c ≡ u.locals c → (News u.state → News t.state)
         → (is_head u.state c ≡ true → is_head t.state c ≡ true) → P u → P t
-    own_parts u t numbers standing local longer first p =
-        own_same u t (same_parts c u t numbers standing local) longer first p
+    own_parts u t numbers standing local news first p =
+        own_same u t (same_parts c u t numbers standing local) news first p
 
     pub own_number : (u : Kept) (v : Numbers) → v.completed ≡ (u.state.numbers c).completed
         → v.delay ≡ (u.state.numbers c).delay → v.attempts ≡ (u.state.numbers c).attempts → P u
@@ -209,7 +234,7 @@ module _ (m : Setting) (c : ℕ) (busy : Bool) (most : ℕ) (before : State) whe
           started = ap (λ (n : Numbers). n.attempts) now ∙ started;
           standing = record { parms = refl; aborts = refl; constrained = refl; refused = refl };
           local = refl;
-        }) (omega arith) (λ h. h) p
+        }) (λ n. same_news refl n) (λ h. h) p
 
     first_behind : (j line : ℕ) (stored : Bool) (at : ℕ) (u : Kept) → is_head u.state c ≡ true
         → is_head (k_aborting j (conflict_on stored line) at u).state c ≡ true
@@ -219,25 +244,17 @@ module _ (m : Setting) (c : ℕ) (busy : Bool) (most : ℕ) (before : State) whe
     first_behind j line false at u h =
         rung_first j (next_rung (u.standings j)) (without_attempt j u.state) c h
 
-    longer_behind : (j : ℕ) (w : Why) (at : ℕ) (u : Kept)
-        → length u.state.history ≤ length (k_aborting j w at u).state.history
-    unfolding k_aborting
-    longer_behind j w at u =
-        let n = (u.locals j).attempt.count in
-        let h = u.state.history in
-        subst (λ x. length h ≤ length x) (sym (aborted_history j (u.standings j) n w u.state))
-        (let e = length-append h (Abort j n w ∷ []) in omega (arith, e))
-
     holder_rejects : (u : Kept) (j : ℕ) → j ≢ c → P u → P (k_rejecting j u)
     holder_rejects u j ne p =
         let other : c ≢ j = λ e. ne (sym e) in
-        own_parts u (k_rejecting j u) (put_other u.state.numbers j _ c other) (put_other u.standings j _ c other)
-        refl (omega arith) (λ h. h) p
+        own_parts u (k_rejecting j u) (put_other u.state.numbers j _ c other)
+        (put_other u.standings j _ c other)
+        refl (λ n. same_news refl n) (λ h. h) p
 
     own_asks : Asks c P (Rejected m c busy most before l)
     own_asks = record {
       asks = λ u p. own_number u _ refl refl refl p;
-      holds = λ u held p. own_parts u _ refl refl refl (omega arith) (λ h. h) p;
+      holds = λ u held p. own_parts u _ refl refl refl (λ n. same_news refl n) (λ h. h) p;
       rejects = λ u j ne live head p. record {
         mid = k_rejecting j u;
         own = holder_rejects u j ne p;
@@ -245,8 +262,8 @@ module _ (m : Setting) (c : ℕ) (busy : Bool) (most : ℕ) (before : State) whe
         is = refl;
       };
       aborts = λ u j line stored at ne live p.
-          own_same u _ (aborted_elsewhere m busy c 0 0 j (λ e. ne (sym e)) j _ at u (λ e. ne (sym e)))
-          (longer_behind j _ at u) (first_behind j line stored at u) p;
+          own_same u _ (aborted_elsewhere m busy c before 0 j (λ e. ne (sym e)) j _ at u (λ e. ne (sym e)))
+          (abort_news j _ at u (goes_on_behind stored line)) (first_behind j line stored at u) p;
     }
 
     -- ---- a reject
@@ -264,7 +281,8 @@ module _ (m : Setting) (c : ℕ) (busy : Bool) (most : ℕ) (before : State) whe
     rejected_kept f u false same = refl
 
     rejected_standing : {B : Type 0} (f : Standing → B) (u : Kept)
-        → f (rejected (u.standings c)) ≡ f (u.standings c) → f ((k_rejected c u).standings c) ≡ f (u.standings c)
+        → f (rejected (u.standings c)) ≡ f (u.standings c)
+        → f ((k_rejected c u).standings c) ≡ f (u.standings c)
     rejected_standing f u same =
         ap f (put_here u.standings c _) ∙ rejected_kept f u (is_live u.state c) same
 
@@ -309,7 +327,8 @@ module _ (m : Setting) (c : ℕ) (busy : Bool) (most : ℕ) (before : State) whe
     starves : (u : Kept) → P u → HoldsOfBelow m (m.image.parms.starve + 1) busy c (k_rejected c u)
     starves u p =
         rejected_holds (m.image.parms.starve + 1) u p
-        (λ live kind. one_more (u.standings c).requests_rejected m.image.parms.starve (p.holds.fewer live kind))
+        (λ live kind. one_more (u.standings c).requests_rejected m.image.parms.starve
+        (p.holds.fewer live kind))
 
     not_starved : (r starve : ℕ) (b : Bool) → b ≡ true → (b && (r == starve)) ≡ false → r < starve + 1
         → r < starve
@@ -327,9 +346,11 @@ module _ (m : Setting) (c : ℕ) (busy : Bool) (most : ℕ) (before : State) whe
           parms = h.parms;
           rests = h.rests;
           fewer = λ live kind.
-              not_starved (t.standings c).requests_rejected m.image.parms.starve (t.standings c).constrained kind
+              not_starved (t.standings c).requests_rejected m.image.parms.starve
+              (t.standings c).constrained kind
               (sym (ap (λ b. b && is_starved (t.standings c)) live
-              ∙ ap (λ p. (t.standings c).constrained && ((t.standings c).requests_rejected == p.starve)) h.parms)
+              ∙ ap (λ p. (t.standings c).constrained && ((t.standings c).requests_rejected == p.starve))
+              h.parms)
               ∙ fine)
               (h.fewer live kind);
           amid = h.amid;
@@ -340,6 +361,16 @@ module _ (m : Setting) (c : ℕ) (busy : Bool) (most : ℕ) (before : State) whe
     rejected_leads u p live kind =
         leads (u.locals c) (p.well (sym (live_there u) ∙ live)
         (sym (rejected_standing (λ (s : Standing). s.constrained) u refl) ∙ kind))
+
+    rejected_calm : (u : Kept) → P u → busy ≡ false → Calm c (k_rejected c u)
+    rejected_calm u p off =
+        let calm = p.calm off in
+        record {
+          none = rejected_standing (λ (s : Standing). s.aborts) u refl ∙ calm.none;
+          free = λ live.
+              rejected_standing (λ (s : Standing). s.constrained) u refl
+              ∙ calm.free (sym (live_there u) ∙ live);
+        }
 
     -- ---- what is left behind a reject
 
@@ -372,7 +403,8 @@ module _ (m : Setting) (c : ℕ) (busy : Bool) (most : ℕ) (before : State) whe
           let delay = rejected_number (λ (v : Numbers). v.delay) u (λ v a b. refl) in
           let aborts = rejected_standing (λ (s : Standing). s.aborts) u refl in
           let refused : (t.standings c).requests_rejected ≡ (u.standings c).requests_rejected + 1 =
-          refused_now u live ∙ one_refused (u.standings c).requests_rejected m.image.parms.starve fewer small in
+          refused_now u live ∙ one_refused (u.standings c).requests_rejected m.image.parms.starve fewer small
+          in
           let same : left_of m c t ≡ left_now m.image.parms n d (t.standings c) =
           (λ k. left_now m.image.parms (completed k) (delay k) (t.standings c)) in
           let step = left_refused m.image.parms n d (u.standings c) (t.standings c) live (few_now u p is)
@@ -388,7 +420,8 @@ module _ (m : Setting) (c : ℕ) (busy : Bool) (most : ℕ) (before : State) whe
           let kind = (p.holds.amid is).kind live in
           let n = (u.state.numbers c).completed in
           let st = u.standings c in
-          let aborts : (t.standings c).aborts ≡ st.aborts = rejected_standing (λ (s : Standing). s.aborts) u refl in
+          let aborts : (t.standings c).aborts ≡ st.aborts = rejected_standing
+          (λ (s : Standing). s.aborts) u refl in
           let kept : (t.standings c).constrained ≡ true =
           rejected_standing (λ (s : Standing). s.constrained) u refl ∙ kind in
           let none : (t.state.numbers c).delay ≡ 0 =
@@ -413,24 +446,25 @@ module _ (m : Setting) (c : ℕ) (busy : Bool) (most : ℕ) (before : State) whe
       turned_by u r true true p other live starved =
           let t = k_rejected c u in
           own_abort m c busy 1 most before (m.image.parms.starve + 1) t Starved (next_address t c) live
-          (starves u p) (rejected_leads u p live) p.longer
+          (starves u p) (rejected_leads u p live) (same_news refl p.news) (rejected_calm u p)
           (rejected_number (λ (v : Numbers). v.attempts) u (λ v a b. refl) ∙ p.started)
           (λ is goes. starved_paid u (next_address t c) p other is)
       turned_by u r false starved p other live e =
           stays m c busy 1 most before (k_rejected c u)
           (survives u p (ap (λ b. b && is_starved ((k_rejected c u).standings c)) live))
           (rejected_number (λ (v : Numbers). v.attempts) u (λ v a b. refl) ∙ p.started)
-          (rejected_paid u p other)
+          (rejected_paid u p other) (same_news refl p.news) (rejected_calm u p)
       turned_by u r true false p other live e =
           stays m c busy 1 most before (k_rejected c u)
           (survives u p (ap (λ b. b && is_starved ((k_rejected c u).standings c)) live ∙ e))
           (rejected_number (λ (v : Numbers). v.attempts) u (λ v a b. refl) ∙ p.started)
-          (rejected_paid u p other)
+          (rejected_paid u p other) (same_news refl p.news) (rejected_calm u p)
 
       turned_away : (u : Kept) (r : Reject) → Rejected m c busy most before l u
           → F (k_refused_turn (is_live u.state c && is_starved (u.standings c)) c r u).kept
       turned_away u r q =
-          subst (λ x. F (k_refused_turn (is_live x.state c && is_starved (x.standings c)) c r x).kept) (sym q.is)
+          subst (λ x. F (k_refused_turn (is_live x.state c
+          && is_starved (x.standings c)) c r x).kept) (sym q.is)
           (turned_by q.mid r (is_live (k_rejected c q.mid).state c)
           (is_starved ((k_rejected c q.mid).standings c)) q.own q.other refl refl)
 

@@ -1,4 +1,5 @@
--- What the retry ladder leaves to a CPU, by what is kept of it, and what each thing that happens makes of that.
+-- What the retry ladder leaves to a CPU, by what is kept of it, and what each thing that happens makes of
+-- that.
 use Rattle.std.proofs.Common.{◌≡◌, ℕ, zero, suc, ◌+◌, ◌<◌, ◌≤◌, Bool, true, false}
 use Rattle.std.proofs.Common.{refl, sym, ap, ◌∙◌, subst, arith}
 use Rattle.std.specs.Prelude.{if◌then◌else◌}
@@ -65,7 +66,8 @@ module _ (parms : Parameters) where
   -- however many conflict aborts there have been, the first instruction leaves less than the bound
   less_behind : (a k : ℕ) → a + k < parms.stop → later_rungs parms (a + k) ≤ later_rungs parms a
   less_behind a zero less =
-      subst (λ x. later_rungs parms x ≤ later_rungs parms a) (let e : a ≡ a + 0 = omega arith in e) (omega arith)
+      subst (λ x. later_rungs parms x ≤ later_rungs parms a) (let e : a
+      ≡ a + 0 = omega arith in e) (omega arith)
   less_behind a (suc k) less =
       let under : a + k < parms.stop = omega arith in
       let here : (a + k) + 1 < parms.stop = omega arith in

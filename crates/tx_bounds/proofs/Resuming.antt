@@ -1,4 +1,5 @@
--- An attempt of a constrained transaction that is aborted leaves its CPU at the begin, and nothing to be done.
+-- An attempt of a constrained transaction that is aborted leaves its CPU at the begin, and nothing to be
+-- done.
 use Rattle.std.proofs.Common.{◌≡◌, ℕ, zero, suc, ◌+◌, ◌-◌, Bool, true, false, List, [], ◌∷◌, ◌++◌}
 use Rattle.std.proofs.Common.{Option, Some, None, refl, sym, ap, ◌∙◌, length, take}
 use Rattle.std.specs.Prelude.{◌&&◌, cond, if◌then◌else◌}

@@ -1,6 +1,8 @@
--- A constrained attempt has room in its footprint: its operands lie in few octowords, so in few lines and blocks.
+-- A constrained attempt has room in its footprint: its operands lie in few octowords, so in few lines and
+-- blocks.
 use Rattle.std.proofs.Common.{◌≡◌, ◌≢◌, ℕ, zero, suc, ◌+◌, ◌*◌, ◌/◌, ◌≤◌, Bool, true, false, eqb}
-use Rattle.std.proofs.Common.{List, [], ◌∷◌, ◌++◌, length, map, Option, Some, None, refl, sym, ap, ◌∙◌, subst, arith}
+use Rattle.std.proofs.Common.{List, [], ◌∷◌, ◌++◌, length, map, Option, Some, None, refl, sym, ap, ◌∙◌, subst}
+use Rattle.std.proofs.Common.{arith}
 use Rattle.std.specs.Prelude.{◌||◌, ◌&&◌, not, ◌==◌, nat_eq, nat_lt, if◌then◌else◌, Ok, Err}
 use Rattle.std.specs.List.{list_any, flat_map, fold, range_with_len}
 use Rattle.std.proofs.lemmas.Bool.{true≢false, or_left, or_right, or_cases, eqb-true, ltb-false, le-ltb}
@@ -161,7 +163,8 @@ module _ (prefix : Option ℕ) (ok : is_prefix prefix ≡ true) (size : ℕ) (wh
   ranges_there place (r ∷ rs) small =
       list_any-append (lies place) (from_up r.first r.length) (addresses_in rs)
       ∙ (λ k. range_there (λ b. b / size == place) prefix r ok small.0 k || ranges_there place rs small.1 k)
-      ∙ sym (list_any-append (λ q. list_any (λ b. b / size == place) (addresses_of q)) (absolute_range prefix r)
+      ∙ sym (list_any-append (λ q. list_any (λ b. b / size == place) (addresses_of q))
+      (absolute_range prefix r)
       (absolute_ranges prefix rs))
 
   operands_there : (place : ℕ) (rs : List Range) → AreSmall rs
@@ -247,7 +250,8 @@ tail_lies p [] bare = refl
 tail_lies p (s ∷ ss) bare =
     ap (λ rs. list_any p (addresses_in rs ++ alike.addresses_of ss)) bare
 
-module _ (f : FlatState) (i k : ℕ) (exists : (run f i k).mark ≢ Missing) (ok : is_prefix (f.cpus i).prefix ≡ true)
+module _ (f : FlatState) (i k : ℕ) (exists : (run f i k).mark ≢ Missing) (ok : is_prefix (f.cpus i).prefix
+    ≡ true)
     (size : ℕ) (whole : HoldsOctowords size) where
   abbrev prefix : Option ℕ
   prefix = (f.cpus i).prefix
@@ -256,7 +260,8 @@ module _ (f : FlatState) (i k : ℕ) (exists : (run f i k).mark ≢ Missing) (ok
   behind = (attempt_of (run f i k).steps).steps
 
   run_lies : (place : ℕ) → list_any (λ r. has_place size r place) (run f i k).touched
-      ≡ list_any (holds prefix ok size whole place) (flat_map (pieces 32) (flat_map (λ (s : Step). s.ranges) behind))
+      ≡ list_any (holds prefix ok size whole place)
+      (flat_map (pieces 32) (flat_map (λ (s : Step). s.ranges) behind))
   unfolding has_place lies
   run_lies place =
       sym (run_there (λ b. b / size == place) f i k ok exists)
@@ -283,7 +288,8 @@ module _ (f : FlatState) (i k : ℕ) (exists : (run f i k).mark ≢ Missing) (ok
 
 -- ---- lines and blocks
 
-or_of_lines : (a b c d : Bool) → (((false || a) || b) || ((false || c) || d)) ≡ true → ((a || c) || (b || d)) ≡ true
+or_of_lines : (a b c d : Bool) → (((false || a) || b) || ((false || c) || d)) ≡ true
+    → ((a || c) || (b || d)) ≡ true
 or_of_lines true b c d h = refl
 or_of_lines false b true d h = refl
 or_of_lines false true false d h = refl
@@ -291,9 +297,11 @@ or_of_lines false false false d h = h
 
 sets_lines : (touched new : List Range) (line : ℕ)
     → (let s = touching (touching untouched touched) new in s.fetched line || s.stored line) ≡ true
-    → (list_any (λ r. has_place LINE_SIZE r line) touched || list_any (λ r. has_place LINE_SIZE r line) new) ≡ true
+    → (list_any (λ r. has_place LINE_SIZE r line) touched || list_any (λ r. has_place LINE_SIZE r line) new)
+    ≡ true
 sets_lines touched new line h =
-    (λ k. either_way (λ r. has_place LINE_SIZE r line) touched k || either_way (λ r. has_place LINE_SIZE r line) new k)
+    (λ k. either_way (λ r. has_place LINE_SIZE r line) touched k
+    || either_way (λ r. has_place LINE_SIZE r line) new k)
     ∙ or_of_lines (fetches touched line) (fetches new line) (stores touched line) (stores new line) h
 
 or_of_blocks : (a b c d : Bool) → ((false || a) || b) ≡ true → ((c || a) || (d || b)) ≡ true
@@ -306,7 +314,8 @@ or_of_blocks false false c d h = absurd (true≢false (sym h))
 
 sets_blocks : (touched new : List Range) (block : ℕ)
     → (touching (touching untouched touched) new).blocks block ≡ true
-    → (list_any (λ r. has_place BLOCK_SIZE r block) touched || list_any (λ r. has_place BLOCK_SIZE r block) new)
+    → (list_any (λ r. has_place BLOCK_SIZE r block) touched
+    || list_any (λ r. has_place BLOCK_SIZE r block) new)
     ≡ true
 sets_blocks touched new block h =
     (λ k. either_way (λ r. has_place BLOCK_SIZE r block) touched k
@@ -329,7 +338,8 @@ kept_of : (steps : List Step) (k : Kept) → constraint_of steps ≡ Some k → 
 kept_of [] k e = absurd (cc)
 kept_of (s ∷ ss) k e = by (begins_constrained s.instruction) e
   where
-    by : (b : Bool) → (if b then Some (kept (attempt_of (s ∷ ss))) else None) ≡ Some k → kept (attempt_of (s ∷ ss)) ≡ k
+    by : (b : Bool) → (if b then Some (kept (attempt_of (s ∷ ss))) else None) ≡ Some k
+        → kept (attempt_of (s ∷ ss)) ≡ k
     by true h = cc
     by false h = absurd (cc)
 
@@ -361,7 +371,8 @@ room_by f i k exists ok rs small few =
     let os = with_octowords (kept (attempt_of (run f i k).steps)).octowords rs in
     fits sets
     (few_places prefix ok LINE_SIZE lines_hold LINES (λ line. sets.fetched line || sets.stored line) os few
-    (λ line h. place_found f i k exists ok LINE_SIZE lines_hold line rs small (sets_lines touched new line h)))
+    (λ line h. place_found f i k exists ok LINE_SIZE lines_hold line rs small
+    (sets_lines touched new line h)))
     (few_places prefix ok BLOCK_SIZE blocks_hold BLOCKS sets.blocks os few
     (λ block h. place_found f i k exists ok BLOCK_SIZE blocks_hold block rs small
     (sets_blocks touched new block h)))

@@ -1,5 +1,6 @@
 -- No instruction but a service call, and so no instruction of a transaction, leaves a CPU other than running.
-use Rattle.std.proofs.Common.{◌≡◌, ℕ, ◌<◌, ◌+◌, ◌*◌, ◌^◌, zero, suc, Bool, true, false, List, [], not, take, drop}
+use Rattle.std.proofs.Common.{◌≡◌, ℕ, ◌<◌, ◌+◌, ◌*◌, ◌^◌, zero, suc, Bool, true, false, List, [], not, take}
+use Rattle.std.proofs.Common.{drop}
 use Rattle.std.proofs.Common.{refl, sym, ◌∷◌, Option, Some, None, Result, Ok, Err}
 use Rattle.std.specs.Prelude.{◌&&◌, ◌||◌, nat_le, nat_eq, if◌then◌else◌}
 use Rattle.z_arith.specs.declared.Width.{Width}
@@ -187,7 +188,8 @@ keeps_storage (storage.ByteByByte m) n i c bytes =
     keeps_code m (results count m ahead (take count bytes) (drop count bytes)) c
 keeps_storage (storage.CompareBytes) n i c bytes = λ h. h
 
-keeps_branch : (k : Branch) (n : ℕ) (i : Instr) (c : Cpu) → is_service_branch k ≡ false → Keeps (branch_effect k n i c) c
+keeps_branch : (k : Branch) (n : ℕ) (i : Instr) (c : Cpu) → is_service_branch k ≡ false
+    → Keeps (branch_effect k n i c) c
 unfolding branch_effect
 keeps_branch (branch.OnCondition p) n i c plain =
     keeps_going n (selects i.mask c.condition) (destination p i c) c c (λ h. h)
@@ -223,7 +225,8 @@ keeps_effect (kind.Storage s) n i c depth bytes plain = keeps_storage s n i c by
 keeps_effect (kind.Branch b) n i c depth bytes plain = keeps_branch b n i c plain
 keeps_effect (kind.Transaction t) n i c depth bytes plain = keeps_transaction t n i c depth
 
-pub keeps_running : (i : Instr) (c : Cpu) (depth : ℕ) (bytes : List ℕ) → is_service (kind_at i.op.number) ≡ false
+pub keeps_running : (i : Instr) (c : Cpu) (depth : ℕ) (bytes : List ℕ)
+    → is_service (kind_at i.op.number) ≡ false
     → Stays c (cpu_after c (one i c depth bytes))
 keeps_running i c depth bytes plain =
     keeps_effect (kind_at i.op.number) (length_of i) i c depth bytes plain

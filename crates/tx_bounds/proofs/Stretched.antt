@@ -1,8 +1,10 @@
 -- Over all events: a CPU whose stretch is open is in the middle of a constrained transaction.
-use Rattle.std.proofs.Common.{◌≡◌, ◌≢◌, ℕ, ◌+◌, ◌-◌, ◌*◌, ◌^◌, ◌<◌, ◌≤◌, Bool, true, false, List, [], ◌∷◌, length}
+use Rattle.std.proofs.Common.{◌≡◌, ◌≢◌, ℕ, ◌+◌, ◌-◌, ◌*◌, ◌^◌, ◌<◌, ◌≤◌, Bool, true, false, List, [], ◌∷◌}
+use Rattle.std.proofs.Common.{length}
 use Rattle.std.proofs.Common.{Option, Some, None, refl, sym, ap, ◌∙◌, subst, arith}
 use Rattle.std.specs.Prelude.{if◌then◌else◌, nat_lt, ◌&&◌, is_none}
 use Rattle.std.proofs.lemmas.Bool.{true≢false, cases_eq, cases_lt, and_parts, ltb-true, eq-eqb, ne_eqb}
+use Rattle.std.proofs.lemmas.Bool.{and_from}
 use Rattle.std.proofs.lemmas.List.Elements.{All-head, All-tail}
 use borrow.Enum.Arm.{by_way}
 use Rattle.tx_control.specs.Nesting.{is_constrained}
@@ -25,7 +27,8 @@ use Rattle.tx_meaning.specs.declared.outcome.Outcome.{Outcome}
 use Rattle.tx_meaning.specs.Limits.{Setting}
 use Rattle.tx_meaning.specs.Meaning.{IsSetting, meaning}
 use Rattle.tx_meaning.specs.State.{Numbers, State, beginning, is_live, standing_of, attempt_of, cpus_of}
-use Rattle.tx_meaning.specs.Stretches.{Stretch, closed, opened, extended, stretch_after, stretch_from, stretch_of}
+use Rattle.tx_meaning.specs.Stretches.{Stretch, closed, opened, extended, stretch_after, stretch_from}
+use Rattle.tx_meaning.specs.Stretches.{stretch_of}
 use Rattle.tx_meaning.specs.Stretches.{ends_transaction, starts_attempt, counted, is_counted_turn}
 use Rattle.tx_meaning.specs.Stretches.{is_interrupted_by, left, left_by, attempt_turns, bound}
 use Rattle.tx_meaning.specs.Idle.{is_ready}
@@ -34,7 +37,8 @@ use Rattle.tx_meaning.specs.Changes.{with_event, counting_turn}
 use Rattle.tx_meaning.specs.Turn.{Turned, happen, is_tick}
 use Rattle.tx_keeping.specs.Kept.{Kept, kept_beginning, kept_flat, text_of, with_state}
 use Rattle.tx_keeping.specs.Keeping.{keeping, keeping_from}
-use Rattle.tx_keeping.specs.Turn.{k_happen, k_turn, k_turn_where, k_idle, k_counted_turn, k_by_rules, k_external}
+use Rattle.tx_keeping.specs.Turn.{k_happen, k_turn, k_turn_where, k_idle, k_counted_turn, k_by_rules}
+use Rattle.tx_keeping.specs.Turn.{k_external}
 use Rattle.tx_keeping.specs.Views.{AreKnown}
 use Rattle.tx_keeping.proofs.Truth.{Truth, live_is, flat_is, attempt_is, nest_is, standing_is, cpu_is}
 use Rattle.tx_keeping.proofs.Moves.{IsGood, restated, one_number, same_numbers}
@@ -48,8 +52,10 @@ use Rattle.tx_bounds.proofs.Paid.{left_of}
 use Rattle.tx_bounds.proofs.Potential.{some_left}
 use Rattle.tx_bounds.proofs.Stopped.{Between, turn_begins, happened, between_first, some_stop}
 use Rattle.tx_bounds.proofs.UnderWay.{HoldsOf, AmidOf, lives, put_here, holds_quiet}
-use Rattle.tx_bounds.proofs.OtherTurns.{Kept_at, SameAt, other_turn, interrupted_elsewhere, same_holds, same_left}
-use Rattle.tx_bounds.proofs.OtherTurns.{put_other}
+use Rattle.tx_bounds.proofs.OtherTurns.{Kept_at, SameAt, other_turn, interrupted_elsewhere, same_holds}
+use Rattle.tx_bounds.proofs.OtherTurns.{same_left}
+use Rattle.tx_bounds.proofs.OtherTurns.{put_other, same_calm, interrupted_news}
+use Rattle.tx_bounds.proofs.News.{Calm, Settles, no_news, same_news}
 use Rattle.tx_bounds.proofs.OwnTurns.{After, stays}
 use Rattle.tx_bounds.proofs.OwnEvents.{own_external, own_ruled, extra}
 
@@ -84,11 +90,13 @@ module _ (m : Setting) (s : IsSetting m) (c : ℕ) (busy : Bool) (some : 0 < m.i
       subst (λ x. x ≤ 33) (sym (t.each c).count)
       (keeps_constraints (kept_flat m k) c (k.locals c) (t.each c).followed kind).few
 
-  kept_now : (k : Kept) → Truth m k → HoldsOf m busy c k
+  kept_now : (k : Kept) → Truth m k → HoldsOf m busy c k → (busy ≡ false → Calm c k)
       → (is_live k.state c ≡ true → (k.standings c).aborts < m.image.parms.stop)
-      → Kept_at m busy c (k.state.numbers c).attempts (left_of m c k) k
-  kept_now k t h below = record {
+      → Kept_at m busy c k.state (left_of m c k) k
+  kept_now k t h calm below = record {
     holds = h;
+    news = no_news c k.state.history;
+    calm = calm;
     well = λ live kind.
         leads (k.locals c) (resumes (kept_flat m k) c (k.locals c) (t.each c).followed
         (sym ((t.each c).kind live) ∙ kind));
@@ -111,7 +119,8 @@ module _ (m : Setting) (s : IsSetting m) (c : ℕ) (busy : Bool) (some : 0 < m.i
   begun_same : (k : Kept) → SameAt c k (begun_turn k)
   unfolding begun_turn
   begun_same k =
-      let now = put_here k.state.numbers c (record (k.state.numbers c) { turns = (k.state.numbers c).turns + 1 })
+      let now = put_here k.state.numbers c
+      (record (k.state.numbers c) { turns = (k.state.numbers c).turns + 1 })
       in
       record {
         completed = ap (λ (v : Numbers). v.completed) now;
@@ -124,12 +133,16 @@ module _ (m : Setting) (s : IsSetting m) (c : ℕ) (busy : Bool) (some : 0 < m.i
   abbrev ticks : Kept → Bool
   ticks k = is_tick m.limits ((k.state.numbers c).turns + 1)
 
-  own_where : (o : Option Outcome) (k : Kept) → k_idle m k c ≡ o → Truth m k → Between m k → HoldsOf m busy c k
-      → After m c busy (counted (is_none o)) (left_of m c k + extra (is_none o && ticks k) turns) k.state
+  own_where : (o : Option Outcome) (k : Kept) → k_idle m k c ≡ o → Truth m k → Between m k
+      → HoldsOf m busy c k
+      → (busy ≡ false → Calm c k) → After m c busy (counted (is_none o)) (left_of m c k + extra (is_none o
+      && ticks k) turns) k.state
       (k_turn_where o m c k).kept
   unfolding k_counted_turn begun_turn
-  own_where (Some o) k e t b h = stays m c busy 0 (left_of m c k + 0) k.state k h refl (λ is. omega arith)
-  own_where None k e t b h =
+  own_where (Some o) k e t b h calm =
+      stays m c busy 0 (left_of m c k + 0) k.state k h refl (λ is. omega arith)
+      (no_news c k.state.history) calm
+  own_where None k e t b h calm =
       let u = begun_turn k in
       let n = u.state.numbers c in
       let same = begun_same k in
@@ -142,8 +155,10 @@ module _ (m : Setting) (s : IsSetting m) (c : ℕ) (busy : Bool) (some : 0 < m.i
       (k_by_rules (is_tick m.limits n.turns) (nat_lt 0 n.delay) m c u).kept) now
       (own_ruled m s c busy k.state u (begun_truth k t) some (small_starve m s) (some_stop m s)
       (d.is.counted.few c) (λ full. d.is.own (d.is.counted.at_stop c full))
-      (is_tick m.limits n.turns) (nat_lt 0 n.delay) (left_of m c k + extra (is_tick m.limits n.turns) turns) refl
-      (same_holds m busy c (k.state.numbers c).attempts 0 k u same h) (omega arith) same.started
+      (is_tick m.limits n.turns) (nat_lt 0 n.delay) (left_of m c k + extra (is_tick m.limits n.turns) turns)
+      refl
+      (same_holds m busy c k.state 0 k u same h) (same_news refl (no_news c k.state.history))
+      (λ off. same_calm c k u same (calm off)) same.started
       (λ is. omega (arith, left)))
 
   ready_is : (k : Kept) → Truth m k
@@ -151,11 +166,12 @@ module _ (m : Setting) (s : IsSetting m) (c : ℕ) (busy : Bool) (some : 0 < m.i
   ready_is k t = λ i. eq-eqb c c refl i && is_none (idle_is m s c k t i)
 
   own_turn : (k : Kept) → Truth m k → Between m k → HoldsOf m busy c k
-      → Happened m c busy (event.Turn c) k (k_turn m c k).kept
+      → (busy ≡ false → Calm c k) → Happened m c busy (event.Turn c) k (k_turn m c k).kept
   unfolding k_turn
-  own_turn k t b h =
+  own_turn k t b h calm =
       subst (λ x. After m c busy (counted x) (left_of m c k + extra (x && ticks k) turns) k.state
-      (k_turn_where (k_idle m k c) m c k).kept) (sym (ready_is k t)) (own_where (k_idle m k c) k refl t b h)
+      (k_turn_where (k_idle m k c) m c k).kept) (sym (ready_is k t))
+      (own_where (k_idle m k c) k refl t b h calm)
 
   -- ---- turns of other CPUs
 
@@ -167,79 +183,94 @@ module _ (m : Setting) (s : IsSetting m) (c : ℕ) (busy : Bool) (some : 0 < m.i
       by_way (cases_lt (k.standings c).aborts m.image.parms.stop) (λ less. less)
       (λ full.
       let at : (k.standings c).aborts ≡ m.image.parms.stop = omega (arith, full, few) in
-      let alive : is_live (with_state (with_event (event.Turn i) (counting_turn i k.state)) k).state c ≡ true =
+      let alive : is_live (with_state (with_event (event.Turn i) (counting_turn i k.state)) k).state c
+      ≡ true =
       ap (λ (v : Numbers). lives v.completed) (put_other k.state.numbers i _ c other) ∙ live in
       absurd (other (d.is.others c (b.is.counted.at_stop c at) alive)))
 
   others_by : (i : ℕ) (o : Option Outcome) (k : Kept) → k_idle m k i ≡ o → Truth m k → Between m k
-      → HoldsOf m busy c k → c ≢ i → After m c busy 0 (left_of m c k + 0) k.state (k_turn_where o m i k).kept
+      → HoldsOf m busy c k → (busy ≡ false → Calm c k) → c ≢ i
+      → After m c busy 0 (left_of m c k + 0) k.state (k_turn_where o m i k).kept
   unfolding k_turn
-  others_by i (Some o) k e t b h other =
+  others_by i (Some o) k e t b h calm other =
       stays m c busy 0 (left_of m c k + 0) k.state k h refl (λ is. omega arith)
-  others_by i None k e t b h other =
-      let p = other_turn m busy c (k.state.numbers c).attempts (left_of m c k) i other k e
-      (kept_now k t h (below_now i k other e b)) in
+      (no_news c k.state.history) calm
+  others_by i None k e t b h calm other =
+      let p = other_turn m busy c k.state (left_of m c k) i other k e
+      (kept_now k t h calm (below_now i k other e b)) in
       subst (λ o. After m c busy 0 (left_of m c k + 0) k.state (k_turn_where o m i k).kept) e
       (stays m c busy 0 (left_of m c k + 0) k.state (k_turn m i k).kept p.holds p.started
-      (λ is. let paid = p.paid is in omega (arith, paid)))
+      (λ is. let paid = p.paid is in omega (arith, paid)) p.news p.calm)
 
-  others_turn : (i : ℕ) (k : Kept) → Truth m k → Between m k → HoldsOf m busy c k → c ≢ i
+  others_turn : (i : ℕ) (k : Kept) → Truth m k → Between m k → HoldsOf m busy c k
+      → (busy ≡ false → Calm c k) → c ≢ i
       → Happened m c busy (event.Turn i) k (k_turn m i k).kept
   unfolding k_turn
-  others_turn i k t b h other =
+  others_turn i k t b h calm other =
       subst (λ x. After m c busy (counted (x && is_ready m k.state c))
       (left_of m c k + extra ((x && is_ready m k.state c) && ticks k) turns) k.state
       (k_turn_where (k_idle m k i) m i k).kept) (sym (ne_eqb i c (λ e. other (sym e))))
-      (others_by i (k_idle m k i) k refl t b h other)
+      (others_by i (k_idle m k i) k refl t b h calm other)
 
   -- ---- interruptions from outside
 
-  own_interruption : (k : Kept) → Truth m k → HoldsOf m busy c k
+  own_interruption : (k : Kept) → Truth m k → HoldsOf m busy c k → (busy ≡ false → Calm c k)
       → Happened m c busy (event.External c) k
       (k_external c (with_state (with_event (event.External c) k.state) k)).kept
-  own_interruption k t h =
+  own_interruption k t h calm =
       let told = with_event (event.External c) k.state in
       let u = with_state told k in
       subst (λ x. After m c busy 0 (left_of m c k + extra x turns) k.state (k_external c u).kept)
       (sym (eq-eqb c c refl))
       (own_external m s c busy k.state u
-      (restated m k told t refl (λ x. same_numbers (k.state.numbers x))) 0 (left_of m c k + turns) (omega arith)
+      (restated m k told t refl (λ x. same_numbers (k.state.numbers x))) 0 (left_of m c k + turns)
+      (omega arith)
       (λ is. omega arith)
-      (record { parms = h.parms; rests = h.rests; fewer = h.fewer; amid = h.amid }) (omega arith) refl)
+      (record { parms = h.parms; rests = h.rests; fewer = h.fewer; amid = h.amid })
+      (same_news refl (no_news c k.state.history))
+      (λ off. let same = calm off in record { none = same.none; free = same.free }) refl)
 
-  others_interruption : (i : ℕ) (k : Kept) → HoldsOf m busy c k → c ≢ i
+  others_interruption : (i : ℕ) (k : Kept) → HoldsOf m busy c k → (busy ≡ false → Calm c k) → c ≢ i
       → Happened m c busy (event.External i) k
       (k_external i (with_state (with_event (event.External i) k.state) k)).kept
-  others_interruption i k h other =
+  others_interruption i k h calm other =
       let u = with_state (with_event (event.External i) k.state) k in
       let t = (k_external i u).kept in
-      let same = interrupted_elsewhere m busy c 0 0 i other u in
-      let held : HoldsOf m busy c u = record { parms = h.parms; rests = h.rests; fewer = h.fewer; amid = h.amid }
-      in
+      let same = interrupted_elsewhere m busy c k.state 0 i other u in
+      let held : HoldsOf m busy c u =
+      record { parms = h.parms; rests = h.rests; fewer = h.fewer; amid = h.amid } in
       let left = same_left m c u t same in
       subst (λ x. After m c busy 0 (left_of m c k + extra x turns) k.state t)
       (sym (ne_eqb i c (λ e. other (sym e))))
-      (stays m c busy 0 (left_of m c k + 0) k.state t (same_holds m busy c 0 0 u t same held) same.started
-      (λ is. omega (arith, left)))
+      (stays m c busy 0 (left_of m c k + 0) k.state t (same_holds m busy c k.state 0 u t same held)
+      same.started
+      (λ is. omega (arith, left))
+      (interrupted_news m busy c k.state 0 i other u (same_news refl (no_news c k.state.history)))
+      (λ off.
+      let quiet = calm off in
+      same_calm c u t same (record { none = quiet.none; free = quiet.free })))
 
-  after_event : (e : Event) (k : Kept) → Truth m k → Between m k → HoldsOf m busy c k
-      → Happened m c busy e k (k_happen m e k).kept
+  pub after_event : (e : Event) (k : Kept) → Truth m k → Between m k → HoldsOf m busy c k
+      → (busy ≡ false → Calm c k) → Happened m c busy e k (k_happen m e k).kept
   unfolding k_happen
-  after_event (event.Turn i) k t b h =
+  after_event (event.Turn i) k t b h calm =
       by_way (cases_eq c i)
-      (λ same. subst (λ x. Happened m c busy (event.Turn x) k (k_turn m x k).kept) same (own_turn k t b h))
-      (λ other. others_turn i k t b h other)
-  after_event (event.External i) k t b h =
+      (λ same. subst (λ x. Happened m c busy (event.Turn x) k (k_turn m x k).kept) same
+      (own_turn k t b h calm))
+      (λ other. others_turn i k t b h calm other)
+  after_event (event.External i) k t b h calm =
       by_way (cases_eq c i)
       (λ same. subst (λ x. Happened m c busy (event.External x) k
-      (k_external x (with_state (with_event (event.External x) k.state) k)).kept) same (own_interruption k t h))
-      (λ other. others_interruption i k h other)
+      (k_external x (with_state (with_event (event.External x) k.state) k)).kept) same
+      (own_interruption k t h calm))
+      (λ other. others_interruption i k h calm other)
 
 -- ---- the stretch
 
 -- what is kept of a CPU, and that the turns of its open stretch stay within the bound
 pub record Over (m : Setting) (c : ℕ) (stretch : Stretch) (k : Kept) : Type 0 where
   pub holds : HoldsOf m stretch.is_open c k
+  pub calm : stretch.is_open ≡ false → Calm c k
   pub aged : stretch.is_open ≡ true → stretch.age + left_of m c k
       ≤ bound m.image.parms + attempt_turns m.image.parms * stretch.externals
 
@@ -266,7 +297,8 @@ open_after : (m : Setting) (c cost most : ℕ) (before : State) (t : Kept) (busy
     else (if started then opened else closed)).is_open ≡ true
     → IsOpen m c (if busy then (if ended then closed else record now { is_open = true })
     else (if started then opened else closed)) t
-open_after m c cost most before t true true started e more live kind now a ages is = absurd (true≢false (sym is))
+open_after m c cost most before t true true started e more live kind now a ages is = absurd
+    (true≢false (sym is))
 open_after m c cost most before t true false started e more live kind now a ages is =
     by_way (a.ends refl) (λ ended. absurd (true≢false (sym ended ∙ e)))
     (λ on. record { amid = on.amid; aged = ages refl on.paid })
@@ -276,6 +308,21 @@ open_after m c cost most before t false ended true e more live kind now a ages i
     record { amid = on.amid; aged = omega (arith, paid, times_none (attempt_turns m.image.parms)) }
 open_after m c cost most before t false ended false e more live kind now a ages is =
     absurd (true≢false (sym is))
+
+-- and where it is not open, none is under way
+closed_after : (c : ℕ) (before : State) (t : Kept) (busy ended started : Bool)
+    → ends_transaction before t.state c ≡ ended
+    → ((nat_lt (before.numbers c).attempts (t.state.numbers c).attempts ≡ true) → is_live t.state c ≡ true
+    → (t.standings c).constrained ≡ true → started ≡ true)
+    → (now : Stretch) → Settles c busy before t
+    → (if busy then (if ended then closed else record now { is_open = true })
+    else (if started then opened else closed)).is_open ≡ false → Calm c t
+closed_after c before t true true started e starts now a shut = a.ended e
+closed_after c before t true false started e starts now a shut = absurd (true≢false shut)
+closed_after c before t false ended true e starts now a shut = absurd (true≢false shut)
+closed_after c before t false ended false e starts now a shut =
+    by_way (a.calm refl) (λ calm. calm)
+    (λ b. absurd (true≢false (sym (starts b.more b.live b.kind))))
 
 module _ (m : Setting) (s : IsSetting m) (c : ℕ) (some : 0 < m.image.parms.starve) where
   -- an event adds its cost to the age
@@ -289,7 +336,7 @@ module _ (m : Setting) (s : IsSetting m) (c : ℕ) (some : 0 < m.image.parms.sta
       let times = times_more turns stretch.externals (is_interrupted_by m k.state e c) in
       omega (arith, old, paid, times)
 
-  one_event : (e : Event) (k : Kept) (stretch : Stretch) → IsGood m k → Between m k
+  pub one_event : (e : Event) (k : Kept) (stretch : Stretch) → IsGood m k → Between m k
       → cpu_of_event e < cpus_of m → Over m c stretch k
       → Over m c (stretch_after m k.state e c stretch) (k_happen m e k).kept
   one_event e k stretch g b within h =
@@ -297,7 +344,7 @@ module _ (m : Setting) (s : IsSetting m) (c : ℕ) (some : 0 < m.image.parms.sta
       let ok = happen_ok m s e k g within in
       let truth = ok.good.truth in
       let state : (happen m e k.state).state ≡ t.state = ap (λ (x : Turned). x.state) ok.is in
-      let a = after_event m s c stretch.is_open some e k g.truth b h.holds in
+      let a = after_event m s c stretch.is_open some e k g.truth b h.holds h.calm in
       let parts : starts_attempt m k.state t.state c ≡ true
       → (nat_lt (k.state.numbers c).attempts (t.state.numbers c).attempts ≡ true)
       × ((is_live t.state c && (standing_of m t.state c).constrained) ≡ true) =
@@ -317,8 +364,21 @@ module _ (m : Setting) (s : IsSetting m) (c : ℕ) (some : 0 < m.image.parms.sta
       (λ x. ap (λ (v : Standing). v.constrained) (sym (standing_is m t truth c (live x)))
       ∙ (and_parts (is_live t.state c) (standing_of m t.state c).constrained (parts x).1).1)
       (extended m k.state e c stretch) a (ages_by e k t stretch h)) in
+      let starts : (nat_lt (k.state.numbers c).attempts (t.state.numbers c).attempts ≡ true)
+      → is_live t.state c ≡ true → (t.standings c).constrained ≡ true
+      → starts_attempt m k.state t.state c ≡ true =
+      λ more alive kind.
+      and_from (nat_lt (k.state.numbers c).attempts (t.state.numbers c).attempts)
+      (is_live t.state c && (standing_of m t.state c).constrained) more
+      (and_from (is_live t.state c) (standing_of m t.state c).constrained alive
+      (ap (λ (v : Standing). v.constrained) (standing_is m t truth c alive) ∙ kind)) in
+      let shuts : (after (happen m e k.state).state).is_open ≡ false → Calm c t =
+      subst (λ x. (after x).is_open ≡ false → Calm c t) (sym state)
+      (closed_after c k.state t stretch.is_open (ends_transaction k.state t.state c)
+      (starts_attempt m k.state t.state c) refl starts (extended m k.state e c stretch) a.settles) in
       let hold = a.holds in
       record {
+        calm = shuts;
         holds = record {
           parms = hold.parms;
           rests = hold.rests;
@@ -344,14 +404,15 @@ module _ (m : Setting) (s : IsSetting m) (c : ℕ) (some : 0 < m.image.parms.sta
       (All-tail (λ e. cpu_of_event e < cpus_of m) e rest known)
       (one_event e k stretch g b within h))
 
-  at_first : Over m c closed (kept_beginning m)
+  pub at_first : Over m c closed (kept_beginning m)
   unfolding kept_beginning
   at_first = record {
     holds = holds_quiet m 0 0 ((kept_beginning m).standings c) ((kept_beginning m).locals c) refl refl;
+    calm = λ shut. record { none = refl; free = λ live. absurd (true≢false (sym live)) };
     aged = λ is. absurd (true≢false (sym is));
   }
 
-  begins_state : (kept_beginning m).state ≡ beginning
+  pub begins_state : (kept_beginning m).state ≡ beginning
   unfolding kept_beginning
   begins_state = refl
 
@@ -359,7 +420,8 @@ module _ (m : Setting) (s : IsSetting m) (c : ℕ) (some : 0 < m.image.parms.sta
       → Over m c (stretch_of m events c) (keeping m events)
   held_over events known =
       subst (λ x. Over m c (stretch_from m c events x closed) (keeping m events)) begins_state
-      (all_events events (kept_beginning m) closed (begins_good m) (between_first m (some_stop m s)) known at_first)
+      (all_events events (kept_beginning m) closed (begins_good m)
+      (between_first m (some_stop m s)) known at_first)
 
 -- ---- what the meaning says
 
@@ -418,7 +480,8 @@ module _ (m : Setting) (s : IsSetting m) (c : ℕ) (k : Kept) (t : Truth m k) (h
     stop = (stops.counted.queued c, stops.counted.at_stop c);
     queued = λ waits. the_amid.queued ((t.each c).aborts ∙ stops.counted.queued c waits);
     head = stops.behind c;
-    delay = subst (λ x. (k.state.numbers c).delay ≤ delay_after m.image.parms x) (t.each c).aborts the_amid.short;
+    delay = subst (λ x. (k.state.numbers c).delay ≤ delay_after m.image.parms x)
+        (t.each c).aborts the_amid.short;
   }
 
 pub under_way : (m : Setting) (events : List Event) (c : ℕ) → IsSetting m → AreKnown m events
@@ -431,7 +494,7 @@ under_way m events c s known is =
 
 -- ---- the turns of a stretch
 
-left_is : (m : Setting) (c : ℕ) (k : Kept) → Truth m k → left m k.state c ≡ left_of m c k
+pub left_is : (m : Setting) (c : ℕ) (k : Kept) → Truth m k → left m k.state c ≡ left_of m c k
 left_is m c k t =
     let n = k.state.numbers c in
     λ i. left_by m.image.parms (sym (t.each c).aborts i) n.delay n.completed
@@ -464,7 +527,8 @@ pub ages_usual : (m : Setting) (events : List Event) (c : ℕ) → IsSetting m �
     → m.image.parms ≡ usual → (stretch_of m events c).is_open ≡ true → (stretch_of m events c).externals ≡ 0
     → (stretch_of m events c).age < 1072
 ages_usual m events c s known numbers is none =
-    subst (λ n. (stretch_of m events c).age < n) (ap bound numbers ∙ usual_turns) (ages_below m events c s known is none)
+    subst (λ n. (stretch_of m events c).age < n) (ap bound numbers
+    ∙ usual_turns) (ages_below m events c s known is none)
   where
     usual_turns : bound usual ≡ 1072
     usual_turns = refl

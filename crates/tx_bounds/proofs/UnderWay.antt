@@ -39,8 +39,8 @@ use Rattle.tx_bounds.proofs.Resuming.{Leads, interrupts_not, waits_not, no_pendi
 abbrev pub lives : ℕ → Bool
 lives completed = nat_lt 0 completed
 
--- the begin of the transaction goes where the CPU stands at rest, and nothing is left to be done; the CPU waits
--- as its rung says, and not in the queue
+-- the begin of the transaction goes where the CPU stands at rest, and nothing is left to be done; the CPU
+-- waits as its rung says, and not in the queue
 pub record Amid (m : Setting) (completed delay : ℕ) (st : Standing) (l : Local) : Type 0 where
   pub begin : Instr
   pub is : (entry_at begin.op.number).demand ≡ BeginConstrained
@@ -52,7 +52,8 @@ pub record Amid (m : Setting) (completed delay : ℕ) (st : Standing) (l : Local
   pub queued : st.aborts ≡ m.image.parms.stop → delay ≡ 0
   pub running : lives completed ≡ false → is_running l.cpu.state ≡ true
 
--- and of every CPU: a live attempt waits no turns, and not so many of its requests were rejected that it starves
+-- and of every CPU: a live attempt waits no turns, and not so many of its requests were rejected that it
+-- starves
 pub record HoldsBelow (m : Setting) (most : ℕ) (busy : Bool) (completed delay : ℕ) (st : Standing) (l : Local)
     : Type 0 where
   pub parms : st.parms ≡ m.image.parms
@@ -68,7 +69,8 @@ AmidOf m c k = Amid m (k.state.numbers c).completed (k.state.numbers c).delay (k
 
 abbrev pub HoldsOfBelow : Setting → ℕ → Bool → ℕ → Kept → Type 0
 HoldsOfBelow m most busy c k =
-    HoldsBelow m most busy (k.state.numbers c).completed (k.state.numbers c).delay (k.standings c) (k.locals c)
+    HoldsBelow m most busy (k.state.numbers c).completed (k.state.numbers c).delay (k.standings c)
+    (k.locals c)
 
 abbrev pub HoldsOf : Setting → Bool → ℕ → Kept → Type 0
 HoldsOf m busy c k = HoldsOfBelow m m.image.parms.starve busy c k
@@ -87,7 +89,8 @@ pub record SameParts (l n : Local) : Type 0 where
   pub waiting : n.waiting ≡ l.waiting
 
 module _ (m : Setting) where
-  pub amid_same : (a d b e : ℕ) (s t : Standing) (l n : Local) → lives b ≡ lives a → e ≡ d → t.aborts ≡ s.aborts
+  pub amid_same : (a d b e : ℕ) (s t : Standing) (l n : Local) → lives b ≡ lives a → e ≡ d
+      → t.aborts ≡ s.aborts
       → t.constrained ≡ s.constrained → SameParts l n → Amid m a d s l → Amid m b e t n
   amid_same a d b e s t l n live delay aborts constrained parts h = record {
     begin = h.begin;
@@ -228,7 +231,8 @@ module _ (m : Setting) (l : Local) (w : Why) (at : ℕ) (leads : Leads l) (goes_
   unfolding left_from
   left_goes begin is goes =
       goes_again (text_of m) (start_of m.image).storage (start_of m.image).storage l.cpu left.cpu begin [] is
-      (ap (λ (c : Cpu). c.prefix) left_cpu ∙ leads.prefix) (ap (λ (c : Cpu). c.address) left_cpu ∙ leads.again)
+      (ap (λ (c : Cpu). c.prefix) left_cpu ∙ leads.prefix) (ap (λ (c : Cpu). c.address) left_cpu
+      ∙ leads.again)
       (λ a h. refl) goes
 
   left_runs : is_running left.cpu.state ≡ true

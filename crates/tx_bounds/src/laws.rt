@@ -1,5 +1,6 @@
 //! Laws of the retry ladder. Each law is the contract of a function that does nothing.
-ghost use Rattle.std.specs.Prelude.{◌≡◌, ◌≢◌, ◌↔◌, ℕ, ◌+◌, ◌*◌, ◌<◌, ◌≤◌, ◌⊎◌, true, false, List, [], Some, None};
+ghost use Rattle.std.specs.Prelude.{◌≡◌, ◌≢◌, ◌↔◌, ℕ, ◌+◌, ◌*◌, ◌<◌, ◌≤◌, ◌⊎◌, true, false, List, [], Some};
+ghost use Rattle.std.specs.Prelude.{None};
 ghost use Rattle.std.specs.Prelude.{AllPairs};
 ghost use Rattle.tx_journal.specs.declared.events.Event.{Event};
 ghost use Rattle.tx_keeping.specs.Views.{AreKnown};
@@ -9,11 +10,12 @@ ghost use Rattle.tx_meaning.specs.Limits.{Setting};
 ghost use Rattle.tx_meaning.specs.Meaning.{IsSetting, meaning};
 ghost use Rattle.tx_meaning.specs.State.{is_live, is_head};
 ghost use Rattle.tx_meaning.specs.Stretches.{stretch_of, is_end_by, left, left_by, bound, attempt_turns};
-ghost use Rattle.tx_meaning.specs.Stretches.{stretch_after, ends_transaction};
+ghost use Rattle.tx_meaning.specs.Stretches.{stretch_after, ends_transaction, counted, is_counted_turn};
 ghost use Rattle.tx_meaning.specs.Turn.{happen};
 ghost use Rattle.tx_constraint.specs.Kept.{Kept};
 ghost use Rattle.tx_ladder.specs.Parameters.{Parameters, usual};
 ghost use Rattle.tx_ladder.specs.Rungs.{delay_after};
+ghost use Rattle.tx_bounds.specs.Heads.{head_turns};
 ghost use Rattle.tx_bounds.specs.Stretches.{IsUnderWay};
 ghost use Rattle.tx_serial.specs.Alike.{AgreeInText};
 ghost use Rattle.tx_serial.specs.Attempt.{at_rest};
@@ -102,8 +104,8 @@ pub fn what_is_left_goes_down_the_ladder()
         → left_by p a 0 0 0 + 1 ≤ left_by p a 0 n r + attempt_turns p }
 {}
 
-/// While a stretch of a CPU is open, the counted turns that the CPU has had in it and those that are left to its
-/// transaction stay within the bound, and within the turns of one attempt more for each interruption from
+/// While a stretch of a CPU is open, the counted turns that the CPU has had in it and those that are left to
+/// its transaction stay within the bound, and within the turns of one attempt more for each interruption from
 /// outside that came to the CPU in it. So a constrained transaction that nothing interrupts is at its end by
 /// the turn whose number is the bound: 1,072 with the usual numbers. And its end is a commit or a program
 /// interruption, as an entry of the history.
@@ -125,8 +127,21 @@ pub fn a_constrained_transaction_has_few_turns()
         → ends_transaction (meaning m events) (happen m e (meaning m events)).state i ≡ true }
 {}
 
-/// An instruction of a constrained attempt that keeps the constraint on operands has room in the footprint: all
-/// operands lie in at most four octowords, so in at most four lines and four blocks.
+/// A CPU in the stop queue has an open stretch. As the head it has few turns: before each event it has had at
+/// most 33 counted turns since it became the head or was last interrupted from outside, and so at most 34,
+/// with the one that ends its transaction. (That none of them is rejected is a law of the machine's
+/// definitions.)
+pub fn the_head_of_the_queue_has_few_turns()
+    ensures open_stretch { (m : Setting) (events : List Event) (i : ℕ) → IsSetting m → AreKnown m events
+        → waits_in (meaning m events).queue i ≡ true → (stretch_of m events i).is_open ≡ true }
+    ensures few { (m : Setting) (events : List Event) (i : ℕ) → IsSetting m → AreKnown m events
+        → head_turns m events i ≤ 33 }
+    ensures in_all { (m : Setting) (events : List Event) (e : Event) (i : ℕ) → IsSetting m → AreKnown m events
+        → head_turns m events i + counted (is_counted_turn m (meaning m events) e i) ≤ 34 }
+{}
+
+/// An instruction of a constrained attempt that keeps the constraint on operands has room in the footprint:
+/// all operands lie in at most four octowords, so in at most four lines and four blocks.
 pub fn a_constrained_footprint_has_room()
     ensures { (f : FlatState) (i : ℕ) (local : Local) (kept : Kept) (instr : Instr) → IsFollowed f i local
         → is_prefix local.cpu.prefix ≡ true → local.attempt.constraint ≡ Some kept
@@ -140,8 +155,8 @@ pub fn a_permitted_instruction_does_not_abort()
 {}
 
 /// Where a test of its next instruction ends a constrained attempt, it does so by a program interruption, or
-/// because the footprint would overflow: never as restricted, too deep or filtered. On a CPU with a prefix that
-/// it may have the footprint does not overflow.
+/// because the footprint would overflow: never as restricted, too deep or filtered. On a CPU with a prefix
+/// that it may have the footprint does not overflow.
 pub fn a_test_ends_a_constrained_attempt_by_a_program_interruption()
     ensures causes { (f : FlatState) (i : ℕ) (local : Local) (why : Why) → IsFollowed f i local
         → is_constrained local.attempt.nest ≡ true

@@ -1,6 +1,6 @@
 -- What each line of the second reading leaves of the machine.
-use Rattle.std.proofs.Common.{◌≡◌, ℕ, ℤ, pos, ◌+◌, Bool, true, false, List, length}
-use Rattle.std.proofs.Common.{drop, Option, Some, None, Ok, ap, ◌∙◌}
+use Rattle.std.proofs.Common.{◌≡◌, ℕ, ℤ, pos, ◌+◌, Bool, true, false, List, [], ◌∷◌, ◌++◌, length}
+use Rattle.std.proofs.Common.{drop, drop-drop, Option, Some, None, Ok, refl, ap, ◌∙◌}
 use Rattle.z_text.specs.declared.token.Token.{Token}
 use Rattle.z_instr.specs.Reading.{modulo}
 use Rattle.z_instr.specs.Table.{entry_at}
@@ -13,13 +13,12 @@ use Rattle.z_operands.specs.declared.operand.Operand.{Operand}
 use Rattle.z_operands.specs.declared.operation.Operation.{Operation}
 use Rattle.z_operands.specs.declared.operation.Operation.TheVariants as operations
 use Rattle.tx_journal.specs.declared.events.Event.{Event}
-use Rattle.tx_journal.specs.declared.image.Show.{Show}
-use Rattle.tx_ladder.specs.Parameters.{Parameters}
 use Rattle.z_assemble.specs.Listing.{Task, operands_in, operation_in, field_behind, heads_in, to_nat}
 use Rattle.z_assemble.specs.Machine.{Machine, Known, entry_line, register_line, shown, show_line, block_line}
 use Rattle.z_assemble.specs.Machine.{parameter_line, prefix_line, schedule_line, code_line, named_parameter}
 use Rattle.z_assemble.specs.Machine.{parameter_in, directive_line, read_again, task_gives, tokens_in}
 use Rattle.z_assemble.specs.Machine.{operands_for, end_of, change_at, with_address, with_general, with_prefix}
+use Rattle.z_assemble.specs.Machine.{with_parameter, is_prefix_for, show}
 use Rattle.z_assemble.specs.Text.{write_at}
 use Rattle.z_assemble.specs.declared.parameter.Parameter.{Parameter}
 use Rattle.z_assemble.proofs.Passed.{then_ok, where_ok, same_ok}
@@ -34,6 +33,14 @@ filled x m = record m { cpus = change_at (to_nat x.0) (with_general (to_nat x.1)
 abbrev pub prefixed : ℕ → ℕ → Machine → Machine
 prefixed cpu n m = record m { cpus = change_at cpu (with_prefix n) m.cpus }
 
+-- one range more is shown
+abbrev pub showing : ℕ → ℕ → Bool → Machine → Machine
+showing e n fields m = record m { shows = m.shows ++ show e n fields ∷ [] }
+
+-- a number of the retry ladder has this value
+abbrev pub numbered : Parameter → ℕ → Machine → Machine
+numbered p n m = record m { parms = with_parameter p n m.parms }
+
 -- the lines of each operation, by the operands that they have
 abbrev pub Effect : Operation → Known → Task → List Token → Machine → Machine → Type 0
 Effect operations.Cpu k t ts m r =
@@ -42,54 +49,66 @@ Effect operations.Cpu k t ts m r =
 Effect operations.Reg k t ts m r =
     (x : ℤ × ℤ × ℤ) × ((operands_for BadDirective k t (operands_in ts) >>= three_in) ≡ Ok x)
     × (filled x m ≡ r)
-Effect operations.Prefix k t ts m r = (cpu : ℕ) × (n : ℕ) × (prefixed cpu n m ≡ r)
+Effect operations.Prefix k t ts m r =
+    (x : ℤ × ℤ) × ((operands_for BadDirective k t (operands_in ts) >>= two_in) ≡ Ok x)
+    × (is_prefix_for k.tasks m.cpus x ≡ true) × (prefixed (to_nat x.0) (to_nat x.1) m ≡ r)
 Effect operations.Sched k t ts m r =
     (es : List Event)
     × (scheduled (length m.cpus) (field_behind (end_of (operation_in ts)) t.text) m.schedule ≡ Ok es)
     × (record m { schedule = es; scheduled = true } ≡ r)
-Effect _ k t ts m r =
-    (storage : List ℕ) × (shows : List Show) × (parms : Parameters)
-    × (record m { storage = storage; shows = shows; parms = parms } ≡ r)
+Effect operations.Show k t ts m r =
+    (x : ℤ × ℤ) × ((operands_for BadDirective k t (operands_in ts) >>= two_in) ≡ Ok x)
+    × (showing (to_nat x.0) (to_nat x.1) false m ≡ r)
+Effect operations.Tdb k t ts m r =
+    (v : ℤ) × ((operands_for BadDirective k t (operands_in ts) >>= one_in) ≡ Ok v)
+    × (showing (to_nat v) 256 true m ≡ r)
+Effect operations.Parm k t ts m r =
+    (p : Parameter) × (parameter_in t.text (operands_in ts) ≡ Some p)
+    × (v : ℤ) × ((operands_for BadDirective k t (drop 2 (operands_in ts)) >>= one_in) ≡ Ok v)
+    × (numbered p (to_nat v) m ≡ r)
+Effect _ k t ts m r = (storage : List ℕ) × (record m { storage = storage } ≡ r)
 
-shows_are : (e n : ℤ) (fields : Bool) (m r : Machine) → shown e n fields m ≡ Ok r →
-    (shows : List Show) × (record m { shows = shows } ≡ r)
+range_is : (e n : ℤ) (fields : Bool) (m r : Machine) → shown e n fields m ≡ Ok r →
+    showing (to_nat e) (to_nat n) fields m ≡ r
 unfolding shown
-shows_are e n fields m r h = let w = where_ok _ _ r OutOfRange h in (_, w.1)
+range_is e n fields m r h =
+    let w = where_ok _ (showing (to_nat e) (to_nat n) fields m) r OutOfRange h in w.1
 
--- nothing but storage, what is shown and the parameters
-abbrev Leaves : Machine → Machine → Type 0
-Leaves m r =
-    (storage : List ℕ) × (shows : List Show) × (parms : Parameters)
-    × (record m { storage = storage; shows = shows; parms = parms } ≡ r)
-
-show_leaves : (os : List Operand) (m r : Machine) → show_line os m ≡ Ok r → Leaves m r
+show_is : (os : List Operand) (m r : Machine) → show_line os m ≡ Ok r →
+    (x : ℤ × ℤ) × (two_in os ≡ Ok x) × (showing (to_nat x.0) (to_nat x.1) false m ≡ r)
 unfolding show_line
-show_leaves os m r e =
+show_is os m r e =
     let t = then_ok (two_in os) (λ x. shown x.0 x.1 false m) r e in
-    let s = shows_are t.0.0 t.0.1 false m r t.2 in
-    (m.storage, s.0, m.parms, s.1)
+    (t.0, t.1, range_is t.0.0 t.0.1 false m r t.2)
 
-block_leaves : (os : List Operand) (m r : Machine) → block_line os m ≡ Ok r → Leaves m r
+block_is : (os : List Operand) (m r : Machine) → block_line os m ≡ Ok r →
+    (v : ℤ) × (one_in os ≡ Ok v) × (showing (to_nat v) 256 true m ≡ r)
 unfolding block_line
-block_leaves os m r e =
+block_is os m r e =
     let t = then_ok (one_in os) (λ x. shown x (pos 256) true m) r e in
-    let s = shows_are t.0 (pos 256) true m r t.2 in
-    (m.storage, s.0, m.parms, s.1)
+    (t.0, t.1, range_is t.0 (pos 256) true m r t.2)
 
-parameter_leaves : (p : Parameter) (os : List Operand) (m r : Machine) → parameter_line p os m ≡ Ok r →
-    Leaves m r
+parameter_is : (p : Parameter) (os : List Operand) (m r : Machine) → parameter_line p os m ≡ Ok r →
+    (v : ℤ) × (one_in os ≡ Ok v) × (numbered p (to_nat v) m ≡ r)
 unfolding parameter_line
-parameter_leaves p os m r e =
+parameter_is p os m r e =
     let t = then_ok (one_in os) _ r e in
-    let w = where_ok _ _ r OutOfRange t.2 in
-    (m.storage, m.shows, _, w.1)
+    let w = where_ok _ (numbered p (to_nat t.0) m) r OutOfRange t.2 in
+    (t.0, t.1, w.1)
 
-named_leaves : (o : Option Parameter) (k : Known) (t : Task) (ts : List Token) (m r : Machine) →
-    named_parameter o k t ts m ≡ Ok r → Leaves m r
-named_leaves None k t ts m r e = absurd (cc)
-named_leaves (Some p) k t ts m r e =
+named_is : (o : Option Parameter) (k : Known) (t : Task) (ts : List Token) (m r : Machine) →
+    named_parameter o k t ts m ≡ Ok r →
+    (p : Parameter) × (o ≡ Some p) × (v : ℤ) × ((operands_for BadDirective k t ts >>= one_in) ≡ Ok v)
+    × (numbered p (to_nat v) m ≡ r)
+named_is None k t ts m r e = absurd (cc)
+named_is (Some p) k t ts m r e =
     let g = then_ok (operands_for BadDirective k t ts) (λ os. parameter_line p os m) r e in
-    parameter_leaves p g.0 m r g.2
+    let f = parameter_is p g.0 m r g.2 in
+    (p, refl, f.0, ap (λ o. o >>= one_in) g.1 ∙ f.1, f.2)
+
+-- nothing but storage
+abbrev Leaves : Machine → Machine → Type 0
+Leaves m r = (storage : List ℕ) × (record m { storage = storage } ≡ r)
 
 code_leaves : (row : ℕ) (mask : Option ℕ) (here : ℕ) (os : List Operand) (m r : Machine) →
     code_line row mask here os m ≡ Ok r → Leaves m r
@@ -97,7 +116,7 @@ unfolding code_line
 code_leaves row mask here os m r e =
     let t = then_ok (code_for (entry_at row) mask here os)
     (λ bytes. Ok (record m { storage = write_at here bytes m.storage })) r e in
-    (write_at here t.0 m.storage, m.shows, m.parms, same_ok _ r t.2)
+    (write_at here t.0 m.storage, same_ok _ r t.2)
 
 entry_is : (os : List Operand) (m r : Machine) → entry_line os m ≡ Ok r →
     (v : ℤ) × (one_in os ≡ Ok v) × (entered (to_nat v) m ≡ r)
@@ -116,12 +135,14 @@ register_is os m r e =
     (t.0, t.1, w.1)
 
 prefix_is : (tasks : List Task) (os : List Operand) (m r : Machine) → prefix_line tasks os m ≡ Ok r →
-    (cpu : ℕ) × (n : ℕ) × (prefixed cpu n m ≡ r)
+    (x : ℤ × ℤ) × (two_in os ≡ Ok x) × (is_prefix_for tasks m.cpus x ≡ true)
+    × (prefixed (to_nat x.0) (to_nat x.1) m ≡ r)
 unfolding prefix_line
 prefix_is tasks os m r e =
     let t = then_ok (two_in os) _ r e in
-    let w = where_ok _ (prefixed (to_nat t.0.0) (to_nat t.0.1) m) r OutOfRange t.2 in
-    (to_nat t.0.0, to_nat t.0.1, w.1)
+    let w = where_ok (is_prefix_for tasks m.cpus t.0) (prefixed (to_nat t.0.0) (to_nat t.0.1) m) r OutOfRange
+    t.2 in
+    (t.0, t.1, w.0, w.1)
 
 schedule_is : (field : List ℕ) (m r : Machine) → schedule_line field m ≡ Ok r →
     (es : List Event) × (scheduled (length m.cpus) field m.schedule ≡ Ok es)
@@ -141,7 +162,7 @@ directive op k t ts m r e =
     then_ok (operands_for BadDirective k t (operands_in ts)) (λ os. directive_line op k os m) r e
 
 same_machine : (m r : Machine) → m ≡ r → Leaves m r
-same_machine m r e = (m.storage, m.shows, m.parms, e)
+same_machine m r e = (m.storage, e)
 
 effect : (op : Operation) (k : Known) (t : Task) (ts : List Token) (m r : Machine) →
     read_again op k t ts m ≡ Ok r → Effect op k t ts m r
@@ -152,7 +173,13 @@ effect (operations.Instruction row mask) k t ts m r e =
     code_leaves row mask t.here g.0 m r g.2
 effect operations.Sched k t ts m r e = schedule_is (field_behind (end_of (operation_in ts)) t.text) m r e
 effect operations.Parm k t ts m r e =
-    named_leaves (parameter_in t.text (operands_in ts)) k t (drop (heads_in ts + 2) ts) m r e
+    let f = named_is (parameter_in t.text (operands_in ts)) k t (drop (heads_in ts + 2) ts) m r e in (
+      f.0,
+      f.1,
+      f.2,
+      ap (λ us. operands_for BadDirective k t us >>= one_in) (drop-drop 2 (heads_in ts) ts) ∙ f.3,
+      f.4,
+    )
 effect operations.Cpu k t ts m r e =
     let g = directive operations.Cpu k t ts m r e in
     let f = entry_is g.0 m r g.2 in
@@ -161,11 +188,18 @@ effect operations.Reg k t ts m r e =
     let g = directive operations.Reg k t ts m r e in
     let f = register_is g.0 m r g.2 in
     (f.0, ap (λ o. o >>= three_in) g.1 ∙ f.1, f.2)
-effect operations.Show k t ts m r e = let g = directive operations.Show k t ts m r e in
-    show_leaves g.0 m r g.2
-effect operations.Tdb k t ts m r e = let g = directive operations.Tdb k t ts m r e in block_leaves g.0 m r g.2
+effect operations.Show k t ts m r e =
+    let g = directive operations.Show k t ts m r e in
+    let f = show_is g.0 m r g.2 in
+    (f.0, ap (λ o. o >>= two_in) g.1 ∙ f.1, f.2)
+effect operations.Tdb k t ts m r e =
+    let g = directive operations.Tdb k t ts m r e in
+    let f = block_is g.0 m r g.2 in
+    (f.0, ap (λ o. o >>= one_in) g.1 ∙ f.1, f.2)
 effect operations.Prefix k t ts m r e =
-    let g = directive operations.Prefix k t ts m r e in prefix_is k.tasks g.0 m r g.2
+    let g = directive operations.Prefix k t ts m r e in
+    let f = prefix_is k.tasks g.0 m r g.2 in
+    (f.0, ap (λ o. o >>= two_in) g.1 ∙ f.1, f.2, f.3)
 effect operations.Org k t ts m r e = let g = directive operations.Org k t ts m r e in
     same_machine m r (same_ok m r g.2)
 effect operations.Equ k t ts m r e = let g = directive operations.Equ k t ts m r e in

@@ -12,14 +12,13 @@ use Rattle.z_operands.specs.declared.operation.Operation.TheVariants as operatio
 use Rattle.z_regs.specs.Cpu.{Cpu}
 use Rattle.z_assemble.specs.Listing.{Plan, Task, operands_in, to_nat}
 use Rattle.z_assemble.specs.Machine.{Machine, Known, tokens_in, operands_for, change_at, with_address}
-use Rattle.z_assemble.specs.Machine.{with_prefix}
 use Rattle.z_assemble.specs.Statements.{Statement, value_or_none, entry_with, entry_of}
 use Rattle.z_assemble.specs.Whole.{Second}
 use Rattle.z_assemble.proofs.Acted.{Walk}
 use Rattle.z_assemble.proofs.Counted.{count_by, count_all}
 use Rattle.z_assemble.proofs.Effects.{Effect, task_effect}
-use Rattle.z_assemble.proofs.Given.{linked}
-use Rattle.z_assemble.proofs.Machines.{change_length, change_other, change_same}
+use Rattle.z_assemble.proofs.Gathered.{linked}
+use Rattle.z_assemble.proofs.Machines.{change_length, change_other, change_same, same_part}
 use Rattle.z_assemble.proofs.Tasks.{tasks_by, tasks_of}
 
 abbrev entries_by : Operation → Known → Task → List Token → List ℕ
@@ -51,22 +50,13 @@ record Kept (m n : Machine) : Type 0 where
 still : (m n : Machine) → Kept m n → Enters [] m n
 still m n k = (k.entered, ap length k.cpus, λ i d. ap (λ cs. (get_or cs i d).address) k.cpus)
 
-same_address : (j : ℕ) (f : Cpu → Cpu) (cpus : List Cpu) (i : ℕ) (d : Cpu) →
-    ((c : Cpu) → (f c).address ≡ c.address) →
-    (get_or (change_at j f cpus) i d).address ≡ (get_or cpus i d).address
-same_address j f [] i d h = refl
-same_address zero f (x ∷ xs) zero d h = h x
-same_address zero f (x ∷ xs) (suc i) d h = refl
-same_address (suc j) f (x ∷ xs) zero d h = refl
-same_address (suc j) f (x ∷ xs) (suc i) d h = same_address j f xs i d h
-
 changes : (j : ℕ) (f : Cpu → Cpu) (m n : Machine) → ((c : Cpu) → (f c).address ≡ c.address) →
     record m { cpus = change_at j f m.cpus } ≡ n → Enters [] m n
 changes j f m n h e =
     let cs : change_at j f m.cpus ≡ n.cpus = ap (λ (x : Machine). x.cpus) e in (
       sym (ap (λ (x : Machine). x.entered) e),
       ap length (sym cs) ∙ change_length j f m.cpus,
-      λ i d. ap (λ q. (get_or q i d).address) (sym cs) ∙ same_address j f m.cpus i d h,
+      λ i d. ap (λ q. (get_or q i d).address) (sym cs) ∙ same_part (λ (c : Cpu). c.address) j f m.cpus i d h,
     )
 
 enters : (v : ℕ) (m n : Machine) →
@@ -96,9 +86,12 @@ step : (op : Operation) (k : Known) (t : Task) (ts : List Token) (m n : Machine)
 step operations.Cpu k t ts m n f =
     subst (λ o. Enters (value_or_none o) m n) (sym f.1) (enters (to_nat f.0) m n f.2)
 step operations.Reg k t ts m n f = changes _ _ m n (λ c. refl) f.2
-step operations.Prefix k t ts m n f = changes f.0 (with_prefix f.1) m n (λ c. refl) f.2
+step operations.Prefix k t ts m n f = changes _ _ m n (λ c. refl) f.3
 step operations.Sched k t ts m n f = still m n (kept_by m _ n f.2 refl refl)
-step _ k t ts m n f = still m n (kept_by m _ n f.3 refl refl)
+step operations.Show k t ts m n f = still m n (kept_by m _ n f.2 refl refl)
+step operations.Tdb k t ts m n f = still m n (kept_by m _ n f.2 refl refl)
+step operations.Parm k t ts m n f = still m n (kept_by m _ n f.4 refl refl)
+step _ k t ts m n f = still m n (kept_by m _ n f.1 refl refl)
 
 -- ---- all lines
 

@@ -2,7 +2,6 @@
 use Rattle.std.proofs.Common.{◌≡◌, ℕ, ◌+◌, List, [], ◌∷◌, ◌++◌, length, Option, Some, None, Ok, refl, sym, ap}
 use Rattle.std.proofs.Common.{◌∙◌, ◌&&◌, nat_lt, nat_le, append_assoc, append-nil}
 use Rattle.std.specs.List.{flat_map}
-use Rattle.std.proofs.lemmas.Grind.{flat_map-append}
 use Rattle.z_text.specs.declared.token.Token.{Token}
 use Rattle.z_operands.specs.Pieces.{shortened}
 use Rattle.z_operands.specs.Schedule.{scheduled, with_run, with_item, with_items, run_of}
@@ -19,6 +18,7 @@ use Rattle.z_assemble.specs.Statements.{events_of}
 use Rattle.z_assemble.specs.Whole.{Second}
 use Rattle.z_assemble.proofs.Acted.{Walk}
 use Rattle.z_assemble.proofs.Effects.{Effect, task_effect}
+use Rattle.z_assemble.proofs.Gathered.{gathered, list_join}
 use Rattle.z_assemble.proofs.Passed.{then_ok, where_ok, same_ok}
 use Rattle.z_assemble.proofs.Tasks.{tasks_by, tasks_of}
 
@@ -69,17 +69,11 @@ step_adds operations.Sched k t ts m r f =
     ∙ field_adds (length m.cpus) (field_behind (end_of (operation_in ts)) t.text) m.schedule f.0 f.1
 step_adds operations.Cpu k t ts m r f = kept m r (schedule_of _ r f.2)
 step_adds operations.Reg k t ts m r f = kept m r (schedule_of _ r f.2)
-step_adds operations.Prefix k t ts m r f = kept m r (schedule_of _ r f.2)
-step_adds _ k t ts m r f = kept m r (schedule_of _ r f.3)
-
-all_add : (k : Known) (ts : List Task) (m q : Machine) → Second k ts m q →
-    q.schedule ≡ m.schedule ++ flat_map events_again ts
-all_add k [] m q h = schedule_of m q h ∙ sym (append-nil m.schedule)
-all_add k (t ∷ ts) m q h =
-    all_add k ts h.0 q h.2
-    ∙ ap (λ x. x ++ flat_map events_again ts)
-    (step_adds t.operation k t (tokens_in t.text) m h.0 (task_effect k t m h.0 h.1))
-    ∙ append_assoc m.schedule (events_again t) (flat_map events_again ts)
+step_adds operations.Prefix k t ts m r f = kept m r (schedule_of _ r f.3)
+step_adds operations.Show k t ts m r f = kept m r (schedule_of _ r f.2)
+step_adds operations.Tdb k t ts m r f = kept m r (schedule_of _ r f.2)
+step_adds operations.Parm k t ts m r f = kept m r (schedule_of _ r f.4)
+step_adds _ k t ts m r f = kept m r (schedule_of _ r f.1)
 
 -- ---- the statements
 
@@ -90,17 +84,14 @@ own_events operations.Sched s e =
     ∙ ap (λ n. events_of_field (field_behind n s.text)) (sym e)
 own_events _ s e = refl
 
-all_events : (ss : List Statement) (p q : Plan) → Walk ss p q →
-    flat_map events_again (flat_map tasks_of ss) ≡ flat_map events_of ss
-all_events [] p q w = refl
-all_events (s ∷ ss) p q w =
-    flat_map-append events_again (tasks_of s) (flat_map tasks_of ss)
-    ∙ ap (λ x. x ++ flat_map events_again (flat_map tasks_of ss)) (own_events s.operation s w.1.end_is)
-    ∙ ap (λ x. events_of s ++ x) (all_events ss w.0 q w.2)
-
 pub events_are : (k : Known) (ss : List Statement) (p q : Plan) (ts : List Task) (m r : Machine) →
     Walk ss p q →
     ts ≡ flat_map tasks_of ss → Second k ts m r → m.schedule ≡ [] → r.schedule ≡ flat_map events_of ss
 events_are k ss p q ts m r w e h none =
-    all_add k ts m r h ∙ ap (λ x. x ++ flat_map events_again ts) none ∙ ap (flat_map events_again) e
-    ∙ all_events ss p q w
+    gathered (λ (x : Machine). x.schedule) (λ xs ys. xs ++ ys) (λ k. events_again) (λ x. Unit {0}) k list_join
+    (λ t m r u g. record {
+      fine = tt;
+      value = step_adds t.operation k t (tokens_in t.text) m r (task_effect k t m r g);
+    })
+    events_of (λ s a b acts. own_events s.operation s acts.end_is) ss p q ts m r w e h tt
+    ∙ ap (λ x. x ++ flat_map events_of ss) none

@@ -1,12 +1,11 @@
 -- The registers that CPUs start with: the last REG line of a register gives it.
-use Rattle.std.proofs.Common.{◌≡◌, ℕ, ℤ, ◌<◌, Bool, true, false, ◌&&◌, List, [], ◌∷◌, ◌++◌}
+use Rattle.std.proofs.Common.{◌≡◌, ℕ, ℤ, ◌<◌, Bool, true, false, ◌&&◌, List, [], ◌∷◌}
 use Rattle.std.proofs.Common.{length, get_or, Ok, refl, sym, ap, ◌∙◌, subst, arith}
 use Rattle.std.proofs.Common.{inl, inr, append-nil, ◌==◌, eq-eqb}
 use Rattle.std.specs.Prelude.{if◌then◌else◌}
 use Rattle.std.specs.List.{flat_map}
 use Rattle.std.proofs.Math.ListN.{set}
 use Rattle.std.proofs.lemmas.Bool.{false≢true, eqb-true, cases_eq}
-use Rattle.std.proofs.lemmas.Grind.{flat_map-append}
 use Rattle.std.proofs.lemmas.List.{get_or-set_other, get_or-set_same, length-set}
 use Rattle.z_text.specs.declared.token.Token.{Token}
 use Rattle.z_instr.specs.Reading.{modulo}
@@ -22,27 +21,11 @@ use Rattle.z_assemble.specs.Machine.{with_general}
 use Rattle.z_assemble.specs.Machine.{with_prefix}
 use Rattle.z_assemble.specs.Statements.{Statement, value_for, values_with, values_of, last_or}
 use Rattle.z_assemble.specs.Whole.{Second}
-use Rattle.z_assemble.proofs.Acted.{Acts, Walk}
+use Rattle.z_assemble.proofs.Acted.{Walk}
 use Rattle.z_assemble.proofs.Effects.{Effect, task_effect}
-use Rattle.z_assemble.proofs.Machines.{change_length, change_other, change_same}
+use Rattle.z_assemble.proofs.Gathered.{EachJoins, gathered, last_join}
+use Rattle.z_assemble.proofs.Machines.{change_length, change_other, change_same, same_part}
 use Rattle.z_assemble.proofs.Tasks.{tasks_by, tasks_of}
-
--- ---- from what is read again to the statements
-
-pub linked : {X : Type 0} (f : Task → List X) (g : Statement → List X) →
-    ((s : Statement) (p r : Plan) → Acts s p r → flat_map f (tasks_of s) ≡ g s) →
-    (ss : List Statement) (p q : Plan) → Walk ss p q → flat_map f (flat_map tasks_of ss) ≡ flat_map g ss
-linked f g same [] p q w = refl
-linked f g same (s ∷ ss) p q w =
-    flat_map-append f (tasks_of s) (flat_map tasks_of ss)
-    ∙ ap (λ x. x ++ flat_map f (flat_map tasks_of ss)) (same s p w.0 w.1)
-    ∙ ap (λ x. g s ++ x) (linked f g same ss w.0 q w.2)
-
--- ---- the last of a list
-
-last_append : (d : ℕ) (xs ys : List ℕ) → last_or d (xs ++ ys) ≡ last_or (last_or d xs) ys
-last_append d [] ys = refl
-last_append d (x ∷ xs) ys = last_append x xs ys
 
 -- ---- one register of one CPU
 
@@ -80,20 +63,10 @@ module _ (cpu r : ℕ) (d : Cpu) where
   }
 
   -- a change that leaves the general registers
-  same_general : (i : ℕ) (f : Cpu → Cpu) (cpus : List Cpu) → ((c : Cpu) → (f c).general ≡ c.general) →
-      cpu < length cpus → (get_or (change_at i f cpus) cpu d).general ≡ (get_or cpus cpu d).general
-  same_general i f cpus h there =
-      elim (cases_eq cpu i) [
-        | inl e ↦
-            ap (λ j. (get_or (change_at j f cpus) cpu d).general) (sym e)
-            ∙ ap (λ c. c.general) (change_same cpu f cpus d there) ∙ h (get_or cpus cpu d)
-        | inr n ↦ ap (λ c. c.general) (change_other i f cpus cpu d n)
-      ]
-
   changes : (i : ℕ) (f : Cpu → Cpu) (m n : Machine) → ((c : Cpu) → (f c).general ≡ c.general) → IsThere m →
       n.cpus ≡ change_at i f m.cpus → Moves [] m n
   changes i f m n h t e =
-      let g = same_general i f m.cpus h t.there in
+      let g = same_part (λ (c : Cpu). c.general) i f m.cpus cpu d h in
       record {
         count = ap length e ∙ change_length i f m.cpus;
         size = ap (λ cs. length (get_or cs cpu d).general) e ∙ ap length g;
@@ -154,21 +127,19 @@ module _ (cpu r : ℕ) (d : Cpu) where
   moves operations.Cpu k t ts m n l there f =
       changes m.entered (with_address (to_nat f.0)) m n (λ c. refl) there (cpus_of _ n f.2)
   moves operations.Prefix k t ts m n l there f =
-      changes f.0 (with_prefix f.1) m n (λ c. refl) there (cpus_of _ n f.2)
+      changes (to_nat f.0.0) (with_prefix (to_nat f.0.1)) m n (λ c. refl) there (cpus_of _ n f.3)
   moves operations.Sched k t ts m n l there f = still m n (cpus_of _ n f.2)
-  moves _ k t ts m n l there f = still m n (cpus_of _ n f.3)
+  moves operations.Show k t ts m n l there f = still m n (cpus_of _ n f.2)
+  moves operations.Tdb k t ts m n l there f = still m n (cpus_of _ n f.2)
+  moves operations.Parm k t ts m n l there f = still m n (cpus_of _ n f.4)
+  moves _ k t ts m n l there f = still m n (cpus_of _ n f.1)
 
-  all_moves : (k : Known) (ts : List Task) (m q : Machine) → r < 16 → IsThere m → Second k ts m q →
-      register_in q ≡ last_or (register_in m) (flat_map (values_again k) ts)
-  all_moves k [] m q l there h = ap register_in (sym h)
-  all_moves k (t ∷ ts) m q l there h =
-      let v = moves t.operation k t (tokens_in t.text) m h.0 l there (task_effect k t m h.0 h.1) in
+  each_moves : (k : Known) → r < 16 → EachJoins register_in last_or values_again IsThere k
+  each_moves k l t m n there g =
+      let v = moves t.operation k t (tokens_in t.text) m n l there (task_effect k t m n g) in
       let in_range = there.there in
       let count = v.count in
-      let next : IsThere h.0 = record { there = omega arith; size = v.size ∙ there.size } in
-      all_moves k ts h.0 q l next h.2
-      ∙ ap (λ x. last_or x (flat_map (values_again k) ts)) v.value
-      ∙ sym (last_append (register_in m) (values_again k t) (flat_map (values_again k) ts))
+      record { fine = record { there = omega arith; size = v.size ∙ there.size }; value = v.value }
 
   own_values : (k : Known) (op : Operation) (s : Statement) → s.operands ≡ operands_in (tokens_in s.text) →
       flat_map (values_again k) (tasks_by op s) ≡ values_with op k.labels cpu r s
@@ -182,8 +153,6 @@ module _ (cpu r : ℕ) (d : Cpu) where
       Walk ss p q → ts ≡ flat_map tasks_of ss → Second k ts m n → r < 16 → IsThere m → register_in m ≡ 0 →
       register_in n ≡ last_or 0 (flat_map (values_of k.labels cpu r) ss)
   registers_are k ss p q ts m n w e h l there none =
-      all_moves k ts m n l there h
-      ∙ ap (λ x. last_or x (flat_map (values_again k) ts)) none
-      ∙ ap (λ x. last_or 0 (flat_map (values_again k) x)) e
-      ∙ ap (last_or 0) (linked (values_again k) (values_of k.labels cpu r)
-      (λ s a b acts. own_values k s.operation s acts.tokens) ss p q w)
+      gathered register_in last_or values_again IsThere k last_join (each_moves k l) (values_of k.labels cpu r)
+      (λ s a b acts. own_values k s.operation s acts.tokens) ss p q ts m n w e h there
+      ∙ ap (λ x. last_or x (flat_map (values_of k.labels cpu r) ss)) none

@@ -16,7 +16,11 @@ pub mod Lines
 pub mod Tasks
 pub mod Begun
 pub mod Effects
+pub mod Gathered
 pub mod Events
 pub mod Given
 pub mod Counted
 pub mod Entered
+pub mod Shown
+pub mod Prefixes
+pub mod Numbers

@@ -9,6 +9,8 @@ use Rattle.std.proofs.lemmas.Bool.{false≢true, cases_lt, cases_eq}
 use Rattle.std.proofs.lemmas.List.{get_or_default}
 use Rattle.std.proofs.lemmas.List.Elements.{All-cons, All-nil, All-contains, All-contains_itself}
 use Rattle.tx_journal.specs.Content.{Content}
+use Rattle.tx_ladder.specs.Parameters.{usual}
+use Rattle.z_assemble.specs.declared.parameter.Parameter.{Parameter}
 use Rattle.z_operands.specs.Operations.{size_of_row}
 use Rattle.z_operands.specs.Values.{Table}
 use Rattle.z_operands.specs.declared.operation.Operation.{Operation}
@@ -16,7 +18,8 @@ use Rattle.z_operands.specs.declared.operation.Operation.TheVariants.{Instructio
 use Rattle.z_assemble.specs.Listing.{Plan, operands_in}
 use Rattle.z_assemble.specs.Machine.{Known, tokens_in}
 use Rattle.z_assemble.specs.Statements.{Statement, statements_of, IsNamed, HaveOtherLabels, Stand, IsPlaced}
-use Rattle.z_assemble.specs.Statements.{events_of, values_of, last_or, entry_of}
+use Rattle.z_assemble.specs.Statements.{events_of, values_of, last_or, entry_of, shows_of, prefixes_of}
+use Rattle.z_assemble.specs.Statements.{as_list, numbers_of, number_in}
 use Rattle.z_assemble.specs.Statements.{Covers}
 use Rattle.z_assemble.specs.Statements.{AreApart, bytes_with, IsInstruction, IsStarted}
 use Rattle.z_assemble.specs.Text.{lines_of, copies}
@@ -26,6 +29,9 @@ use Rattle.z_assemble.proofs.Begun.{all_begun, place_there}
 use Rattle.z_assemble.proofs.Codes.{stays}
 use Rattle.z_assemble.proofs.Events.{events_are}
 use Rattle.z_assemble.proofs.Given.{registers_are, IsThere}
+use Rattle.z_assemble.proofs.Shown.{shows_are}
+use Rattle.z_assemble.proofs.Prefixes.{prefixes_are}
+use Rattle.z_assemble.proofs.Numbers.{numbers_are}
 use Rattle.z_assemble.proofs.Entered.{entries_again, entries_count, entries_of, all_entered}
 use Rattle.z_assemble.proofs.Counted.{all_counted}
 use Rattle.z_assemble.proofs.Images.{ready_storage, are_read}
@@ -354,6 +360,43 @@ events_hold text image s =
     ∙ events_are (known_in s.plan) (statements_of text) blank s.plan s.plan.tasks (ready s.plan) s.machine
     (walked text image s) (all_tasks text image s) s.second (no_events_first s.plan.storage s.plan.cpus)
 
+-- ---- what is shown
+
+none_shown_first : (storage : List ℕ) (n : ℕ) → (ready_for storage n).shows ≡ []
+unfolding ready_for
+none_shown_first storage n = refl
+
+image_shows : (text : List ℕ) (image : Content) (s : Stands text image) → image.shows ≡ s.machine.shows
+unfolding image_of
+image_shows text image s = ap (λ (i : Content). i.shows) s.is
+
+pub shows_hold : (text : List ℕ) (image : Content) (s : Stands text image) →
+    image.shows ≡ flat_map (shows_of s.plan.labels) (statements_of text)
+shows_hold text image s =
+    image_shows text image s
+    ∙ shows_are (known_in s.plan) (statements_of text) blank s.plan s.plan.tasks (ready s.plan) s.machine
+    (walked text image s) (all_tasks text image s) s.second (none_shown_first s.plan.storage s.plan.cpus)
+
+-- ---- the numbers of the retry ladder
+
+usual_first : (storage : List ℕ) (n : ℕ) → (ready_for storage n).parms ≡ usual
+unfolding ready_for
+usual_first storage n = refl
+
+image_parms : (text : List ℕ) (image : Content) (s : Stands text image) → image.parms ≡ s.machine.parms
+unfolding image_of
+image_parms text image s = ap (λ (i : Content). i.parms) s.is
+
+pub numbers_hold : (text : List ℕ) (image : Content) (s : Stands text image) (p : Parameter) →
+    number_in p image.parms
+    ≡ last_or (number_in p usual) (flat_map (numbers_of s.plan.labels p) (statements_of text))
+numbers_hold text image s p =
+    ap (number_in p) (image_parms text image s)
+    ∙ numbers_are p (known_in s.plan) (statements_of text) blank s.plan s.plan.tasks (ready s.plan) s.machine
+    (walked text image s) (all_tasks text image s) s.second
+    ∙ ap (λ x. last_or (number_in p x) (flat_map (numbers_of s.plan.labels p) (statements_of text)))
+    (usual_first s.plan.storage s.plan.cpus)
+
 -- ---- registers
 
 image_cpus : (text : List ℕ) (image : Content) (s : Stands text image) → image.cpus ≡ s.machine.cpus
@@ -369,6 +412,11 @@ ready_general : (p : Plan) (cpu : ℕ) (d : Cpu) → cpu < p.cpus →
 ready_general p cpu d h =
     ap (λ cs. (get_or cs cpu d).general) (ready_cpus p.storage p.cpus)
     ∙ ap (λ (c : Cpu). c.general) (get_or-replicate p.cpus cpu (started 0) d h)
+
+ready_prefix : (p : Plan) (cpu : ℕ) (d : Cpu) → cpu < p.cpus → as_list (get_or (ready p).cpus cpu d).prefix ≡ []
+ready_prefix p cpu d h =
+    ap (λ cs. as_list (get_or cs cpu d).prefix) (ready_cpus p.storage p.cpus)
+    ∙ ap (λ (c : Cpu). as_list c.prefix) (get_or-replicate p.cpus cpu (started 0) d h)
 
 ready_count : (p : Plan) → length (ready p).cpus ≡ p.cpus
 ready_count p = ap length (ready_cpus p.storage p.cpus) ∙ length-replicate p.cpus (started 0)
@@ -394,6 +442,20 @@ registers_hold text image s cpu r d h l =
     (ready s.plan) s.machine
     (walked text image s) (all_tasks text image s) s.second l there
     (ap (λ q. get_or q r 0) g ∙ get_or-replicate 16 r 0 0 l)
+
+-- ---- prefixes
+
+pub prefixes_hold : (text : List ℕ) (image : Content) (s : Stands text image) (cpu : ℕ) (d : Cpu) →
+    cpu < length image.cpus →
+    as_list (get_or image.cpus cpu d).prefix
+    ≡ flat_map (prefixes_of s.plan.labels cpu) (statements_of text)
+prefixes_hold text image s cpu d h =
+    let n = image_count text image s in
+    let c = ready_count s.plan in
+    ap (λ cs. as_list (get_or cs cpu d).prefix) (image_cpus text image s)
+    ∙ prefixes_are cpu d (known_in s.plan) (statements_of text) blank s.plan s.plan.tasks (ready s.plan)
+    s.machine (walked text image s) (all_tasks text image s) s.second (omega arith)
+    (ready_prefix s.plan cpu d (omega arith))
 
 -- ---- CPUs
 

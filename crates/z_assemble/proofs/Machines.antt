@@ -70,7 +70,19 @@ change_same i f [] d h = absurd (omega arith)
 change_same zero f (x ∷ xs) d h = refl
 change_same (suc i) f (x ∷ xs) d h = change_same i f xs d (omega arith)
 
+-- a part of the elements that the change leaves
+pub same_part : {X A : Type 0} (part : X → A) (i : ℕ) (f : X → X) (xs : List X) (k : ℕ) (d : X) →
+    ((x : X) → part (f x) ≡ part x) → part (get_or (change_at i f xs) k d) ≡ part (get_or xs k d)
+same_part part i f [] k d h = refl
+same_part part zero f (x ∷ xs) zero d h = h x
+same_part part zero f (x ∷ xs) (suc k) d h = refl
+same_part part (suc i) f (x ∷ xs) zero d h = refl
+same_part part (suc i) f (x ∷ xs) (suc k) d h = same_part part i f xs k d h
+
 -- ---- CPUs
+
+abbrev prefix_of : Cpu → Option ℕ
+prefix_of c = c.prefix
 
 -- no task places an instruction in the CPU's area
 abbrev pub IsClear : List Task → Cpu → Type 0
@@ -82,15 +94,6 @@ pub record AreSound (tasks : List Task) (count : ℕ) (cpus : List Cpu) : Type 0
   pub apart : AllPairs AreApart cpus
   pub clear : All (IsClear tasks) cpus
 
-same_prefix : (i : ℕ) (f : Cpu → Cpu) (cpus : List Cpu) (k : ℕ) (d : Cpu) →
-    ((c : Cpu) → (f c).prefix ≡ c.prefix) → (get_or (change_at i f cpus) k d).prefix ≡
-    (get_or cpus k d).prefix
-same_prefix i f [] k d h = refl
-same_prefix zero f (c ∷ cs) zero d h = h c
-same_prefix zero f (c ∷ cs) (suc k) d h = refl
-same_prefix (suc i) f (c ∷ cs) zero d h = refl
-same_prefix (suc i) f (c ∷ cs) (suc k) d h = same_prefix i f cs k d h
-
 -- a change that leaves all prefixes
 plainly : (tasks : List Task) (n i : ℕ) (f : Cpu → Cpu) (cpus : List Cpu) →
     ((c : Cpu) → (f c).prefix ≡ c.prefix) → ((c : Cpu) → IsStarting c → IsStarting (f c)) →
@@ -100,8 +103,8 @@ plainly tasks n i f cpus same h s = record {
   starting = change_all IsStarting i f cpus h s.starting;
   apart = λ a b d o l p x y.
       let la : b < length cpus = subst (λ q. b < q) (change_length i f cpus) l in
-      s.apart a b d o la p (sym (same_prefix i f cpus a d same) ∙ x) (sym (same_prefix i f cpus b d same)
-      ∙ y);
+      s.apart a b d o la p (sym (same_part prefix_of i f cpus a d same) ∙ x)
+      (sym (same_part prefix_of i f cpus b d same) ∙ y);
   clear = change_all (IsClear tasks) i f cpus (λ c h p e. h p (sym (same c) ∙ e)) s.clear;
 }
 

@@ -1,7 +1,8 @@
 -- What the lines of a text say, each line where it stands: what laws about whole texts speak of.
 use Rattle.std.specs.Prelude.{◌≡◌, ◌≢◌, ℕ, ℤ, pos, ◌+◌, ◌<◌, ◌≤◌, List, [], ◌∷◌, ◌++◌, length, Option, Some}
 use Rattle.std.specs.Prelude.{None}
-use Rattle.std.specs.Prelude.{Result, Ok, Err, slice_index, replicate, ◌&&◌, ◌==◌, if◌then◌else◌}
+use Rattle.std.specs.Prelude.{Result, Ok, Err, drop, slice_index, replicate, Bool, true, false, ◌&&◌, ◌==◌}
+use Rattle.std.specs.Prelude.{if◌then◌else◌}
 use Rattle.std.specs.List.{Contains, flat_map}
 use Rattle.z_text.specs.Line.{span}
 use Rattle.z_text.specs.declared.token.Token.{Token}
@@ -13,17 +14,22 @@ use Rattle.z_operands.specs.Data.{data_of}
 use Rattle.z_operands.specs.Operations.{operation_named}
 use Rattle.z_operands.specs.Pieces.{without_end, pieces_by, shortened}
 use Rattle.z_operands.specs.Schedule.{run_of, event_of}
-use Rattle.z_operands.specs.Values.{Table, operands_on, one_in, three_in}
+use Rattle.z_operands.specs.Values.{Table, operands_on, one_in, two_in, three_in}
 use Rattle.z_operands.specs.declared.fault.Kind.{Kind}
 use Rattle.z_operands.specs.declared.fault.Kind.TheVariants.{BadDirective, WrongOperands}
 use Rattle.z_operands.specs.declared.operation.Operation.{Operation}
 use Rattle.z_operands.specs.declared.schedule.Run.{Run}
 use Rattle.tx_journal.specs.declared.events.Event.{Event}
+use Rattle.tx_journal.specs.declared.image.Show.{Show}
+use Rattle.tx_ladder.specs.Parameters.{Parameters}
 use Rattle.z_operands.specs.declared.operation.Operation.TheVariants.{Instruction, Equ, Ds, Dc, Cpu, Reg}
-use Rattle.z_operands.specs.declared.operation.Operation.TheVariants.{Sched}
+use Rattle.z_operands.specs.declared.operation.Operation.TheVariants.{Sched, Parm, Prefix}
+use Rattle.z_operands.specs.declared.operation.Operation.TheVariants as operations
+use Rattle.z_assemble.specs.declared.parameter.Parameter.{Parameter}
+use Rattle.z_assemble.specs.declared.parameter.Parameter.TheVariants.{Reject, Firm, Late, Starve, Stop, Delay}
 use Rattle.z_assemble.specs.Listing.{Plan, line_gives, label_in, operands_in, operation_in, field_behind}
 use Rattle.z_assemble.specs.Listing.{to_nat}
-use Rattle.z_assemble.specs.Machine.{tokens_in}
+use Rattle.z_assemble.specs.Machine.{tokens_in, parameter_in, show}
 use Rattle.z_assemble.specs.Text.{lines_of, copies}
 use Rattle.z_assemble.specs.Whole.{blank}
 
@@ -210,3 +216,79 @@ values_of labels cpu r s = values_with s.operation labels cpu r s
 abbrev pub last_or : ℕ → List ℕ → ℕ
 last_or d [] = d
 last_or d (x ∷ xs) = last_or x xs
+
+-- ---- what is shown
+
+abbrev pub range_or_none : Result (ℤ × ℤ) Kind → List Show
+range_or_none (Ok x) = show (to_nat x.0) (to_nat x.1) false ∷ []
+range_or_none (Err k) = []
+
+abbrev pub block_or_none : Result ℤ Kind → List Show
+block_or_none (Ok v) = show (to_nat v) 256 true ∷ []
+block_or_none (Err k) = []
+
+abbrev pub shows_with : Operation → Table → Statement → List Show
+shows_with operations.Show labels s =
+    range_or_none (operands_on BadDirective s.text labels s.here s.operands >>= two_in)
+shows_with operations.Tdb labels s =
+    block_or_none (operands_on BadDirective s.text labels s.here s.operands >>= one_in)
+shows_with _ labels s = []
+
+-- what a statement shows: the bytes of SHOW, the block of TDB
+abbrev pub shows_of : Table → Statement → List Show
+shows_of labels s = shows_with s.operation labels s
+
+-- ---- prefixes
+
+-- the prefix, where it is for this CPU
+abbrev pub prefix_for : ℕ → Result (ℤ × ℤ) Kind → List ℕ
+prefix_for cpu (Ok x) = if to_nat x.0 == cpu then to_nat x.1 ∷ [] else []
+prefix_for cpu (Err k) = []
+
+abbrev pub prefixes_with : Operation → Table → ℕ → Statement → List ℕ
+prefixes_with Prefix labels cpu s =
+    prefix_for cpu (operands_on BadDirective s.text labels s.here s.operands >>= two_in)
+prefixes_with _ labels cpu s = []
+
+-- the prefix that a statement gives to a CPU: that of PREFIX
+abbrev pub prefixes_of : Table → ℕ → Statement → List ℕ
+prefixes_of labels cpu s = prefixes_with s.operation labels cpu s
+
+-- the number, if there is one
+abbrev pub as_list : Option ℕ → List ℕ
+as_list (Some n) = n ∷ []
+as_list None = []
+
+-- ---- the numbers of the retry ladder
+
+abbrev pub number_in : Parameter → Parameters → ℕ
+number_in Reject p = p.reject
+number_in Firm p = p.firm
+number_in Late p = p.late
+number_in Starve p = p.starve
+number_in Stop p = p.stop
+number_in Delay p = p.delay
+
+abbrev pub is_same : Parameter → Parameter → Bool
+is_same Reject Reject = true
+is_same Firm Firm = true
+is_same Late Late = true
+is_same Starve Starve = true
+is_same Stop Stop = true
+is_same Delay Delay = true
+is_same _ _ = false
+
+-- the value, where it is for this number
+abbrev pub number_for : Parameter → Option Parameter → Result ℤ Kind → List ℕ
+number_for p (Some q) (Ok v) = if is_same q p then to_nat v ∷ [] else []
+number_for p _ _ = []
+
+abbrev pub numbers_with : Operation → Table → Parameter → Statement → List ℕ
+numbers_with Parm labels p s =
+    number_for p (parameter_in s.text s.operands)
+    (operands_on BadDirective s.text labels s.here (drop 2 s.operands) >>= one_in)
+numbers_with _ labels p s = []
+
+-- the value that a statement gives to a number of the retry ladder: that of PARM, behind the name and a comma
+abbrev pub numbers_of : Table → Parameter → Statement → List ℕ
+numbers_of labels p s = numbers_with s.operation labels p s

@@ -1,10 +1,13 @@
 //! What holds of all texts. Each law is the contract of a function that does nothing.
 ghost use Rattle.std.specs.Prelude.{◌≡◌, ℕ, ℤ, List, Some, All, AllPairs, ◌⊎◌, ◌↔◌, ◌<◌, slice_index};
 ghost use Rattle.std.specs.Prelude.{slice_index_or, length, map};
+ghost use Rattle.tx_ladder.specs.Parameters.{usual};
 ghost use Rattle.z_regs.specs.Cpu.{Cpu};
 ghost use Rattle.std.specs.List.{Contains, flat_map};
 ghost use Rattle.z_assemble.specs.Statements.{statements_of, IsNamed, HaveOtherLabels, IsPlaced, AreApart};
 ghost use Rattle.z_assemble.specs.Statements.{Covers, IsStarted, events_of, values_of, last_or, entry_of};
+ghost use Rattle.z_assemble.specs.Statements.{shows_of, prefixes_of, as_list, numbers_of, number_in};
+ghost use Rattle.z_assemble.specs.declared.parameter.Parameter.{Parameter};
 ghost use Rattle.tx_journal.specs.Content.{Content};
 ghost use Rattle.z_assemble.specs.Whole.{Stands, FirstFault, assembled};
 ghost use Rattle.z_assemble.specs.declared.fault.ListingFault.{ListingFault};
@@ -68,4 +71,24 @@ pub fn cpus_are_those_of_lines()
         cpu < length image.cpus → r < 16 →
         slice_index (slice_index_or image.cpus cpu d).general r
         ≡ last_or 0 (flat_map (values_of s.plan.labels cpu r) (statements_of text)) }
+{}
+
+/// What is shown is what the SHOW and TDB lines say, in their order.
+pub fn shows_are_those_of_lines()
+    ensures { (text : List ℕ) (image : Content) (s : Stands text image) →
+        image.shows ≡ flat_map (shows_of s.plan.labels) (statements_of text) }
+{}
+
+/// A CPU has the prefix that a PREFIX line gives it, which at most one line does, and else none.
+pub fn prefixes_are_those_of_lines()
+    ensures { (text : List ℕ) (image : Content) (s : Stands text image) (cpu : ℕ) (d : Cpu) →
+        cpu < length image.cpus → as_list (slice_index_or image.cpus cpu d).prefix
+        ≡ flat_map (prefixes_of s.plan.labels cpu) (statements_of text) }
+{}
+
+/// A number of the retry ladder is the last of the values that PARM lines of its name give it, or the usual one.
+pub fn parameters_are_those_of_lines()
+    ensures { (text : List ℕ) (image : Content) (s : Stands text image) (p : Parameter) →
+        number_in p image.parms
+        ≡ last_or (number_in p usual) (flat_map (numbers_of s.plan.labels p) (statements_of text)) }
 {}
