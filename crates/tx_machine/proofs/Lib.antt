@@ -11,7 +11,8 @@ pub mod Climbing
 pub mod Told
 pub mod Own
 pub mod Acts
-pub mod Places
+pub mod Idling
+pub mod SmallPlaces
 pub mod Turns
 pub mod Shown
 pub mod Most

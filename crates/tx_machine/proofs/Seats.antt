@@ -240,3 +240,13 @@ pub executed-counted : (s t : Seat) (i : Instr) (need : List Range) (lines after
 executed-counted s t i need lines after c tally room left =
     let most = completed-most i need (with_lines s.cpu lines) in
     left-counted s t after (executed i need (with_lines s.cpu lines)).after c tally left (omega arith)
+
+-- the CPU with storage is what is kept of it
+pub beside-is : (rest : Seat) (old now : Works) (i : ℕ) (s : Seat) → IsAt old now i s
+    → with_lines s.cpu old.lines ≡ beside (kept_by rest now) i
+beside-is rest old now i s at =
+    (λ x. record { local = local_of (seat-is old now i s rest at x).cpu; storage = storage_in old.lines })
+    ∙ (λ x. record {
+      local = local_of (seats_of rest now.slots i).cpu;
+      storage = storage_in (at.view x).lines;
+    })

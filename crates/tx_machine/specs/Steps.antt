@@ -6,9 +6,9 @@ use Rattle.tx_control.specs.declared.causes.Why.TheVariants.{StoreConflict, Fetc
 use Rattle.tx_control.specs.declared.causes.Why.TheVariants.{Restricted, Filtered, Depth, Starved, Tabort}
 use Rattle.tx_ladder.specs.Rungs.{begun, after_conflict, descended, next_rung}
 use Rattle.tx_journal.specs.declared.entries.Entry.{Entry}
-use Rattle.tx_journal.specs.declared.events.Event.{Event}
 use Rattle.tx_progress.specs.Local.{Beside}
-use Rattle.tx_meaning.specs.Changes.{with_numbers, with_entry, with_event, delaying, leaving, on_rung, after_cause}
+use Rattle.tx_meaning.specs.Changes.{with_numbers, with_entry, delaying, leaving, on_rung, after_cause}
+use Rattle.tx_meaning.specs.Changes.{counting_turn, waiting_turn}
 use Rattle.tx_keeping.specs.Kept.{Kept, with_state, with_standing, with_beside}
 use Rattle.tx_keeping.specs.Moves.{standing_after}
 use Rattle.tx_machine.specs.declared.ending.Rung.{Rung}
@@ -18,7 +18,8 @@ use Rattle.tx_machine.specs.declared.ending.Rung.TheVariants.{Climbs, Descends, 
 abbrev pub k_left : ℕ → Beside → Kept → Kept
 k_left i after k =
     let n = k.state.numbers i in
-    with_beside i after (with_state (with_numbers i (record n { completed = after.local.attempt.count }) k.state) k)
+    with_beside i after (with_state (with_numbers i (record n { completed = after.local.attempt.count })
+    k.state) k)
 
 abbrev pub k_written : Entry → Kept → Kept
 k_written e k = with_state (with_entry e k.state) k
@@ -73,3 +74,11 @@ k_begun i constrained k =
     let n = k.state.numbers i in
     with_standing i (begun constrained (k.standings i))
     (with_state (with_numbers i (record n { attempts = n.attempts + 1; given = 0; refused = 0 }) k.state) k)
+
+-- ---- turns
+
+abbrev pub k_counted : ℕ → Kept → Kept
+k_counted i k = with_state (counting_turn i k.state) k
+
+abbrev pub k_waited : ℕ → Kept → Kept
+k_waited i k = with_state (waiting_turn i k.state) k

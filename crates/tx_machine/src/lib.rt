@@ -5,9 +5,12 @@
 pub mod acting;
 pub mod asking;
 pub mod ending;
+pub mod executing;
 pub mod getting;
+pub mod idle;
 pub mod machine;
 pub mod opening;
+pub mod places;
 pub mod slot;
 pub mod works;
 

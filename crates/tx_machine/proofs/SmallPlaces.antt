@@ -1,5 +1,6 @@
 -- Ranges by absolute addresses are small, and lie in storage.
-use Rattle.std.proofs.Common.{◌≡◌, ℕ, ◌+◌, ◌-◌, ◌<◌, ◌≤◌, ◌%◌, true, List, [], ◌∷◌, ◌++◌, Option, Some, None, length}
+use Rattle.std.proofs.Common.{◌≡◌, ℕ, ◌+◌, ◌-◌, ◌<◌, ◌≤◌, true, false, List, [], ◌∷◌, ◌++◌, Option, Some,
+    None, length}
 use Rattle.std.proofs.Common.{refl, sym, ap, subst, ◌∙◌, arith, inl, inr, is_some}
 use Rattle.std.specs.Prelude.{All}
 use Rattle.std.proofs.lemmas.Bool.{cases_lt}
@@ -50,9 +51,11 @@ range-placed Q (Some p) r all ok h =
           let second = part_of r (absolute_of (Some p) there) (r.length - here) in
           subst (All Q) (sym (two_areas p r across))
           (All-cons Q first (second ∷ [])
-          (all first record { small = omega (arith, h.small, across); inside = stays_inside p r.first here q first_end edge })
+          (all first record { small = omega (arith, h.small, across); inside = stays_inside p r.first here q
+          first_end edge })
           (All-cons Q second []
-          (all second record { small = omega (arith, h.small); inside = stays_inside p there (r.length - here) q second_end whole })
+          (all second record { small = omega (arith, h.small); inside = stays_inside p there
+          (r.length - here) q second_end whole })
           (All-nil Q)))
       | inr one ↦
           let whole = part_of r (absolute_of (Some p) r.first) r.length in
@@ -127,3 +130,36 @@ pub low-range : (prefix : Option ℕ) (first n : ℕ) → 0 < n → first + n �
 unfolding absolute_range
 low-range None first n some low = refl
 low-range (Some p) first n some low = one_area p (stored first n) (low_edge first n some low)
+
+-- ---- what is written to the first area
+
+pub one-place : (prefix : Option ℕ) (r : Range) → prefix ≡ None → r ∷ [] ≡ absolute_ranges prefix (r ∷ [])
+unfolding absolute_range
+one-place prefix r none = ap (λ (p : Option ℕ). absolute_ranges p (r ∷ [])) (sym none)
+
+three : (prefix : Option ℕ) (rest : List Range)
+    → stored (absolute_of prefix 0x8c) 4 ∷ stored (absolute_of prefix 0x150) 16
+    ∷ stored (absolute_of prefix 0x1d0) 16 ∷ absolute_ranges prefix rest
+    ≡ absolute_ranges prefix (stored 0x8c 4 ∷ stored 0x150 16 ∷ stored 0x1d0 16 ∷ rest)
+three prefix rest =
+    let first = sym (low-range prefix 0x8c 4 (omega arith) (omega arith)) in
+    let second = sym (low-range prefix 0x150 16 (omega arith) (omega arith)) in
+    let third = sym (low-range prefix 0x1d0 16 (omega arith) (omega arith)) in
+    λ x. first x ++ (second x ++ (third x ++ absolute_ranges prefix rest))
+
+pub interruption-plain : (prefix : Option ℕ) (bytes : Option (List ℕ)) → is_some bytes ≡ false
+    → stored (absolute_of prefix 0x8c) 4 ∷ stored (absolute_of prefix 0x150) 16
+    ∷ stored (absolute_of prefix 0x1d0) 16 ∷ [] ≡ absolute_ranges prefix (interruption_ranges bytes)
+interruption-plain prefix None is = three prefix []
+interruption-plain prefix (Some bytes) is = absurd (cc)
+
+pub interruption-block : (prefix : Option ℕ) (bytes : Option (List ℕ)) → is_some bytes ≡ true
+    → stored (absolute_of prefix 0x8c) 4 ∷ stored (absolute_of prefix 0x150) 16
+    ∷ stored (absolute_of prefix 0x1d0) 16 ∷ stored (absolute_of prefix 0x1800) 256 ∷ []
+    ≡ absolute_ranges prefix (interruption_ranges bytes)
+interruption-block prefix None is = absurd (cc)
+interruption-block prefix (Some bytes) is =
+    let last = sym (low-range prefix 0x1800 256 (omega arith) (omega arith)) in
+    (λ x. stored (absolute_of prefix 0x8c) 4 ∷ stored (absolute_of prefix 0x150) 16
+    ∷ stored (absolute_of prefix 0x1d0) 16 ∷ (last x ++ []))
+    ∙ three prefix (stored 0x1800 256 ∷ [])
