@@ -18,3 +18,4 @@ pub mod Shown
 pub mod Most
 pub mod Read
 pub mod Opened
+pub mod Going

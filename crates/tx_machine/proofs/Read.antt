@@ -1,6 +1,11 @@
 -- What is read of a machine is read of the meaning of its events.
-use Rattle.std.proofs.Common.{◌≡◌, ℕ, ◌<◌, List, sym, ap, ◌∙◌, length}
-use Rattle.std.specs.Prelude.{get_or}
+use Rattle.std.proofs.Common.{◌≡◌, ℕ, Bool, true, false, Option, Some, None, is_some, refl, sym, ap, ◌∙◌}
+use Rattle.std.specs.Prelude.{◌&&◌, not, get_or, is_none}
+use Rattle.z_regs.specs.Cpu.{Cpu}
+use Rattle.tx_meaning.specs.Idle.{idle, is_finished, has_ended}
+use Rattle.tx_keeping.specs.Kept.{kept_finished}
+use Rattle.tx_keeping.specs.Turn.{k_idle}
+use Rattle.tx_keeping.proofs.Turning.{idle_is}
 use Rattle.tx_serial.specs.Flat.{FlatState}
 use Rattle.tx_cpu.specs.Parts.{local_of}
 use Rattle.tx_lines.specs.Owned.{storage_in}
@@ -11,6 +16,12 @@ use Rattle.tx_keeping.proofs.Truth.{flat_is, cpu_is}
 use Rattle.tx_machine.specs.Works.{Works, kept_by}
 use Rattle.tx_machine.specs.Machine.{Stands, nobody}
 use Rattle.tx_machine.proofs.Shown.{shown}
+
+pub none_by : {A : Type 0} (o : Option A) (b : Bool) → is_some o ≡ not b → b ≡ is_none o
+none_by None true e = refl
+none_by (Some x) false e = refl
+none_by None false e = let n : false ≡ true = e in absurd (cc)
+none_by (Some x) true e = let n : true ≡ false = e in absurd (cc)
 
 module _ (m : Setting) (w : Works) (remaining : ℕ) (s : Stands m w remaining) where
   pub reads_state : meaning m w.events ≡ (kept_by (nobody m) w).state
@@ -27,3 +38,18 @@ module _ (m : Setting) (w : Works) (remaining : ℕ) (s : Stands m w remaining) 
   reads_cpu i =
       ap (λ (t : State). cpu_of m t i) reads_state
       ∙ cpu_is m (kept_by (nobody m) w) (shown m w remaining s).good.truth i
+
+  pub reads_idle : (i : ℕ) → idle m (meaning m w.events) i ≡ k_idle m (kept_by (nobody m) w) i
+  reads_idle i =
+      ap (λ (t : State). idle m t i) reads_state
+      ∙ idle_is m s.setting i (kept_by (nobody m) w) (shown m w remaining s).good.truth
+
+  pub reads_finished : (i : ℕ)
+      → is_finished m (meaning m w.events) i ≡ kept_finished (kept_by (nobody m) w) i
+  reads_finished i =
+      let k = kept_by (nobody m) w in
+      let truth = (shown m w remaining s).good.truth in
+      ap (λ (t : State). is_finished m t i) reads_state
+      ∙ ap (λ (f : FlatState). is_none (f.pending i) && has_ended (cpu_of m k.state i).state (cpu_of m k.state i).prefix)
+      (flat_is m k truth)
+      ∙ ap (λ (c : Cpu). is_none (k.locals i).pending && has_ended c.state c.prefix) (cpu_is m k truth i)

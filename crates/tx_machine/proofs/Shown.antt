@@ -61,7 +61,7 @@ module _ (m : Setting) (s : IsSetting m) (events : List Event) (known : AreKnown
   unfolding k_happen k_turn
   idle_turn i o e = ap (λ x. (k_turn_where x m i now).kept) e
 
-  same_state : (e : Event) → cpu_of_event e < cpus_of m
+  pub same_state : (e : Event) → cpu_of_event e < cpus_of m
       → (k_happen m e now).kept.state ≡ (happen m e (meaning m events)).state
   same_state e within = ap (λ (t : Turned). t.state) (sym (happens_alike m s events e known within))
 
@@ -79,6 +79,19 @@ module _ (m : Setting) (s : IsSetting m) (events : List Event) (known : AreKnown
       ∙ (turn_booked m i (meaning m events) not_idle).recorded
       ∙ ap (λ es. es ++ event.Turn i ∷ []) told_events
 
+  -- a turn that is not idle, and every event from outside
+  abbrev pub IsRecorded : Event → Type 0
+  IsRecorded (event.Turn i) = k_idle m now i ≡ None
+  IsRecorded (event.External i) = Unit {0}
+
+  pub recorded : (e : Event) → cpu_of_event e < cpus_of m → IsRecorded e
+      → (k_happen m e now).kept.state.events ≡ now.state.events ++ e ∷ []
+  recorded (event.Turn i) within e = counted i within e
+  recorded (event.External i) within e =
+      ap (λ (t : State). t.events) (same_state (event.External i) within)
+      ∙ (external_booked m i (meaning m events)).recorded
+      ∙ ap (λ es. es ++ event.External i ∷ []) told_events
+
   pub recorded_or_idle : (e : Event) → cpu_of_event e < cpus_of m
       → ((k_happen m e now).kept ≡ now) ⊎ ((k_happen m e now).kept.state.events ≡ now.state.events ++ e ∷ [])
   recorded_or_idle (event.Turn i) within =
@@ -86,7 +99,4 @@ module _ (m : Setting) (s : IsSetting m) (events : List Event) (known : AreKnown
       (λ o. (k_idle m now i ≡ o) → ((k_happen m (event.Turn i) now).kept ≡ now)
       ⊎ ((k_happen m (event.Turn i) now).kept.state.events ≡ now.state.events ++ event.Turn i ∷ []))
       (λ o is e. inl (idle_turn i o is)) (λ none e. inr (counted i within none)) refl
-  recorded_or_idle (event.External i) within =
-      inr (ap (λ (t : State). t.events) (same_state (event.External i) within)
-      ∙ (external_booked m i (meaning m events)).recorded
-      ∙ ap (λ es. es ++ event.External i ∷ []) told_events)
+  recorded_or_idle (event.External i) within = inr (recorded (event.External i) within tt)

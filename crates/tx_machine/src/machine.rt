@@ -162,4 +162,28 @@ impl Machine {
     {
         self.works.queue.head()
     }
+
+    /// Whether the next turn of the CPU would not be idle.
+    pub fn ready(&self, cpu: u32) -> bool
+        requires { cpu < length self.now.image.cpus }
+        ensures { result ≡ is_ready (setting_of self.now) (state_of self.now) cpu }
+    {
+        self.works.idle(cpu, self.limits).is_none()
+    }
+
+    /// Whether the program of the CPU is at its end, and no block is left to be stored.
+    pub fn finished(&self, cpu: u32) -> bool
+        requires { cpu < length self.now.image.cpus }
+        ensures { result ≡ is_finished (setting_of self.now) (state_of self.now) cpu }
+    {
+        self.works.is_finished(cpu)
+    }
+
+    /// Whether all turns of the CPU are counted.
+    pub fn spent(&self, cpu: u32) -> bool
+        requires { cpu < length self.now.image.cpus }
+        ensures { result ≡ is_spent self.now.limits ((state_of self.now).numbers cpu) }
+    {
+        self.works.turns(cpu) >= self.limits.turns
+    }
 }
