@@ -3,12 +3,14 @@ mod faults;
 mod lines;
 mod machines;
 mod programs;
+mod rules;
 
 use crate::{AssembleFault, ListingFault, MOST_BYTES, MOST_LINES, SIZE, assemble, fault_line};
 use faults::PRINTED_FAULTS;
 use lines::{DATA_AND_OPERANDS, OPERANDS_OF_INSTRUCTIONS, TEXTS_AND_TOKENS};
 use machines::{MACHINE_LINES, PARAMETERS_AND_PREFIXES, SCHEDULES};
 use programs::{MORE_WHOLE_PROGRAMS, WHOLE_PROGRAMS};
+use rules::{LINE_ENDS_AND_ORDER, NAMES_AND_PLACES};
 use std::alloc::{AllocError, Global};
 use std::fmt::Write;
 use std::process::Abort;
@@ -176,6 +178,16 @@ fn parameters_and_prefixes(rt: HostRuntime) -> Result<(), Fail> {
     check(&rt, &PARAMETERS_AND_PREFIXES)
 }
 
+#[test]
+fn line_ends_and_order(rt: HostRuntime) -> Result<(), Fail> {
+    check(&rt, &LINE_ENDS_AND_ORDER)
+}
+
+#[test]
+fn names_and_places(rt: HostRuntime) -> Result<(), Fail> {
+    check(&rt, &NAMES_AND_PLACES)
+}
+
 fn printed(alloc: Global, text: &[u8]) -> Result<String, AllocError> {
     match assemble(alloc, text) {
         Err(AssembleFault::Listing(fault)) => fault_line(alloc, fault),
@@ -205,6 +217,27 @@ fn texts_that_are_too_long(rt: HostRuntime) -> Result<(), Fail> {
     assert_eq!(rt; told(rt.alloc(), &both[1..])?.as_str(), "0 2");
     let outside = told(rt.alloc(), b" CPU 1\n DC \xE9")?;
     assert_eq!(rt; outside.as_str(), "2 3");
+    Ok(())
+}
+
+#[test]
+fn texts_that_are_too_long_at_their_ends(rt: HostRuntime) -> Result<(), Fail> {
+    let mut text = vec![in rt.alloc(); b'\n'; MOST_LINES]?;
+    text.push(b' ')?;
+    assert_eq!(rt; told(rt.alloc(), &text)?.as_str(), "0 2");
+    text.resize(MOST_BYTES, b'*')?;
+    assert_eq!(rt; told(rt.alloc(), &text)?.as_str(), "0 2");
+    text.push(b'*')?;
+    assert_eq!(rt; told(rt.alloc(), &text)?.as_str(), "0 1");
+    Ok(())
+}
+
+#[test]
+fn longest_schedule(rt: HostRuntime) -> Result<(), Fail> {
+    let image = assemble(rt.alloc(), b" CPU 16384\n SCHED 0*4194303,X0\n")?;
+    assert_eq!(rt; image.schedule.len(), 4_194_304);
+    assert_eq!(rt; image.schedule.first().copied(), Some(Event::Turn(0)));
+    assert_eq!(rt; image.schedule.last().copied(), Some(Event::External(0)));
     Ok(())
 }
 

@@ -1,0 +1,5 @@
+//! Programs of one CPU, run by the calls of `Cpu` alone.
+#![tactic(auto)]
+
+#[cfg(test)]
+mod tests;
