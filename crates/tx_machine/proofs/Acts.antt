@@ -1,5 +1,5 @@
 -- What a CPU does, as the machine that keeps says it.
-use Rattle.std.proofs.Common.{◌≡◌, ℕ, ◌+◌, ◌<◌, Bool, true, false, None, refl, sym, ap, subst, ◌∙◌, is_some}
+use Rattle.std.proofs.Common.{◌≡◌, ℕ, ◌+◌, ◌<◌, Bool, true, false, None, sym, ap, subst, ◌∙◌, is_some}
 use Rattle.std.proofs.Common.{arith}
 use Rattle.std.specs.Prelude.{nat_lt, List}
 use Rattle.z_regs.specs.declared.ranges.Range.{Range}
@@ -7,10 +7,9 @@ use Rattle.z_instr.specs.declared.instr.Instr.{Instr}
 use Rattle.tx_control.specs.Nesting.{is_constrained}
 use Rattle.tx_control.specs.declared.causes.Why.{Why}
 use Rattle.tx_control.specs.declared.exceptions.Exception.{Exception}
-use Rattle.tx_journal.specs.declared.entries.Entry.{Entry}
 use Rattle.tx_journal.specs.declared.entries.Entry.TheVariants as entry
 use Rattle.tx_serial.proofs.Entries.{at_put_same}
-use Rattle.tx_progress.specs.Progress.{Progress, resting}
+use Rattle.tx_progress.specs.Progress.{resting}
 use Rattle.tx_progress.specs.Local.{Local, Beside, block_stored, interruption_taken}
 use Rattle.tx_progress.specs.Doing.{Executed, executed, stopped}
 use Rattle.tx_progress.specs.declared.done.Done.{Done}
@@ -19,7 +18,7 @@ use Rattle.tx_meaning.specs.State.{Numbers, is_live}
 use Rattle.tx_meaning.specs.declared.outcome.Outcome.{Outcome}
 use Rattle.tx_meaning.specs.declared.outcome.Outcome.TheVariants as outcome
 use Rattle.tx_meaning.specs.Turn.{outcome_of_abort}
-use Rattle.tx_keeping.specs.Kept.{Kept, beside, with_beside}
+use Rattle.tx_keeping.specs.Kept.{Kept, beside}
 use Rattle.tx_keeping.specs.Moves.{k_aborting, k_starting, k_continuing, k_committing, k_stepping, k_storing}
 use Rattle.tx_keeping.specs.Moves.{k_taking}
 use Rattle.tx_keeping.specs.Turn.{KTurned, k_turned, k_ends_by, k_inside, k_outside, k_stopping}

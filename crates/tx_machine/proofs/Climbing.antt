@@ -1,20 +1,19 @@
 -- A cause moves a CPU on the ladder, step by step.
-use Rattle.std.proofs.Common.{◌≡◌, ℕ, ◌+◌, ◌<◌, Bool, true, false, refl, sym, ap, subst, ◌∙◌}
-use Rattle.std.specs.Prelude.{if◌then◌else◌, ◌==◌, List, [], ◌∷◌, ◌++◌}
+use Rattle.std.proofs.Common.{◌≡◌, ℕ, ◌+◌, Bool, true, false, refl, sym, ap}
+use Rattle.std.specs.Prelude.{if◌then◌else◌, ◌==◌, List}
 use Rattle.tx_control.specs.declared.causes.Why.{Why}
 use Rattle.tx_control.specs.declared.causes.Why.TheVariants.{External, Program, FetchConflict}
 use Rattle.tx_control.specs.declared.causes.Why.TheVariants.{StoreConflict, FetchOverflow, StoreOverflow}
 use Rattle.tx_control.specs.declared.causes.Why.TheVariants.{Restricted, Filtered, Depth, Starved, Tabort}
-use Rattle.tx_ladder.specs.Rungs.{Standing, next_rung, after_conflict, delay_after, descended}
+use Rattle.tx_ladder.specs.Rungs.{Standing, next_rung, after_conflict, delay_after}
 use Rattle.tx_ladder.specs.declared.ladder.Next.{Next}
 use Rattle.tx_ladder.specs.declared.ladder.Next.TheVariants.{Plain, Delay, Queue}
 use Rattle.tx_progress.specs.Local.{Beside}
-use Rattle.tx_meaning.specs.Changes.{on_rung, leaving, without_head}
+use Rattle.tx_meaning.specs.Changes.{on_rung, without_head}
 use Rattle.tx_keeping.specs.Kept.{Kept, with_state, with_standing}
-use Rattle.tx_machine.specs.declared.ending.Rung.{Rung}
-use Rattle.tx_machine.specs.declared.ending.Rung.TheVariants.{Climbs, Descends, Stays}
+use Rattle.tx_machine.specs.declared.ending.Rung.TheVariants.{Climbs}
 use Rattle.tx_machine.specs.Ready.{MayClimb, MayEndBy}
-use Rattle.tx_machine.specs.Steps.{k_left, k_raised, k_climbed, k_lowered, k_descended, k_delayed, rung_after}
+use Rattle.tx_machine.specs.Steps.{k_left, k_climbed, k_lowered, k_descended, rung_after}
 use Rattle.tx_machine.proofs.Own.{IsOwn}
 
 -- ---- a conflict

@@ -1,6 +1,6 @@
 -- What is kept between events has room for one event more.
-use Rattle.std.proofs.Common.{◌≡◌, ℕ, ◌+◌, ◌<◌, ◌≤◌, List, [], ◌∷◌, ◌++◌, length, refl, sym, ap, ◌∙◌, subst, arith}
-use Rattle.std.specs.Prelude.{All, count_by}
+use Rattle.std.proofs.Common.{◌≡◌, ℕ, ◌+◌, ◌<◌, ◌≤◌, [], ◌∷◌, ◌++◌, length, sym, ap, ◌∙◌, subst, arith}
+use Rattle.std.specs.Prelude.{count_by}
 use Rattle.std.proofs.Math.ListN.{length-append}
 use Rattle.std.proofs.lemmas.List.Elements.{All-push}
 use Rattle.bit_set.specs.Counts.{count_below}
@@ -10,11 +10,9 @@ use Rattle.tx_meaning.specs.Limits.{Setting}
 use Rattle.tx_meaning.specs.Meaning.{meaning, is_external}
 use Rattle.tx_meaning.specs.Room.{live_attempts}
 use Rattle.tx_meaning.specs.State.{State, is_live, cpus_of}
-use Rattle.tx_meaning.specs.Turn.{happen}
 use Rattle.tx_meaning.proofs.Room.{room}
 use Rattle.tx_keeping.specs.Kept.{Kept}
 use Rattle.tx_keeping.specs.Keeping.{keeping}
-use Rattle.tx_keeping.specs.Views.{AreKnown}
 use Rattle.tx_machine.specs.Works.{Works, kept_by}
 use Rattle.tx_machine.specs.Machine.{Stands, nobody, most_events}
 use Rattle.tx_machine.specs.Ready.{owed}

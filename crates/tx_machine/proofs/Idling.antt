@@ -1,10 +1,8 @@
 -- Why a turn is idle.
-use Rattle.std.proofs.Common.{◌≡◌, ℕ, ◌<◌, ◌≤◌, Bool, true, false, Option, Some, None, refl, sym, ap, ◌∙◌,
-    arith}
-use Rattle.std.specs.Prelude.{nat_le, nat_lt, if◌then◌else◌}
+use Rattle.std.proofs.Common.{◌≡◌, ℕ, ◌<◌, ◌≤◌, Bool, true, false, Option, Some, sym, ap, ◌∙◌, arith}
+use Rattle.std.specs.Prelude.{nat_le, if◌then◌else◌}
 use Rattle.std.proofs.lemmas.Bool.Decides.{nat_tests}
 use Rattle.tx_meaning.specs.Limits.{Setting}
-use Rattle.tx_meaning.specs.State.{Numbers}
 use Rattle.tx_meaning.specs.Idle.{idle_by, kept_back}
 use Rattle.tx_meaning.specs.declared.outcome.Outcome.{Outcome}
 use Rattle.tx_meaning.specs.declared.outcome.Outcome.TheVariants.{Halted, Spent}

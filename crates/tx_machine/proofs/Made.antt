@@ -1,20 +1,20 @@
 -- The moves of the machine that keeps, made of single steps.
-use Rattle.std.proofs.Common.{◌≡◌, ℕ, ◌+◌, Bool, true, false, refl, sym, ap, ◌∙◌}
-use Rattle.std.specs.Prelude.{if◌then◌else◌, nat_lt}
+use Rattle.std.proofs.Common.{◌≡◌, ℕ, ◌+◌, Bool, refl, sym, ap, ◌∙◌}
+use Rattle.std.specs.Prelude.{if◌then◌else◌}
 use Rattle.tx_control.specs.Nesting.{is_constrained}
 use Rattle.tx_control.specs.declared.causes.Why.{Why}
 use Rattle.tx_control.specs.declared.causes.Why.TheVariants.{External, Program, FetchConflict}
 use Rattle.tx_control.specs.declared.causes.Why.TheVariants.{StoreConflict, FetchOverflow, StoreOverflow}
 use Rattle.tx_control.specs.declared.causes.Why.TheVariants.{Restricted, Filtered, Depth, Starved, Tabort}
-use Rattle.tx_ladder.specs.Rungs.{Standing, begun, descended}
+use Rattle.tx_ladder.specs.Rungs.{begun, descended}
 use Rattle.tx_journal.specs.declared.entries.Entry.{Entry}
 use Rattle.tx_journal.specs.declared.entries.Entry.TheVariants as entry
 use Rattle.tx_serial.specs.Flat.{at_put}
 use Rattle.tx_serial.proofs.Entries.{at_put_same}
-use Rattle.tx_progress.specs.Local.{Local, Beside, aborted, block_stored, interruption_taken}
+use Rattle.tx_progress.specs.Local.{Beside, aborted, block_stored, interruption_taken}
 use Rattle.tx_progress.proofs.Parts.{put_twice}
-use Rattle.tx_meaning.specs.State.{Numbers, State}
-use Rattle.tx_meaning.specs.Changes.{aborting, with_numbers, starting, committing, with_entry}
+use Rattle.tx_meaning.specs.State.{Numbers}
+use Rattle.tx_meaning.specs.Changes.{aborting, with_numbers, committing}
 use Rattle.tx_keeping.specs.Kept.{Kept, with_state, with_standing, with_beside, beside}
 use Rattle.tx_keeping.specs.Moves.{k_aborting, k_starting, k_continuing, k_committing, k_stepping, k_storing}
 use Rattle.tx_keeping.specs.Moves.{k_taking}

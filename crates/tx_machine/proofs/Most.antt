@@ -1,17 +1,14 @@
 -- How many events can be recorded.
-use Rattle.std.proofs.Common.{◌≡◌, ℕ, suc, ◌+◌, ◌*◌, ◌<◌, ◌≤◌, List, [], ◌∷◌, ◌++◌, length, refl, sym, ap, ◌∙◌, subst}
+use Rattle.std.proofs.Common.{◌≡◌, ℕ, ◌+◌, ◌≤◌, List, [], ◌∷◌, ◌++◌, length, refl}
 use Rattle.std.proofs.Common.{arith}
-use Rattle.std.specs.Prelude.{All, count_by, cond}
-use Rattle.std.proofs.lemmas.List.Sums.{sum_by_push, sum_by-append}
-use Rattle.std.proofs.Math.ListN.{length-append}
-use Rattle.std.proofs.lemmas.List.Elements.{All-append}
-use Rattle.tx_journal.specs.Image.{cpu_of_event}
+use Rattle.std.specs.Prelude.{count_by, cond}
+use Rattle.std.proofs.lemmas.List.Sums.{sum_by-append}
 use Rattle.tx_journal.specs.declared.events.Event.{Event}
 use Rattle.tx_journal.specs.declared.events.Event.TheVariants as event
 use Rattle.tx_meaning.specs.Limits.{Setting}
 use Rattle.tx_meaning.specs.Meaning.{meaning, meaning_from, is_external}
 use Rattle.tx_meaning.specs.Room.{is_turn}
-use Rattle.tx_meaning.specs.State.{State, beginning, cpus_of}
+use Rattle.tx_meaning.specs.State.{State, beginning}
 use Rattle.tx_meaning.specs.Turn.{happen}
 use Rattle.tx_meaning.proofs.Books.{few_turns, all_externals}
 use Rattle.tx_keeping.specs.Views.{AreKnown}

@@ -1,8 +1,7 @@
 -- The causes by which an attempt ends of itself, which are no conflicts.
 use Rattle.std.proofs.Common.{◌≡◌, ℕ, ◌+◌, ◌≤◌, Bool, true, false, List, [], ◌∷◌, Option, Some, None}
 use Rattle.std.proofs.Common.{refl, sym, ap, subst, ◌∙◌, arith}
-use Rattle.std.specs.Prelude.{if◌then◌else◌, nat_lt, Result, Ok, Err}
-use Rattle.z_regs.specs.Cpu.{Cpu}
+use Rattle.std.specs.Prelude.{if◌then◌else◌, Result, Ok, Err}
 use Rattle.z_regs.specs.declared.ranges.Range.{Range}
 use Rattle.z_instr.specs.declared.instr.Instr.{Instr}
 use Rattle.z_instr.specs.Table.{entry_at}
@@ -22,12 +21,11 @@ use Rattle.tx_footprint.specs.declared.footprint.Overflow.TheVariants as overflo
 use Rattle.tx_serial.specs.Flat.{Storage}
 use Rattle.tx_serial.specs.Fate.{Fate, Goes, Ends, Stops, Refusal, Excepts, Because, fate_after, cause_in}
 use Rattle.tx_serial.specs.Fate.{aborts_where, excepted, first_refusal, overflow_in, overflow_of}
-use Rattle.tx_serial.specs.Fate.{fetch_refusal, instruction_at, unreadable}
 use Rattle.tx_progress.specs.Progress.{Progress, is_live, advanced}
-use Rattle.tx_progress.specs.Local.{Local, Beside}
-use Rattle.tx_progress.specs.Trial.{fate_by_progress, fetched, tried, tests_by, at_hand, constraint_refusal}
+use Rattle.tx_progress.specs.Local.{Beside}
+use Rattle.tx_progress.specs.Trial.{fate_by_progress, fetched, tried, tests_by, constraint_refusal}
 use Rattle.tx_progress.specs.Trial.{breach_refusal, outcome_by}
-use Rattle.tx_progress.specs.Doing.{Executed, executed, executed_where, inside, outside, opened, closed_by}
+use Rattle.tx_progress.specs.Doing.{executed, executed_where, inside, closed_by}
 use Rattle.tx_progress.specs.Doing.{stores_of}
 use Rattle.tx_progress.specs.declared.done.Done.{Done}
 use Rattle.tx_progress.specs.declared.done.Done.TheVariants as done

@@ -1,5 +1,5 @@
 -- What is read of a machine is read of the meaning of its events.
-use Rattle.std.proofs.Common.{◌≡◌, ℕ, Bool, true, false, Option, Some, None, is_some, refl, sym, ap, ◌∙◌}
+use Rattle.std.proofs.Common.{◌≡◌, ℕ, Bool, true, false, Option, Some, None, is_some, refl, ap, ◌∙◌}
 use Rattle.std.specs.Prelude.{◌&&◌, not, get_or, is_none}
 use Rattle.z_regs.specs.Cpu.{Cpu}
 use Rattle.tx_meaning.specs.Idle.{idle, is_finished, has_ended}

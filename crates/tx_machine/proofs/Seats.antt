@@ -1,29 +1,29 @@
 -- What a change of one CPU and of the lines changes of what is kept.
-use Rattle.std.proofs.Common.{◌≡◌, ℕ, ◌<◌, ◌≤◌, Bool, true, false, List, [], None, length, get_or, set}
-use Rattle.std.proofs.Common.{refl, sym, ap, subst, ◌∙◌, arith}
+use Rattle.std.proofs.Common.{◌≡◌, ℕ, ◌<◌, ◌≤◌, false, List, [], None, length, get_or, set}
+use Rattle.std.proofs.Common.{sym, ap, subst, ◌∙◌, arith}
 use Rattle.std.specs.Prelude.{nat_lt}
 use Rattle.std.proofs.lemmas.List.{get_or_default}
 use Rattle.tx_ladder.specs.Parameters.{usual}
 use Rattle.tx_ladder.specs.Rungs.{Standing, fresh, after_conflict}
 use Rattle.tx_control.specs.declared.causes.Why.{Why}
-use Rattle.tx_serial.specs.Flat.{at_put, Storage}
+use Rattle.tx_serial.specs.Flat.{at_put}
 use Rattle.tx_serial.specs.History.{no_cpu}
 use Rattle.z_regs.specs.declared.ranges.Range.{Range}
 use Rattle.z_instr.specs.declared.instr.Instr.{Instr}
 use Rattle.tx_control.specs.declared.exceptions.Exception.{Exception}
 use Rattle.tx_progress.specs.Local.{Local, Beside, aborted, block_stored, interruption_taken}
-use Rattle.tx_progress.specs.Doing.{Executed, executed, stopped}
+use Rattle.tx_progress.specs.Doing.{executed, stopped}
 use Rattle.tx_cpu.specs.Parts.{local_of}
 use Rattle.tx_lines.specs.Owned.{Owned, storage_in, holders_in, with_lines}
-use Rattle.tx_meaning.specs.State.{Numbers, State, is_live}
-use Rattle.tx_keeping.specs.Kept.{Kept, beside, with_standing}
+use Rattle.tx_meaning.specs.State.{Numbers, is_live}
+use Rattle.tx_keeping.specs.Kept.{Kept, beside}
 use Rattle.tx_machine.specs.declared.slot.Tally.{Tally}
 use Rattle.tx_machine.specs.Works.{Seat, Works, numbers_of, seats_of, kept_by}
 use Rattle.tx_machine.specs.Ready.{IsCounted}
-use Rattle.tx_machine.specs.Steps.{k_left, k_raised, k_begun}
+use Rattle.tx_machine.specs.Steps.{k_left, k_raised}
 use Rattle.tx_machine.proofs.Told.{block-counted, taken-counted, stopped-counted}
 use Rattle.tx_machine.proofs.Own.{completed-most}
-use Rattle.tx_machine.proofs.Tables.{each, listed, list_put, read_of_put, put_as_is}
+use Rattle.tx_machine.proofs.Tables.{each, list_put, read_of_put, put_as_is}
 
 -- a seat, where no other is at hand
 pub no_seat : Seat

@@ -1,11 +1,10 @@
 -- Ranges by absolute addresses are small, and lie in storage.
-use Rattle.std.proofs.Common.{◌≡◌, ℕ, ◌+◌, ◌-◌, ◌<◌, ◌≤◌, true, false, List, [], ◌∷◌, ◌++◌, Option, Some,
-    None, length}
+use Rattle.std.proofs.Common.{◌≡◌, ℕ, ◌+◌, ◌-◌, ◌<◌, ◌≤◌, true, false, List, [], ◌∷◌, ◌++◌, Option, Some, None}
 use Rattle.std.proofs.Common.{refl, sym, ap, subst, ◌∙◌, arith, inl, inr, is_some}
 use Rattle.std.specs.Prelude.{All}
 use Rattle.std.proofs.lemmas.Bool.{cases_lt}
 use Rattle.std.proofs.lemmas.List.Elements.{All-nil, All-cons, All-head, All-tail, All-append}
-use Rattle.z_regs.specs.Prefix.{storage_size, is_prefix, absolute_of, is_accessible}
+use Rattle.z_regs.specs.Prefix.{storage_size, is_prefix, absolute_of}
 use Rattle.z_regs.specs.Absolute.{IsAccessible, absolute_range, absolute_ranges, to_edge, part_of}
 use Rattle.z_regs.specs.declared.ranges.Range.{Range}
 use Rattle.z_regs.proofs.Exchange.{IsArea, area, moves}
@@ -51,11 +50,17 @@ range-placed Q (Some p) r all ok h =
           let second = part_of r (absolute_of (Some p) there) (r.length - here) in
           subst (All Q) (sym (two_areas p r across))
           (All-cons Q first (second ∷ [])
-          (all first record { small = omega (arith, h.small, across); inside = stays_inside p r.first here q
-          first_end edge })
+          (all first record {
+            small = omega (arith, h.small, across);
+            inside = stays_inside p r.first here q
+                first_end edge;
+          })
           (All-cons Q second []
-          (all second record { small = omega (arith, h.small); inside = stays_inside p there
-          (r.length - here) q second_end whole })
+          (all second record {
+            small = omega (arith, h.small);
+            inside = stays_inside p there
+                (r.length - here) q second_end whole;
+          })
           (All-nil Q)))
       | inr one ↦
           let whole = part_of r (absolute_of (Some p) r.first) r.length in

@@ -1,5 +1,5 @@
 -- What an instruction tells says how many instructions of an attempt are completed behind it.
-use Rattle.std.proofs.Common.{◌≡◌, ℕ, ◌+◌, ◌<◌, Bool, true, false, List, [], ◌∷◌, Option, Some, None, is_some}
+use Rattle.std.proofs.Common.{◌≡◌, ℕ, ◌+◌, Bool, true, false, List, [], ◌∷◌, Option, Some, None, is_some}
 use Rattle.std.proofs.Common.{refl, sym, ap, subst, ◌∙◌, arith, take}
 use Rattle.std.specs.Prelude.{if◌then◌else◌, nat_lt, ◌++◌, ◌-◌}
 use Rattle.std.proofs.lemmas.Bool.{or_left}
@@ -19,7 +19,7 @@ use Rattle.tx_control.specs.declared.begins.Begin.{Begin}
 use Rattle.tx_control.specs.declared.exceptions.Exception.{Exception}
 use Rattle.tx_progress.specs.Progress.{Progress, resting, is_live, advanced, begins_constrained}
 use Rattle.tx_progress.specs.Local.{Local, Beside, taken_by, block_stored, interruption_taken}
-use Rattle.tx_progress.specs.Doing.{Executed, executed, executed_where, inside, outside, opened, closed_by}
+use Rattle.tx_progress.specs.Doing.{executed, executed_where, inside, outside, opened, closed_by}
 use Rattle.tx_progress.specs.Doing.{told_of, delay_given, stopped, stores_of}
 use Rattle.tx_progress.specs.Trial.{outcome_by}
 use Rattle.tx_progress.specs.declared.done.Done.{Done}

@@ -1,11 +1,10 @@
 -- What is kept between events is all that a turn asks of it.
-use Rattle.std.proofs.Common.{◌≡◌, ◌≢◌, ℕ, ◌+◌, ◌<◌, Bool, true, false, List, [], Some, None, refl, sym, ap}
+use Rattle.std.proofs.Common.{◌≡◌, ◌≢◌, ℕ, ◌+◌, ◌<◌, true, false, List, [], Some, None, refl, sym, ap}
 use Rattle.std.proofs.Common.{◌∙◌, subst, arith}
 use Rattle.std.specs.Prelude.{◌⊎◌, ◌≤◌, nat_lt, nat_le, ◌∷◌, Option, length, map, All}
 use Rattle.std.proofs.lemmas.Bool.{cases_Bool, ltb-true, and_parts}
 use borrow.Enum.Arm.{by_way}
 use Rattle.z_regs.specs.Prefix.{is_prefix, is_accessible, area_size, storage_size}
-use Rattle.z_regs.specs.declared.waiting.Waiting.{Waiting}
 use Rattle.z_instr.specs.declared.instr.Instr.{Instr}
 use Rattle.z_regs.specs.declared.ranges.Range.{Range}
 use Rattle.tx_ladder.specs.Waiting.{waits_in}
@@ -23,7 +22,7 @@ use Rattle.tx_progress.specs.Reached.{IsFollowed, progress_of}
 use Rattle.tx_serial.proofs.Passing.{passes}
 use Rattle.tx_serial.proofs.FreeOperands.{inside_operands}
 use Rattle.tx_serial.specs.Attempt.{Run}
-use Rattle.tx_serial.specs.Fate.{fate, excepted, operands}
+use Rattle.tx_serial.specs.Fate.{fate, excepted}
 use Rattle.tx_serial.specs.Run.{run}
 use Rattle.tx_serial.specs.Text.{IsPlaced}
 use Rattle.z_instr.specs.Operands.{spans}
@@ -38,7 +37,7 @@ use Rattle.tx_cpu.proofs.Agreeing.{fate_by_progress-alike}
 use Rattle.z_regs.specs.Prefix.{absolute_of}
 use Rattle.tx_meaning.specs.Limits.{Setting}
 use Rattle.tx_meaning.specs.Meaning.{IsSetting}
-use Rattle.tx_meaning.specs.Needs.{operand_needs, block_needs, interruption_needs, interruption_ranges, stored}
+use Rattle.tx_meaning.specs.Needs.{interruption_ranges, stored}
 use Rattle.tx_meaning.specs.State.{Numbers, is_live, is_first}
 use Rattle.tx_meaning.specs.Changes.{counting_turn, with_event}
 use Rattle.tx_meaning.proofs.Walk.{at_put_kept}
@@ -52,7 +51,7 @@ use Rattle.tx_keeping.proofs.Room.{AllWithin}
 use Rattle.tx_keeping.proofs.Few.{resting_room, instruction_room, small_interruption, few_interruption}
 use Rattle.tx_bounds.proofs.Stopping.{Counted, turning_begun}
 use Rattle.tx_bounds.proofs.Stopped.{Between, may_go_on}
-use Rattle.tx_machine.specs.Ready.{MayClimb, MayAsk, MayHold, MayTurn, IsInReach, image_storage}
+use Rattle.tx_machine.specs.Ready.{MayClimb, MayAsk, MayTurn, IsInReach, image_storage}
 
 -- ---- the ladder and the stop queue
 

@@ -1,7 +1,6 @@
 -- What a machine is seen as, and what it stands for.
-use Rattle.std.specs.Prelude.{◌≡◌, ℕ, ◌+◌, ◌*◌, ◌≤◌, Bool, true, false, ◌&&◌, ◌==◌, List, [], ◌∷◌, ◌++◌, length}
-use Rattle.std.specs.Prelude.{Option, Some, None, if◌then◌else◌, is_none, count_by}
-use Rattle.z_regs.specs.declared.waiting.Waiting.{Waiting}
+use Rattle.std.specs.Prelude.{◌≡◌, ℕ, ◌+◌, ◌*◌, ◌≤◌, Bool, false, ◌==◌, List, [], length}
+use Rattle.std.specs.Prelude.{Option, None, count_by}
 use Rattle.std.specs.Prelude.{refl}
 use Rattle.std.specs.Coded.{Coded, code_by, coded×, coded_ℕ, coded_list, coded_option}
 use Rattle.tx_journal.specs.contracts.events.Event as event
@@ -12,8 +11,6 @@ use Rattle.tx_journal.specs.declared.entries.Entry.TheVariants.{Step, Commit, Ab
 use Rattle.tx_journal.specs.declared.events.Event.{Event}
 use Rattle.tx_ladder.specs.Rungs.{fresh}
 use Rattle.tx_serial.specs.History.{no_cpu}
-use Rattle.tx_serial.specs.Flat.{Pending}
-use Rattle.tx_cpu.specs.Parts.{Parts}
 use Rattle.tx_meaning.specs.declared.asking.Reject.{Reject}
 use Rattle.tx_meaning.specs.Limits.{RunLimits, Setting}
 use Rattle.tx_meaning.specs.Meaning.{IsSetting, AreEvents, meaning, is_external}

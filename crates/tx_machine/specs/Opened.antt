@@ -1,5 +1,5 @@
 -- What a machine keeps before anything has happened.
-use Rattle.std.specs.Prelude.{◌≡◌, ℕ, List, All, map}
+use Rattle.std.specs.Prelude.{◌≡◌, List, All, map}
 use Rattle.z_regs.specs.Cpu.{Cpu}
 use Rattle.tx_ladder.specs.Parameters.{Parameters}
 use Rattle.tx_ladder.specs.Rungs.{fresh}

@@ -8,9 +8,6 @@ use Rattle.tx_control.specs.declared.causes.Why.TheVariants.{External, Program, 
 use Rattle.tx_control.specs.declared.causes.Why.TheVariants.{StoreConflict, FetchOverflow, StoreOverflow}
 use Rattle.tx_control.specs.declared.causes.Why.TheVariants.{Restricted, Filtered, Depth, Starved, Tabort}
 use Rattle.tx_ladder.specs.Waiting.{waits_in}
-use Rattle.tx_footprint.specs.Touched.{Sets}
-use Rattle.tx_cpu.specs.Parts.{local_of}
-use Rattle.tx_lines.specs.Owned.{holders_in}
 use Rattle.tx_meaning.specs.declared.asking.Need.{Need}
 use Rattle.tx_meaning.specs.Changes.{is_needed}
 use Rattle.tx_meaning.specs.State.{is_live, is_head}

@@ -7,10 +7,9 @@ use Rattle.tx_control.specs.declared.causes.Why.TheVariants.{Restricted, Filtere
 use Rattle.tx_ladder.specs.Rungs.{begun, after_conflict, descended, next_rung}
 use Rattle.tx_journal.specs.declared.entries.Entry.{Entry}
 use Rattle.tx_progress.specs.Local.{Beside}
-use Rattle.tx_meaning.specs.Changes.{with_numbers, with_entry, delaying, leaving, on_rung, after_cause}
+use Rattle.tx_meaning.specs.Changes.{with_numbers, with_entry, delaying, leaving, on_rung}
 use Rattle.tx_meaning.specs.Changes.{counting_turn, waiting_turn}
 use Rattle.tx_keeping.specs.Kept.{Kept, with_state, with_standing, with_beside}
-use Rattle.tx_keeping.specs.Moves.{standing_after}
 use Rattle.tx_machine.specs.declared.ending.Rung.{Rung}
 use Rattle.tx_machine.specs.declared.ending.Rung.TheVariants.{Climbs, Descends, Stays}
 

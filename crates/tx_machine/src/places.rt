@@ -9,8 +9,11 @@ use z_regs::{Range, Touches, place_of};
 /// The real addresses of what an interruption stores: its identification, the old program status word and the
 /// new one, and the diagnostic block.
 const IDENTIFICATION: u64 = 0x8c;
+
 const OLD_PSW: u64 = 0x150;
+
 const NEW_PSW: u64 = 0x1d0;
+
 const BLOCK: u64 = 0x1800;
 
 /// The bytes of operands.

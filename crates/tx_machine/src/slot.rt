@@ -30,7 +30,6 @@ pub struct Slot {
 
 impl Model for Slot {
     ghost use Rattle.tx_machine.specs.Works.{Seat};
-
     ghost use Rattle.tx_machine.specs.Ready.{IsCounted};
 
     ghost Value = { Seat };

@@ -1,5 +1,5 @@
 -- A program interruption, or an abort behind which the program runs on.
-use Rattle.std.proofs.Common.{◌≡◌, ap, ◌∙◌}
+use Rattle.std.proofs.Common.{ap, ◌∙◌}
 use Rattle.tx_meaning.specs.declared.outcome.Outcome.TheVariants.{Aborted}
 use Rattle.tx_machine.proofs.Own.{aborted-outcome}
 use Rattle.tx_machine.proofs.acting.outcome_of_abort.Goals as goal

@@ -1,5 +1,5 @@
 -- A slot for one CPU more.
-use Rattle.std.proofs.Common.{sym, ap, subst, ◌∙◌}
+use Rattle.std.proofs.Common.{sym, subst}
 use Rattle.z_regs.specs.Cpu.{cpu_of}
 use Rattle.std.proofs.Common.{map, take, ◌+◌}
 use Rattle.tx_machine.specs.Opened.{AreUnused}

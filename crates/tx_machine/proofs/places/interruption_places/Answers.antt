@@ -1,5 +1,5 @@
 -- The places of an interruption, one after the other.
-use Rattle.std.proofs.Common.{◌≡◌, sym, ap, ◌∙◌, List, [], ◌∷◌, ◌++◌}
+use Rattle.std.proofs.Common.{◌≡◌, ap, ◌∙◌, List, [], ◌∷◌, ◌++◌}
 use Rattle.z_regs.specs.Prefix.{absolute_of}
 use Rattle.z_regs.specs.declared.ranges.Range.{Range}
 use Rattle.tx_meaning.specs.Needs.{stored}

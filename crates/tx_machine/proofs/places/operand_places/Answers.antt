@@ -1,5 +1,5 @@
 -- Accessible operands are small and lie in storage.
-use Rattle.std.proofs.Common.{◌≡◌, ◌≤◌, ◌+◌, sym, subst, List}
+use Rattle.std.proofs.Common.{◌≤◌, ◌+◌, sym, subst, List}
 use Rattle.std.specs.Prelude.{All}
 use Rattle.z_regs.specs.Prefix.{storage_size}
 use Rattle.z_regs.specs.declared.ranges.Range.{Range}

@@ -1,7 +1,7 @@
 -- What is kept is what the recorded events mean.
-use Rattle.std.proofs.Common.{◌≡◌, ℕ, sym, ap, ◌∙◌}
+use Rattle.std.proofs.Common.{sym, ap, ◌∙◌}
 use Rattle.tx_meaning.specs.State.{State}
-use Rattle.tx_machine.specs.Machine.{Seen, setting_of, state_of}
+use Rattle.tx_machine.specs.Machine.{Seen, state_of}
 use Rattle.tx_machine.specs.declared.machine.Machine.TheInside.{Inside}
 use Rattle.tx_machine.proofs.Read.{reads_state}
 use Rattle.tx_machine.proofs.machine.Machine.journal.Goals as goal

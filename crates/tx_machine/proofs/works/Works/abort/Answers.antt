@@ -1,5 +1,5 @@
 -- The attempt ends, the CPU moves on the ladder, and this is written down.
-use Rattle.std.proofs.Common.{◌≡◌, ap, sym, subst, ◌∙◌}
+use Rattle.std.proofs.Common.{ap, sym, subst, ◌∙◌}
 use Rattle.tx_journal.specs.declared.entries.Entry.TheVariants.{Abort}
 use Rattle.tx_progress.specs.Local.{aborted}
 use Rattle.tx_keeping.specs.Kept.{Kept, beside}

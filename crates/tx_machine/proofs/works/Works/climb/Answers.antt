@@ -1,5 +1,5 @@
 -- What comes after a conflict.
-use Rattle.std.proofs.Common.{◌≡◌, ap, sym, ◌∙◌, [], ◌∷◌, ◌++◌}
+use Rattle.std.proofs.Common.{ap, sym, ◌∙◌, [], ◌∷◌, ◌++◌}
 use Rattle.tx_ladder.specs.Waiting.{waits_in}
 use Rattle.tx_ladder.specs.declared.ladder.Next.TheVariants.{Plain, Delay, Queue}
 use Rattle.tx_keeping.specs.Kept.{Kept}

@@ -1,5 +1,5 @@
 -- The ladder begins anew, and the head leaves the queue, where the attempt is constrained.
-use Rattle.std.proofs.Common.{◌≡◌, ap, sym, ◌∙◌}
+use Rattle.std.proofs.Common.{ap, sym, ◌∙◌}
 use Rattle.tx_meaning.specs.Changes.{without_head}
 use Rattle.tx_keeping.specs.Kept.{Kept}
 use Rattle.tx_machine.specs.Works.{Works, kept_by}

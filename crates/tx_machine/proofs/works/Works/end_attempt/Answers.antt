@@ -1,5 +1,5 @@
 -- The attempt of one CPU is aborted, with storage.
-use Rattle.std.proofs.Common.{◌≡◌, refl, ◌∙◌}
+use Rattle.std.proofs.Common.{refl, ◌∙◌}
 use Rattle.tx_progress.specs.Local.{aborted}
 use Rattle.tx_machine.specs.contracts.slot.Slot.{the_view}
 use Rattle.tx_machine.specs.contracts.works.Works as works

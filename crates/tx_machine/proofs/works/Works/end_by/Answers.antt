@@ -1,5 +1,4 @@
 -- The abort, and what it is to the program.
-use Rattle.std.proofs.Common.{◌≡◌}
 use Rattle.tx_machine.specs.Works.{kept_by}
 use Rattle.tx_machine.proofs.Acts.{ended-is}
 use Rattle.tx_machine.proofs.works.Works.end_by.Goals as goal

@@ -1,5 +1,5 @@
 -- Inside or outside.
-use Rattle.std.proofs.Common.{◌≡◌, sym, ap, ◌∙◌}
+use Rattle.std.proofs.Common.{sym, ap, ◌∙◌}
 use Rattle.tx_progress.specs.Doing.{executed}
 use Rattle.tx_keeping.specs.Kept.{beside}
 use Rattle.tx_keeping.specs.Turn.{k_executing, k_done}

@@ -1,13 +1,19 @@
 -- What the instruction tells, and what is made of it.
-use Rattle.std.proofs.Common.{◌≡◌, refl, sym, ap, ◌∙◌}
+use Rattle.std.proofs.Common.{refl, sym, ap, ◌∙◌}
 use Rattle.tx_progress.specs.Doing.{executed}
 use Rattle.tx_progress.specs.declared.done.Done.TheVariants as done
 use Rattle.tx_keeping.specs.Kept.{beside}
-use Rattle.tx_keeping.specs.Turn.{k_ends_by, k_inside, next_address}
+use Rattle.tx_keeping.specs.Turn.{k_inside, next_address}
 use Rattle.tx_machine.specs.Turned.{turned_as}
 use Rattle.tx_machine.specs.Works.{kept_by}
-use Rattle.tx_machine.proofs.Acts.{stepped-inside, committed-inside, ended-inside, ended-live, ended-may,
-    not-inside}
+use Rattle.tx_machine.proofs.Acts.{
+  stepped-inside,
+  committed-inside,
+  ended-inside,
+  ended-live,
+  ended-may,
+  not-inside,
+}
 use Rattle.tx_machine.proofs.works.Works.execute_inside.Goals as goal
 
 pub returns-in-Stepped-clause-value : goal.returns-in-Stepped-clause-value

@@ -1,5 +1,5 @@
 -- What the instruction tells, and what is made of it.
-use Rattle.std.proofs.Common.{◌≡◌, refl, sym, ap, ◌∙◌}
+use Rattle.std.proofs.Common.{refl, sym, ap, ◌∙◌}
 use Rattle.tx_progress.specs.Doing.{executed}
 use Rattle.tx_progress.specs.declared.done.Done.TheVariants as done
 use Rattle.tx_keeping.specs.Kept.{beside}

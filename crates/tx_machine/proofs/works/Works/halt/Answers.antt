@@ -1,5 +1,5 @@
 -- The program of one CPU is stopped.
-use Rattle.std.proofs.Common.{◌≡◌, refl, ◌∙◌}
+use Rattle.std.proofs.Common.{refl, ◌∙◌}
 use Rattle.tx_progress.specs.Local.{Beside}
 use Rattle.tx_progress.specs.Doing.{stopped}
 use Rattle.tx_lines.specs.Owned.{storage_in}

@@ -1,5 +1,5 @@
 -- The interruption of one CPU goes into storage.
-use Rattle.std.proofs.Common.{◌≡◌, refl, ◌∙◌}
+use Rattle.std.proofs.Common.{refl, ◌∙◌}
 use Rattle.tx_progress.specs.Local.{interruption_taken}
 use Rattle.tx_machine.specs.contracts.slot.Slot.{the_view}
 use Rattle.tx_machine.specs.contracts.works.Works as works

@@ -1,7 +1,7 @@
 -- The ladder of one CPU is raised.
-use Rattle.std.proofs.Common.{◌≡◌, ℕ, ◌<◌, ap, sym, subst, ◌∙◌, true}
-use Rattle.tx_ladder.specs.Rungs.{Standing, next_rung}
-use Rattle.tx_machine.specs.Works.{Seat, Works, kept_by}
+use Rattle.std.proofs.Common.{◌≡◌, ◌<◌, ap, sym, subst, ◌∙◌, true}
+use Rattle.tx_ladder.specs.Rungs.{next_rung}
+use Rattle.tx_machine.specs.Works.{Seat}
 use Rattle.tx_machine.specs.contracts.slot.Slot.{the_view}
 use Rattle.tx_machine.specs.contracts.works.Works as works
 use Rattle.tx_machine.proofs.Seats.{IsAt, no_seat, seat-is, raised-is}

@@ -1,5 +1,5 @@
 -- What the instruction leaves of the CPU and of storage, and what it tells.
-use Rattle.std.proofs.Common.{◌≡◌, ◌<◌, ◌≤◌, refl, sym, ap, subst, ◌∙◌, arith}
+use Rattle.std.proofs.Common.{◌<◌, ◌≤◌, refl, sym, ap, subst, ◌∙◌, arith}
 use Rattle.tx_progress.specs.Local.{Beside}
 use Rattle.tx_progress.specs.Doing.{Executed, executed}
 use Rattle.tx_cpu.specs.Parts.{local_of}

@@ -1,5 +1,5 @@
 -- The exception stops the program, and this is written down.
-use Rattle.std.proofs.Common.{◌≡◌, refl, ap}
+use Rattle.std.proofs.Common.{refl, ap}
 use Rattle.tx_machine.specs.Works.{Works, kept_by}
 use Rattle.tx_machine.proofs.Acts.{stopping-is}
 use Rattle.tx_machine.proofs.works.Works.stop.Goals as goal

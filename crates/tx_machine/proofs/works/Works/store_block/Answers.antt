@@ -1,5 +1,5 @@
 -- The block is stored, and this is written down.
-use Rattle.std.proofs.Common.{◌≡◌, refl, ap}
+use Rattle.std.proofs.Common.{refl, ap}
 use Rattle.tx_machine.specs.Works.{Works, kept_by}
 use Rattle.tx_machine.proofs.Acts.{stored-is}
 use Rattle.tx_machine.proofs.works.Works.store_block.Goals as goal

@@ -1,5 +1,5 @@
 -- The interruption comes, and this is written down.
-use Rattle.std.proofs.Common.{◌≡◌, refl, ap}
+use Rattle.std.proofs.Common.{refl, ap}
 use Rattle.tx_machine.specs.Works.{Works, kept_by}
 use Rattle.tx_machine.proofs.Acts.{taken-is}
 use Rattle.tx_machine.proofs.works.Works.take.Goals as goal
