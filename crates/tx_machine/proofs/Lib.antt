@@ -12,6 +12,7 @@ pub mod Told
 pub mod Own
 pub mod Acts
 pub mod Idling
+pub mod Lined
 pub mod SmallPlaces
 pub mod Turns
 pub mod Shown

@@ -4,5 +4,6 @@ pub mod Ready
 pub mod Asks
 pub mod Steps
 pub mod Turned
+pub mod InTurn
 pub mod Machine
 pub mod Opened

@@ -12,6 +12,7 @@ pub mod machine;
 pub mod opening;
 pub mod places;
 pub mod slot;
+pub mod turning;
 pub mod works;
 
 pub use slot::Tally;

@@ -1,0 +1,84 @@
+-- It goes, ends its transaction, or stops the program.
+use Rattle.std.proofs.Common.{◌≡◌, sym, ap, ◌∙◌}
+use Rattle.tx_serial.specs.Fate.{Goes, Ends, Stops}
+use Rattle.tx_meaning.specs.Limits.{Setting}
+use Rattle.tx_keeping.specs.Kept.{text_of}
+use Rattle.tx_keeping.specs.Turn.{k_attempting, k_ends_by}
+use Rattle.tx_machine.specs.Ready.{image_storage}
+use Rattle.tx_machine.specs.Works.{kept_by}
+use Rattle.tx_machine.proofs.Seats.{no_seat}
+use Rattle.tx_machine.proofs.Own.{fate-own}
+use Rattle.tx_machine.proofs.Climbing.{may-end-own}
+use Rattle.tx_machine.proofs.Lined.{no_limits, room-now}
+use Rattle.tx_machine.proofs.works.Works.attempt.Goals as goal
+
+pub go-requires-clause-prepared : goal.go-requires-clause-prepared
+go-requires-clause-prepared c rest =
+    let m : Setting = record { image = c.args.image.now; limits = no_limits } in
+    record {
+      text = text_of m;
+      storage = image_storage m;
+      goes = sym ((c.in-Go.ensures).value rest no_limits);
+    }
+
+pub go-requires-clause-reach : goal.go-requires-clause-reach
+go-requires-clause-reach c rest =
+    (c.requires.turns rest no_limits).reach c.in-Go.instr c.in-Go.need
+    (sym (c.requires.turns rest no_limits).text ∙ sym ((c.in-Go.ensures).value rest no_limits))
+
+pub go-requires-clause-holds : goal.go-requires-clause-holds
+go-requires-clause-holds c rest =
+    (c.requires.turns rest no_limits).goes c.in-Go.instr c.in-Go.need
+    (sym (c.requires.turns rest no_limits).text ∙ sym ((c.in-Go.ensures).value rest no_limits))
+
+pub end_by-requires-clause-live : goal.end_by-requires-clause-live
+end_by-requires-clause-live c rest =
+    (c.requires.turns rest no_limits).ends c.in-Ends.why
+    (sym (c.requires.turns rest no_limits).text ∙ sym ((c.in-Ends.ensures).value rest no_limits))
+
+pub end_by-requires-clause-climbs : goal.end_by-requires-clause-climbs
+end_by-requires-clause-climbs c rest =
+    let k = kept_by rest c.args.self.now in
+    let m : Setting = record { image = c.args.image.now; limits = no_limits } in
+    may-end-own c.in-Ends.why k c.args.cpu
+    (fate-own (text_of m) (image_storage m) (k.locals c.args.cpu).attempt c.in-Ends.why
+    (sym ((c.in-Ends.ensures).value rest no_limits)))
+
+pub end_by-requires-clause-room : goal.end_by-requires-clause-room
+end_by-requires-clause-room c = room-now c.args.self.now (c.requires.acts no_seat).room
+
+pub stop-requires-clause-live : goal.stop-requires-clause-live
+stop-requires-clause-live c rest =
+    (c.requires.turns rest no_limits).stops c.in-Stops.e
+    (sym (c.requires.turns rest no_limits).text ∙ sym ((c.in-Stops.ensures).value rest no_limits))
+
+pub stop-requires-clause-room : goal.stop-requires-clause-room
+stop-requires-clause-room c = room-now c.args.self.now (c.requires.acts no_seat).room
+
+pub go-requires-clause-rested : goal.go-requires-clause-rested
+go-requires-clause-rested c rest = (c.requires.turns rest no_limits).rested
+
+pub returns-in-Go-clause-value : goal.returns-in-Go-clause-value
+returns-in-Go-clause-value c rest limits =
+    let m : Setting = record { image = c.args.image.now; limits = limits } in
+    let k = kept_by rest c.args.self.now in
+    c.go.ensures.value rest m c.requires.cpus
+    ∙ ap (k_attempting m c.args.cpu k)
+    ((c.in-Go.ensures).value rest limits ∙ (c.requires.turns rest limits).text)
+
+pub returns-in-Ends-clause-value : goal.returns-in-Ends-clause-value
+returns-in-Ends-clause-value c rest limits =
+    let m : Setting = record { image = c.args.image.now; limits = limits } in
+    let k = kept_by rest c.args.self.now in
+    c.end_by.ensures.value rest
+    ∙ ap (λ at. k_ends_by c.args.cpu c.in-Ends.why at k) (c.next_address-at.ensures rest)
+    ∙ ap (k_attempting m c.args.cpu k)
+    ((c.in-Ends.ensures).value rest limits ∙ (c.requires.turns rest limits).text)
+
+pub returns-in-Stops-clause-value : goal.returns-in-Stops-clause-value
+returns-in-Stops-clause-value c rest limits =
+    let m : Setting = record { image = c.args.image.now; limits = limits } in
+    let k = kept_by rest c.args.self.now in
+    c.stop.ensures.value rest
+    ∙ ap (k_attempting m c.args.cpu k)
+    ((c.in-Stops.ensures).value rest limits ∙ (c.requires.turns rest limits).text)
