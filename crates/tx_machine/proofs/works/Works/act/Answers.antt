@@ -1,5 +1,5 @@
 -- The block, the interruption, or the next instruction.
-use Rattle.std.proofs.Common.{◌≡◌, sym, ap, ◌∙◌, is_some, refl}
+use Rattle.std.proofs.Common.{sym, ◌∙◌}
 use Rattle.std.proofs.Common.{subst, List}
 use Rattle.z_regs.specs.declared.ranges.Range.{Range}
 use Rattle.tx_meaning.specs.Needs.{operand_needs}

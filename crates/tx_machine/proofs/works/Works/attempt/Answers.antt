@@ -1,6 +1,5 @@
 -- It goes, ends its transaction, or stops the program.
-use Rattle.std.proofs.Common.{◌≡◌, sym, ap, ◌∙◌}
-use Rattle.tx_serial.specs.Fate.{Goes, Ends, Stops}
+use Rattle.std.proofs.Common.{sym, ap, ◌∙◌}
 use Rattle.tx_meaning.specs.Limits.{Setting}
 use Rattle.tx_keeping.specs.Kept.{text_of}
 use Rattle.tx_keeping.specs.Turn.{k_attempting, k_ends_by}

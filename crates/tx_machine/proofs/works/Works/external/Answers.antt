@@ -1,5 +1,5 @@
 -- A live attempt is aborted, and the head goes to the tail.
-use Rattle.std.proofs.Common.{◌≡◌, sym, ap, ◌∙◌}
+use Rattle.std.proofs.Common.{sym, ap, ◌∙◌}
 use Rattle.tx_control.specs.declared.causes.Why.TheVariants.{External}
 use Rattle.tx_keeping.specs.Turn.{KTurned, k_external, k_interrupting, k_ends_by, k_to_tail}
 use Rattle.tx_machine.specs.Turned.{turned_as}

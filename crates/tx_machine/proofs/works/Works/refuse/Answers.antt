@@ -1,5 +1,5 @@
 -- A starved attempt is aborted.
-use Rattle.std.proofs.Common.{◌≡◌, sym, ap, ◌∙◌}
+use Rattle.std.proofs.Common.{sym, ap, ◌∙◌}
 use Rattle.tx_keeping.specs.Turn.{k_refused_turn}
 use Rattle.tx_machine.specs.Works.{kept_by}
 use Rattle.tx_machine.proofs.Lined.{starved-is, starved-live}

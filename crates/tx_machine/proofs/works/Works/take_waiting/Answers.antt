@@ -1,13 +1,12 @@
 -- Once its lines are there.
-use Rattle.std.proofs.Common.{◌≡◌, ℕ, sym, ap, subst, ◌∙◌, List, [], ◌∷◌, Option, Some, None, is_some}
-use Rattle.z_regs.specs.Absolute.{absolute_ranges, IsAccessible}
+use Rattle.std.proofs.Common.{◌≡◌, ℕ, sym, ap, subst, ◌∙◌, List, Option, Some, None, is_some}
+use Rattle.z_regs.specs.Absolute.{absolute_ranges}
 use Rattle.z_regs.specs.declared.ranges.Range.{Range}
-use Rattle.std.specs.Prelude.{All}
-use Rattle.tx_meaning.specs.Needs.{needs_of, stored, interruption_ranges}
+use Rattle.tx_meaning.specs.Needs.{needs_of, interruption_ranges}
 use Rattle.tx_meaning.specs.declared.outcome.Outcome.TheVariants.{Executed}
 use Rattle.tx_keeping.specs.Kept.{Kept}
-use Rattle.tx_keeping.specs.Moves.{k_storing, k_taking}
-use Rattle.tx_keeping.specs.Turn.{k_executing, k_turned}
+use Rattle.tx_keeping.specs.Moves.{k_taking}
+use Rattle.tx_keeping.specs.Turn.{k_turned}
 use Rattle.tx_machine.specs.declared.asking.Refused.{Refused}
 use Rattle.tx_machine.specs.Ready.{MayHold}
 use Rattle.tx_machine.specs.Turned.{turned_as}
