@@ -1,27 +1,14 @@
 -- What a CPU does once its lines are there.
-use Rattle.std.proofs.Common.{
-  ◌≡◌,
-  ℕ,
-  ◌+◌,
-  ◌<◌,
-  ◌≤◌,
-  Bool,
-  true,
-  false,
-  List,
-  [],
-  Option,
-  Some,
-  None,
-  refl,
-  sym,
-  ap,
-}
+use Rattle.std.proofs.Common.{◌≡◌, ℕ, ◌+◌, ◌<◌, ◌≤◌, Bool, true, false, List, [], Option, Some, None, refl,
+    sym, ap}
 use Rattle.std.proofs.Common.{subst, ◌∙◌, arith, length, is_some}
-use Rattle.std.specs.Prelude.{◌∷◌}
+use Rattle.std.specs.Prelude.{nat_lt, ◌&&◌, ◌∷◌}
 use Rattle.std.proofs.lemmas.Bool.{and_parts}
 use Rattle.z_regs.specs.declared.ranges.Range.{Range}
+use Rattle.bit_set.specs.Counts.{count_below}
 use Rattle.tx_control.specs.declared.causes.Why.TheVariants as why
+use Rattle.tx_progress.specs.Progress.{resting}
+use Rattle.tx_progress.specs.Local.{Local}
 use Rattle.tx_ladder.specs.Rungs.{is_starved}
 use Rattle.tx_meaning.specs.Limits.{Setting, RunLimits}
 use Rattle.z_regs.specs.Prefix.{storage_size}
@@ -36,21 +23,33 @@ use Rattle.tx_keeping.specs.Moves.{k_storing, k_taking}
 use Rattle.tx_keeping.specs.Turn.{k_turned, k_acting, k_attempting}
 use Rattle.tx_meaning.specs.State.{is_live}
 use Rattle.tx_meaning.specs.declared.asking.Reject.{Reject}
-use Rattle.tx_keeping.specs.Kept.{Kept, text_of}
+use Rattle.tx_keeping.specs.Kept.{Kept, text_of, with_state}
 use Rattle.tx_keeping.specs.Asking.{KAsked, k_get_lines}
-use Rattle.tx_keeping.specs.Turn.{
-  KTurned,
-  k_once_given,
-  k_with_lines,
-  k_refused_turn,
-  k_ends_by,
-  next_address,
-}
+use Rattle.tx_keeping.specs.Turn.{KTurned, k_once_given, k_with_lines, k_refused_turn, k_ends_by,
+    next_address}
 use Rattle.tx_machine.specs.declared.acting.Turned.{Turned}
 use Rattle.tx_machine.specs.Asks.{is_cpu_starved}
-use Rattle.tx_machine.specs.Ready.{owed, MayHold}
+use Rattle.tx_machine.specs.Ready.{owed, MayAsk, MayHold, MayTurn, HasTurn, IsCounted}
+use Rattle.tx_journal.specs.Content.{Content}
+use Rattle.std.specs.Prelude.{if◌then◌else◌, nat_le}
+use Rattle.std.proofs.lemmas.Bool.Decides.{nat_tests}
+use Rattle.tx_meaning.specs.Idle.{idle_by, kept_back}
+use Rattle.tx_meaning.specs.declared.outcome.Outcome.{Outcome}
+use Rattle.tx_meaning.specs.declared.outcome.Outcome.TheVariants.{Spent, Delayed}
+use Rattle.tx_keeping.specs.Kept.{kept_finished}
+use Rattle.tx_keeping.specs.Turn.{k_idle, k_turn, k_turn_where, k_counted_turn, k_by_rules, k_external}
+use Rattle.tx_journal.specs.declared.events.Event.TheVariants.{Turn}
+use Rattle.tx_meaning.specs.Changes.{with_event, counting_turn}
+use Rattle.tx_meaning.specs.State.{Numbers}
+use Rattle.tx_meaning.proofs.Walk.{at_put_kept}
+use Rattle.tx_journal.specs.declared.entries.Entry.{Entry}
+use Rattle.std.specs.Prelude.{◌++◌}
+use Rattle.tx_machine.specs.Works.{KeepsBooks, seats_of}
+use Rattle.tx_meaning.specs.Turn.{is_tick}
+use Rattle.tx_machine.specs.Steps.{k_counted, k_waited}
+use Rattle.tx_machine.specs.InTurn.{MayAct}
 use Rattle.tx_machine.specs.Turned.{turned_as}
-use Rattle.tx_machine.specs.Works.{Works, kept_by, IsSameSize}
+use Rattle.tx_machine.specs.Works.{Works, Seat, kept_by, IsSameSize}
 use Rattle.tx_machine.proofs.Seats.{no_seat}
 
 -- the reject, or what is done then
@@ -146,3 +145,108 @@ same-ranges None None e = refl
 same-ranges None (Some y) e = absurd (cc)
 same-ranges (Some x) None e = absurd (cc)
 same-ranges (Some x) (Some y) e = refl
+
+-- ---- counted turns
+
+pub has-turn : (s : Seat) → IsCounted s
+    → HasTurn (record s { tally = record (s.tally) { turns = s.tally.turns + 1 } }) 128
+has-turn s c =
+    let attempts = c.attempts in
+    let completed = c.completed in
+    let asked = c.asked in
+    record { attempts = omega arith; completed = omega arith; asked = omega arith }
+
+pub same-text : (image : Content) (limits other : RunLimits) (i : ℕ) (k : Kept)
+    → MayTurn (record { image = image; limits = limits }) i k
+    → MayTurn (record { image = image; limits = other }) i k
+same-text image limits other i k t = record {
+  asks = t.asks;
+  goes = t.goes;
+  stores = t.stores;
+  takes = t.takes;
+  rests = t.rests;
+  rested = t.rested;
+  inside = t.inside;
+  reach = t.reach;
+  ends = t.ends;
+  stops = t.stops;
+  text = t.text;
+}
+
+by_spent : (b : Bool) (turns now : ℕ) (back : Option Outcome) → nat_le turns now ≡ b
+    → (if b then Some Spent else back) ≡ None → now < turns
+by_spent true turns now back e none = absurd (cc)
+by_spent false turns now back e none = grind (arith, nat_tests, e)
+
+by_finished : (f : Bool) (m : Setting) (k : Kept) (i : ℕ)
+    → idle_by m.limits f k.state.queue (k.state.numbers i) i ≡ None
+    → (k.state.numbers i).turns < m.limits.turns
+by_finished true m k i none = absurd (cc)
+by_finished false m k i none =
+    by_spent (nat_le m.limits.turns (k.state.numbers i).turns) m.limits.turns (k.state.numbers i).turns
+    (kept_back k.state.queue i) refl none
+
+-- a turn that is not idle is one of those that the CPU may have
+pub turns-left : (m : Setting) (k : Kept) (i : ℕ) → k_idle m k i ≡ None
+    → (k.state.numbers i).turns < m.limits.turns
+unfolding k_idle
+turns-left m k i none = by_finished (kept_finished k i) m k i none
+
+pub ticked-is : (m : Setting) (k : Kept) (i : ℕ) (t : KTurned)
+    → is_tick m.limits (k.state.numbers i).turns ≡ true → t ≡ k_external i k → t ≡ k_counted_turn m i k
+unfolding k_counted_turn
+ticked-is m k i t tick told =
+    told ∙ ap (λ b. k_by_rules b (nat_lt 0 (k.state.numbers i).delay) m i k) (sym tick)
+
+pub waited-is : (m : Setting) (k : Kept) (i : ℕ) (t : KTurned)
+    → is_tick m.limits (k.state.numbers i).turns ≡ false → 0 < (k.state.numbers i).delay
+    → t ≡ k_turned (k_waited i k) Delayed → t ≡ k_counted_turn m i k
+unfolding k_counted_turn
+waited-is m k i t tick waits told =
+    let more : nat_lt 0 (k.state.numbers i).delay ≡ true = grind (arith, nat_tests, waits) in
+    told ∙ ap (λ b. k_by_rules false b m i k) (sym more)
+    ∙ ap (λ b. k_by_rules b (nat_lt 0 (k.state.numbers i).delay) m i k) (sym tick)
+
+pub acted-is : (m : Setting) (k : Kept) (i : ℕ) (t : KTurned)
+    → is_tick m.limits (k.state.numbers i).turns ≡ false → (k.state.numbers i).delay ≤ 0
+    → t ≡ k_acting m i k (k.locals i).pending (k.locals i).waiting → t ≡ k_counted_turn m i k
+unfolding k_counted_turn
+acted-is m k i t tick rests told =
+    let none : nat_lt 0 (k.state.numbers i).delay ≡ false = grind (arith, nat_tests, rests) in
+    told ∙ ap (λ b. k_by_rules false b m i k) (sym none)
+    ∙ ap (λ b. k_by_rules b (nat_lt 0 (k.state.numbers i).delay) m i k) (sym tick)
+
+pub idled-is : (m : Setting) (k : Kept) (i : ℕ) (o : Outcome) (t : Turned) → Some o ≡ k_idle m k i
+    → t ≡ record { outcome = o; reject = None } → turned_as k t ≡ k_turn m i k
+unfolding k_turn
+idled-is m k i o t idle plain =
+    ap (turned_as k) plain ∙ ap (λ (x : Option Outcome). k_turn_where x m i k) idle
+
+pub turned-on : (m : Setting) (k next : Kept) (i : ℕ) (t : KTurned) → k_idle m k i ≡ None
+    → next ≡ k_counted i (with_state (with_event (Turn i) k.state) k) → t ≡ k_counted_turn m i next
+    → t ≡ k_turn m i k
+unfolding k_turn
+turned-on m k next i t none counted told =
+    told ∙ ap (k_counted_turn m i) counted ∙ ap (λ (x : Option Outcome). k_turn_where x m i k) (sym none)
+
+still : (i : ℕ) (k : Kept) (x : ℕ) → is_live (counting_turn i k.state) x ≡ is_live k.state x
+still i k x =
+    at_put_kept (λ (n : Numbers). nat_lt 0 n.completed) k.state.numbers i
+    (record (k.state.numbers i) { turns = (k.state.numbers i).turns + 1 }) refl x
+
+-- with a turn counted, and recorded before, it may act
+pub may-act : (i : ℕ) (old noted new : Works) (rest : Seat) → MayAsk i (kept_by rest new)
+    → owed old (kept_by rest old) < old.room → noted ≡ record old { events = old.events ++ Turn i ∷ [] }
+    → kept_by rest new ≡ k_counted i (kept_by rest noted) → KeepsBooks noted new
+    → HasTurn (seats_of rest new.slots i) 128 → MayAct i new rest
+may-act i old noted new rest asks room note count books turn =
+    let live : count_below (length new.slots) (is_live (kept_by rest new).state)
+    ≡ count_below (length old.slots) (is_live (kept_by rest old).state) =
+    ap (λ (q : Kept). count_below (length new.slots) (is_live q.state)) count
+    ∙ (λ x. count_below (length new.slots) (λ j. still i (kept_by rest noted) j x))
+    ∙ ap (λ n. count_below n (is_live (kept_by rest noted).state)) books.size.cpus
+    ∙ ap (λ (w : Works). count_below (length w.slots) (is_live (kept_by rest w).state)) note in
+    let history : length new.history ≡ length old.history =
+    ap (λ (h : List Entry). length h) books.history ∙ ap (λ (w : Works). length w.history) note in
+    let same : new.room ≡ old.room = books.size.room ∙ ap (λ (w : Works). w.room) note in
+    record { asks = asks; room = omega arith; turn = turn }

@@ -7,7 +7,8 @@ ghost use Rattle.tx_meaning.specs.declared.limits.TheConstants.{MOST_TURNS};
 ghost use Rattle.tx_keeping.specs.Kept.{kept_finished};
 ghost use Rattle.tx_keeping.specs.Turn.{k_idle};
 ghost use Rattle.tx_machine.specs.Steps.{k_counted, k_waited};
-ghost use Rattle.tx_machine.specs.Works.{Seat, kept_by, IsSameSize, KeepsBooks};
+ghost use Rattle.tx_machine.specs.Ready.{HasTurn};
+ghost use Rattle.tx_machine.specs.Works.{Seat, seats_of, kept_by, KeepsBooks};
 
 use crate::works::Works;
 use tx_journal::Event;
@@ -101,6 +102,7 @@ impl Works {
         requires cpu { cpu < length self.old.slots }
         requires few { (rest : Seat) → ((kept_by rest self.old).state.numbers cpu).turns < MOST_TURNS }
         ensures value { (rest : Seat) → kept_by rest self.new ≡ k_counted cpu (kept_by rest self.old) }
+        ensures turn { (rest : Seat) → HasTurn (seats_of rest self.new.slots cpu) 128 }
         ensures books { KeepsBooks self.old self.new }
     {
         let slot = &mut self.slots[cpu as usize];

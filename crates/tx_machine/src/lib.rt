@@ -13,6 +13,7 @@ pub mod opening;
 pub mod places;
 pub mod slot;
 pub mod turning;
+pub mod events;
 pub mod works;
 
 pub use slot::Tally;
