@@ -39,7 +39,7 @@ use Rattle.tx_keeping.specs.Asking.{KAsked, k_ask_each, k_granting, k_take_line,
 use Rattle.tx_keeping.specs.Asking.{k_get_lines}
 use Rattle.tx_keeping.specs.Asking.{k_all_given, k_get_unless, k_then_ask}
 use Rattle.tx_machine.specs.Works.{Works, Seat, IsSameSize, kept_by}
-use Rattle.tx_machine.specs.Ready.{MayHold}
+use Rattle.tx_machine.specs.Ready.{MayAsk, MayHold}
 use Rattle.tx_machine.specs.Asks.{AskLeaves, IsReady, IsFew, asked_by}
 use Rattle.tx_machine.proofs.Leaves.{leaves_none, leaves_then, leaves_at_most}
 
@@ -136,7 +136,7 @@ grant_leaves cpus n i needs need k asked after leaves grant =
       asks = λ may.
           let still = leaves.asks may in
           record {
-            others = λ j ne live. let c = still.others j ne live in record { below = c.below; out = c.out };
+            others = λ j lt ne live. let c = still.others j lt ne live in record { below = c.below; out = c.out };
             own = λ off. let c = still.own off in record { below = c.below; out = c.out };
           };
       owed_no_more = leaves.owed_no_more;
@@ -175,7 +175,7 @@ pub ready_after : (asked more i : ℕ) (rest : Seat) (before w : Works) → IsSa
     → AskLeaves (length before.slots) asked i (kept_by rest before) (kept_by rest w)
     → IsReady (more + asked) i before (kept_by rest before) → IsReady more i w (kept_by rest w)
 ready_after asked more i rest before w size leaves ready = record {
-  asks = leaves.asks ready.asks;
+  asks = subst (λ n. MayAsk n i (kept_by rest w)) (sym size.cpus) (leaves.asks ready.asks);
   room = let same : length w.history + count_below (length w.slots) (is_live (kept_by rest w).state)
       ≡ length w.history + count_below (length before.slots) (is_live (kept_by rest w).state) =
       ap (λ n. length w.history + count_below n (is_live (kept_by rest w).state)) size.cpus in

@@ -55,13 +55,13 @@ record KeepsLive (k after : Kept) (x : ℕ) : Type 0 where
   live : is_live k.state x ≡ true
   rung : KeepsRung k after x
 
-may_ask_still : (i : ℕ) (k after : Kept)
+may_ask_still : (cpus i : ℕ) (k after : Kept)
     → ((x : ℕ) → x ≢ i → is_live after.state x ≡ true → KeepsLive k after x) → KeepsRung k after i
-    → is_head after.state i ≡ is_head k.state i → MayAsk i k → MayAsk i after
-may_ask_still i k after others own head may = record {
-  others = λ j ne live.
+    → is_head after.state i ≡ is_head k.state i → MayAsk cpus i k → MayAsk cpus i after
+may_ask_still cpus i k after others own head may = record {
+  others = λ j lt ne live.
       let same = others j ne live in
-      may_climb k after j same.rung (may.others j ne same.live);
+      may_climb k after j same.rung (may.others j lt ne same.live);
   own = λ off. may_climb k after i own (may.own (sym head ∙ off));
 }
 
@@ -70,7 +70,7 @@ may_ask_still i k after others own head may = record {
 record Part (cpus i : ℕ) (k after : Kept) : Type 0 where
   local : after.locals i ≡ k.locals i
   completed : (after.state.numbers i).completed ≡ (k.state.numbers i).completed
-  asks : MayAsk i k → MayAsk i after
+  asks : MayAsk cpus i k → MayAsk cpus i after
   owed_no_more : entries_owed cpus after.state ≤ entries_owed cpus k.state
 
 part_then : (cpus i : ℕ) (k mid after : Kept) → Part cpus i k mid → Part cpus i mid after → Part cpus i k
@@ -98,7 +98,7 @@ counts_part cpus i k after c =
     record {
       local = ap (λ (f : ℕ → Local). f i) c.locals;
       completed = ap (λ (f : ℕ → ℕ). f i) c.live;
-      asks = may_ask_still i k after
+      asks = may_ask_still cpus i k after
           (λ x ne live. record {
             live = sym (ap (λ (f : ℕ → ℕ). nat_lt 0 (f x)) c.live) ∙ live;
             rung = same
@@ -269,7 +269,7 @@ ends_part cpus i j k after ne lt live e =
     record {
       local = e.locals i own;
       completed = ap completed_in (other_number j k after e i own);
-      asks = may_ask_still i k after
+      asks = may_ask_still cpus i k after
           (λ x apart on. by_way (cases_eq x j)
           (λ it. absurd (let n : false ≡ true = sym gone ∙ sym (ap (is_live after.state) it) ∙ on in cc))
           (λ other. record { live = sym (still x other) ∙ on; rung = same x other }))

@@ -20,3 +20,4 @@ pub mod Most
 pub mod Read
 pub mod Opened
 pub mod Going
+pub mod Happened

@@ -235,7 +235,7 @@ still i k x =
     (record (k.state.numbers i) { turns = (k.state.numbers i).turns + 1 }) refl x
 
 -- with a turn counted, and recorded before, it may act
-pub may-act : (i : ℕ) (old noted new : Works) (rest : Seat) → MayAsk i (kept_by rest new)
+pub may-act : (i : ℕ) (old noted new : Works) (rest : Seat) → MayAsk (length new.slots) i (kept_by rest new)
     → owed old (kept_by rest old) < old.room → noted ≡ record old { events = old.events ++ Turn i ∷ [] }
     → kept_by rest new ≡ k_counted i (kept_by rest noted) → KeepsBooks noted new
     → HasTurn (seats_of rest new.slots i) 128 → MayAct i new rest

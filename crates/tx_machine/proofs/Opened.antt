@@ -122,7 +122,7 @@ one_more_slot parms starts i start slots slot lt is u kept unused =
 
 -- a machine that is opened
 pub stands : (m : Setting) (w : Works) (most remaining : ℕ) → IsSetting m → IsAtStart m w
-    → remaining ≡ m.limits.externals → most ≡ most_events m → most ≤ w.room → most ≤ w.events_room
+    → remaining ≡ m.limits.externals → most ≡ most_events m + 1 → most ≤ w.room → most ≤ w.events_room
     → Stands m w remaining
 unfolding keeping_from
 stands m w most remaining s start left is room events_room =

@@ -96,10 +96,10 @@ module _ (i j : ℕ) (need : Need) (k counted : Kept) (asker : Asker) (count : c
   still_live why e answered same =
       ap (λ (k : Kept). is_live k.state j) (same ∙ count) ∙ live_asking i k.state j ∙ (conflict_is why e).live
 
-  pub still_climbs : MayAsk i k → j ≢ i → is_live k.state j ≡ true → (answered : Kept) → answered ≡ counted
+  pub still_climbs : (cpus : ℕ) → MayAsk cpus i k → j < cpus → j ≢ i → is_live k.state j ≡ true → (answered : Kept) → answered ≡ counted
       → MayClimb answered j
-  still_climbs may ne live answered same =
-      let climbs = may.others j ne live in
+  still_climbs cpus may lt ne live answered same =
+      let climbs = may.others j lt ne live in
       subst (λ k. MayClimb k j) (sym (same ∙ count)) record { below = climbs.below; out = climbs.out }
 
 pub cause_case : (P : Why → Type 0) (stored : ℕ → Bool) (line : ℕ) → P (StoreConflict line)

@@ -38,7 +38,7 @@ use Rattle.z_regs.specs.Prefix.{absolute_of}
 use Rattle.tx_meaning.specs.Limits.{Setting}
 use Rattle.tx_meaning.specs.Meaning.{IsSetting}
 use Rattle.tx_meaning.specs.Needs.{interruption_ranges, stored}
-use Rattle.tx_meaning.specs.State.{Numbers, is_live, is_first}
+use Rattle.tx_meaning.specs.State.{cpus_of, Numbers, is_live, is_first}
 use Rattle.tx_meaning.specs.Changes.{counting_turn, with_event}
 use Rattle.tx_meaning.proofs.Walk.{at_put_kept}
 use Rattle.tx_keeping.specs.Kept.{Kept, text_of, kept_flat, with_state}
@@ -70,12 +70,12 @@ climbs m k b x out = record {
 }
 
 may_ask : (m : Setting) (i : ℕ) (k : Kept) → Between m k
-    → (k.state.queue ≡ []) ⊎ (is_first i k.state.queue ≡ true) → MayAsk i k
+    → (k.state.queue ≡ []) ⊎ (is_first i k.state.queue ≡ true) → MayAsk (cpus_of m) i k
 may_ask m i k b may =
     let t = turning_begun m.image.parms.stop (λ x. (k.standings x).aborts) k.state.queue (is_live k.state) b.is i
     may in
     record {
-      others = λ j ne live.
+      others = λ j lt ne live.
           climbs m k b j (by_way (cases_Bool (waits_in k.state.queue j))
           (λ in_it. absurd (ne (t.others j in_it live))) (λ out. out));
       own = λ off.
@@ -185,8 +185,8 @@ pub counted_turn_may : (m : Setting) (i : ℕ) (k : Kept) → MayTurn m i k
     → MayTurn m i (with_state (with_event (event.Turn i) (counting_turn i k.state)) k)
 counted_turn_may m i k t = record {
   asks = record {
-    others = λ j ne live.
-        let c = t.asks.others j ne (sym (still_live i j k) ∙ live) in
+    others = λ j lt ne live.
+        let c = t.asks.others j lt ne (sym (still_live i j k) ∙ live) in
         record { below = c.below; out = c.out };
     own = λ off. let c = t.asks.own off in record { below = c.below; out = c.out };
   };

@@ -58,7 +58,7 @@ pub record MayCount (questions : ℕ) (n : Numbers) : Type 0 where
 
 -- a CPU may put so many questions
 pub record IsReady (questions i : ℕ) (w : Works) (k : Kept) : Type 0 where
-  pub asks : MayAsk i k
+  pub asks : MayAsk (length w.slots) i k
   pub room : owed w k ≤ w.room
   pub counts : MayCount questions (k.state.numbers i)
 
@@ -70,7 +70,7 @@ entries_owed cpus s = length s.history + count_below cpus (is_live s)
 pub record AskLeaves (cpus questions i : ℕ) (k after : Kept) : Type 0 where
   pub local : after.locals i ≡ k.locals i
   pub completed : (after.state.numbers i).completed ≡ (k.state.numbers i).completed
-  pub asks : MayAsk i k → MayAsk i after
+  pub asks : MayAsk cpus i k → MayAsk cpus i after
   pub owed_no_more : entries_owed cpus after.state ≤ entries_owed cpus k.state
   pub counts : (more : ℕ) → MayCount (more + questions) (k.state.numbers i)
       → MayCount more (after.state.numbers i)

@@ -1,5 +1,5 @@
 -- What a machine is seen as, and what it stands for.
-use Rattle.std.specs.Prelude.{◌≡◌, ℕ, ◌+◌, ◌*◌, ◌≤◌, Bool, false, ◌==◌, List, [], length}
+use Rattle.std.specs.Prelude.{◌≡◌, ℕ, ◌<◌, ◌+◌, ◌*◌, Bool, false, ◌==◌, List, [], length}
 use Rattle.std.specs.Prelude.{Option, None, count_by}
 use Rattle.std.specs.Prelude.{refl}
 use Rattle.std.specs.Coded.{Coded, code_by, coded×, coded_ℕ, coded_list, coded_option}
@@ -9,6 +9,7 @@ use Rattle.tx_journal.specs.Content.{Content, content_code}
 use Rattle.tx_journal.specs.declared.entries.Entry.{Entry}
 use Rattle.tx_journal.specs.declared.entries.Entry.TheVariants.{Step, Commit, Abort, Tdb, Interrupt}
 use Rattle.tx_journal.specs.declared.events.Event.{Event}
+use Rattle.tx_journal.specs.declared.events.Event.TheVariants.{Turn, External}
 use Rattle.tx_ladder.specs.Rungs.{fresh}
 use Rattle.tx_serial.specs.History.{no_cpu}
 use Rattle.tx_meaning.specs.declared.asking.Reject.{Reject}
@@ -104,7 +105,12 @@ nobody m = record {
 abbrev pub most_events : Setting → ℕ
 most_events m = cpus_of m * m.limits.turns + m.limits.externals
 
--- what is kept is what the recorded events mean, and there is room for all that can still happen; so many external
+-- so many external events may still come, behind an event before which there were so many
+abbrev pub IsLeft : Event → ℕ → ℕ → Type 0
+IsLeft (Turn i) before after = before ≡ after
+IsLeft (External i) before after = before ≡ after + 1
+
+-- what is kept is what the recorded events mean, and there is room for more than can be recorded; so many external
 -- events may still come
 pub record Stands (m : Setting) (w : Works) (remaining : ℕ) : Type 0 where
   pub setting : IsSetting m
@@ -112,5 +118,5 @@ pub record Stands (m : Setting) (w : Works) (remaining : ℕ) : Type 0 where
   pub kept : kept_by (nobody m) w ≡ keeping m w.events
   pub cpus : length w.slots ≡ cpus_of m
   pub externals : count_by is_external w.events + remaining ≡ m.limits.externals
-  pub room : most_events m ≤ w.room
-  pub events_room : most_events m ≤ w.events_room
+  pub room : most_events m < w.room
+  pub events_room : most_events m < w.events_room

@@ -10,7 +10,7 @@ use Rattle.tx_control.specs.declared.causes.Why.TheVariants.{Restricted, Filtere
 use Rattle.tx_ladder.specs.Waiting.{waits_in}
 use Rattle.tx_meaning.specs.declared.asking.Need.{Need}
 use Rattle.tx_meaning.specs.Changes.{is_needed}
-use Rattle.tx_meaning.specs.State.{is_live, is_head}
+use Rattle.tx_meaning.specs.State.{is_live, is_head, cpus_of}
 use Rattle.tx_keeping.specs.Kept.{Kept, kept_footprint}
 use Rattle.std.specs.Prelude.{Some, Option}
 use Rattle.z_regs.specs.Prefix.{storage_size}
@@ -55,9 +55,10 @@ MayEndBy (Filtered e) k i = Unit {0}
 MayEndBy Depth k i = Unit {0}
 MayEndBy (Tabort code) k i = Unit {0}
 
--- in a turn of one CPU: those of all others that are live, and its own unless it is the head of the stop queue
-pub record MayAsk (i : ℕ) (k : Kept) : Type 0 where
-  pub others : (j : ℕ) → j ≢ i → is_live k.state j ≡ true → MayClimb k j
+-- in a turn of one of so many CPUs: those of all others that are live, and its own unless it is the head of the
+-- stop queue
+pub record MayAsk (cpus i : ℕ) (k : Kept) : Type 0 where
+  pub others : (j : ℕ) → j < cpus → j ≢ i → is_live k.state j ≡ true → MayClimb k j
   pub own : is_head k.state i ≡ false → MayClimb k i
 
 -- ---- the history
@@ -89,7 +90,7 @@ pub record IsInReach (prefix : Option ℕ) (ranges : List Range) : Type 0 where
 -- the one that the image's storage says, that nothing is taken inside a transaction, and that what is left to do
 -- lies in storage
 pub record MayTurn (m : Setting) (i : ℕ) (k : Kept) : Type 0 where
-  pub asks : MayAsk i k
+  pub asks : MayAsk (cpus_of m) i k
   pub goes : (instr : Instr) (ranges : List Range)
       → fate_by_progress (text_of m) k.storage (k.locals i).attempt ≡ Goes instr ranges
       → MayHold i (operand_needs (k.locals i).attempt.cpu.prefix ranges) k

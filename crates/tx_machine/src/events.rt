@@ -2,7 +2,8 @@
 ghost use Rattle.std.specs.Prelude.{◌≡◌, ◌<◌, None, length};
 ghost use Rattle.tx_meaning.specs.Limits.{Setting, RunLimits};
 ghost use Rattle.tx_meaning.specs.Turn.{is_tick};
-ghost use Rattle.tx_keeping.specs.Turn.{k_counted_turn, k_turn, k_idle};
+ghost use Rattle.tx_journal.specs.Image.{cpu_of_event};
+ghost use Rattle.tx_keeping.specs.Turn.{k_counted_turn, k_turn, k_idle, k_happen};
 ghost use Rattle.tx_machine.specs.InTurn.{MayAct};
 ghost use Rattle.tx_machine.specs.Ready.{MayTurn, owed};
 ghost use Rattle.tx_machine.specs.Turned.{turned_as};
@@ -65,5 +66,28 @@ impl Works {
         self.note(Event::Turn(cpu));
         self.count_turn(cpu);
         self.counted_turn(cpu, image, limits)
+    }
+
+    /// An event: a turn of a CPU, or an interruption of it from outside, which is always recorded.
+    #[tactic(auto, unfolding(tx_keeping::specs::Turn::k_happen))]
+    pub fn happen(&mut self, e: Event, image: &Image, limits: Limits) -> Turned
+        requires cpu { cpu_of_event e < length self.old.slots }
+        requires cpus { length image.now.cpus ≡ length self.old.slots }
+        requires turns { (rest : Seat) → let m : Setting = record { image = image.now; limits = limits } in
+            k_idle m (kept_by rest self.old) (cpu_of_event e) ≡ None
+            → MayTurn m (cpu_of_event e) (kept_by rest self.old) }
+        requires room { (rest : Seat) → owed self.old (kept_by rest self.old) < self.old.room }
+        requires events { length self.old.events < self.old.events_room }
+        ensures value { (rest : Seat) → let m : Setting = record { image = image.now; limits = limits } in
+            turned_as (kept_by rest self.new) result ≡ k_happen m e (kept_by rest self.old) }
+        ensures size { IsSameSize self.old self.new }
+    {
+        match e {
+            Event::Turn(cpu) => self.turn(cpu, image, limits),
+            Event::External(cpu) => {
+                self.note(e);
+                self.external(cpu)
+            }
+        }
     }
 }

@@ -119,7 +119,7 @@ impl Works {
         requires small { All (λ r. r.length ≤ 256) ranges.now }
         requires in_storage { All (λ r. r.first + r.length ≤ storage_size) ranges.now }
         requires holds { (rest : Seat) → MayHold cpu (needs_of ranges.now) (kept_by rest self.old) }
-        requires asks { (rest : Seat) → MayAsk cpu (kept_by rest self.old) }
+        requires asks { (rest : Seat) → MayAsk (length self.old.slots) cpu (kept_by rest self.old) }
         requires room { (rest : Seat) → owed self.old (kept_by rest self.old) ≤ self.old.room }
         requires turn { (rest : Seat) → HasTurn (seats_of rest self.old.slots cpu) 128 }
         ensures kept { (rest : Seat) (m : Setting) → cpus_of m ≡ length self.old.slots
@@ -128,7 +128,7 @@ impl Works {
         ensures size { IsSameSize self.old self.new }
         ensures own { (rest : Seat)
             → (kept_by rest self.new).locals cpu ≡ (kept_by rest self.old).locals cpu }
-        ensures asks { (rest : Seat) → MayAsk cpu (kept_by rest self.new) }
+        ensures asks { (rest : Seat) → MayAsk (length self.new.slots) cpu (kept_by rest self.new) }
         ensures room { (rest : Seat) → owed self.new (kept_by rest self.new) ≤ self.new.room }
         ensures owed_no_more { (rest : Seat)
             → owed self.new (kept_by rest self.new) ≤ owed self.old (kept_by rest self.old) }

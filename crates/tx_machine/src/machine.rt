@@ -1,14 +1,17 @@
 //! The machine, as programs use it.
 ghost use Rattle.std.specs.Prelude.{◌≡◌, ℕ, ◌+◌, ◌<◌, ◌≤◌, ◌↔◌, IfOk, IsTrue, List, [], ◌∷◌, ◌++◌, length, slice_get};
-ghost use Rattle.std.specs.Prelude.{count_by, None, Option, get_or};
+ghost use Rattle.std.specs.Prelude.{count_by, None, Option, get_or, true};
 ghost use Rattle.std.specs.Arc.{arc_value};
 ghost use Rattle.z_regs.specs.Cpu.{cpu_of};
 ghost use Rattle.z_regs.specs.Prefix.{storage_size};
 ghost use Rattle.tx_journal.specs.Image.{cpu_of_event};
 ghost use Rattle.tx_meaning.specs.Idle.{is_ready, is_finished, is_spent};
 ghost use Rattle.tx_meaning.specs.Meaning.{is_external};
-ghost use Rattle.tx_meaning.specs.State as meaning;
-ghost use Rattle.tx_machine.specs.Machine.{Seen, setting_of, state_of, opened, event_of, after, commits_of, aborts_of};
+ghost use Rattle.tx_meaning.specs.Limits.{Setting};
+ghost use Rattle.tx_meaning.specs.Meaning.{meaning};
+ghost use Rattle.tx_meaning.specs.State as meant;
+ghost use Rattle.tx_meaning.specs.Turn.{happen};
+ghost use Rattle.tx_machine.specs.Machine.{IsLeft, Stands, Seen, setting_of, state_of, opened, event_of, after, commits_of, aborts_of};
 
 use crate::slot::Slot;
 use crate::works::Works;
@@ -57,7 +60,7 @@ pub struct Machine {
 
 impl Model for Machine {
     ghost use Rattle.std.specs.Arc.{arc_value};
-    ghost use Rattle.tx_machine.specs.Machine.{Seen, seen_code, Stands};
+    ghost use Rattle.tx_machine.specs.Machine.{IsLeft, Stands, Seen, seen_code, Stands};
 
     ghost Value = { Seen };
 
@@ -73,6 +76,43 @@ impl Model for Machine {
     ghost invariant = { λ m. Stands record { image = arc_value m.image; limits = m.limits } m.works m.externals_left };
 }
 
+/// How many external events may still come behind an event.
+fn left_behind(e: Event, left: u32) -> u32
+    requires { is_external e ≡ true → 0 < left }
+    ensures { IsLeft e left result }
+{
+    match e {
+        Event::Turn(_) => left,
+        Event::External(_) => left - 1,
+    }
+}
+
+/// One event more.
+fn advance(
+    image: &Image,
+    limits: Limits,
+    works: &mut Works,
+    externals_left: &mut u32,
+    reject: &mut Option<Reject>,
+    e: Event,
+) -> Outcome
+    requires stands { Stands record { image = image.now; limits = limits } works.old externals_left.old }
+    requires known { cpu_of_event e < length image.now.cpus }
+    requires external { is_external e ≡ true → 0 < externals_left.old }
+    ensures stands { Stands record { image = image.now; limits = limits } works.new externals_left.new }
+    ensures events { let m : Setting = record { image = image.now; limits = limits } in
+        works.new.events ≡ (happen m e (meaning m works.old.events)).state.events }
+    ensures reject { let m : Setting = record { image = image.now; limits = limits } in
+        reject.new ≡ (happen m e (meaning m works.old.events)).reject }
+    ensures outcome { let m : Setting = record { image = image.now; limits = limits } in
+        result ≡ (happen m e (meaning m works.old.events)).outcome }
+{
+    let turned = works.happen(e, image, limits);
+    *externals_left = left_behind(e, *externals_left);
+    *reject = turned.reject;
+    turned.outcome
+}
+
 impl Machine {
     /// A machine of an image, from which nothing has happened. It has room for all that can be recorded, so no
     /// event takes memory. The error is want of memory.
@@ -80,7 +120,7 @@ impl Machine {
         ensures { IfOk result (λ machine. machine ≡ opened (arc_value image) limits) }
     {
         let externals_left = limits.externals;
-        let most = image.cpu_count() as usize * limits.turns as usize + externals_left as usize;
+        let most = image.cpu_count() as usize * limits.turns as usize + externals_left as usize + 1;
         let works = Works::open(alloc, &image, most)?;
         Ok(Machine {
             image,
@@ -89,6 +129,25 @@ impl Machine {
             externals_left,
             reject: None,
         })
+    }
+
+    /// One event more, of a CPU that there is; an external one only while some are left. Says what came of it.
+    /// It takes no memory.
+    pub fn event(&mut self, e: Event) -> Outcome
+        requires known { cpu_of_event e < length self.old.image.cpus }
+        requires external { is_external e ≡ true
+            → count_by is_external self.old.events < self.old.limits.externals }
+        ensures machine { self.new ≡ after self.old e }
+        ensures outcome { result ≡ (event_of self.old e).outcome }
+    {
+        advance(
+            &self.image,
+            self.limits,
+            &mut self.works,
+            &mut self.externals_left,
+            &mut self.reject,
+            e,
+        )
     }
 
     /// What is recorded, in order: every event but turns that were idle.
@@ -143,7 +202,7 @@ impl Machine {
     /// The CPU as its program sees it, in its attempt where one is live.
     pub fn cpu(&self, cpu: u32) -> &CpuImage
         requires { cpu < length self.now.image.cpus }
-        ensures { cpu_of result.now ≡ meaning.cpu_of (setting_of self.now) (state_of self.now) cpu }
+        ensures { cpu_of result.now ≡ meant.cpu_of (setting_of self.now) (state_of self.now) cpu }
     {
         self.works.slots[cpu as usize].cpu.image()
     }
@@ -151,7 +210,7 @@ impl Machine {
     /// The byte of storage at an absolute address, as the history leaves it.
     pub fn byte(&self, address: u32) -> u8
         requires { address < storage_size }
-        ensures { result ≡ (meaning.flat_of (setting_of self.now) (state_of self.now)).storage address }
+        ensures { result ≡ (meant.flat_of (setting_of self.now) (state_of self.now)).storage address }
     {
         self.works.lines.byte(address)
     }

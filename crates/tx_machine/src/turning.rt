@@ -34,7 +34,7 @@ impl Works {
     /// A request of the CPU was rejected: its turn is at its end, and a starved attempt is aborted.
     fn refuse(&mut self, cpu: u32, refused: Refused) -> Turned
         requires cpu { cpu < length self.old.slots }
-        requires asks { (rest : Seat) → MayAsk cpu (kept_by rest self.old) }
+        requires asks { (rest : Seat) → MayAsk (length self.old.slots) cpu (kept_by rest self.old) }
         requires behind { (rest : Seat) → is_head (kept_by rest self.old).state cpu ≡ false }
         requires starved { (rest : Seat) → refused.starved ≡ is_cpu_starved (kept_by rest self.old) cpu }
         requires room { length self.old.history < self.old.room }

@@ -26,7 +26,7 @@ invariant_of-result c =
       events = c.in_ok-works.ensures.events;
     }
     (ap (λ (l : RunLimits). l.externals) c.limits.view_is)
-    (ap (λ (n : ℕ). n * c.limits.inside.turns + c.limits.inside.externals)
+    (ap (λ (n : ℕ). n * c.limits.inside.turns + c.limits.inside.externals + 1)
     (c.cpu_count.ensures.count ∙ ap (λ (i : Content). length i.cpus) c.deref.ensures)
-    ∙ ap (λ (l : RunLimits). length m.image.cpus * l.turns + l.externals) c.limits.view_is)
+    ∙ ap (λ (l : RunLimits). length m.image.cpus * l.turns + l.externals + 1) c.limits.view_is)
     c.in_ok-works.ensures.room c.in_ok-works.ensures.events_room

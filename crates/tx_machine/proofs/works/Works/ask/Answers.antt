@@ -44,8 +44,8 @@ abort-requires-clause-climbs c rest =
     (c.ask_once_more.ensures.kept rest) (c.asker-asker.ensures rest) c.in-Aborts.why
     (c.in-Aborts.ensures.value rest) in
     let climbs = still_climbs c.args.cpu c.args.holder c.args.need k counted c.asker-asker.result
-    (c.ask_once_more.ensures.kept rest) (c.asker-asker.ensures rest) (c.requires.ready rest).asks
-    c.requires.other conflict.live answered (c.in-Aborts.ensures.kept rest) in
+    (c.ask_once_more.ensures.kept rest) (c.asker-asker.ensures rest)
+    (length c.args.self.now.slots) (c.requires.ready rest).asks c.requires.holder c.requires.other conflict.live answered (c.in-Aborts.ensures.kept rest) in
     subst (λ w. MayEndBy w answered c.args.holder) (sym conflict.cause)
     (cause_case (λ w. MayEndBy w answered c.args.holder) (kept_footprint k c.args.holder).stored
     c.args.need.line

@@ -1,10 +1,10 @@
 -- An idle turn changes nothing; another one is recorded and counted first.
-use Rattle.std.proofs.Common.{◌≡◌, ◌<◌, ◌≤◌, None, sym, ap, subst, ◌∙◌, arith}
+use Rattle.std.proofs.Common.{◌≡◌, ◌<◌, ◌≤◌, None, sym, ap, subst, ◌∙◌, arith, length}
 use Rattle.tx_journal.specs.declared.events.Event.TheVariants.{Turn}
 use Rattle.tx_meaning.specs.Limits.{Setting, RunLimits}
 use Rattle.tx_meaning.specs.Changes.{with_event}
 use Rattle.tx_keeping.specs.Kept.{Kept, with_state}
-use Rattle.tx_machine.specs.Ready.{MayTurn}
+use Rattle.tx_machine.specs.Ready.{MayAsk, MayTurn}
 use Rattle.tx_machine.specs.Steps.{k_counted}
 use Rattle.tx_machine.specs.Turned.{turned_as}
 use Rattle.tx_machine.specs.Works.{Works, Seat, kept_by}
@@ -45,11 +45,14 @@ counted_turn-requires-clause-acts c rest =
     let m : Setting = record { image = c.args.image.now; limits = c.args.limits } in
     let k = kept_by rest c.args.self.now in
     let none = sym (c.idle.ensures rest c.args.image.now) ∙ c.in_default.is in
+    let cpus : length c.args.image.now.cpus ≡ length c.count_turn.new.self.slots =
+    c.requires.cpus ∙ sym (c.count_turn.ensures.books.size.cpus ∙ ap (λ (w : Works). length w.slots) c.note.ensures) in
     may-act c.args.cpu c.args.self.now c.note.new.self c.count_turn.new.self rest
+    (subst (λ n. MayAsk n c.args.cpu (kept_by rest c.count_turn.new.self)) cpus
     (subst (λ (q : Kept). MayTurn m c.args.cpu q)
     (sym (c.count_turn.ensures.value rest ∙ ap (λ (w : Works). k_counted c.args.cpu (kept_by rest w))
     c.note.ensures))
-    (counted_turn_may m c.args.cpu k (c.requires.turns rest none))).asks
+    (counted_turn_may m c.args.cpu k (c.requires.turns rest none))).asks)
     (c.requires.room rest) c.note.ensures (c.count_turn.ensures.value rest) c.count_turn.ensures.books
     (c.count_turn.ensures.turn rest)
 
