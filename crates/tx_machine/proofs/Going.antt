@@ -1,18 +1,11 @@
 -- What is kept between events has room for one event more.
-use Rattle.std.proofs.Common.{◌≡◌, ◌≢◌, ℕ, Bool, true, false, Option, Some, None, ◌+◌, ◌<◌, ◌≤◌, [], ◌∷◌, ◌++◌, length, sym, ap, ◌∙◌, subst, arith}
-use Rattle.std.specs.Prelude.{count_by}
-use Rattle.std.proofs.Math.ListN.{length-append}
-use Rattle.std.proofs.lemmas.List.Elements.{All-push}
+use Rattle.std.proofs.Common.{◌≡◌, ℕ, true, false, Option, None, ◌+◌, ◌<◌, ◌≤◌, length, sym, ap, ◌∙◌, subst, arith}
 use Rattle.bit_set.specs.Counts.{count_below}
-use Rattle.tx_journal.specs.Image.{cpu_of_event}
-use Rattle.tx_journal.specs.declared.events.Event.{Event}
 use Rattle.tx_meaning.specs.Limits.{Setting}
-use Rattle.tx_meaning.specs.Meaning.{meaning, is_external}
+use Rattle.tx_meaning.specs.Meaning.{meaning}
 use Rattle.tx_meaning.specs.Room.{live_attempts}
 use Rattle.tx_meaning.specs.State.{State, is_live, cpus_of}
 use Rattle.tx_meaning.proofs.Room.{room}
-use Rattle.tx_keeping.specs.Kept.{Kept}
-use Rattle.tx_keeping.specs.Keeping.{keeping}
 use Rattle.tx_machine.specs.Works.{Works, Seat, kept_by, seats_of, numbers_of}
 use Rattle.tx_machine.specs.Machine.{Stands, nobody, most_events}
 use Rattle.tx_machine.specs.Ready.{owed, MayClimb, MayHold, MayTurn, IsInReach, image_storage}

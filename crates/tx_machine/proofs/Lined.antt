@@ -1,14 +1,28 @@
 -- What a CPU does once its lines are there.
-use Rattle.std.proofs.Common.{◌≡◌, ℕ, ◌+◌, ◌<◌, ◌≤◌, Bool, true, false, List, [], Option, Some, None, refl,
-    sym, ap}
+use Rattle.std.proofs.Common.{
+  ◌≡◌,
+  ℕ,
+  ◌+◌,
+  ◌<◌,
+  ◌≤◌,
+  Bool,
+  true,
+  false,
+  List,
+  [],
+  Option,
+  Some,
+  None,
+  refl,
+  sym,
+  ap,
+}
 use Rattle.std.proofs.Common.{subst, ◌∙◌, arith, length, is_some}
-use Rattle.std.specs.Prelude.{nat_lt, ◌&&◌, ◌∷◌}
+use Rattle.std.specs.Prelude.{nat_lt, ◌∷◌}
 use Rattle.std.proofs.lemmas.Bool.{and_parts}
 use Rattle.z_regs.specs.declared.ranges.Range.{Range}
 use Rattle.bit_set.specs.Counts.{count_below}
 use Rattle.tx_control.specs.declared.causes.Why.TheVariants as why
-use Rattle.tx_progress.specs.Progress.{resting}
-use Rattle.tx_progress.specs.Local.{Local}
 use Rattle.tx_ladder.specs.Rungs.{is_starved}
 use Rattle.tx_meaning.specs.Limits.{Setting, RunLimits}
 use Rattle.z_regs.specs.Prefix.{storage_size}
@@ -25,8 +39,14 @@ use Rattle.tx_meaning.specs.State.{is_live}
 use Rattle.tx_meaning.specs.declared.asking.Reject.{Reject}
 use Rattle.tx_keeping.specs.Kept.{Kept, text_of, with_state}
 use Rattle.tx_keeping.specs.Asking.{KAsked, k_get_lines}
-use Rattle.tx_keeping.specs.Turn.{KTurned, k_once_given, k_with_lines, k_refused_turn, k_ends_by,
-    next_address}
+use Rattle.tx_keeping.specs.Turn.{
+  KTurned,
+  k_once_given,
+  k_with_lines,
+  k_refused_turn,
+  k_ends_by,
+  next_address,
+}
 use Rattle.tx_machine.specs.declared.acting.Turned.{Turned}
 use Rattle.tx_machine.specs.Asks.{is_cpu_starved}
 use Rattle.tx_machine.specs.Ready.{owed, MayAsk, MayHold, MayTurn, HasTurn, IsCounted}

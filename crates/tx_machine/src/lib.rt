@@ -5,6 +5,7 @@
 pub mod acting;
 pub mod asking;
 pub mod ending;
+pub mod events;
 pub mod executing;
 pub mod getting;
 pub mod idle;
@@ -13,7 +14,6 @@ pub mod opening;
 pub mod places;
 pub mod slot;
 pub mod turning;
-pub mod events;
 pub mod works;
 
 pub use slot::Tally;

@@ -1,10 +1,9 @@
 -- One turn more than attempts, instructions and questions are for.
-use Rattle.std.proofs.Common.{◌≡◌, ◌+◌, ◌<◌, sym, subst, arith, length}
+use Rattle.std.proofs.Common.{◌+◌, ◌<◌, sym, subst, length}
 use Rattle.std.proofs.lemmas.List.{get_or-set_same}
-use Rattle.tx_machine.specs.Ready.{HasTurn, IsCounted}
+use Rattle.tx_machine.specs.Ready.{HasTurn}
 use Rattle.tx_machine.specs.Works.{Seat, Works}
 use Rattle.tx_machine.specs.contracts.slot.Slot.{the_view}
-use Rattle.tx_machine.specs.contracts.works.Works as works
 use Rattle.tx_machine.proofs.Lined.{has-turn}
 use Rattle.tx_machine.proofs.works.Works.count_turn.Goals as goal
 

@@ -1,5 +1,5 @@
 -- A tick, a wait, or an act.
-use Rattle.std.proofs.Common.{◌≡◌, ◌<◌, ◌≤◌, sym, ap, ◌∙◌, arith}
+use Rattle.std.proofs.Common.{◌<◌, ◌≤◌, sym, ap, ◌∙◌, arith}
 use Rattle.tx_machine.proofs.Seats.{no_seat}
 use Rattle.tx_meaning.specs.Turn.{is_tick}
 use Rattle.tx_meaning.specs.Limits.{Setting}

@@ -1,5 +1,5 @@
 -- An event from outside is recorded, and leaves room for the entry of an abort.
-use Rattle.std.proofs.Common.{◌≡◌, ◌<◌, ◌+◌, [], ◌∷◌, ◌++◌, arith, subst, sym, ap, ◌∙◌, length}
+use Rattle.std.proofs.Common.{◌<◌, arith, subst, sym, ap, ◌∙◌, length}
 use Rattle.tx_journal.specs.declared.events.Event.{Event}
 use Rattle.tx_meaning.specs.Limits.{Setting}
 use Rattle.tx_keeping.specs.Turn.{k_external, k_happen}

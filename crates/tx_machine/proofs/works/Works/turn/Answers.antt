@@ -1,5 +1,5 @@
 -- An idle turn changes nothing; another one is recorded and counted first.
-use Rattle.std.proofs.Common.{◌≡◌, ◌<◌, ◌≤◌, None, sym, ap, subst, ◌∙◌, arith, length}
+use Rattle.std.proofs.Common.{◌≡◌, ◌<◌, sym, ap, subst, ◌∙◌, arith, length}
 use Rattle.tx_journal.specs.declared.events.Event.TheVariants.{Turn}
 use Rattle.tx_meaning.specs.Limits.{Setting, RunLimits}
 use Rattle.tx_meaning.specs.Changes.{with_event}
@@ -7,7 +7,7 @@ use Rattle.tx_keeping.specs.Kept.{Kept, with_state}
 use Rattle.tx_machine.specs.Ready.{MayAsk, MayTurn}
 use Rattle.tx_machine.specs.Steps.{k_counted}
 use Rattle.tx_machine.specs.Turned.{turned_as}
-use Rattle.tx_machine.specs.Works.{Works, Seat, kept_by}
+use Rattle.tx_machine.specs.Works.{Works, kept_by}
 use Rattle.tx_machine.proofs.Turns.{counted_turn_may}
 use Rattle.tx_machine.proofs.Lined.{same-text, turns-left, idled-is, turned-on, may-act}
 use Rattle.tx_machine.proofs.works.Works.turn.Goals as goal
