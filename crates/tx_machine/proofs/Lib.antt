@@ -21,3 +21,4 @@ pub mod Read
 pub mod Opened
 pub mod Going
 pub mod Happened
+pub mod Laws

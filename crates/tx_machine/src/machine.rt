@@ -1,5 +1,5 @@
 //! The machine, as programs use it.
-ghost use Rattle.std.specs.Prelude.{◌≡◌, ℕ, ◌+◌, ◌<◌, ◌≤◌, ◌↔◌, IfOk, IsTrue, List, [], ◌∷◌, ◌++◌, length, slice_get};
+ghost use Rattle.std.specs.Prelude.{◌≡◌, ℕ, ◌+◌, ◌*◌, ◌<◌, ◌≤◌, ◌↔◌, IfOk, IsTrue, List, [], ◌∷◌, ◌++◌, length, slice_get};
 ghost use Rattle.std.specs.Prelude.{count_by, None, Option, get_or, true};
 ghost use Rattle.std.specs.Arc.{arc_value};
 ghost use Rattle.z_regs.specs.Cpu.{cpu_of};
@@ -11,6 +11,11 @@ ghost use Rattle.tx_meaning.specs.Limits.{Setting};
 ghost use Rattle.tx_meaning.specs.Meaning.{meaning};
 ghost use Rattle.tx_meaning.specs.State as meant;
 ghost use Rattle.tx_meaning.specs.Turn.{happen};
+ghost use Rattle.tx_meaning.specs.Hits.{hits};
+ghost use Rattle.tx_meaning.specs.Queues.{QueueMoves};
+ghost use Rattle.tx_meaning.specs.Stretches.{stretch_of, left, bound, attempt_turns};
+ghost use Rattle.tx_keeping.specs.Views.{GoesOnWith, KeepsViews, HoldsTouched};
+ghost use Rattle.tx_serial.specs.History.{IsLegal};
 ghost use Rattle.tx_machine.specs.Machine.{IsLeft, Stands, Seen, setting_of, state_of, opened, event_of, after, commits_of, aborts_of};
 
 use crate::slot::Slot;
@@ -100,6 +105,8 @@ fn advance(
     requires known { cpu_of_event e < length image.now.cpus }
     requires external { is_external e ≡ true → 0 < externals_left.old }
     ensures stands { Stands record { image = image.now; limits = limits } works.new externals_left.new }
+    ensures state { let m : Setting = record { image = image.now; limits = limits } in
+        meaning m works.new.events ≡ (happen m e (meaning m works.old.events)).state }
     ensures events { let m : Setting = record { image = image.now; limits = limits } in
         works.new.events ≡ (happen m e (meaning m works.old.events)).state.events }
     ensures reject { let m : Setting = record { image = image.now; limits = limits } in
@@ -133,12 +140,26 @@ impl Machine {
 
     /// One event more, of a CPU that there is; an external one only while some are left. Says what came of it.
     /// It takes no memory.
+    ///
+    /// Behind every event the history is legal, and it only grows. No live attempt sees a mixed state, and what
+    /// one has touched is held. No CPU has more conflict aborts than lead to the stop queue, the queue changes
+    /// at its ends alone, and a constrained transaction has no more turns than the retry ladder bounds.
     pub fn event(&mut self, e: Event) -> Outcome
         requires known { cpu_of_event e < length self.old.image.cpus }
         requires external { is_external e ≡ true
             → count_by is_external self.old.events < self.old.limits.externals }
         ensures machine { self.new ≡ after self.old e }
         ensures outcome { result ≡ (event_of self.old e).outcome }
+        ensures state { state_of self.new ≡ (event_of self.old e).state }
+        ensures legal { IsLegal self.new.image (state_of self.new).history }
+        ensures grows { GoesOnWith (state_of self.old).history (state_of self.new).history }
+        ensures views { KeepsViews (setting_of self.old) (state_of self.old) (state_of self.new) }
+        ensures held { HoldsTouched (setting_of self.new) (state_of self.new) }
+        ensures few { (i : ℕ) → hits self.new.image (state_of self.new).history i ≤ self.new.image.parms.stop }
+        ensures queue { QueueMoves (state_of self.old).queue (state_of self.new).queue }
+        ensures turns { (i : ℕ) → let stretch = stretch_of (setting_of self.new) self.new.events i in
+            stretch.is_open ≡ true → stretch.age + left (setting_of self.new) (state_of self.new) i
+            ≤ bound self.new.image.parms + attempt_turns self.new.image.parms * stretch.externals }
     {
         advance(
             &self.image,

@@ -7,6 +7,7 @@ use Rattle.tx_keeping.specs.Turn.{KTurned}
 use Rattle.tx_machine.specs.Machine.{nobody}
 use Rattle.tx_machine.proofs.Going.{has_events_room, has_room_for, turns_may}
 use Rattle.tx_machine.proofs.Happened.{stands_after, tells}
+use Rattle.tx_machine.proofs.Laws.{means}
 use Rattle.tx_machine.proofs.machine.advance.Goals as goal
 
 pub happen-turned-requires-clause-turns : goal.happen-turned-requires-clause-turns
@@ -25,6 +26,15 @@ returns-clause-stands c =
     stands_after m c.args.works.now c.happen-turned.new.self _ _ c.requires.stands c.args.e c.requires.known
     c.happen-turned.ensures.size (ap (λ (q : KTurned). q.kept) (c.happen-turned.ensures.value (nobody m)))
     c.left_behind.ensures
+
+pub returns-clause-state : goal.returns-clause-state
+returns-clause-state c =
+    let m : Setting = record { image = c.args.image.now; limits = c.args.limits } in
+    let kept = ap (λ (q : KTurned). q.kept) (c.happen-turned.ensures.value (nobody m)) in
+    means m c.args.works.now c.happen-turned.new.self _ _ c.requires.stands
+    (stands_after m c.args.works.now c.happen-turned.new.self _ _ c.requires.stands c.args.e c.requires.known
+    c.happen-turned.ensures.size kept c.left_behind.ensures)
+    c.args.e c.requires.known kept
 
 pub returns-clause-events : goal.returns-clause-events
 returns-clause-events c =

@@ -1,0 +1,66 @@
+-- What holds behind every event.
+use Rattle.std.proofs.Common.{◌≡◌, ℕ, ◌+◌, ◌*◌, ◌<◌, ◌≤◌, true, List, [], ◌∷◌, sym, ap, ◌∙◌, subst}
+use Rattle.std.proofs.lemmas.List.Elements.{All-nil, All-cons}
+use Rattle.tx_journal.specs.Image.{cpu_of_event}
+use Rattle.tx_journal.specs.declared.entries.Entry.{Entry}
+use Rattle.tx_journal.specs.declared.events.Event.{Event}
+use Rattle.tx_serial.specs.History.{IsLegal}
+use Rattle.tx_meaning.specs.Hits.{hits}
+use Rattle.tx_meaning.specs.Limits.{Setting}
+use Rattle.tx_meaning.specs.Meaning.{meaning}
+use Rattle.tx_meaning.specs.Queues.{QueueMoves}
+use Rattle.tx_meaning.specs.State.{State, cpus_of}
+use Rattle.tx_meaning.specs.Stretches.{stretch_of, left, bound, attempt_turns}
+use Rattle.tx_meaning.specs.Turn.{happen}
+use Rattle.tx_meaning.proofs.Queues.{queue_moves}
+use Rattle.tx_keeping.specs.Kept.{Kept}
+use Rattle.tx_keeping.specs.Turn.{k_happen}
+use Rattle.tx_keeping.specs.Views.{GoesOnWith, KeepsViews, HoldsTouched, turned_of}
+use Rattle.tx_keeping.proofs.Events.{legal, grows_only, views_kept, touched_held}
+use Rattle.tx_bounds.proofs.Meant.{stops}
+use Rattle.tx_bounds.proofs.Stretched.{ages_within}
+use Rattle.tx_machine.specs.Works.{Works, kept_by}
+use Rattle.tx_machine.specs.Machine.{Stands, nobody}
+use Rattle.tx_machine.proofs.Most.{meaning_more}
+use Rattle.tx_machine.proofs.Read.{reads_state}
+use Rattle.tx_machine.proofs.Happened.{tells}
+
+-- the events that are recorded behind an event mean what the event makes of what was before
+pub means : (m : Setting) (w later : Works) (before after : ℕ) → Stands m w before → Stands m later after
+    → (e : Event) → cpu_of_event e < cpus_of m
+    → kept_by (nobody m) later ≡ (k_happen m e (kept_by (nobody m) w)).kept
+    → meaning m later.events ≡ (happen m e (meaning m w.events)).state
+means m w later before after s t e within is =
+    reads_state m later after t ∙ ap (λ (k : Kept). k.state) is
+    ∙ ap (λ r. r.state) (tells m w before s e within)
+
+-- of a machine
+module _ (m : Setting) (w : Works) (remaining : ℕ) (s : Stands m w remaining) where
+  pub is_legal : IsLegal m.image (meaning m w.events).history
+  is_legal = legal m s.setting w.events s.events.known
+
+  pub is_held : HoldsTouched m (meaning m w.events)
+  is_held = touched_held m s.setting w.events s.events.known
+
+  pub few_hits : (i : ℕ) → hits m.image (meaning m w.events).history i ≤ m.image.parms.stop
+  few_hits i = (stops m w.events s.setting s.events.known).counted.few i
+
+  pub few_turns_left : (i : ℕ) → (stretch_of m w.events i).is_open ≡ true
+      → (stretch_of m w.events i).age + left m (meaning m w.events) i
+      ≤ bound m.image.parms + attempt_turns m.image.parms * (stretch_of m w.events i).externals
+  few_turns_left i is = ages_within m w.events i s.setting s.events.known is
+
+-- behind one event more
+module _ (m : Setting) (w : Works) (remaining : ℕ) (s : Stands m w remaining) (e : Event)
+    (within : cpu_of_event e < cpus_of m) where
+  pub history_grows : GoesOnWith (meaning m w.events).history (happen m e (meaning m w.events)).state.history
+  history_grows =
+      subst (λ (t : State). GoesOnWith (meaning m w.events).history t.history) (meaning_more m w.events e)
+      (grows_only m s.setting w.events (e ∷ []) s.events.known
+      (All-cons (λ x. cpu_of_event x < cpus_of m) e [] within (All-nil (λ x. cpu_of_event x < cpus_of m))))
+
+  pub views_stay : KeepsViews m (meaning m w.events) (happen m e (meaning m w.events)).state
+  views_stay = views_kept m s.setting w.events e s.events.known within
+
+  pub queue_at_its_ends : QueueMoves (meaning m w.events).queue (happen m e (meaning m w.events)).state.queue
+  queue_at_its_ends = queue_moves m e (meaning m w.events)

@@ -1,0 +1,64 @@
+-- What holds behind every event holds behind this one.
+use Rattle.std.proofs.Common.{◌≡◌, ℕ, ◌<◌, sym, subst, length}
+use Rattle.std.specs.Arc.{arc_value}
+use Rattle.tx_journal.specs.Content.{Content}
+use Rattle.tx_journal.specs.Image.{cpu_of_event}
+use Rattle.tx_meaning.specs.Limits.{Setting}
+use Rattle.tx_meaning.specs.Meaning.{meaning}
+use Rattle.tx_meaning.specs.Queues.{QueueMoves}
+use Rattle.tx_meaning.specs.State.{State, cpus_of}
+use Rattle.tx_meaning.specs.Turn.{happen}
+use Rattle.tx_keeping.specs.Views.{GoesOnWith, KeepsViews}
+use Rattle.tx_machine.specs.Machine.{Seen, Stands, setting_of, state_of}
+use Rattle.tx_machine.proofs.Laws.{is_legal, is_held, few_hits, few_turns_left, history_grows, views_stay}
+use Rattle.tx_machine.proofs.Laws.{queue_at_its_ends}
+use Rattle.tx_machine.proofs.machine.Machine.event.Goals as goal
+
+abbrev setting : goal.After-advance → Setting
+setting c = record { image = arc_value c.self.inside.image; limits = c.self.inside.limits }
+
+stands : (c : goal.After-advance) → Stands (setting c) c.advance.new.works c.advance.new.externals_left
+stands c =
+    subst (λ (i : Content). Stands (record { image = i; limits = c.self.inside.limits }) c.advance.new.works
+    c.advance.new.externals_left) c.deref.ensures c.advance.ensures.stands
+
+means : (c : goal.After-advance) → (happen (setting c) c.args.e (meaning (setting c) c.self.inside.works.events)).state
+    ≡ meaning (setting c) c.advance.new.works.events
+means c =
+    sym (subst (λ (i : Content). let m : Setting = record { image = i; limits = c.self.inside.limits } in
+    meaning m c.advance.new.works.events ≡ (happen m c.args.e (meaning m c.self.inside.works.events)).state)
+    c.deref.ensures c.advance.ensures.state)
+
+known : (c : goal.After-advance) → cpu_of_event c.args.e < cpus_of (setting c)
+known c =
+    subst (λ (s : Seen). cpu_of_event c.args.e < length s.image.cpus) (sym c.self.view_is) c.requires.known
+
+pub returns-clause-legal : goal.returns-clause-legal
+returns-clause-legal c = is_legal (setting c) c.advance.new.works _ (stands c)
+
+pub returns-clause-grows : goal.returns-clause-grows
+returns-clause-grows c =
+    subst (λ (s : Seen). GoesOnWith (state_of s).history (meaning (setting c) c.advance.new.works.events).history)
+    c.self.view_is (subst (λ (t : State). GoesOnWith (meaning (setting c) c.self.inside.works.events).history
+    t.history) (means c) (history_grows (setting c) c.self.inside.works _ c.self.invariant c.args.e (known c)))
+
+pub returns-clause-views : goal.returns-clause-views
+returns-clause-views c =
+    subst (λ (s : Seen). KeepsViews (setting_of s) (state_of s) (meaning (setting c) c.advance.new.works.events))
+    c.self.view_is (subst (KeepsViews (setting c) (meaning (setting c) c.self.inside.works.events)) (means c)
+    (views_stay (setting c) c.self.inside.works _ c.self.invariant c.args.e (known c)))
+
+pub returns-clause-held : goal.returns-clause-held
+returns-clause-held c = is_held (setting c) c.advance.new.works _ (stands c)
+
+pub returns-clause-few : goal.returns-clause-few
+returns-clause-few c i = few_hits (setting c) c.advance.new.works _ (stands c) i
+
+pub returns-clause-queue : goal.returns-clause-queue
+returns-clause-queue c =
+    subst (λ (s : Seen). QueueMoves (state_of s).queue (meaning (setting c) c.advance.new.works.events).queue)
+    c.self.view_is (subst (λ (t : State). QueueMoves (meaning (setting c) c.self.inside.works.events).queue t.queue)
+    (means c) (queue_at_its_ends (setting c) c.self.inside.works _ c.self.invariant c.args.e (known c)))
+
+pub returns-clause-turns : goal.returns-clause-turns
+returns-clause-turns c i is = few_turns_left (setting c) c.advance.new.works _ (stands c) i is
