@@ -1,8 +1,7 @@
 -- What holds behind every event.
-use Rattle.std.proofs.Common.{◌≡◌, ℕ, ◌+◌, ◌*◌, ◌<◌, ◌≤◌, true, List, [], ◌∷◌, sym, ap, ◌∙◌, subst}
+use Rattle.std.proofs.Common.{◌≡◌, ℕ, ◌+◌, ◌*◌, ◌<◌, ◌≤◌, true, [], ◌∷◌, ap, ◌∙◌, subst}
 use Rattle.std.proofs.lemmas.List.Elements.{All-nil, All-cons}
 use Rattle.tx_journal.specs.Image.{cpu_of_event}
-use Rattle.tx_journal.specs.declared.entries.Entry.{Entry}
 use Rattle.tx_journal.specs.declared.events.Event.{Event}
 use Rattle.tx_serial.specs.History.{IsLegal}
 use Rattle.tx_meaning.specs.Hits.{hits}
@@ -15,7 +14,7 @@ use Rattle.tx_meaning.specs.Turn.{happen}
 use Rattle.tx_meaning.proofs.Queues.{queue_moves}
 use Rattle.tx_keeping.specs.Kept.{Kept}
 use Rattle.tx_keeping.specs.Turn.{k_happen}
-use Rattle.tx_keeping.specs.Views.{GoesOnWith, KeepsViews, HoldsTouched, turned_of}
+use Rattle.tx_keeping.specs.Views.{GoesOnWith, KeepsViews, HoldsTouched}
 use Rattle.tx_keeping.proofs.Events.{legal, grows_only, views_kept, touched_held}
 use Rattle.tx_bounds.proofs.Meant.{stops}
 use Rattle.tx_bounds.proofs.Stretched.{ages_within}

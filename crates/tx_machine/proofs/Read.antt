@@ -12,7 +12,13 @@ use Rattle.tx_lines.specs.Owned.{storage_in}
 use Rattle.tx_meaning.specs.Limits.{Setting}
 use Rattle.tx_meaning.specs.Meaning.{meaning}
 use Rattle.tx_meaning.specs.State.{State, flat_of, cpu_of}
-use Rattle.tx_keeping.proofs.Truth.{flat_is, cpu_is}
+use Rattle.std.proofs.Common.{List, length}
+use Rattle.std.specs.Prelude.{if◌then◌else◌}
+use Rattle.tx_control.specs.declared.begins.Begin.{Begin}
+use Rattle.tx_cpu.specs.Plans.{levels_of}
+use Rattle.tx_meaning.specs.State.{is_live}
+use Rattle.tx_machine.specs.Machine.{levels_at}
+use Rattle.tx_keeping.proofs.Truth.{flat_is, cpu_is, nest_is}
 use Rattle.tx_machine.specs.Works.{Works, kept_by}
 use Rattle.tx_machine.specs.Machine.{Stands, nobody}
 use Rattle.tx_machine.proofs.Shown.{shown}
@@ -53,3 +59,25 @@ module _ (m : Setting) (w : Works) (remaining : ℕ) (s : Stands m w remaining) 
       ∙ ap (λ (f : FlatState). is_none (f.pending i) && has_ended (cpu_of m k.state i).state (cpu_of m k.state i).prefix)
       (flat_is m k truth)
       ∙ ap (λ (c : Cpu). is_none (k.locals i).pending && has_ended c.state c.prefix) (cpu_is m k truth i)
+
+  pub reads_levels : (i : ℕ)
+      → levels_at m (meaning m w.events) i ≡ levels_of (local_of (get_or w.slots i (nobody m)).cpu).attempt
+  reads_levels i =
+      let k = kept_by (nobody m) w in
+      ap (λ (t : State). levels_at m t i) reads_state
+      ∙ ap (λ (nest : List Begin). if is_live k.state i then Some (length nest, (k.state.numbers i).completed) else None)
+      (nest_is m k (shown m w remaining s).good.truth i)
+
+  pub reads_pending : (i : ℕ)
+      → (flat_of m (meaning m w.events)).pending i ≡ (local_of (get_or w.slots i (nobody m)).cpu).pending
+  reads_pending i =
+      ap (λ (t : State). (flat_of m t).pending i) reads_state
+      ∙ ap (λ (f : FlatState). f.pending i)
+      (flat_is m (kept_by (nobody m) w) (shown m w remaining s).good.truth)
+
+  pub reads_waiting : (i : ℕ)
+      → (flat_of m (meaning m w.events)).waiting i ≡ (local_of (get_or w.slots i (nobody m)).cpu).waiting
+  reads_waiting i =
+      ap (λ (t : State). (flat_of m t).waiting i) reads_state
+      ∙ ap (λ (f : FlatState). f.waiting i)
+      (flat_is m (kept_by (nobody m) w) (shown m w remaining s).good.truth)

@@ -1,6 +1,6 @@
 -- What a machine is seen as, and what it stands for.
 use Rattle.std.specs.Prelude.{◌≡◌, ℕ, ◌<◌, ◌+◌, ◌*◌, Bool, false, ◌==◌, List, [], length}
-use Rattle.std.specs.Prelude.{Option, None, count_by}
+use Rattle.std.specs.Prelude.{Option, Some, None, if◌then◌else◌, count_by}
 use Rattle.std.specs.Prelude.{refl}
 use Rattle.std.specs.Coded.{Coded, code_by, coded×, coded_ℕ, coded_list, coded_option}
 use Rattle.tx_journal.specs.contracts.events.Event as event
@@ -15,7 +15,10 @@ use Rattle.tx_serial.specs.History.{no_cpu}
 use Rattle.tx_meaning.specs.declared.asking.Reject.{Reject}
 use Rattle.tx_meaning.specs.Limits.{RunLimits, Setting}
 use Rattle.tx_meaning.specs.Meaning.{IsSetting, AreEvents, meaning, is_external}
-use Rattle.tx_meaning.specs.State.{State, cpus_of}
+use Rattle.z_regs.specs.declared.image.RunState.{RunState}
+use Rattle.z_regs.specs.declared.waiting.Waiting.{Waiting}
+use Rattle.tx_serial.specs.Apply.{interruption_code}
+use Rattle.tx_meaning.specs.State.{is_live, attempt_of, State, cpus_of}
 use Rattle.tx_meaning.specs.Turn.{Turned, happen}
 use Rattle.tx_keeping.specs.Keeping.{keeping}
 use Rattle.tx_machine.specs.Works.{Seat, Works, kept_by}
@@ -61,6 +64,17 @@ event_of s e = happen (setting_of s) e (state_of s)
 
 abbrev pub after : Seen → Event → Seen
 after s e = record s { events = (event_of s e).state.events; reject = (event_of s e).reject }
+
+-- ---- what is read of it
+
+-- how many begins are open, and how many instructions are completed, of an attempt that is live
+abbrev pub levels_at : Setting → State → ℕ → Option (ℕ × ℕ)
+levels_at m s i = if is_live s i then Some (length (attempt_of m s i).nest, (s.numbers i).completed) else None
+
+-- the code of an interruption that waits on a CPU in this state
+abbrev pub code_awaited : RunState → Option Waiting → Option ℕ
+code_awaited state None = None
+code_awaited state (Some w) = Some (interruption_code state)
 
 -- ---- counted in the history
 

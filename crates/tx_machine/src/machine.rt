@@ -16,7 +16,8 @@ ghost use Rattle.tx_meaning.specs.Queues.{QueueMoves};
 ghost use Rattle.tx_meaning.specs.Stretches.{stretch_of, left, bound, attempt_turns};
 ghost use Rattle.tx_keeping.specs.Views.{GoesOnWith, KeepsViews, HoldsTouched};
 ghost use Rattle.tx_serial.specs.History.{IsLegal};
-ghost use Rattle.tx_machine.specs.Machine.{IsLeft, Stands, Seen, setting_of, state_of, opened, event_of, after, commits_of, aborts_of};
+ghost use Rattle.tx_cpu.specs.Plans.{address_of};
+ghost use Rattle.tx_machine.specs.Machine.{levels_at, IsLeft, Stands, Seen, setting_of, state_of, opened, event_of, after, commits_of, aborts_of};
 
 use crate::slot::Slot;
 use crate::works::Works;
@@ -265,5 +266,22 @@ impl Machine {
         ensures { result ≡ is_spent self.now.limits ((state_of self.now).numbers cpu) }
     {
         self.works.turns(cpu) >= self.limits.turns
+    }
+
+    /// How many begins are open, and how many instructions the attempt of the CPU has completed; None exactly
+    /// where it has no live attempt.
+    pub fn live(&self, cpu: u32) -> Option<(u32, u32)>
+        requires { cpu < length self.now.image.cpus }
+        ensures { result ≡ levels_at (setting_of self.now) (state_of self.now) cpu }
+    {
+        self.works.slots[cpu as usize].cpu.live()
+    }
+
+    /// The real address of the diagnostic block that is pending for the CPU; None exactly where none is.
+    pub fn pending(&self, cpu: u32) -> Option<u64>
+        requires { cpu < length self.now.image.cpus }
+        ensures { result ≡ address_of ((meant.flat_of (setting_of self.now) (state_of self.now)).pending cpu) }
+    {
+        self.works.slots[cpu as usize].cpu.pending()
     }
 }

@@ -1,5 +1,5 @@
 -- What holds behind every event holds behind this one.
-use Rattle.std.proofs.Common.{◌≡◌, ℕ, ◌<◌, sym, subst, length}
+use Rattle.std.proofs.Common.{◌≡◌, ◌<◌, sym, subst, length}
 use Rattle.std.specs.Arc.{arc_value}
 use Rattle.tx_journal.specs.Content.{Content}
 use Rattle.tx_journal.specs.Image.{cpu_of_event}
