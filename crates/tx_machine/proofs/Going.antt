@@ -16,6 +16,7 @@ use Rattle.tx_machine.proofs.Read.{reads_state}
 use Rattle.std.specs.Prelude.{◌||◌, ◌&&◌, nat_lt, is_none}
 use Rattle.std.proofs.Common.{List}
 use Rattle.std.proofs.lemmas.List.{get_or_default}
+use Rattle.std.proofs.lemmas.Nat.{mul-le}
 use Rattle.bit_set.proofs.Counts.{count_agree}
 use Rattle.line_table.specs.declared.table.TheConstants.{LINES, MOST_HELD}
 use Rattle.tx_ladder.specs.Waiting.{waits_in}
@@ -51,6 +52,13 @@ module _ (m : Setting) (w : Works) (remaining : ℕ) (s : Stands m w remaining) 
 
   pub has_events_room : length w.events < w.events_room
   has_events_room = omega (arith, few_events, s.events_room)
+
+  -- ---- the history is short
+
+  pub history_is_short : length w.history < 4294967296
+  history_is_short =
+      let product = mul-le (cpus_of m) m.limits.turns 16 200000 s.setting.image.few_cpus s.setting.limits.few_turns in
+      omega (arith, product, s.setting.limits.few_externals, few_events, owed_at_most)
 
   -- ---- with any seat behind the last CPU
 

@@ -21,6 +21,8 @@ use Rattle.tx_serial.specs.Apply.{interruption_code}
 use Rattle.tx_meaning.specs.State.{is_live, attempt_of, State, cpus_of}
 use Rattle.tx_meaning.specs.Turn.{Turned, happen}
 use Rattle.tx_keeping.specs.Keeping.{keeping}
+use Rattle.tx_machine.specs.declared.machine.Counts.{Counts}
+use Rattle.tx_machine.specs.declared.slot.Tally.{Tally}
 use Rattle.tx_machine.specs.Works.{Seat, Works, kept_by}
 
 -- its image, its limits, the recorded events, and the reject in the last event, where there was one
@@ -91,6 +93,25 @@ aborts_of i (Step j) = false
 aborts_of i (Commit j n) = false
 aborts_of i (Tdb j) = false
 aborts_of i (Interrupt j) = false
+
+abbrev pub counts_at : State → ℕ → Counts
+counts_at s i = record {
+  turns = (s.numbers i).turns;
+  asked = (s.numbers i).asked;
+  rejected = (s.numbers i).rejected;
+  commits = count_by (commits_of i) s.history;
+  aborts = count_by (aborts_of i) s.history;
+}
+
+-- the same by what is kept
+abbrev pub counts_with : Tally → List Entry → ℕ → Counts
+counts_with t history i = record {
+  turns = t.turns;
+  asked = t.asked;
+  rejected = t.rejected;
+  commits = count_by (commits_of i) history;
+  aborts = count_by (aborts_of i) history;
+}
 
 -- ---- what is kept beside it
 

@@ -17,16 +17,21 @@ ghost use Rattle.tx_meaning.specs.Stretches.{stretch_of, left, bound, attempt_tu
 ghost use Rattle.tx_keeping.specs.Views.{GoesOnWith, KeepsViews, HoldsTouched};
 ghost use Rattle.tx_serial.specs.History.{IsLegal};
 ghost use Rattle.tx_cpu.specs.Plans.{address_of};
+ghost use Rattle.tx_serial.specs.Apply.{interruption_code};
+ghost use Rattle.std.specs.Prelude.{◌^◌};
+ghost use Rattle.tx_cpu.specs.Parts.{local_of};
+ghost use Rattle.tx_machine.specs.Machine.{code_awaited, counts_at, counts_with};
 ghost use Rattle.tx_machine.specs.Machine.{levels_at, IsLeft, Stands, Seen, setting_of, state_of, opened, event_of, after, commits_of, aborts_of};
 
-use crate::slot::Slot;
+use crate::slot::Tally;
 use crate::works::Works;
 use std::alloc::{AllocError, Global};
 use std::marker::Model;
 use std::sync::Arc;
+use tx_cpu::Cpu;
 use tx_journal::{Entry, Event, Image};
 use tx_meaning::{Limits, Outcome, Reject};
-use z_regs::CpuImage;
+use z_regs::{CpuImage, RunState};
 
 /// There was no memory.
 #[derive(Clone, Copy, Debug, PartialEq, Eq)]
@@ -80,6 +85,62 @@ impl Model for Machine {
     } };
 
     ghost invariant = { λ m. Stands record { image = arc_value m.image; limits = m.limits } m.works m.externals_left };
+}
+
+/// The code of the program interruption that a CPU in this state has.
+fn code_of(state: RunState) -> u16
+    ensures { result ≡ interruption_code state }
+{
+    match state {
+        RunState::Running | RunState::Halted => 0,
+        RunState::Interrupted(code) => code,
+    }
+}
+
+/// The commits of a CPU.
+fn commits_in(history: &[Entry], cpu: u32) -> u32
+    requires { length history.now < 2 ^ 32 }
+    ensures { result ≡ count_by (commits_of cpu) history.now }
+{
+    let commits = history.iter().filter(
+        |entry| matches!(entry, Entry::Commit(other, _) if *other == cpu),
+    );
+    commits.count() as u32
+}
+
+/// The attempts of a CPU that were aborted.
+fn aborts_in(history: &[Entry], cpu: u32) -> u32
+    requires { length history.now < 2 ^ 32 }
+    ensures { result ≡ count_by (aborts_of cpu) history.now }
+{
+    let aborts = history.iter().filter(
+        |entry| matches!(entry, Entry::Abort(other, _, _) if *other == cpu),
+    );
+    aborts.count() as u32
+}
+
+/// The code of the interruption that a CPU has still to take.
+fn code_awaited(cpu: &Cpu) -> Option<u16>
+    ensures { let local = local_of cpu.now in result ≡ code_awaited local.attempt.cpu.state local.waiting }
+{
+    match cpu.waiting() {
+        None => None,
+        Some(_) => Some(code_of(cpu.image().state)),
+    }
+}
+
+/// What is counted of a CPU beside the history, and in it.
+fn counts_of(tally: Tally, history: &[Entry], cpu: u32) -> Counts
+    requires { length history.now < 2 ^ 32 }
+    ensures { result ≡ counts_with tally history.now cpu }
+{
+    Counts {
+        turns: tally.turns,
+        asked: tally.asked,
+        rejected: tally.rejected,
+        commits: commits_in(history, cpu),
+        aborts: aborts_in(history, cpu),
+    }
 }
 
 /// How many external events may still come behind an event.
@@ -283,5 +344,23 @@ impl Machine {
         ensures { result ≡ address_of ((meant.flat_of (setting_of self.now) (state_of self.now)).pending cpu) }
     {
         self.works.slots[cpu as usize].cpu.pending()
+    }
+
+    /// The code of the interruption that the CPU has still to take; None exactly where none waits.
+    pub fn interruption(&self, cpu: u32) -> Option<u16>
+        requires { cpu < length self.now.image.cpus }
+        ensures { let s = state_of self.now in result ≡ code_awaited
+            (meant.cpu_of (setting_of self.now) s cpu).state ((meant.flat_of (setting_of self.now) s).waiting cpu) }
+    {
+        code_awaited(&self.works.slots[cpu as usize].cpu)
+    }
+
+    /// What is counted of the CPU; its commits and its aborts as the history has them.
+    pub fn counts(&self, cpu: u32) -> Counts
+        requires { cpu < length self.now.image.cpus }
+        ensures { result ≡ counts_at (state_of self.now) cpu }
+    {
+        let tally = self.works.slots[cpu as usize].tally;
+        counts_of(tally, self.works.history.as_slice(), cpu)
     }
 }
