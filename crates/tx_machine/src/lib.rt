@@ -16,6 +16,7 @@ pub mod slot;
 pub mod turning;
 pub mod works;
 
+pub use machine::{Counts, Machine, NoMemory};
 pub use slot::Tally;
 
 #[cfg(test)]
