@@ -1,5 +1,6 @@
 -- What holds whenever a machine asks or aborts, so that what it keeps has room for what comes of it.
-use Rattle.std.specs.Prelude.{◌≡◌, ◌≢◌, ℕ, ◌+◌, ◌*◌, ◌<◌, ◌≤◌, ◌||◌, Bool, true, false, List, length, nat_lt, All}
+use Rattle.std.specs.Prelude.{◌≡◌, ◌≢◌, ℕ, ◌+◌, ◌*◌, ◌<◌, ◌≤◌, ◌||◌, Bool, true, false, List, length}
+use Rattle.std.specs.Prelude.{nat_lt, All}
 use Rattle.bit_set.specs.Counts.{count_below}
 use Rattle.line_table.specs.declared.table.TheConstants.{LINES, MOST_HELD}
 use Rattle.line_table.specs.Holders.{lines_held}
@@ -35,8 +36,8 @@ image_storage m = (start_of m.image).storage
 
 -- ---- the ladder and the stop queue
 
--- the attempt of the CPU can be aborted by a conflict: a constrained one is below the number of conflict aborts
--- that leads to the stop queue, and its CPU is not in it
+-- the attempt of the CPU can be aborted by a conflict: a constrained one is below the number of conflict
+-- aborts that leads to the stop queue, and its CPU is not in it
 pub record MayClimb (k : Kept) (i : ℕ) : Type 0 where
   pub below : (k.standings i).constrained ≡ true → (k.standings i).aborts < (k.standings i).parms.stop
   pub out : (k.standings i).constrained ≡ true → waits_in k.state.queue i ≡ false
@@ -55,8 +56,8 @@ MayEndBy (Filtered e) k i = Unit {0}
 MayEndBy Depth k i = Unit {0}
 MayEndBy (Tabort code) k i = Unit {0}
 
--- in a turn of one of so many CPUs: those of all others that are live, and its own unless it is the head of the
--- stop queue
+-- in a turn of one of so many CPUs: those of all others that are live, and its own unless it is the head of
+-- the stop queue
 pub record MayAsk (cpus i : ℕ) (k : Kept) : Type 0 where
   pub others : (j : ℕ) → j < cpus → j ≢ i → is_live k.state j ≡ true → MayClimb k j
   pub own : is_head k.state i ≡ false → MayClimb k i
@@ -86,9 +87,9 @@ pub record IsInReach (prefix : Option ℕ) (ranges : List Range) : Type 0 where
   pub few : length ranges ≤ 2
   pub accessible : All (IsAccessible prefix) ranges
 
--- what a turn of a CPU asks of what is kept: the ladder, the lines that it can need, that the next instruction is
--- the one that the image's storage says, that nothing is taken inside a transaction, and that what is left to do
--- lies in storage
+-- what a turn of a CPU asks of what is kept: the ladder, the lines that it can need, that the next instruction
+-- is the one that the image's storage says, that nothing is taken inside a transaction, and that what is left to
+-- do lies in storage
 pub record MayTurn (m : Setting) (i : ℕ) (k : Kept) : Type 0 where
   pub asks : MayAsk (cpus_of m) i k
   pub goes : (instr : Instr) (ranges : List Range)
@@ -113,8 +114,8 @@ pub record MayTurn (m : Setting) (i : ℕ) (k : Kept) : Type 0 where
 
 -- ---- counts
 
--- each attempt and each completed instruction took a turn, and a turn asks at most 128 questions: for at most 8
--- lines, each of at most 15 other CPUs
+-- each attempt and each completed instruction took a turn, and a turn asks at most 128 questions: for at most
+-- 8 lines, each of at most 15 other CPUs
 pub record IsCounted (s : Seat) : Type 0 where
   pub turns : s.tally.turns ≤ MOST_TURNS
   pub attempts : s.tally.attempts ≤ s.tally.turns

@@ -1,6 +1,5 @@
 //! The machine, as programs use it.
-ghost use Rattle.std.specs.Prelude.{◌≡◌, ℕ, ◌+◌, ◌*◌, ◌<◌, ◌≤◌, ◌↔◌, IfOk, IsTrue, List, [], ◌∷◌, ◌++◌, length, slice_get};
-ghost use Rattle.std.specs.Prelude.{count_by, None, Option, get_or, true};
+ghost use Rattle.std.specs.Prelude.{◌≡◌, ℕ, ◌+◌, ◌*◌, ◌^◌, ◌<◌, ◌≤◌, IfOk, true, length, slice_get, count_by};
 ghost use Rattle.std.specs.Arc.{arc_value};
 ghost use Rattle.z_regs.specs.Cpu.{cpu_of};
 ghost use Rattle.z_regs.specs.Prefix.{storage_size};
@@ -18,10 +17,9 @@ ghost use Rattle.tx_keeping.specs.Views.{GoesOnWith, KeepsViews, HoldsTouched};
 ghost use Rattle.tx_serial.specs.History.{IsLegal};
 ghost use Rattle.tx_cpu.specs.Plans.{address_of};
 ghost use Rattle.tx_serial.specs.Apply.{interruption_code};
-ghost use Rattle.std.specs.Prelude.{◌^◌};
 ghost use Rattle.tx_cpu.specs.Parts.{local_of};
-ghost use Rattle.tx_machine.specs.Machine.{code_awaited, counts_at, counts_with};
-ghost use Rattle.tx_machine.specs.Machine.{levels_at, IsLeft, Stands, Seen, setting_of, state_of, opened, event_of, after, commits_of, aborts_of};
+ghost use Rattle.tx_machine.specs.Machine.{IsLeft, Stands, setting_of, state_of, opened, event_of, after};
+ghost use Rattle.tx_machine.specs.Machine.{levels_at, code_awaited, counts_at, counts_with, commits_of, aborts_of};
 
 use crate::slot::Tally;
 use crate::works::Works;
@@ -84,7 +82,8 @@ impl Model for Machine {
       reject = m.reject;
     } };
 
-    ghost invariant = { λ m. Stands record { image = arc_value m.image; limits = m.limits } m.works m.externals_left };
+    ghost invariant = { λ m. Stands record { image = arc_value m.image; limits = m.limits } m.works
+        m.externals_left };
 }
 
 /// The code of the program interruption that a CPU in this state has.
@@ -183,8 +182,8 @@ fn advance(
 }
 
 impl Machine {
-    /// A machine of an image, from which nothing has happened. It has room for all that can be recorded, so no
-    /// event takes memory. The error is want of memory.
+    /// A machine of an image, from which nothing has happened. It has room for all that can be recorded, so
+    /// no event takes memory. The error is want of memory.
     pub fn open(alloc: Global, image: Arc<Image>, limits: Limits) -> Result<Machine, NoMemory>
         ensures { IfOk result (λ machine. machine ≡ opened (arc_value image) limits) }
     {
@@ -200,12 +199,13 @@ impl Machine {
         })
     }
 
-    /// One event more, of a CPU that there is; an external one only while some are left. Says what came of it.
-    /// It takes no memory.
+    /// One event more, of a CPU that there is; an external one only while some are left. Says what came of
+    /// it. It takes no memory.
     ///
-    /// Behind every event the history is legal, and it only grows. No live attempt sees a mixed state, and what
-    /// one has touched is held. No CPU has more conflict aborts than lead to the stop queue, the queue changes
-    /// at its ends alone, and a constrained transaction has no more turns than the retry ladder bounds.
+    /// Behind every event the history is legal, and it only grows. No live attempt sees a mixed state, and
+    /// what one has touched is held. No CPU has more conflict aborts than lead to the stop queue, the queue
+    /// changes at its ends alone, and a constrained transaction has no more turns than the retry ladder
+    /// bounds.
     pub fn event(&mut self, e: Event) -> Outcome
         requires known { cpu_of_event e < length self.old.image.cpus }
         requires external { is_external e ≡ true
@@ -217,7 +217,8 @@ impl Machine {
         ensures grows { GoesOnWith (state_of self.old).history (state_of self.new).history }
         ensures views { KeepsViews (setting_of self.old) (state_of self.old) (state_of self.new) }
         ensures held { HoldsTouched (setting_of self.new) (state_of self.new) }
-        ensures few { (i : ℕ) → hits self.new.image (state_of self.new).history i ≤ self.new.image.parms.stop }
+        ensures few { (i : ℕ) →
+            hits self.new.image (state_of self.new).history i ≤ self.new.image.parms.stop }
         ensures queue { QueueMoves (state_of self.old).queue (state_of self.new).queue }
         ensures turns { (i : ℕ) → let stretch = stretch_of (setting_of self.new) self.new.events i in
             stretch.is_open ≡ true → stretch.age + left (setting_of self.new) (state_of self.new) i
@@ -341,7 +342,8 @@ impl Machine {
     /// The real address of the diagnostic block that is pending for the CPU; None exactly where none is.
     pub fn pending(&self, cpu: u32) -> Option<u64>
         requires { cpu < length self.now.image.cpus }
-        ensures { result ≡ address_of ((meant.flat_of (setting_of self.now) (state_of self.now)).pending cpu) }
+        ensures { let flat = meant.flat_of (setting_of self.now) (state_of self.now) in
+            result ≡ address_of (flat.pending cpu) }
     {
         self.works.slots[cpu as usize].cpu.pending()
     }
@@ -349,8 +351,8 @@ impl Machine {
     /// The code of the interruption that the CPU has still to take; None exactly where none waits.
     pub fn interruption(&self, cpu: u32) -> Option<u16>
         requires { cpu < length self.now.image.cpus }
-        ensures { let s = state_of self.now in result ≡ code_awaited
-            (meant.cpu_of (setting_of self.now) s cpu).state ((meant.flat_of (setting_of self.now) s).waiting cpu) }
+        ensures { let m = setting_of self.now in let s = state_of self.now in
+            result ≡ code_awaited (meant.cpu_of m s cpu).state ((meant.flat_of m s).waiting cpu) }
     {
         code_awaited(&self.works.slots[cpu as usize].cpu)
     }
