@@ -61,20 +61,6 @@ may-climb (Filtered x) k i e h = absurd (cc)
 may-climb Depth k i e h = absurd (cc)
 may-climb (Tabort code) k i e h = absurd (cc)
 
--- who may climb may end by any cause, and who ends by a cause of its own need not
-pub may-end : (why : Why) (k : Kept) (i : ℕ) → MayClimb k i → MayEndBy why k i
-may-end (FetchConflict line) k i h = h
-may-end (StoreConflict line) k i h = h
-may-end Starved k i h = h
-may-end (Program x) k i h = tt
-may-end External k i h = tt
-may-end FetchOverflow k i h = tt
-may-end StoreOverflow k i h = tt
-may-end Restricted k i h = tt
-may-end (Filtered x) k i h = tt
-may-end Depth k i h = tt
-may-end (Tabort code) k i h = tt
-
 pub may-end-own : (why : Why) (k : Kept) (i : ℕ) → IsOwn why → MayEndBy why k i
 may-end-own (FetchConflict line) k i h = absurd h
 may-end-own (StoreConflict line) k i h = absurd h

@@ -240,15 +240,6 @@ pub record IsGetting (i : ℕ) (ranges : List Range) (before w : Works) (n : ℕ
   pub leaves : (rest : Seat) → AskLeaves (length before.slots) (n * 16) i (kept_by rest before)
       (kept_by rest w)
 
-pub getting_begins : (i : ℕ) (ranges : List Range) (w : Works) → IsGetting i ranges w w 0
-getting_begins i ranges w = record {
-  size = record { cpus = refl; room = refl; events_room = refl };
-  got = λ rest m cpus. refl;
-  leaves = λ rest. leaves_at_most (length w.slots) 0 (0 * 16) i (kept_by rest w) (kept_by rest w)
-      (omega arith)
-      (leaves_none (length w.slots) i (kept_by rest w));
-}
-
 -- a line more
 module _ (i : ℕ) (ranges : List Range) (lines : List ℕ) (before w next : Works) (n : ℕ) (r : Option Reject)
     (these : map (need_at ranges) lines ≡ needs_of ranges) (lt : n < length lines)

@@ -1,21 +1,26 @@
 -- What holds behind every event.
-use Rattle.std.proofs.Common.{◌≡◌, ℕ, ◌+◌, ◌*◌, ◌<◌, ◌≤◌, true, [], ◌∷◌, ap, ◌∙◌, subst}
+use Rattle.std.proofs.Common.{◌≡◌, ℕ, ◌+◌, ◌*◌, ◌<◌, ◌≤◌, Bool, true, false, [], ◌∷◌, None, ap, ◌∙◌, subst, refl}
 use Rattle.std.proofs.lemmas.List.Elements.{All-nil, All-cons}
 use Rattle.tx_journal.specs.Image.{cpu_of_event}
 use Rattle.tx_journal.specs.declared.events.Event.{Event}
+use Rattle.tx_journal.specs.declared.events.Event.TheVariants as event
 use Rattle.tx_serial.specs.History.{IsLegal}
 use Rattle.tx_meaning.specs.Hits.{hits}
 use Rattle.tx_meaning.specs.Limits.{Setting}
 use Rattle.tx_meaning.specs.Meaning.{meaning}
 use Rattle.tx_meaning.specs.Queues.{QueueMoves}
-use Rattle.tx_meaning.specs.State.{State, cpus_of}
-use Rattle.tx_meaning.specs.Stretches.{stretch_of, left, bound, attempt_turns}
-use Rattle.tx_meaning.specs.Turn.{happen}
+use Rattle.tx_meaning.specs.State.{State, cpus_of, is_head, is_live}
+use Rattle.tx_meaning.specs.Changes.{with_event}
+use Rattle.tx_meaning.specs.Stretches.{stretch_of, left, bound, attempt_turns, counted, is_counted_turn}
+use Rattle.tx_meaning.specs.Turn.{happen, interrupting}
+use Rattle.tx_meaning.proofs.Heads.{head_unrejected}
 use Rattle.tx_meaning.proofs.Queues.{queue_moves}
 use Rattle.tx_keeping.specs.Kept.{Kept}
 use Rattle.tx_keeping.specs.Turn.{k_happen}
 use Rattle.tx_keeping.specs.Views.{GoesOnWith, KeepsViews, HoldsTouched}
 use Rattle.tx_keeping.proofs.Events.{legal, grows_only, views_kept, touched_held}
+use Rattle.tx_bounds.specs.Heads.{head_turns}
+use Rattle.tx_bounds.proofs.Heads.{heads_in_all}
 use Rattle.tx_bounds.proofs.Meant.{stops}
 use Rattle.tx_bounds.proofs.Stretched.{ages_within}
 use Rattle.tx_machine.specs.Works.{Works, kept_by}
@@ -32,6 +37,17 @@ pub means : (m : Setting) (w later : Works) (before after : ℕ) → Stands m w 
 means m w later before after s t e within is =
     reads_state m later after t ∙ ap (λ (k : Kept). k.state) is
     ∙ ap (λ r. r.state) (tells m w before s e within)
+
+interrupted_by : (live : Bool) (m : Setting) (i : ℕ) (s : State) → (interrupting live m i s).reject ≡ None
+interrupted_by true m i s = refl
+interrupted_by false m i s = refl
+
+-- the head of the stop queue is never rejected
+pub unrejected_head : (m : Setting) (s : State) (e : Event) → is_head s (cpu_of_event e) ≡ true
+    → (happen m e s).reject ≡ None
+unfolding happen
+unrejected_head m s (event.Turn i) head = head_unrejected m s i head
+unrejected_head m s (event.External i) head = interrupted_by (is_live s i) m i (with_event (event.External i) s)
 
 -- of a machine
 module _ (m : Setting) (w : Works) (remaining : ℕ) (s : Stands m w remaining) where
@@ -60,6 +76,10 @@ module _ (m : Setting) (w : Works) (remaining : ℕ) (s : Stands m w remaining) 
 
   pub views_stay : KeepsViews m (meaning m w.events) (happen m e (meaning m w.events)).state
   views_stay = views_kept m s.setting w.events e s.events.known within
+
+  pub few_turns_of_heads : (i : ℕ) → head_turns m w.events i
+      + counted (is_counted_turn m (meaning m w.events) e i) ≤ 34
+  few_turns_of_heads i = heads_in_all m s.setting i w.events e s.events.known
 
   pub queue_at_its_ends : QueueMoves (meaning m w.events).queue (happen m e (meaning m w.events)).state.queue
   queue_at_its_ends = queue_moves m e (meaning m w.events)

@@ -144,21 +144,6 @@ acting-block m i k (Some b) w a t e told =
     told ∙ ap (λ n. k_with_lines m i (operand_needs (k.locals i).attempt.cpu.prefix (stored n 256 ∷ [])) k
     (λ (t : Kept). k_turned (k_storing i t) Executed)) same
 
-pub acting-waiting : (m : Setting) (i : ℕ) (k : Kept) (p : Option Pending) (o : Option Waiting) (w : Waiting)
-    (t : KTurned) → None ≡ address_of p → o ≡ Some w
-    → t ≡ k_with_lines m i (interruption_needs (k.locals i).attempt.cpu.prefix w) k
-    (λ (t : Kept). k_turned (k_taking i t) Executed)
-    → t ≡ k_acting m i k p o
-acting-waiting m i k (Some b) o w t e is told = absurd (cc)
-acting-waiting m i k None o w t e is told = told ∙ ap (k_acting m i k None) (sym is)
-
-pub acting-next : (m : Setting) (i : ℕ) (k : Kept) (p : Option Pending) (o : Option Waiting) (t : KTurned)
-    → None ≡ address_of p → o ≡ None
-    → t ≡ k_attempting m i k (fate_by_progress (text_of m) k.storage (k.locals i).attempt)
-    → t ≡ k_acting m i k p o
-acting-next m i k (Some b) o t e is told = absurd (cc)
-acting-next m i k None o t e is told = told ∙ ap (k_acting m i k None) (sym is)
-
 pub same-ranges : (a b : Option (List ℕ)) → is_some a ≡ is_some b → interruption_ranges a ≡
     interruption_ranges b
 same-ranges None None e = refl

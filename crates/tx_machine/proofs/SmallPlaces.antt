@@ -106,26 +106,6 @@ block-place address inside =
     All-cons IsSmallPlace (stored address 256) [] (record { small = omega arith; inside = inside })
     (All-nil IsSmallPlace)
 
-low_place : (first n : ℕ) → n ≤ 256 → first + n ≤ 8192 → IsSmallPlace (stored first n)
-low_place first n small low = record { small = small; inside = omega arith }
-
--- the program status words and what stands behind them
-words_and : (rest : List Range) → All IsSmallPlace rest
-    → All IsSmallPlace (stored 0x8c 4 ∷ stored 0x150 16 ∷ stored 0x1d0 16 ∷ rest)
-words_and rest h =
-    All-cons IsSmallPlace (stored 0x8c 4) (stored 0x150 16 ∷ stored 0x1d0 16 ∷ rest)
-    (low_place 0x8c 4 (omega arith) (omega arith))
-    (All-cons IsSmallPlace (stored 0x150 16) (stored 0x1d0 16 ∷ rest)
-    (low_place 0x150 16 (omega arith) (omega arith))
-    (All-cons IsSmallPlace (stored 0x1d0 16) rest (low_place 0x1d0 16 (omega arith) (omega arith)) h))
-
-pub interruption-places : (block : Option (List ℕ)) → All IsSmallPlace (interruption_ranges block)
-interruption-places None = words_and [] (All-nil IsSmallPlace)
-interruption-places (Some bytes) =
-    words_and (stored 0x1800 256 ∷ [])
-    (All-cons IsSmallPlace (stored 0x1800 256) [] (low_place 0x1800 256 (omega arith) (omega arith))
-    (All-nil IsSmallPlace))
-
 -- a range of the first area goes to one place
 low_edge : (first n : ℕ) → 0 < n → first + n ≤ 8192 → n ≤ to_edge first
 low_edge first n some low = omega arith

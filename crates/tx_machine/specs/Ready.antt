@@ -65,9 +65,6 @@ pub record MayAsk (cpus i : ℕ) (k : Kept) : Type 0 where
 -- ---- the history
 
 -- how many entries there are and may come of the attempts that are live
-abbrev pub is_seat_live : Seat → Bool
-is_seat_live s = nat_lt 0 (numbers_of s).completed
-
 abbrev pub owed : Works → Kept → ℕ
 owed w k = length w.history + count_below (length w.slots) (is_live k.state)
 

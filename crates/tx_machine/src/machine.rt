@@ -1,5 +1,6 @@
 //! The machine, as programs use it.
-ghost use Rattle.std.specs.Prelude.{◌≡◌, ℕ, ◌+◌, ◌*◌, ◌^◌, ◌<◌, ◌≤◌, IfOk, true, length, slice_get, count_by};
+ghost use Rattle.std.specs.Prelude.{◌≡◌, ℕ, ◌+◌, ◌*◌, ◌^◌, ◌<◌, ◌≤◌, IfOk, None, true, length, slice_get};
+ghost use Rattle.std.specs.Prelude.{count_by};
 ghost use Rattle.std.specs.Arc.{arc_value};
 ghost use Rattle.z_regs.specs.Cpu.{cpu_of};
 ghost use Rattle.z_regs.specs.Prefix.{storage_size};
@@ -12,7 +13,10 @@ ghost use Rattle.tx_meaning.specs.State as meant;
 ghost use Rattle.tx_meaning.specs.Turn.{happen};
 ghost use Rattle.tx_meaning.specs.Hits.{hits};
 ghost use Rattle.tx_meaning.specs.Queues.{QueueMoves};
+ghost use Rattle.tx_bounds.specs.Heads.{head_turns};
+ghost use Rattle.tx_meaning.specs.State.{is_head};
 ghost use Rattle.tx_meaning.specs.Stretches.{stretch_of, left, bound, attempt_turns};
+ghost use Rattle.tx_meaning.specs.Stretches.{counted, is_counted_turn};
 ghost use Rattle.tx_keeping.specs.Views.{GoesOnWith, KeepsViews, HoldsTouched};
 ghost use Rattle.tx_serial.specs.History.{IsLegal};
 ghost use Rattle.tx_cpu.specs.Plans.{address_of};
@@ -204,8 +208,8 @@ impl Machine {
     ///
     /// Behind every event the history is legal, and it only grows. No live attempt sees a mixed state, and
     /// what one has touched is held. No CPU has more conflict aborts than lead to the stop queue, the queue
-    /// changes at its ends alone, and a constrained transaction has no more turns than the retry ladder
-    /// bounds.
+    /// changes at its ends alone; its head is never rejected and has at most 34 turns, unless it is
+    /// interrupted from outside. A constrained transaction has no more turns than the retry ladder bounds.
     pub fn event(&mut self, e: Event) -> Outcome
         requires known { cpu_of_event e < length self.old.image.cpus }
         requires external { is_external e ≡ true
@@ -220,6 +224,9 @@ impl Machine {
         ensures few { (i : ℕ) →
             hits self.new.image (state_of self.new).history i ≤ self.new.image.parms.stop }
         ensures queue { QueueMoves (state_of self.old).queue (state_of self.new).queue }
+        ensures head { (i : ℕ) → head_turns (setting_of self.old) self.old.events i
+            + counted (is_counted_turn (setting_of self.old) (state_of self.old) e i) ≤ 34 }
+        ensures unrejected { is_head (state_of self.old) (cpu_of_event e) ≡ true → (event_of self.old e).reject ≡ None }
         ensures turns { (i : ℕ) → let stretch = stretch_of (setting_of self.new) self.new.events i in
             stretch.is_open ≡ true → stretch.age + left (setting_of self.new) (state_of self.new) i
             ≤ bound self.new.image.parms + attempt_turns self.new.image.parms * stretch.externals }

@@ -1,17 +1,19 @@
 -- What holds behind every event holds behind this one.
-use Rattle.std.proofs.Common.{◌≡◌, ◌<◌, sym, subst, length}
+use Rattle.std.proofs.Common.{◌≡◌, ◌+◌, ◌<◌, ◌≤◌, None, true, sym, subst, length}
 use Rattle.std.specs.Arc.{arc_value}
 use Rattle.tx_journal.specs.Content.{Content}
 use Rattle.tx_journal.specs.Image.{cpu_of_event}
 use Rattle.tx_meaning.specs.Limits.{Setting}
 use Rattle.tx_meaning.specs.Meaning.{meaning}
 use Rattle.tx_meaning.specs.Queues.{QueueMoves}
-use Rattle.tx_meaning.specs.State.{State, cpus_of}
+use Rattle.tx_meaning.specs.State.{State, cpus_of, is_head}
+use Rattle.tx_meaning.specs.Stretches.{counted, is_counted_turn}
 use Rattle.tx_meaning.specs.Turn.{happen}
+use Rattle.tx_bounds.specs.Heads.{head_turns}
 use Rattle.tx_keeping.specs.Views.{GoesOnWith, KeepsViews}
-use Rattle.tx_machine.specs.Machine.{Seen, Stands, setting_of, state_of}
+use Rattle.tx_machine.specs.Machine.{Seen, Stands, setting_of, state_of, event_of}
 use Rattle.tx_machine.proofs.Laws.{is_legal, is_held, few_hits, few_turns_left, history_grows, views_stay}
-use Rattle.tx_machine.proofs.Laws.{queue_at_its_ends}
+use Rattle.tx_machine.proofs.Laws.{queue_at_its_ends, few_turns_of_heads, unrejected_head}
 use Rattle.tx_machine.proofs.machine.Machine.event.Goals as goal
 
 abbrev setting : goal.After-advance → Setting
@@ -62,3 +64,15 @@ returns-clause-queue c =
 
 pub returns-clause-turns : goal.returns-clause-turns
 returns-clause-turns c i is = few_turns_left (setting c) c.advance.new.works _ (stands c) i is
+
+pub returns-clause-head : goal.returns-clause-head
+returns-clause-head c i =
+    subst (λ (s : Seen). head_turns (setting_of s) s.events i
+    + counted (is_counted_turn (setting_of s) (state_of s) c.args.e i) ≤ 34) c.self.view_is
+    (few_turns_of_heads (setting c) c.self.inside.works _ c.self.invariant c.args.e (known c) i)
+
+pub returns-clause-unrejected : goal.returns-clause-unrejected
+returns-clause-unrejected c =
+    subst (λ (s : Seen). is_head (state_of s) (cpu_of_event c.args.e) ≡ true
+    → (event_of s c.args.e).reject ≡ None) c.self.view_is
+    (unrejected_head (setting c) (meaning (setting c) c.self.inside.works.events) c.args.e)
