@@ -243,7 +243,8 @@ impl Machine {
 
     /// What is recorded, in order: every event but turns that were idle.
     pub fn events(&self) -> &[Event]
-        ensures { result.now ≡ self.now.events }
+        ensures recorded { result.now ≡ self.now.events }
+        ensures meant { result.now ≡ (state_of self.now).events }
     {
         self.works.events.as_slice()
     }
