@@ -1,0 +1,3 @@
+-- Who is next, and runs event by event.
+pub mod Chosen
+pub mod Runs

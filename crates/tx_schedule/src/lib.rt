@@ -1,0 +1,11 @@
+//! Runs of a machine by a planned schedule: the one that the listing gives, turns that are drawn, or turns in
+//! the round.
+#![tactic(auto)]
+
+mod choosing;
+mod running;
+
+pub use running::{run_drawn, run_given, run_planned, run_round};
+
+#[cfg(test)]
+mod tests;
