@@ -1,0 +1,4 @@
+-- Lemmas of what a machine shows.
+pub mod Numbers
+pub mod Places
+pub mod Told

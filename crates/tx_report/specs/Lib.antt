@@ -1,0 +1,3 @@
+-- What a state of a machine shows, and the report and the short summary of events.
+pub mod Shown
+pub mod Report

@@ -1,0 +1,11 @@
+//! The report of a machine, and its short summary: what it shows, as text.
+#![tactic(auto)]
+
+mod bytes;
+mod counters;
+mod processors;
+#[cfg(test)]
+mod tests;
+mod whole;
+
+pub use whole::{NoMemory, report, status, summary};
