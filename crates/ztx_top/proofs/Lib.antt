@@ -1,14 +1,4 @@
--- Lemmas of texts, programs and turns.
-pub mod Numbers
-pub mod Cuts
-pub mod Hexadecimal
-pub mod Ranges
-pub mod Lines
-pub mod Programs
-pub mod InstructionFacts
-pub mod Turns
-pub mod Addresses
-pub mod Steps
-pub mod Reports
+-- What was read, what was written, and that it is the only answer.
 pub mod Inputs
-pub mod Forms
+pub mod Told
+pub mod Only

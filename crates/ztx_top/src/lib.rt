@@ -1,17 +1,13 @@
 //! The top call of the program: words and bytes in, a text and a status out.
 #![tactic(auto)]
 
-mod form;
-mod instruction;
-pub mod laws;
-mod machine;
-mod report;
-mod run;
-mod shown;
-mod texts;
+mod input;
+mod output;
+mod sure;
 mod top;
 
-pub use top::{sure_top, ztx_top};
+pub use sure::sure_top;
+pub use top::ztx_top;
 
 #[cfg(test)]
 mod tests;

@@ -1,88 +1,33 @@
-use crate::laws::a_text_stands_for_one_image;
+//! The top call on its commands, and on sources and sinks that fail.
 use crate::{sure_top, ztx_top};
 use std::alloc::{AllocError, Global};
 use std::test::Fail;
 use ztx_io::{MemorySink, MemorySource, SureSink, SureSource};
 
-const FOUR_INSTRUCTIONS: &str = " CPU START
-START LGHI 1,5
- LGHI 2,7
- AGR 1,2
- SVC 0
- SCHED 0*4
- END
-";
-
-const FOUR_INSTRUCTIONS_REPORT: &str = "ZTX REPORT
-STATUS 0
-CPU 0 HALTED
-PSW 000000000000400e CC 2 MASK 0
-GR 00 0000000000000000 000000000000000c 0000000000000007 0000000000000000
-GR 04 0000000000000000 0000000000000000 0000000000000000 0000000000000000
-GR 08 0000000000000000 0000000000000000 0000000000000000 0000000000000000
-GR 12 0000000000000000 0000000000000000 0000000000000000 0000000000000000
-AR 00 00000000 00000000 00000000 00000000 00000000 00000000 00000000 00000000
-AR 08 00000000 00000000 00000000 00000000 00000000 00000000 00000000 00000000
-TX NONE
-PENDING NONE
-COUNTS TURNS 4 ASKED 0 REJECTED 0 COMMITS 0 ABORTS 0
-HISTORY 4
-S 0
-S 0
-S 0
-S 0
-SCHEDULE 4
- SCHED 0,0,0,0
-END
-";
-
-const ENDS_EARLY: &str = " CPU START
-START LGHI 1,5
- LGHI 2,7
- AGR 1,2
- SVC 0
- SCHED 0*3
- END
-";
-
-const ENDS_EARLY_REPORT: &str = "ZTX REPORT
-STATUS 6
-CPU 0 RUNNING
-PSW 000000000000400c CC 2 MASK 0
-GR 00 0000000000000000 000000000000000c 0000000000000007 0000000000000000
-GR 04 0000000000000000 0000000000000000 0000000000000000 0000000000000000
-GR 08 0000000000000000 0000000000000000 0000000000000000 0000000000000000
-GR 12 0000000000000000 0000000000000000 0000000000000000 0000000000000000
-AR 00 00000000 00000000 00000000 00000000 00000000 00000000 00000000 00000000
-AR 08 00000000 00000000 00000000 00000000 00000000 00000000 00000000 00000000
-TX NONE
-PENDING NONE
-COUNTS TURNS 3 ASKED 0 REJECTED 0 COMMITS 0 ABORTS 0
-HISTORY 3
-S 0
-S 0
-S 0
-SCHEDULE 3
- SCHED 0,0,0
-END
-";
-
-const ONE_TRANSACTION: &str = " CPU START
-START LGHI 3,2
- TBEGIN 0,X'FF00'
- STG 3,X'9000'
+/// A transaction that stores, and one on another CPU that loads from the same line.
+const CONFLICT: &str = " CPU P
+ CPU Q
+P TBEGIN 0,X'FF00'
+ JNZ POUT
+ STG 1,X'9000'
  TEND
- SVC 0
- SCHED 0*5
- SHOW X'9000',16
+POUT SVC 0
+Q TBEGIN 0,X'FF00'
+ JNZ QOUT
+ LG 2,X'9000'
+ TEND
+QOUT SVC 0
+ REG 0,1,7
+ SCHED 0*3,1*2,1*8,1,1*2,0*2
  END
 ";
 
-const ONE_TRANSACTION_REPORT: &str = "ZTX REPORT
+/// What an independent model says of it.
+const REPORT: &str = "ZTX REPORT
 STATUS 0
 CPU 0 HALTED
-PSW 0000000000004016 CC 0 MASK 0
-GR 00 0000000000000000 0000000000000000 0000000000000000 0000000000000002
+PSW 0000000000004016 CC 2 MASK 0
+GR 00 0000000000000000 0000000000000007 0000000000000000 0000000000000000
 GR 04 0000000000000000 0000000000000000 0000000000000000 0000000000000000
 GR 08 0000000000000000 0000000000000000 0000000000000000 0000000000000000
 GR 12 0000000000000000 0000000000000000 0000000000000000 0000000000000000
@@ -90,63 +35,9 @@ AR 00 00000000 00000000 00000000 00000000 00000000 00000000 00000000 00000000
 AR 08 00000000 00000000 00000000 00000000 00000000 00000000 00000000 00000000
 TX NONE
 PENDING NONE
-COUNTS TURNS 5 ASKED 0 REJECTED 0 COMMITS 1 ABORTS 0
-M 00009000 00000000000000020000000000000000
-HISTORY 3
-S 0
-C 0 3
-S 0
-SCHEDULE 5
- SCHED 0,0,0,0,0
-END
-";
-
-const ENDS_INSIDE: &str = " CPU START
-START LGHI 3,2
- STG 3,X'8000'
- TBEGIN 0,X'FF00'
- LGHI 3,5
- STG 3,X'8000'
- LG 4,X'8000'
- TEND
- SVC 0
- SCHED 0*6
- SHOW X'8000',8
- END
-";
-
-const ENDS_INSIDE_REPORT: &str = "ZTX REPORT
-STATUS 6
-CPU 0 RUNNING
-PSW 0000000000004020 CC 0 MASK 0
-GR 00 0000000000000000 0000000000000000 0000000000000000 0000000000000005
-GR 04 0000000000000005 0000000000000000 0000000000000000 0000000000000000
-GR 08 0000000000000000 0000000000000000 0000000000000000 0000000000000000
-GR 12 0000000000000000 0000000000000000 0000000000000000 0000000000000000
-AR 00 00000000 00000000 00000000 00000000 00000000 00000000 00000000 00000000
-AR 08 00000000 00000000 00000000 00000000 00000000 00000000 00000000 00000000
-TX DEPTH 1 COMPLETED 4
-PENDING NONE
-COUNTS TURNS 6 ASKED 0 REJECTED 0 COMMITS 0 ABORTS 0
-M 00008000 0000000000000002
-HISTORY 2
-S 0
-S 0
-SCHEDULE 6
- SCHED 0,0,0,0,0,0
-END
-";
-
-const SHORTEST: &str = " CPU START
-START SVC 0
- SCHED 0*1
- END
-";
-
-const SHORTEST_REPORT: &str = "ZTX REPORT
-STATUS 0
-CPU 0 HALTED
-PSW 0000000000004002 CC 0 MASK 0
+COUNTS TURNS 5 ASKED 0 REJECTED 0 COMMITS 0 ABORTS 1
+CPU 1 HALTED
+PSW 000000000000402c CC 0 MASK 0
 GR 00 0000000000000000 0000000000000000 0000000000000000 0000000000000000
 GR 04 0000000000000000 0000000000000000 0000000000000000 0000000000000000
 GR 08 0000000000000000 0000000000000000 0000000000000000 0000000000000000
@@ -155,170 +46,198 @@ AR 00 00000000 00000000 00000000 00000000 00000000 00000000 00000000 00000000
 AR 08 00000000 00000000 00000000 00000000 00000000 00000000 00000000 00000000
 TX NONE
 PENDING NONE
-COUNTS TURNS 1 ASKED 0 REJECTED 0 COMMITS 0 ABORTS 0
-HISTORY 1
+COUNTS TURNS 13 ASKED 9 REJECTED 8 COMMITS 1 ABORTS 0
+HISTORY 5
+A 0 3 10 0000000000009000
+C 1 4
+S 1
 S 0
-SCHEDULE 1
- SCHED 0
+S 0
+SCHEDULE 18
+ SCHED 0,0,0,1,1,1,1,1,1,1,1,1,1,1,1,1
+ SCHED 0,0
 END
 ";
 
-const LONGEST: &str = " CPU START
-START LGHI 15,32767
- LGHI 14,32766
- AGR 15,14
- STG 15,X'8000'
- STG 15,X'80F8'
- TBEGIN 0,X'FF00'
- STG 14,X'8000'
- LG 13,X'8000'
- STG 13,X'FFF8'
- TEND
- LG 12,X'80F8'
- AGR 12,12
- TBEGIN 0,X'0000'
- STG 12,X'80F0'
- TEND
- SVC 0
- SCHED 0*1000
- SHOW X'8000',256
- END
-";
+/// The calls that a reading of the listing takes, and a writing of the report, in pieces of 16 bytes.
+const READS: u64 = 13;
 
-const LONGEST_REPORT: &str = "ZTX REPORT
-STATUS 0
-CPU 0 HALTED
-PSW 0000000000004050 CC 0 MASK 0
-GR 00 0000000000000000 0000000000000000 0000000000000000 0000000000000000
-GR 04 0000000000000000 0000000000000000 0000000000000000 0000000000000000
-GR 08 0000000000000000 0000000000000000 0000000000000000 0000000000000000
-GR 12 000000000001fffa 0000000000007ffe 0000000000007ffe 000000000000fffd
-AR 00 00000000 00000000 00000000 00000000 00000000 00000000 00000000 00000000
-AR 08 00000000 00000000 00000000 00000000 00000000 00000000 00000000 00000000
-TX NONE
-PENDING NONE
-COUNTS TURNS 16 ASKED 0 REJECTED 0 COMMITS 2 ABORTS 0
-M 00008000 0000000000007ffe0000000000000000
-M 00008010 00000000000000000000000000000000
-M 00008020 00000000000000000000000000000000
-M 00008030 00000000000000000000000000000000
-M 00008040 00000000000000000000000000000000
-M 00008050 00000000000000000000000000000000
-M 00008060 00000000000000000000000000000000
-M 00008070 00000000000000000000000000000000
-M 00008080 00000000000000000000000000000000
-M 00008090 00000000000000000000000000000000
-M 000080a0 00000000000000000000000000000000
-M 000080b0 00000000000000000000000000000000
-M 000080c0 00000000000000000000000000000000
-M 000080d0 00000000000000000000000000000000
-M 000080e0 00000000000000000000000000000000
-M 000080f0 000000000001fffa000000000000fffd
-HISTORY 10
-S 0
-S 0
-S 0
-S 0
-S 0
-C 0 5
-S 0
-S 0
-C 0 3
-S 0
-SCHEDULE 16
- SCHED 0,0,0,0,0,0,0,0,0,0,0,0,0,0,0,0
-END
-";
+const WRITES: u64 = 81;
 
-const BAD_WORDS: &str = "ztx: bad words\n";
+/// A command line, an input, and what an independent model answers: a status and a text.
+struct Case {
+    words: &'static str,
+    input: &'static str,
+    status: u8,
+    text: &'static str,
+}
 
-const NOT_BUILT: &str = "ztx: line 0: not built\n";
+const CASES: [Case; 12] = [
+    Case {
+        words: "list",
+        input: " CPU START\nSTART LGHI 1,5\n SVC 0\n",
+        status: 0,
+        text: "00004000 a7190005     LGHI 1,5\n00004004 0a00         SVC 0\n",
+    },
+    Case {
+        words: "list",
+        input: " CPU START\nSTART LGHI 1,\n",
+        status: 5,
+        text: "ztx: line 2: wrong operands\n",
+    },
+    Case {
+        words: "run",
+        input: "",
+        status: 5,
+        text: "ztx: line 0: no CPU\n",
+    },
+    Case {
+        words: "run",
+        input: " CP",
+        status: 5,
+        text: "ztx: line 1: unknown mnemonic\n",
+    },
+    Case {
+        words: "run",
+        input: " CPU START",
+        status: 5,
+        text: "ztx: line 1: unknown label\n",
+    },
+    Case {
+        words: "run",
+        input: CONFLICT,
+        status: 0,
+        text: REPORT,
+    },
+    Case {
+        words: "run --turns 0",
+        input: CONFLICT,
+        status: 4,
+        text: "ztx: bad words\n",
+    },
+    Case {
+        words: "race",
+        input: CONFLICT,
+        status: 4,
+        text: "ztx: bad words\n",
+    },
+    Case {
+        words: "frob",
+        input: "",
+        status: 4,
+        text: "ztx: bad words\n",
+    },
+    Case {
+        words: "run --help",
+        input: CONFLICT,
+        status: 4,
+        text: "ztx: bad words\n",
+    },
+    Case {
+        words: "",
+        input: "",
+        status: 4,
+        text: "ztx: bad words\n",
+    },
+    Case {
+        words: "summary 0",
+        input: CONFLICT,
+        status: 0,
+        text: "SUMMARY 0\nCPUS 4\nSTATUS 0\nTURNS 11690\nCOMMITS 274\nABORTS 394\nSUM 274\n",
+    },
+];
 
-const LEADING_ZERO: &str = " CPU START\nSTART SVC 0\n SCHED 0*01\n END\n";
-
-const THE_FIRST_32_BYTES: &str = "ZTX REPORT\nSTATUS 0\nCPU 0 HALTED";
-
-fn words(alloc: Global, word: &str) -> Result<Vec<String>, AllocError> {
+fn words_of(alloc: Global, line: &str) -> Result<Vec<String>, AllocError> {
     let mut words = Vec::new(alloc);
-    if !word.is_empty() {
+    for word in line.split_whitespace() {
         words.push(String::from_str(alloc, word)?)?;
     }
     Ok(words)
 }
 
-#[test]
-fn answers(rt: HostRuntime) -> Result<(), Fail> {
-    let cases = [
-        ("run", FOUR_INSTRUCTIONS, 0, FOUR_INSTRUCTIONS_REPORT),
-        ("run", ENDS_EARLY, 6, ENDS_EARLY_REPORT),
-        ("run", ONE_TRANSACTION, 0, ONE_TRANSACTION_REPORT),
-        ("run", ENDS_INSIDE, 6, ENDS_INSIDE_REPORT),
-        ("run", SHORTEST, 0, SHORTEST_REPORT),
-        ("run", LONGEST, 0, LONGEST_REPORT),
-        ("run", LEADING_ZERO, 5, NOT_BUILT),
-    ];
-    for (word, listing, status, text) in cases {
-        let mut source = MemorySource::new(
-            listing.as_bytes().to_vec(rt.alloc())?,
-            4096,
-            Vec::new(rt.alloc()),
-        );
-        let mut sink = MemorySink::new(rt.alloc(), 4096, Vec::new(rt.alloc()));
-        let words = words(rt.alloc(), word)?;
-        assert_eq!(rt;
-            ztx_top(rt.alloc(), words.as_slice(), &mut source, &mut sink),
-            status,
-            "at {listing}"
-        );
-        assert_eq!(rt; sink.taken(), text.as_bytes(), "at {listing}");
-    }
-    Ok(())
+/// The input in pieces of 16 bytes, where the call of this number fails; 0 for none.
+fn source_of(alloc: Global, input: &str, fails: u64) -> Result<MemorySource, AllocError> {
+    Ok(MemorySource::new(
+        input.as_bytes().to_vec(alloc)?,
+        16,
+        vec![in alloc; fails; 1]?,
+    ))
 }
 
-// the word, the call of the source that fails and that of the sink, 0 for none, and what is answered and written
+/// A sink that takes 16 bytes at most, where the call of this number fails; 0 for none.
+fn sink_of(alloc: Global, fails: u64) -> Result<MemorySink, AllocError> {
+    Ok(MemorySink::new(alloc, 16, vec![in alloc; fails; 1]?))
+}
+
 #[test]
-fn faults(rt: HostRuntime) -> Result<(), Fail> {
-    let cases = [
-        ("run", 0, 0, 0, FOUR_INSTRUCTIONS_REPORT),
-        ("run", 0, 3, 3, THE_FIRST_32_BYTES),
-        ("run", 2, 0, 2, ""),
-        ("frob", 0, 0, 4, BAD_WORDS),
-        ("", 0, 0, 4, BAD_WORDS),
-        ("", 1, 0, 4, BAD_WORDS),
-        ("frob", 0, 1, 3, ""),
-    ];
-    for (word, read, write, status, text) in cases {
-        let mut source = MemorySource::new(
-            FOUR_INSTRUCTIONS.as_bytes().to_vec(rt.alloc())?,
-            16,
-            vec![in rt.alloc(); read]?,
-        );
-        let mut sink = MemorySink::new(rt.alloc(), 16, vec![in rt.alloc(); write]?);
-        let words = words(rt.alloc(), word)?;
-        assert_eq!(rt;
-            ztx_top(rt.alloc(), words.as_slice(), &mut source, &mut sink),
-            status,
-            "at {word}, {read}, {write}"
-        );
-        assert_eq!(rt; sink.taken(), text.as_bytes(), "at {word}, {read}, {write}");
+fn commands_are_answered(rt: HostRuntime) -> Result<(), Fail> {
+    let alloc = rt.alloc();
+    for case in &CASES {
+        let mut source = source_of(alloc, case.input, 0)?;
+        let mut sink = sink_of(alloc, 0)?;
+        let words = words_of(alloc, case.words)?;
+        let status = ztx_top(alloc, words.as_slice(), &mut source, &mut sink);
+        assert_eq!(rt; status, case.status, "{}", case.words);
+        assert_eq!(rt; sink.taken(), case.text.as_bytes(), "{}", case.words);
     }
     Ok(())
 }
 
 #[test]
-fn laws() {
-    a_text_stands_for_one_image();
+fn each_read_fails_in_turn(rt: HostRuntime) -> Result<(), Fail> {
+    let alloc = rt.alloc();
+    let words = words_of(alloc, "run --turns 20")?;
+    for call in 1..=READS {
+        let mut source = source_of(alloc, CONFLICT, call)?;
+        let mut sink = sink_of(alloc, 0)?;
+        let status = ztx_top(alloc, words.as_slice(), &mut source, &mut sink);
+        assert_eq!(rt; status, 2, "call {call}");
+        assert!(rt; sink.taken().is_empty(), "call {call}");
+    }
+    Ok(())
 }
 
 #[test]
-fn sure_answer(rt: HostRuntime) -> Result<(), Fail> {
-    let mut source = SureSource::new(FOUR_INSTRUCTIONS.as_bytes().to_vec(rt.alloc())?, 7);
-    let mut sink = SureSink::new(rt.alloc(), 5);
-    let words = words(rt.alloc(), "run")?;
-    assert_eq!(rt;
-        sure_top(rt.alloc(), words.as_slice(), &mut source, &mut sink),
-        0
-    );
-    assert_eq!(rt; sink.taken(), FOUR_INSTRUCTIONS_REPORT.as_bytes());
+fn each_write_fails_in_turn(rt: HostRuntime) -> Result<(), Fail> {
+    let alloc = rt.alloc();
+    let words = words_of(alloc, "run --turns 20")?;
+    for call in 1..=WRITES {
+        let mut source = source_of(alloc, CONFLICT, 0)?;
+        let mut sink = sink_of(alloc, call)?;
+        let status = ztx_top(alloc, words.as_slice(), &mut source, &mut sink);
+        let taken = (16 * (call - 1)) as usize;
+        assert_eq!(rt; status, 3, "call {call}");
+        assert_eq!(rt;
+            Some(sink.taken()),
+            REPORT.as_bytes().get(..taken),
+            "call {call}"
+        );
+    }
+    Ok(())
+}
+
+#[test]
+fn faults_of_texts_that_are_refused(rt: HostRuntime) -> Result<(), Fail> {
+    let alloc = rt.alloc();
+    for line in ["run", "frob"] {
+        let words = words_of(alloc, line)?;
+        let mut source = source_of(alloc, "", 0)?;
+        let mut sink = sink_of(alloc, 1)?;
+        let status = ztx_top(alloc, words.as_slice(), &mut source, &mut sink);
+        assert_eq!(rt; status, 3, "{line}");
+        assert!(rt; sink.taken().is_empty(), "{line}");
+    }
+    Ok(())
+}
+
+#[test]
+fn a_source_and_a_sink_that_never_fail(rt: HostRuntime) -> Result<(), Fail> {
+    let alloc = rt.alloc();
+    let words = words_of(alloc, "run")?;
+    let mut source = SureSource::new(CONFLICT.as_bytes().to_vec(alloc)?, 7);
+    let mut sink = SureSink::new(alloc, 5);
+    let status = sure_top(alloc, words.as_slice(), &mut source, &mut sink);
+    assert_eq!(rt; status, 0);
+    assert_eq!(rt; sink.taken(), REPORT.as_bytes());
     Ok(())
 }

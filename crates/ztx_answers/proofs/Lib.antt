@@ -1,0 +1,6 @@
+-- Runs are serial, planned schedules are of CPUs that there are, and one answer is due, which a run gives.
+pub mod Serials
+pub mod Plans
+pub mod Answered
+pub mod Ran
+pub mod Given

@@ -1,0 +1,13 @@
+//! What the program answers: for each command the status and the text that are due, from the bytes of a
+//! listing or from a number. Nothing is read or written here.
+#![tactic(auto)]
+
+mod answer;
+mod generated;
+pub mod laws;
+mod listed;
+mod machine;
+
+pub use answer::{Answer, NoMemory};
+pub use generated::{generate, summary};
+pub use listed::{list, refuse_long, run};

@@ -1,0 +1,67 @@
+-- Over a source and a sink that never fail there is one answer.
+use Rattle.std.proofs.Common.{◌≡◌, ◌≢◌, ℕ, zero, suc, ◌⊎◌, List, [], Option, Some, None, sym, subst, inl, inr}
+use Rattle.std.proofs.Common.{refl, arith, ◌∙◌}
+use Rattle.std.specs.Io.KnownBytes.{Appends}
+use Rattle.std.proofs.KnownBytes.{Appends-nil, Appends-kept}
+use Rattle.ztx_answers.specs.One.{IsOnly}
+use Rattle.ztx_answers.proofs.Answered.{one_list, one_report, one_listing, one_summary}
+use Rattle.ztx_io.specs.Faults.{Rose}
+use Rattle.ztx_io.specs.Writes.{AppendsPrefix}
+use Rattle.ztx_words.specs.declared.Command.{Command}
+use Rattle.ztx_words.specs.declared.Command.TheVariants as command
+use Rattle.ztx_top.specs.Answers.{Due, IsWhole, Wrote, WasCut, Tells}
+use Rattle.ztx_top.specs.Asked.{IsBadWords, due}
+
+-- a count that is always 0 does not rise
+pub no_rise : Rose 0 0 → ⊥
+no_rise (inl more) = omega arith
+no_rise (inr last) = omega arith
+
+-- ---- one answer is due
+
+one_refusal : IsOnly IsBadWords
+one_refusal s t xs ys r q = record {
+  statuses = r.status_is ∙ sym q.status_is;
+  texts = r.text_is ∙ sym q.text_is;
+}
+
+pub one_due : (asked : Option Command) (input : List ℕ) → IsOnly (due asked input)
+one_due None input = one_refusal
+one_due (Some command.List) input = one_list input
+one_due (Some (command.Run turns tick seed)) input = one_report turns tick seed input
+one_due (Some (command.Race turns tick)) input = one_refusal
+one_due (Some (command.Generate number)) input = one_listing number
+one_due (Some (command.Summary number)) input = one_summary number
+
+-- ---- and it is told
+
+one_or_not : (n : ℕ) → (n ≡ 1) ⊎ (n ≢ 1)
+one_or_not zero = inr (λ e. omega (arith, e))
+one_or_not (suc zero) = inl refl
+one_or_not (suc (suc n)) = inr (λ e. omega (arith, e))
+
+module _ (due : Due) (input : List ℕ) (only : IsOnly (due input)) (status : ℕ) (text : List ℕ)
+    (is_due : due input status text) (held after : Option (List ℕ)) (answer : ℕ) where
+  wrote_it : Wrote due (Some input) answer held after → Tells answer status text held after
+  wrote_it w =
+      let there : due input answer w.text = subst (λ i. due i answer w.text) (sym w.is_input) w.is_due in
+      let same = only answer status w.text text there is_due in
+      inl (same.statuses, subst (Appends held after) same.texts w.written)
+
+  begun : WasCut due (Some input) held after → AppendsPrefix held after text
+  begun (inl keeps) = (0, Appends-kept held held after [] (Appends-nil held) keeps)
+  begun (inr w) =
+      let there : due input w.status w.text = subst (λ i. due i w.status w.text) (sym w.is_input) w.is_due in
+      subst (AppendsPrefix held after) (only w.status status w.text text there is_due).texts w.written
+
+  tells_by : (answer ≡ 1) ⊎ (answer ≢ 1) → (answer ≢ 2) → (answer ≢ 3)
+      → (IsWhole answer → Wrote due (Some input) answer held after)
+      → (((answer ≡ 1) ⊎ (answer ≡ 3)) → WasCut due (Some input) held after)
+      → Tells answer status text held after
+  tells_by (inl one) two three whole cut = inr (one, begun (cut (inl one)))
+  tells_by (inr one) two three whole cut = wrote_it (whole (one, two, three))
+
+  pub tells : (answer ≢ 2) → (answer ≢ 3) → (IsWhole answer → Wrote due (Some input) answer held after)
+      → (((answer ≡ 1) ⊎ (answer ≡ 3)) → WasCut due (Some input) held after)
+      → Tells answer status text held after
+  tells two three whole cut = tells_by (one_or_not answer) two three whole cut
