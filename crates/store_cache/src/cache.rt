@@ -1,5 +1,5 @@
 //! The store cache.
-ghost use Rattle.std.specs.Prelude.{◌≡◌, ℕ, ◌+◌, ◌*◌, ◌/◌, ◌%◌, ◌<◌, ◌≤◌, true, is_some, Some, IfOk, length};
+ghost use Rattle.std.specs.Prelude.{◌≡◌, ℕ, ◌+◌, ◌*◌, ◌/◌, ◌%◌, ◌<◌, ◌≤◌, true, is_some, None, Some, IfOk, length};
 ghost use Rattle.std.specs.Prelude.{false, if◌then◌else◌, ◌++◌, ◌∷◌, []};
 ghost use Rattle.bit_set.specs.Counts.{count_below};
 ghost use Rattle.slot_index.specs.Slots.{slot_in, is_key};
@@ -98,6 +98,15 @@ impl StoreCache {
         ensures { result ≡ has_room (stores_of self.now).overlay block }
     {
         self.index.slot_of(block as usize).is_some() || self.index.count() < MOST_BLOCKS
+    }
+
+    /// Whether a byte of the block was stored. Where none was, the attempt sees what storage has there.
+    pub fn has_block(&self, block: u32) -> bool
+        ensures value { result ≡ has_block (stores_of self.now).overlay block }
+        ensures bare { result ≡ false → (address : ℕ) → address / BLOCK_SIZE ≡ block
+            → (stores_of self.now).overlay address ≡ None }
+    {
+        self.index.slot_of(block as usize).is_some()
     }
 
     /// The last byte stored at the address; None exactly where none was stored.

@@ -1,5 +1,5 @@
 //! The texts of entries and of events.
-ghost use Rattle.std.specs.Prelude.{◌≡◌, ◌++◌, ◌*◌, ◌+◌, ◌/◌, ◌<◌, IfOk, OnOk, length, take, drop, codes};
+ghost use Rattle.std.specs.Prelude.{◌≡◌, [], ◌∷◌, ◌++◌, ◌*◌, ◌+◌, ◌/◌, ◌<◌, IfOk, OnOk, length, take, drop, codes};
 ghost use Rattle.std.specs.Fmt.{decimal};
 ghost use Rattle.tx_journal.specs.Lines.{detail_text, reason_text, words_text, line_text, entry_text};
 ghost use Rattle.tx_journal.specs.Lines.{history_text};
@@ -24,10 +24,22 @@ const ROW_ROOM: usize = 71;
 /// six.
 const ENTRY_ROOM: usize = 32;
 
-/// Adds a number in decimal.
+/// Adds a byte.
+fn add_byte(text: &mut Vec<u8>, byte: u8) -> Result<(), AllocError>
+    ensures { OnOk result (text.new.items ≡ text.old.items ++ byte ∷ []) }
+{
+    text.push(byte)?;
+    Ok(())
+}
+
+/// Adds a number in decimal. Most numbers in a long report are those of CPUs, of one digit.
+#[tactic(auto, using(std::proofs::lemmas::Fmt::decimal_digit))]
 fn add_number(text: &mut Vec<u8>, number: u64) -> Result<(), AllocError>
     ensures { OnOk result (text.new.items ≡ text.old.items ++ decimal number) }
 {
+    if number < 10 {
+        return add_byte(text, b'0' + number as u8);
+    }
     let mut digits = itoa::Buffer::new();
     text.extend_from_slice(digits.format(number).as_bytes())
 }
@@ -60,16 +72,24 @@ fn add_reason(text: &mut Vec<u8>, reason: Reason) -> Result<(), AllocError>
     ensures { OnOk result (text.new.items ≡ text.old.items ++ reason_text reason) }
 {
     add_number(text, reason.code)?;
-    text.extend_from_slice(b" ")?;
+    add_byte(text, b' ')?;
     add_detail(text, reason.detail)
 }
 
-/// Adds a letter, a blank and a number.
-fn add_step(text: &mut Vec<u8>, letter: &[u8], cpu: u32) -> Result<(), AllocError>
-    ensures { OnOk result (text.new.items ≡ text.old.items ++ (letter.now ++ decimal cpu)) }
+/// Adds a byte and a number behind it.
+fn add_marked(text: &mut Vec<u8>, mark: u8, number: u32) -> Result<(), AllocError>
+    ensures { OnOk result (text.new.items ≡ text.old.items ++ mark ∷ decimal number) }
 {
-    text.extend_from_slice(letter)?;
-    add_number(text, u64::from(cpu))
+    add_byte(text, mark)?;
+    add_number(text, u64::from(number))
+}
+
+/// Adds a letter, a blank and the number of a CPU.
+fn add_step(text: &mut Vec<u8>, letter: u8, cpu: u32) -> Result<(), AllocError>
+    ensures { OnOk result (text.new.items ≡ text.old.items ++ letter ∷ 32 ∷ decimal cpu) }
+{
+    add_byte(text, letter)?;
+    add_marked(text, b' ', cpu)
 }
 
 /// Adds the words of a line, without its end.
@@ -77,19 +97,19 @@ fn add_words(text: &mut Vec<u8>, line: Line) -> Result<(), AllocError>
     ensures { OnOk result (text.new.items ≡ text.old.items ++ words_text line) }
 {
     match line {
-        Line::Step(cpu) => add_step(text, b"S ", cpu),
+        Line::Step(cpu) => add_step(text, b'S', cpu),
         Line::Commit(cpu, count) => {
-            add_step(text, b"C ", cpu)?;
-            add_step(text, b" ", count)
+            add_step(text, b'C', cpu)?;
+            add_marked(text, b' ', count)
         }
         Line::Abort(cpu, count, reason) => {
-            add_step(text, b"A ", cpu)?;
-            add_step(text, b" ", count)?;
-            text.extend_from_slice(b" ")?;
+            add_step(text, b'A', cpu)?;
+            add_marked(text, b' ', count)?;
+            add_byte(text, b' ')?;
             add_reason(text, reason)
         }
-        Line::Tdb(cpu) => add_step(text, b"T ", cpu),
-        Line::Interrupt(cpu) => add_step(text, b"I ", cpu),
+        Line::Tdb(cpu) => add_step(text, b'T', cpu),
+        Line::Interrupt(cpu) => add_step(text, b'I', cpu),
     }
 }
 
@@ -98,7 +118,7 @@ fn add_entry(text: &mut Vec<u8>, entry: &Entry) -> Result<(), AllocError>
     ensures { OnOk result (text.new.items ≡ text.old.items ++ entry_text entry.now) }
 {
     add_words(text, Line::of(entry))?;
-    text.extend_from_slice(b"\n")
+    add_byte(text, b'\n')
 }
 
 /// Adds the lines of entries.
@@ -118,7 +138,7 @@ fn add_event(text: &mut Vec<u8>, event: Event) -> Result<(), AllocError>
 {
     match event {
         Event::Turn(cpu) => add_number(text, u64::from(cpu)),
-        Event::External(cpu) => add_step(text, b"X", cpu),
+        Event::External(cpu) => add_marked(text, b'X', cpu),
     }
 }
 
@@ -131,7 +151,7 @@ fn add_events(text: &mut Vec<u8>, events: &[Event]) -> Result<(), AllocError>
     };
     add_event(text, *first)?;
     for event in others {
-        text.extend_from_slice(b",")?;
+        add_byte(text, b',')?;
         add_event(text, *event)?;
     }
     Ok(())
@@ -152,7 +172,7 @@ fn add_row(text: &mut Vec<u8>, events: &[Event]) -> Result<(), AllocError>
 {
     text.extend_from_slice(b" SCHED ")?;
     add_events(text, events)?;
-    text.extend_from_slice(b"\n")
+    add_byte(text, b'\n')
 }
 
 /// Adds the lines of events.

@@ -52,9 +52,10 @@ fn denied(
     }
 }
 
-/// The ranges of an instruction that is specified, or the first exception among addressing, protection and
-/// operation.
-fn accessed(
+/// The ranges that an instruction touches which meets neither special operation nor specification, in the
+/// order of its operands, or the first exception among those that `touches` tests behind these: addressing,
+/// protection, and operation for a service call.
+pub fn accessed(
     instr: &Instr,
     image: &CpuImage,
     guard: &Guard,
