@@ -10,8 +10,9 @@ use programs::PROGRAMS;
 use std::alloc::Global;
 use std::fmt::Write;
 use std::process::Abort;
+use std::sync::Arc;
 use std::test::Fail;
-use tx_cpu::Cpu;
+use tx_cpu::{Cpu, Program};
 use tx_journal::{Event, Image, entry_text};
 use z_assemble::assemble;
 use z_regs::{CpuImage, RunState};
@@ -92,9 +93,10 @@ fn add_changes(text: &mut String, now: &[u8], before: &[u8]) -> Result<(), Fail>
 fn add_history(
     text: &mut String,
     alloc: Global,
-    image: &Image,
+    program: &Program,
     alone: &mut Alone,
 ) -> Result<(), Fail> {
+    let image = program.image();
     let turns = if image.scheduled {
         image.schedule.len()
     } else {
@@ -105,7 +107,7 @@ fn add_history(
             return Ok(());
         }
         let event = *image.schedule.get(k).unwrap_or(&Event::Turn(0));
-        if let Some(entry) = alone.happen(event, image) {
+        if let Some(entry) = alone.happen(event, program) {
             let line = entry_text(alloc, &entry)?;
             text.push_str(str::from_utf8(line.as_slice())?)?;
         }
@@ -123,10 +125,11 @@ fn add_left(text: &mut String, alone: &Alone, image: &Image) -> Result<(), Fail>
 /// The history of a program and what it leaves, as text.
 fn told(alloc: Global, listing: &str) -> Result<String, Fail> {
     let image = assemble(alloc, listing.as_bytes())?;
-    let mut alone = Alone::open(alloc, &image)?;
+    let program = Program::open(alloc, Arc::new(alloc, image)?)?;
+    let mut alone = Alone::open(alloc, program.image())?;
     let mut text = String::new(alloc);
-    add_history(&mut text, alloc, &image, &mut alone)?;
-    add_left(&mut text, &alone, &image)?;
+    add_history(&mut text, alloc, &program, &mut alone)?;
+    add_left(&mut text, &alone, program.image())?;
     Ok(text)
 }
 

@@ -3,6 +3,7 @@ pub mod Tracked
 pub mod Parts
 pub mod Same
 pub mod Plans
+pub mod Programs
 pub mod Blocks
 pub mod Refused
 pub mod Performed

@@ -40,7 +40,7 @@ use crate::performing::MOST_BYTES;
 use crate::refusal::{Refusal, breach};
 use std::alloc::Global;
 use std::marker::Model;
-use store_cache::StoreCache;
+use store_cache::{BLOCK_SIZE, StoreCache};
 use tx_constraint::Constraint;
 use tx_control::{Nest, Why};
 use tx_footprint::{Footprint, Overflow};
@@ -49,7 +49,7 @@ use z_instr::format::length_in;
 use z_instr::instr::Instr;
 use z_instr::laws::operands_are_small;
 use z_instr::lookup::line;
-use z_regs::{Bytes, CpuImage, NoMemory, STORAGE_SIZE, Touches, place_of};
+use z_regs::{AREA_SIZE, Bytes, CpuImage, NoMemory, STORAGE_SIZE, Touches, place_of};
 
 /// All that is kept of an attempt but the CPU.
 #[derive(Drop)]
@@ -203,6 +203,25 @@ impl Attempt {
             Some(byte) => byte,
             None => text[place as usize],
         }
+    }
+
+    /// The absolute address of six bytes of the program from an even real address on, where the attempt has stored
+    /// none of their blocks and they lie one after the other in storage; else None.
+    pub fn text_place(&self, first: u64, prefix: Option<u32>) -> Option<u64>
+        requires { IsTrue (is_prefix prefix) }
+        ensures { IfSome result (λ place. IsTextPlace (stores_of self.now.stores).overlay prefix first place) }
+    {
+        if first % 2 == 1 || first >= STORAGE_SIZE || first % AREA_SIZE > AREA_SIZE - 6 {
+            return None;
+        }
+        let place = place_of(prefix, first);
+        let stores = &self.stores;
+        let block = place / BLOCK_SIZE as u64;
+        let last = (place + 5) / BLOCK_SIZE as u64;
+        if stores.has_block(block as u32) || stores.has_block(last as u32) {
+            return None;
+        }
+        Some(place)
     }
 
     /// The six bytes of the program from an address on.

@@ -13,9 +13,11 @@ mod outside;
 mod pending;
 mod performing;
 mod plan;
+mod program;
 mod refusal;
 mod storing;
 
 pub use one::Cpu;
 pub use plan::Plan;
+pub use program::Program;
 pub use tx_progress::done::Done;

@@ -22,10 +22,11 @@ ghost use Rattle.tx_cpu.specs.Same.{AreSameAttempts};
 
 use crate::attempt::Attempt;
 use crate::interruption::{leave, load, store, waiting_after, waiting_with};
-use crate::outside::{delay_after, end_outside, store_outside, told, waiting_outside};
+use crate::outside::{delay_after, end_outside, store_outside, told, wait_outside};
 use crate::pending::{Block, pending_after};
 use crate::performing::{Ended, MOST_BYTES, perform};
 use crate::plan::{Plan, next_plan};
+use crate::program::Program;
 use crate::refusal::cause_in;
 use crate::storing::put_all;
 use std::alloc::Global;
@@ -34,7 +35,6 @@ use tx_abort::block_of;
 use tx_control::codes::{FIXED_POINT_DIVIDE, FIXED_POINT_OVERFLOW};
 use tx_control::{Exception, Why};
 use tx_footprint::Footprint;
-use tx_journal::Image;
 use tx_progress::done::Done;
 use z_effect::{exception, interrupt};
 use z_instr::format::length_in;
@@ -136,22 +136,21 @@ impl Cpu {
     }
 
     /// The interruption that waits, where there is one.
-    pub fn waiting(&self) -> Option<Waiting>
-        ensures { result ≡ (local_of self.now).waiting }
+    pub fn waiting(&self) -> Option<&Waiting>
+        ensures { result.now ≡ (local_of self.now).waiting }
     {
-        self.waiting
+        self.waiting.as_ref()
     }
 
-    /// What comes of the next instruction. Its bytes are read from the storage of the image, where they are
-    /// as long as the program runs. An instruction that goes may be executed then.
-    pub fn prepare(&self, text: &Image) -> Plan
-        ensures value { fate_of result ≡ fate_by_progress (items text.now.guard) (storage_of text.now.storage)
-            (local_of self.now).attempt }
+    /// What comes of the next instruction. Its bytes are those of the program's storage, where they are as long as
+    /// the program runs. An instruction that goes may be executed then.
+    pub fn prepare(&self, program: &Program) -> Plan
+        ensures value { fate_of result ≡ fate_by_progress (items program.now.guard)
+            (storage_of program.now.storage) (local_of self.now).attempt }
         ensures code { HasPlanRoom result }
         ensures prepared { IsPlanPrepared (local_of self.now).attempt result }
     {
-        let _count = text.cpu_count();
-        next_plan(&self.attempt, &self.image, &text.storage, &text.guard)
+        next_plan(&self.attempt, &self.image, program)
     }
 
     /// The byte that the CPU sees over `base` at an absolute address.
@@ -209,7 +208,7 @@ impl Cpu {
         );
         store_outside(need, ended, &stored, prefix, base);
         end_outside(&mut self.image, ended, length);
-        self.waiting = waiting_outside(self.image.prefix, length, ended, self.waiting);
+        wait_outside(&mut self.waiting, self.image.prefix, length, ended);
         told(self.image.state, turns)
     }
 

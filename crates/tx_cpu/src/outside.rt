@@ -62,20 +62,20 @@ pub fn end_outside(image: &mut CpuImage, ended: Ended, length: u8)
     }
 }
 
-/// The interruption that waits then.
-pub fn waiting_outside(
+/// An interruption waits from now on where the instruction has ended by an exception.
+pub fn wait_outside(
+    waiting: &mut Option<Waiting>,
     prefix: Option<u32>,
     length: u8,
     ended: Ended,
-    before: Option<Waiting>,
-) -> Option<Waiting>
-    ensures { result ≡ waits_outside prefix length ended before }
+)
+    ensures { waiting.new ≡ waits_outside prefix length ended waiting.old }
 {
     match ended {
-        Ended::Completed => before,
-        Ended::Exceeded => waiting_with(prefix, length, None),
-        Ended::Suppressed => waiting_with(prefix, length, None),
-        Ended::Aborting(_) => before,
+        Ended::Completed => {}
+        Ended::Exceeded => *waiting = waiting_with(prefix, length, None),
+        Ended::Suppressed => *waiting = waiting_with(prefix, length, None),
+        Ended::Aborting(_) => {}
     }
 }
 

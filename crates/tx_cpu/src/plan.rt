@@ -24,17 +24,18 @@ ghost use Rattle.z_instr.specs.Roles.{begins as is_begun};
 ghost use Rattle.tx_cpu.specs.Refused.{AreOperands};
 
 use crate::attempt::Attempt;
+use crate::program::{Program, read};
 use crate::refusal::{Refusal, after_refusal};
 use tx_control::codes::OPERATION;
 use tx_control::{Exception, MOST_LEVELS, Nest, Why};
-use z_decode::{decode, length_of};
+use z_decode::length_of;
 use z_instr::instr::Instr;
-use z_instr::laws::{operands_are_small, reading_computes};
+use z_instr::laws::operands_are_small;
 use z_instr::lookup::line;
 use z_instr::op::Op;
 use z_instr::roles::{begins, sets_access_register};
 use z_regs::{CpuImage, Guard, Touches};
-use z_touch::{fetchable, specified, touches};
+use z_touch::{accessed, fetchable, specified};
 
 /// What the tests of the next instruction say.
 #[derive(Drop)]
@@ -50,18 +51,6 @@ pub enum Plan {
     Ends(Why),
     /// Outside transactions, it stops the program.
     Stops(Exception),
-}
-
-/// The instruction that bytes read as.
-fn read(bytes: &[u8]) -> Option<Instr>
-    requires { length bytes.now ≡ length_by (slice_index bytes.now 0) }
-    ensures { result ≡ reading_of bytes.now }
-{
-    reading_computes();
-    match decode(bytes) {
-        Ok(instr) => Some(instr),
-        Err(_) => None,
-    }
 }
 
 /// The exception of bytes, as many as the first of them says, that read as no instruction.
@@ -144,7 +133,7 @@ fn operands(
         ∷ place_refusal_by q instr.now ∷ overflow_refusal_by q instr.now ∷ []) ≡ Some (refusal_of refusal)) }
 {
     operands_are_small();
-    let need = match touches(instr, image, guard, attempt.nest().depth()) {
+    let need = match accessed(instr, image, guard, attempt.nest().depth()) {
         Ok(need) => need,
         Err(e) => return Err(Refusal::Excepts(e)),
     };
@@ -168,18 +157,47 @@ fn tried(attempt: &Attempt, image: &CpuImage, instr: Instr, guard: &Guard) -> Pl
     }
 }
 
-/// What comes of the next instruction, whose bytes are read from the storage of the text.
-pub fn next_plan(attempt: &Attempt, image: &CpuImage, text: &[u8], guard: &Guard) -> Plan
-    requires { length text.now ≡ storage_size }
-    ensures { fate_of result ≡ fate_by_progress (items guard.now) (storage_of text.now)
+/// How many bytes the next instruction has, and what they read as, where the attempt has stored none of them
+/// and storage goes on behind them; else None.
+fn stored_instruction(
+    attempt: &Attempt,
+    image: &CpuImage,
+    program: &Program,
+) -> Option<(u8, Option<Instr>)>
+    ensures { (q : Progress) → q ≡ progress attempt.now (cpu_of image.now) → IfSome result
+        (λ next. IsNext next (at_hand (storage_of program.now.storage) q)) }
+{
+    let place = attempt.text_place(image.address, image.prefix)?;
+    Some(program.instruction_at(place))
+}
+
+/// How many bytes the next instruction has, and what they read as.
+fn next_instruction(
+    attempt: &Attempt,
+    image: &CpuImage,
+    program: &Program,
+) -> (u8, Option<Instr>)
+    ensures { IsNext result (at_hand (storage_of program.now.storage) (progress attempt.now (cpu_of image.now))) }
+{
+    if let Some(next) = stored_instruction(attempt, image, program) {
+        return next;
+    }
+    let bytes = attempt.text_bytes(image.address, image.prefix, &program.image().storage);
+    let length = length_of(bytes[0]);
+    (length, read(&bytes[..length as usize]))
+}
+
+/// What comes of the next instruction, whose bytes are read from the storage of the program.
+pub fn next_plan(attempt: &Attempt, image: &CpuImage, program: &Program) -> Plan
+    ensures { fate_of result ≡ fate_by_progress (items program.now.guard) (storage_of program.now.storage)
         (progress attempt.now (cpu_of image.now)) }
 {
-    let bytes = attempt.text_bytes(image.address, image.prefix, text);
-    let length = length_of(bytes[0]);
+    let guard = &program.image().guard;
     let nest = attempt.nest();
+    let (length, reading) = next_instruction(attempt, image, program);
     match fetchable(image, guard, length) {
         Err(e) => after_refusal(nest, Refusal::Excepts(e)),
-        Ok(()) => match read(&bytes[..length as usize]) {
+        Ok(()) => match reading {
             None => after_refusal(nest, unreadable(length)),
             Some(instr) => tried(attempt, image, instr, guard),
         },

@@ -1,7 +1,13 @@
 -- What a CPU needs to act in its turn.
-use Rattle.std.specs.Prelude.{ℕ, ◌<◌, length}
+use Rattle.std.specs.Prelude.{ℕ, ◌<◌, length, is_some, Bool, Option, Some, None}
+use Rattle.z_regs.specs.declared.waiting.Waiting.{Waiting}
 use Rattle.tx_machine.specs.Works.{Works, Seat, seats_of, kept_by}
 use Rattle.tx_machine.specs.Ready.{MayAsk, HasTurn, owed}
+
+-- whether an interruption waits, and whether that has a diagnostic block
+abbrev pub block_awaited : Option Waiting → Option Bool
+block_awaited None = None
+block_awaited (Some waiting) = Some (is_some waiting.block)
 
 -- it may ask; there is room for one entry more than may come of all live attempts; and its turn is counted
 pub record MayAct (i : ℕ) (w : Works) (rest : Seat) : Type 0 where

@@ -11,7 +11,8 @@ ghost use Rattle.tx_machine.specs.Works.{Seat, kept_by, IsSameSize};
 
 use crate::acting::{Turned, without_reject};
 use crate::works::Works;
-use tx_journal::{Event, Image};
+use tx_cpu::Program;
+use tx_journal::Event;
 use tx_meaning::{Limits, Outcome};
 
 /// Whether a tick comes with the turn of this number.
@@ -26,13 +27,13 @@ fn is_tick(limits: Limits, turns: u32) -> bool
 
 impl Works {
     /// A turn that is counted: a tick comes, or the program waits, or the CPU acts.
-    fn counted_turn(&mut self, cpu: u32, image: &Image, limits: Limits) -> Turned
+    fn counted_turn(&mut self, cpu: u32, program: &Program, limits: Limits) -> Turned
         requires cpu { cpu < length self.old.slots }
         requires turns { (rest : Seat) (limits : RunLimits) →
-            MayTurn (record { image = image.now; limits = limits }) cpu (kept_by rest self.old) }
+            MayTurn (record { image = program.now; limits = limits }) cpu (kept_by rest self.old) }
         requires acts { (rest : Seat) → MayAct cpu self.old rest }
-        requires cpus { length image.now.cpus ≡ length self.old.slots }
-        ensures value { (rest : Seat) → let m : Setting = record { image = image.now; limits = limits } in
+        requires cpus { length program.now.cpus ≡ length self.old.slots }
+        ensures value { (rest : Seat) → let m : Setting = record { image = program.now; limits = limits } in
             turned_as (kept_by rest self.new) result ≡ k_counted_turn m cpu (kept_by rest self.old) }
         ensures size { IsSameSize self.old self.new }
     {
@@ -44,18 +45,18 @@ impl Works {
             self.wait(cpu);
             return without_reject(Outcome::Delayed);
         }
-        self.act(cpu, image)
+        self.act(cpu, program)
     }
 
     /// A turn of the CPU. Where it is not idle, it is recorded and counted.
-    pub fn turn(&mut self, cpu: u32, image: &Image, limits: Limits) -> Turned
+    pub fn turn(&mut self, cpu: u32, program: &Program, limits: Limits) -> Turned
         requires cpu { cpu < length self.old.slots }
-        requires cpus { length image.now.cpus ≡ length self.old.slots }
-        requires turns { (rest : Seat) → let m : Setting = record { image = image.now; limits = limits } in
+        requires cpus { length program.now.cpus ≡ length self.old.slots }
+        requires turns { (rest : Seat) → let m : Setting = record { image = program.now; limits = limits } in
             k_idle m (kept_by rest self.old) cpu ≡ None → MayTurn m cpu (kept_by rest self.old) }
         requires room { (rest : Seat) → owed self.old (kept_by rest self.old) < self.old.room }
         requires events { length self.old.events < self.old.events_room }
-        ensures value { (rest : Seat) → let m : Setting = record { image = image.now; limits = limits } in
+        ensures value { (rest : Seat) → let m : Setting = record { image = program.now; limits = limits } in
             turned_as (kept_by rest self.new) result ≡ k_turn m cpu (kept_by rest self.old) }
         ensures size { IsSameSize self.old self.new }
     {
@@ -65,25 +66,25 @@ impl Works {
         }
         self.note(Event::Turn(cpu));
         self.count_turn(cpu);
-        self.counted_turn(cpu, image, limits)
+        self.counted_turn(cpu, program, limits)
     }
 
     /// An event: a turn of a CPU, or an interruption of it from outside, which is always recorded.
     #[tactic(auto, unfolding(tx_keeping::specs::Turn::k_happen))]
-    pub fn happen(&mut self, e: Event, image: &Image, limits: Limits) -> Turned
+    pub fn happen(&mut self, e: Event, program: &Program, limits: Limits) -> Turned
         requires cpu { cpu_of_event e < length self.old.slots }
-        requires cpus { length image.now.cpus ≡ length self.old.slots }
-        requires turns { (rest : Seat) → let m : Setting = record { image = image.now; limits = limits } in
+        requires cpus { length program.now.cpus ≡ length self.old.slots }
+        requires turns { (rest : Seat) → let m : Setting = record { image = program.now; limits = limits } in
             k_idle m (kept_by rest self.old) (cpu_of_event e) ≡ None
             → MayTurn m (cpu_of_event e) (kept_by rest self.old) }
         requires room { (rest : Seat) → owed self.old (kept_by rest self.old) < self.old.room }
         requires events { length self.old.events < self.old.events_room }
-        ensures value { (rest : Seat) → let m : Setting = record { image = image.now; limits = limits } in
+        ensures value { (rest : Seat) → let m : Setting = record { image = program.now; limits = limits } in
             turned_as (kept_by rest self.new) result ≡ k_happen m e (kept_by rest self.old) }
         ensures size { IsSameSize self.old self.new }
     {
         match e {
-            Event::Turn(cpu) => self.turn(cpu, image, limits),
+            Event::Turn(cpu) => self.turn(cpu, program, limits),
             Event::External(cpu) => {
                 self.note(e);
                 self.external(cpu)

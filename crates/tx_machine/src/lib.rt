@@ -18,6 +18,3 @@ pub mod works;
 
 pub use machine::{Counts, Machine, NoMemory};
 pub use slot::Tally;
-
-#[cfg(test)]
-mod tests;

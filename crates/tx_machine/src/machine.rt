@@ -30,7 +30,7 @@ use crate::works::Works;
 use std::alloc::{AllocError, Global};
 use std::marker::Model;
 use std::sync::Arc;
-use tx_cpu::Cpu;
+use tx_cpu::{Cpu, Program};
 use tx_journal::{Entry, Event, Image};
 use tx_meaning::{Limits, Outcome, Reject};
 use z_regs::{CpuImage, RunState};
@@ -64,7 +64,7 @@ pub struct Counts {
 /// events, and the reject in the last event; all else that it shows is the meaning of those events.
 #[derive(Drop)]
 pub struct Machine {
-    image: Arc<Image>,
+    program: Program,
     limits: Limits,
     works: Works,
     externals_left: u32,
@@ -72,7 +72,6 @@ pub struct Machine {
 }
 
 impl Model for Machine {
-    ghost use Rattle.std.specs.Arc.{arc_value};
     ghost use Rattle.tx_machine.specs.Machine.{IsLeft, Stands, Seen, seen_code, Stands};
 
     ghost Value = { Seen };
@@ -80,13 +79,13 @@ impl Model for Machine {
     ghost coded = { seen_code };
 
     ghost view = { λ m. record {
-      image = arc_value m.image;
+      image = m.program;
       limits = m.limits;
       events = m.works.events;
       reject = m.reject;
     } };
 
-    ghost invariant = { λ m. Stands record { image = arc_value m.image; limits = m.limits } m.works
+    ghost invariant = { λ m. Stands record { image = m.program; limits = m.limits } m.works
         m.externals_left };
 }
 
@@ -159,27 +158,27 @@ fn left_behind(e: Event, left: u32) -> u32
 
 /// One event more.
 fn advance(
-    image: &Image,
+    program: &Program,
     limits: Limits,
     works: &mut Works,
     externals_left: &mut u32,
     reject: &mut Option<Reject>,
     e: Event,
 ) -> Outcome
-    requires stands { Stands record { image = image.now; limits = limits } works.old externals_left.old }
-    requires known { cpu_of_event e < length image.now.cpus }
+    requires stands { Stands record { image = program.now; limits = limits } works.old externals_left.old }
+    requires known { cpu_of_event e < length program.now.cpus }
     requires external { is_external e ≡ true → 0 < externals_left.old }
-    ensures stands { Stands record { image = image.now; limits = limits } works.new externals_left.new }
-    ensures state { let m : Setting = record { image = image.now; limits = limits } in
+    ensures stands { Stands record { image = program.now; limits = limits } works.new externals_left.new }
+    ensures state { let m : Setting = record { image = program.now; limits = limits } in
         meaning m works.new.events ≡ (happen m e (meaning m works.old.events)).state }
-    ensures events { let m : Setting = record { image = image.now; limits = limits } in
+    ensures events { let m : Setting = record { image = program.now; limits = limits } in
         works.new.events ≡ (happen m e (meaning m works.old.events)).state.events }
-    ensures reject { let m : Setting = record { image = image.now; limits = limits } in
+    ensures reject { let m : Setting = record { image = program.now; limits = limits } in
         reject.new ≡ (happen m e (meaning m works.old.events)).reject }
-    ensures outcome { let m : Setting = record { image = image.now; limits = limits } in
+    ensures outcome { let m : Setting = record { image = program.now; limits = limits } in
         result ≡ (happen m e (meaning m works.old.events)).outcome }
 {
-    let turned = works.happen(e, image, limits);
+    let turned = works.happen(e, program, limits);
     *externals_left = left_behind(e, *externals_left);
     *reject = turned.reject;
     turned.outcome
@@ -194,8 +193,11 @@ impl Machine {
         let externals_left = limits.externals;
         let most = image.cpu_count() as usize * limits.turns as usize + externals_left as usize + 1;
         let works = Works::open(alloc, &image, most)?;
+        let Ok(program) = Program::open(alloc, image) else {
+            return Err(NoMemory);
+        };
         Ok(Machine {
-            image,
+            program,
             limits,
             works,
             externals_left,
@@ -232,7 +234,7 @@ impl Machine {
             ≤ bound self.new.image.parms + attempt_turns self.new.image.parms * stretch.externals }
     {
         advance(
-            &self.image,
+            &self.program,
             self.limits,
             &mut self.works,
             &mut self.externals_left,
@@ -260,14 +262,14 @@ impl Machine {
     pub fn image(&self) -> &Image
         ensures { result.now ≡ self.now.image }
     {
-        &self.image
+        self.program.image()
     }
 
     /// The same image, to be kept beside the machine. The error is want of memory.
     pub fn shared_image(&self) -> Result<Arc<Image>, NoMemory>
         ensures { IfOk result (λ image. arc_value image ≡ self.now.image) }
     {
-        Ok(Arc::try_clone(&self.image)?)
+        Ok(Arc::try_clone(self.program.shared())?)
     }
 
     /// How long it may run.

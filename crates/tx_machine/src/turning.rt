@@ -14,7 +14,7 @@ ghost use Rattle.tx_keeping.specs.Moves.{k_storing, k_taking};
 ghost use Rattle.tx_keeping.specs.Turn.{k_refused_turn, k_with_lines, k_executing, k_turned, k_attempting};
 ghost use Rattle.tx_keeping.specs.Turn.{k_external, k_acting};
 ghost use Rattle.tx_machine.specs.Asks.{is_cpu_starved};
-ghost use Rattle.tx_machine.specs.InTurn.{MayAct};
+ghost use Rattle.tx_machine.specs.InTurn.{MayAct, block_awaited};
 ghost use Rattle.tx_machine.specs.Ready.{MayAsk, MayHold, MayTurn, IsInReach, image_storage};
 ghost use Rattle.tx_machine.specs.Turned.{turned_as};
 ghost use Rattle.tx_machine.specs.Works.{Seat, kept_by, IsSameSize};
@@ -24,11 +24,10 @@ use crate::asking::Refused;
 use crate::places::{block_places, interruption_places, operand_places};
 use crate::works::Works;
 use tx_control::Why;
-use tx_cpu::Plan;
-use tx_journal::Image;
+use tx_cpu::{Plan, Program};
 use tx_meaning::Outcome;
 use z_instr::instr::Instr;
-use z_regs::{Touches, Waiting};
+use z_regs::Touches;
 
 impl Works {
     /// A request of the CPU was rejected: its turn is at its end, and a starved attempt is aborted.
@@ -88,6 +87,9 @@ impl Works {
             (k_executing cpu instr.now need.now) }
         ensures size { IsSameSize self.old self.new }
     {
+        if need.count() == 0 {
+            return self.execute(cpu, instr, need);
+        }
         let prefix = self.prefix(cpu);
         let places = operand_places(need, prefix);
         match self.get_lines(cpu, &places) {
@@ -143,31 +145,31 @@ impl Works {
 
     /// What comes of the next instruction of the CPU.
     #[tactic(auto, unfolding(tx_serial::specs::History::start_of))]
-    fn plan(&self, cpu: u32, image: &Image) -> Plan
+    fn plan(&self, cpu: u32, program: &Program) -> Plan
         requires { cpu < length self.now.slots }
         ensures value { (rest : Seat) (limits : RunLimits) →
-            let m : Setting = record { image = image.now; limits = limits } in
+            let m : Setting = record { image = program.now; limits = limits } in
             fate_of result ≡ fate_by_progress (text_of m) (image_storage m)
             ((kept_by rest self.now).locals cpu).attempt }
         ensures code { HasPlanRoom result }
     {
-        self.slots[cpu as usize].cpu.prepare(image)
+        self.slots[cpu as usize].cpu.prepare(program)
     }
 
     /// The next instruction of the CPU.
-    fn attempt(&mut self, cpu: u32, image: &Image) -> Turned
+    fn attempt(&mut self, cpu: u32, program: &Program) -> Turned
         requires cpu { cpu < length self.old.slots }
         requires turns { (rest : Seat) (limits : RunLimits) →
-            MayTurn (record { image = image.now; limits = limits }) cpu (kept_by rest self.old) }
+            MayTurn (record { image = program.now; limits = limits }) cpu (kept_by rest self.old) }
         requires acts { (rest : Seat) → MayAct cpu self.old rest }
-        requires cpus { length image.now.cpus ≡ length self.old.slots }
+        requires cpus { length program.now.cpus ≡ length self.old.slots }
         ensures value { (rest : Seat) (limits : RunLimits) →
-            let m : Setting = record { image = image.now; limits = limits } in let k = kept_by rest self.old in
+            let m : Setting = record { image = program.now; limits = limits } in let k = kept_by rest self.old in
             turned_as (kept_by rest self.new) result ≡
             k_attempting m cpu k (fate_by_progress (text_of m) k.storage (k.locals cpu).attempt) }
         ensures size { IsSameSize self.old self.new }
     {
-        match self.plan(cpu, image) {
+        match self.plan(cpu, program) {
             Plan::Go { instr, need } => self.go(cpu, &instr, &need),
             Plan::Ends(why) => {
                 let at = self.next_address(cpu);
@@ -204,23 +206,26 @@ impl Works {
         self.slots[cpu as usize].cpu.pending()
     }
 
-    /// The interruption that waits for the CPU.
-    fn waiting(&self, cpu: u32) -> Option<Waiting>
+    /// Whether an interruption waits for the CPU, and whether that has a diagnostic block.
+    fn awaited(&self, cpu: u32) -> Option<bool>
         requires { cpu < length self.now.slots }
-        ensures { (rest : Seat) → result ≡ ((kept_by rest self.now).locals cpu).waiting }
+        ensures { (rest : Seat) → result ≡ block_awaited ((kept_by rest self.now).locals cpu).waiting }
     {
-        self.slots[cpu as usize].cpu.waiting()
+        match self.slots[cpu as usize].cpu.waiting() {
+            None => None,
+            Some(waiting) => Some(waiting.block.is_some()),
+        }
     }
 
     /// What is left to do comes before the next instruction: a block that is pending, then an interruption.
-    pub(crate) fn act(&mut self, cpu: u32, image: &Image) -> Turned
+    pub(crate) fn act(&mut self, cpu: u32, program: &Program) -> Turned
         requires cpu { cpu < length self.old.slots }
         requires turns { (rest : Seat) (limits : RunLimits) →
-            MayTurn (record { image = image.now; limits = limits }) cpu (kept_by rest self.old) }
+            MayTurn (record { image = program.now; limits = limits }) cpu (kept_by rest self.old) }
         requires acts { (rest : Seat) → MayAct cpu self.old rest }
-        requires cpus { length image.now.cpus ≡ length self.old.slots }
+        requires cpus { length program.now.cpus ≡ length self.old.slots }
         ensures value { (rest : Seat) (limits : RunLimits) →
-            let m : Setting = record { image = image.now; limits = limits } in
+            let m : Setting = record { image = program.now; limits = limits } in
             let k = kept_by rest self.old in turned_as (kept_by rest self.new) result ≡
             k_acting m cpu k (k.locals cpu).pending (k.locals cpu).waiting }
         ensures size { IsSameSize self.old self.new }
@@ -228,9 +233,9 @@ impl Works {
         if let Some(address) = self.pending(cpu) {
             return self.store_pending(cpu, address);
         }
-        if let Some(waiting) = self.waiting(cpu) {
-            return self.take_waiting(cpu, waiting.block.is_some());
+        if let Some(block) = self.awaited(cpu) {
+            return self.take_waiting(cpu, block);
         }
-        self.attempt(cpu, image)
+        self.attempt(cpu, program)
     }
 }

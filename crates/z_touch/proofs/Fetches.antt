@@ -1,5 +1,5 @@
 -- Fetches, byte by byte.
-use Rattle.std.proofs.Common.{◌≡◌, ℕ, zero, suc, ◌+◌, ◌/◌, ◌<◌, ◌≤◌, false, not, nat_eq, List, [], ◌∷◌, map, Option, None, Some, ap, ◌∙◌, arith}
+use Rattle.std.proofs.Common.{◌≡◌, ℕ, zero, suc, ◌+◌, ◌/◌, ◌<◌, ◌≤◌, false, not, nat_eq, List, [], ◌∷◌, map, Option, None, Some, ◌%◌, refl, ap, ◌∙◌, arith}
 use Rattle.std.specs.List.{list_any}
 use Rattle.std.proofs.lemmas.Bool.Decides.{nat_tests}
 use Rattle.z_instr.specs.Operands.{from_up, where_wrong, addressing, protection}
@@ -55,3 +55,34 @@ beyond_storage prefix text a (suc n) h some =
     closed prefix (a / 4096) (omega arith) in
     ap (λ b. first_some (where_wrong (not b) addressing (where_wrong (not (lies_in text a)) protection None) ∷
     map (byte_unfetched (accessible_pages prefix) text) (from_up (suc a) n))) shut
+
+-- ---- bytes in one page
+
+same_pages : (accessible text : List ℕ) (a b : ℕ) → a / 4096 ≡ b / 4096
+    → byte_unfetched accessible text a ≡ byte_unfetched accessible text b
+same_pages accessible text a b e =
+    ap (λ p. where_wrong (not (list_any (nat_eq p) accessible)) addressing
+    (where_wrong (not (list_any (nat_eq p) text)) protection None)) e
+
+one_by_one : (f : ℕ → Option ℕ) (a n : ℕ) → ((k : ℕ) → k < n → f (a + k) ≡ None)
+    → first_some (map f (from_up a n)) ≡ None
+one_by_one f a zero same = refl
+one_by_one f a (suc n) same =
+    one_more f a n (suc n) (omega arith) (one_by_one f a n (λ k lt. same k (omega (arith, lt))))
+    (same n (omega arith))
+
+all_alike : (f : ℕ → Option ℕ) (a n : ℕ) (o : Option ℕ) → 0 < n → ((k : ℕ) → k < n → f (a + k) ≡ o)
+    → first_some (map f (from_up a n)) ≡ o
+all_alike f a zero o some same = absurd (omega arith)
+all_alike f a (suc n) None some same =
+    one_by_one f a (suc n) (λ k lt. same k lt)
+all_alike f a (suc n) (Some code) some same =
+    ap (λ o. first_some (o ∷ map f (from_up (suc a) n)))
+    (ap f (let e : a ≡ a + 0 = omega arith in e) ∙ same 0 (omega arith))
+
+-- the first byte decides
+pub first_decides : (accessible text : List ℕ) (a n : ℕ) → 0 < n → a % 4096 + n ≤ 4096
+    → first_some (map (byte_unfetched accessible text) (from_up a n)) ≡ byte_unfetched accessible text a
+first_decides accessible text a n some within =
+    all_alike (byte_unfetched accessible text) a n (byte_unfetched accessible text a) some
+    (λ k lt. same_pages accessible text (a + k) a (omega (arith, within, lt)))

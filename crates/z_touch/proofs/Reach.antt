@@ -72,9 +72,9 @@ ranges_of_row i general condition o ranges e f = f ∙ ap (λ p. map range_of (s
 
 -- ---- answers
 
-pub answer_fits : (o : Option ℕ) (i : Instr) (x y : List Range) → None ≡ o → x ≡ y → Ok x ≡ answer o i y
-answer_fits o i x y e f = ap Ok f ∙ ap (λ p. answer p i y) e
+pub answer_fits : (o : Option ℕ) (i : Instr) (fits : Unit {0}) → None ≡ o → Ok fits ≡ answer o i fits
+answer_fits o i fits e = ap (λ p. answer p i fits) e
 
-pub answer_refused : (o : Option ℕ) (i : Instr) (code : ℕ) (x : Exception) (y : List Range) → Some code ≡ o →
-    x ≡ refused i code → Err x ≡ answer o i y
-answer_refused o i code x y e f = ap Err f ∙ ap (λ p. answer p i y) e
+pub answer_refused : (o : Option ℕ) (i : Instr) (fits : Unit {0}) (code : ℕ) (x : Exception)
+    → Some code ≡ o → x ≡ refused i code → Err x ≡ answer o i fits
+answer_refused o i fits code x e f = ap Err f ∙ ap (λ p. answer p i fits) e

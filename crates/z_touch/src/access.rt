@@ -52,26 +52,35 @@ fn denied(
     }
 }
 
-/// The ranges that an instruction touches which meets neither special operation nor specification, in the
-/// order of its operands, or the first exception among those that `touches` tests behind these: addressing,
-/// protection, and operation for a service call.
-pub fn accessed(
+/// The ranges that an instruction touches, by real addresses, in the order of its operands. Nothing is tested.
+pub fn ranges(instr: &Instr, image: &CpuImage) -> Touches
+    ensures { result ≡ map range_of (spans instr.now image.now.general image.now.condition) }
+{
+    immediates_are_plain();
+    operands_in(line(instr.op).operands, instr, image)
+}
+
+/// Whether an instruction that meets neither special operation nor specification may touch its ranges, which
+/// are `operands`, and else the first exception: addressing for each operand, protection for each stored one,
+/// or operation for a service call with a number other than 0.
+///
+/// `guard` has the text pages of storage, and `depth` is the number of open transactions.
+pub fn accessible(
     instr: &Instr,
+    operands: &Touches,
     image: &CpuImage,
     guard: &Guard,
     depth: u32,
-) -> Result<Touches, Exception>
+) -> Result<(), Exception>
+    requires { operands.now ≡ map range_of (spans instr.now image.now.general image.now.condition) }
     ensures { result ≡
         answer (inaccessible instr.now image.now.general image.now.condition depth
-        (accessible_pages image.now.prefix) (text_pages image.now.prefix (items guard.now))) instr.now
-        (map range_of (spans instr.now image.now.general image.now.condition)) }
+        (accessible_pages image.now.prefix) (text_pages image.now.prefix (items guard.now))) instr.now tt }
 {
     immediates_are_plain();
     operands_are_small();
-    let line = line(instr.op);
-    let operands = operands_in(line.operands, instr, image);
-    match denied(line.demand, &operands, instr, image, guard, depth) {
-        None => Ok(operands),
+    match denied(line(instr.op).demand, operands, instr, image, guard, depth) {
+        None => Ok(()),
         Some(code) => Err(exception(instr, code)),
     }
 }
@@ -93,5 +102,7 @@ pub fn touches(
         (map range_of (spans instr.now image.now.general image.now.condition)) }
 {
     specified(instr, image, depth)?;
-    accessed(instr, image, guard, depth)
+    let operands = ranges(instr, image);
+    accessible(instr, &operands, image, guard, depth)?;
+    Ok(operands)
 }

@@ -26,7 +26,7 @@ fn byte_refused(address: u64, image: &CpuImage, guard: &Guard) -> Option<u16>
     }
 }
 
-/// The code of the exception at the fetch of so many bytes, one byte after the other.
+/// The code of the exception at the fetch of so many bytes. Of bytes in one page the first decides.
 fn bytes_refused(image: &CpuImage, guard: &Guard, length: u8) -> Option<u16>
     requires { 0 < length }
     ensures { result ≡
@@ -36,6 +36,9 @@ fn bytes_refused(image: &CpuImage, guard: &Guard, length: u8) -> Option<u16>
 {
     if image.address >= STORAGE_SIZE {
         return Some(ADDRESSING);
+    }
+    if image.address % PAGE + u64::from(length) <= PAGE {
+        return byte_refused(image.address, image, guard);
     }
     for k in 0..length {
         if let Some(code) = byte_refused(image.address + u64::from(k), image, guard) {

@@ -8,7 +8,7 @@ pub mod laws;
 mod operands;
 mod pages;
 
-pub use access::{accessed, touches};
+pub use access::{accessible, ranges, touches};
 pub use demands::specified;
 pub use fetch::fetchable;
 

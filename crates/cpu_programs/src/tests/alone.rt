@@ -6,7 +6,7 @@ ghost use Rattle.tx_cpu.specs.Plans.{HasRoom, HasDoneRoom};
 use std::alloc::Global;
 use std::test::Fail;
 use tx_control::Why;
-use tx_cpu::{Cpu, Done, Plan};
+use tx_cpu::{Cpu, Done, Plan, Program};
 use tx_journal::{Entry, Event, Image};
 use z_regs::{RunState, Storage};
 
@@ -78,10 +78,10 @@ impl Alone {
     }
 
     /// One instruction, and what it adds to the history.
-    fn instruction(&mut self, image: &Image) -> Option<Entry> {
+    fn instruction(&mut self, program: &Program) -> Option<Entry> {
         let at = self.cpu.image().address;
         let _size = self.base.as_slice();
-        match self.cpu.prepare(image) {
+        match self.cpu.prepare(program) {
             Plan::Go { instr, need } => {
                 if !may_count(&self.cpu) {
                     return None;
@@ -100,7 +100,7 @@ impl Alone {
     }
 
     /// One turn, and what it adds to the history.
-    fn turn(&mut self, image: &Image) -> Option<Entry> {
+    fn turn(&mut self, program: &Program) -> Option<Entry> {
         let _size = self.base.as_slice();
         if self.delay > 0 {
             self.delay -= 1;
@@ -114,7 +114,7 @@ impl Alone {
             self.cpu.take(&mut self.base);
             return Some(Entry::Interrupt(0));
         }
-        self.instruction(image)
+        self.instruction(program)
     }
 
     /// An external interruption, and what it adds to the history.
@@ -124,9 +124,9 @@ impl Alone {
     }
 
     /// One event, and what it adds to the history.
-    pub fn happen(&mut self, event: Event, image: &Image) -> Option<Entry> {
+    pub fn happen(&mut self, event: Event, program: &Program) -> Option<Entry> {
         match event {
-            Event::Turn(_) => self.turn(image),
+            Event::Turn(_) => self.turn(program),
             Event::External(_) => self.interrupt(),
         }
     }

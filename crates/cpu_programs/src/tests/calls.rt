@@ -1,7 +1,9 @@
 //! Calls that look at a CPU.
 use super::alone::Alone;
 use std::alloc::Global;
+use std::sync::Arc;
 use std::test::Fail;
+use tx_cpu::Program;
 use tx_journal::Event;
 use z_assemble::assemble;
 use z_regs::Bytes;
@@ -9,9 +11,10 @@ use z_regs::Bytes;
 /// The CPU of a program after some turns.
 fn after(alloc: Global, listing: &str, turns: u32) -> Result<Alone, Fail> {
     let image = assemble(alloc, listing.as_bytes())?;
-    let mut alone = Alone::open(alloc, &image)?;
+    let program = Program::open(alloc, Arc::new(alloc, image)?)?;
+    let mut alone = Alone::open(alloc, program.image())?;
     for _ in 0..turns {
-        let _entry = alone.happen(Event::Turn(0), &image);
+        let _entry = alone.happen(Event::Turn(0), &program);
     }
     Ok(alone)
 }

@@ -1,0 +1,132 @@
+//! A program whose instructions have been read.
+ghost use Rattle.std.specs.Prelude.{◌≡◌, ◌+◌, ◌≤◌, ◌<◌, ◌*◌, ◌%◌, ◌/◌, ℕ, List, length, take, IfOk, slice_index, slice_set};
+ghost use Rattle.std.specs.Prelude.{All, vec_len};
+ghost use Rattle.std.specs.Arc.{arc_value};
+ghost use Rattle.z_regs.specs.Prefix.{storage_size};
+ghost use Rattle.z_instr.specs.Computing.{reading_of};
+ghost use Rattle.z_instr.specs.Layout.{length_by};
+ghost use Rattle.tx_journal.specs.Image.{length_at, HasReading};
+ghost use Rattle.tx_cpu.specs.Programs.{read_at, AreRead};
+
+use std::alloc::Global;
+use std::marker::Model;
+use std::sync::Arc;
+use tx_journal::Image;
+use z_decode::{decode, length_of};
+use z_instr::instr::Instr;
+use z_instr::laws::reading_computes;
+use z_regs::{NoMemory, STORAGE_SIZE};
+
+/// The halfwords of storage; an instruction begins at one of them.
+const HALFWORDS: usize = STORAGE_SIZE as usize / 2;
+
+/// An image whose assembled instructions have been read, so that none of them is read anew in each turn. Contracts
+/// see the image.
+#[derive(Drop)]
+pub struct Program {
+    image: Arc<Image>,
+    numbers: Vec<u32>,
+    instrs: Vec<Instr>,
+}
+
+impl Model for Program {
+    ghost use Rattle.std.specs.Arc.{arc_value};
+    ghost use Rattle.tx_journal.specs.Content.{Content, content_code};
+    ghost use Rattle.tx_cpu.specs.Programs.{AreRead};
+
+    ghost Value = { Content };
+
+    ghost coded = { content_code };
+
+    ghost view = { λ p. arc_value p.image };
+
+    ghost invariant = { λ p. AreRead (arc_value p.image).storage p.numbers.items p.instrs.items };
+}
+
+/// The instruction that bytes read as, which are as many as the first of them says.
+pub fn read(bytes: &[u8]) -> Option<Instr>
+    requires { length bytes.now ≡ length_by (slice_index bytes.now 0) }
+    ensures { result ≡ reading_of bytes.now }
+{
+    reading_computes();
+    match decode(bytes) {
+        Ok(instr) => Some(instr),
+        Err(_) => None,
+    }
+}
+
+/// The instruction that the bytes of storage from an address on read as, at least six bytes before its end.
+fn read_from(storage: &[u8], place: usize) -> Option<Instr>
+    requires { place + 6 ≤ length storage.now }
+    ensures { result ≡ read_at storage.now place }
+{
+    let length = usize::from(length_of(storage[place]));
+    read(&storage[place..place + length])
+}
+
+/// Reads the instruction that begins at an address, and gives it the next number.
+fn add(storage: &[u8], start: u32, numbers: &mut Vec<u32>, instrs: &mut Vec<Instr>) -> Result<(), NoMemory>
+    requires size { length storage.now ≡ storage_size }
+    requires read { AreRead storage.now numbers.old.items instrs.old.items }
+    ensures { OnOk result (AreRead storage.now numbers.new.items instrs.new.items) }
+{
+    let place = start as usize;
+    if place % 2 == 1 || place + 6 > storage.len() || instrs.len() >= HALFWORDS {
+        return Ok(());
+    }
+    let Some(instr) = read_from(storage, place) else {
+        return Ok(());
+    };
+    let Ok(()) = instrs.push(instr) else {
+        return Err(NoMemory);
+    };
+    numbers[place / 2] = instrs.len() as u32;
+    Ok(())
+}
+
+impl Program {
+    /// The program of an image. The error is want of memory.
+    pub fn open(alloc: Global, image: Arc<Image>) -> Result<Program, NoMemory>
+        ensures { IfOk result (λ program. program ≡ arc_value image) }
+    {
+        let Ok(mut numbers) = vec![in alloc; 0u32; HALFWORDS] else {
+            return Err(NoMemory);
+        };
+        let mut instrs = Vec::new(alloc);
+        for start in image.starts.as_slice() {
+            add(&image.storage, *start, &mut numbers, &mut instrs)?;
+        }
+        Ok(Program { image, numbers, instrs })
+    }
+
+    /// The image.
+    pub fn image(&self) -> &Image
+        ensures { result.now ≡ self.now }
+    {
+        &self.image
+    }
+
+    /// The image, shared.
+    pub fn shared(&self) -> &Arc<Image>
+        ensures { arc_value result.now ≡ self.now }
+    {
+        &self.image
+    }
+
+    /// How many bytes the instruction at an even absolute address has, and what its bytes read as. It begins at
+    /// least six bytes before the end of storage.
+    pub fn instruction_at(&self, place: u64) -> (u8, Option<Instr>)
+        requires end { place + 6 ≤ storage_size }
+        requires even { place % 2 ≡ 0 }
+        ensures length { result.0 ≡ length_at self.now.storage place }
+        ensures reading { result.1 ≡ read_at self.now.storage place }
+    {
+        let place = place as usize;
+        let length = length_of(self.image.storage[place]);
+        let number = self.numbers[place / 2] as usize;
+        if number == 0 {
+            return (length, read_from(&self.image.storage, place));
+        }
+        (length, self.instrs.get(number - 1).copied())
+    }
+}

@@ -1,1 +1,0 @@
-//! Expected values are those of an independent model of the machine.
