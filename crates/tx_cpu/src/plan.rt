@@ -35,7 +35,7 @@ use z_instr::lookup::line;
 use z_instr::op::Op;
 use z_instr::roles::{begins, sets_access_register};
 use z_regs::{CpuImage, Guard, Touches};
-use z_touch::{accessed, fetchable, specified};
+use z_touch::{accessible, fetchable, ranges, specified};
 
 /// What the tests of the next instruction say.
 #[derive(Drop)]
@@ -115,31 +115,27 @@ fn admitted(attempt: &Attempt, image: &CpuImage, instr: &Instr) -> Result<(), Re
     not_too_deep(attempt.nest(), instr.op)
 }
 
-/// The operands of an instruction that is well specified, or what the tests that ask for them find.
-fn operands(
+/// Whether an instruction that is well specified goes with its operands, or what the tests that ask for them
+/// find.
+fn permitted(
     attempt: &Attempt,
     image: &CpuImage,
     instr: &Instr,
+    need: &Touches,
     guard: &Guard,
-) -> Result<Touches, Refusal>
-    requires { unspecified instr.now image.now.general (length attempt.now.nest) ≡ None }
+) -> Result<(), Refusal>
+    requires specified { unspecified instr.now image.now.general (length attempt.now.nest) ≡ None }
+    requires need { need.now ≡ operands_of instr.now (cpu_of image.now) }
     ensures { (storage : Storage) → let q = progress attempt.now (cpu_of image.now) in
-        MatchResult result
-        (λ need. AreOperands need (first_refusal (operand_refusal (items guard.now) (at_hand storage q)
-        instr.now
-        ∷ place_refusal_by q instr.now ∷ overflow_refusal_by q instr.now ∷ []))
-        (operands_of instr.now (cpu_of image.now)))
-        (λ refusal. first_refusal (operand_refusal (items guard.now) (at_hand storage q) instr.now
-        ∷ place_refusal_by q instr.now ∷ overflow_refusal_by q instr.now ∷ []) ≡ Some (refusal_of refusal)) }
+        found result ≡ first_refusal (operand_refusal (items guard.now) (at_hand storage q) instr.now
+        ∷ place_refusal_by q instr.now ∷ overflow_refusal_by q instr.now ∷ []) }
 {
     operands_are_small();
-    let need = match accessed(instr, image, guard, attempt.nest().depth()) {
-        Ok(need) => need,
-        Err(e) => return Err(Refusal::Excepts(e)),
-    };
-    attempt.admit_operands(instr, &need)?;
-    attempt.admit_touches(&need, image.prefix)?;
-    Ok(need)
+    if let Err(e) = accessible(instr, need, image, guard, attempt.nest().depth()) {
+        return Err(Refusal::Excepts(e));
+    }
+    attempt.admit_operands(instr, need)?;
+    attempt.admit_touches(need, image.prefix)
 }
 
 /// What comes of this instruction.
@@ -148,27 +144,29 @@ fn tried(attempt: &Attempt, image: &CpuImage, instr: Instr, guard: &Guard) -> Pl
         fate_of result ≡ tried_by q instr (first_refusal (tests_by (items guard.now) storage q instr)) }
 {
     let nest = attempt.nest();
-    match admitted(attempt, image, &instr) {
+    if let Err(refusal) = admitted(attempt, image, &instr) {
+        return after_refusal(nest, refusal);
+    }
+    let need = ranges(&instr, image);
+    match permitted(attempt, image, &instr, &need, guard) {
         Err(refusal) => after_refusal(nest, refusal),
-        Ok(()) => match operands(attempt, image, &instr, guard) {
-            Err(refusal) => after_refusal(nest, refusal),
-            Ok(need) => Plan::Go { instr, need },
-        },
+        Ok(()) => Plan::Go { instr, need },
     }
 }
 
-/// How many bytes the next instruction has, and what they read as, where the attempt has stored none of them
-/// and storage goes on behind them; else None.
-fn stored_instruction(
+/// The next instruction and how many bytes it has, where it is one of those that the program has read and the
+/// attempt has stored nothing over it; else None.
+fn known_next<'a>(
     attempt: &Attempt,
     image: &CpuImage,
-    program: &Program,
-) -> Option<(u8, Option<Instr>)>
-    ensures { (q : Progress) → q ≡ progress attempt.now (cpu_of image.now) → IfSome result
-        (λ next. IsNext next (at_hand (storage_of program.now.storage) q)) }
+    program: &'a Program,
+) -> Option<(u8, &'a Instr)>
+    ensures { let p = at_hand (storage_of program.now.storage) (progress attempt.now (cpu_of image.now)) in
+        IfSome result (λ next. IsNext p next.0 next.1.now) }
 {
     let place = attempt.text_place(image.address, image.prefix)?;
-    Some(program.instruction_at(place))
+    let instr = program.known(place)?;
+    Some((length_of(program.image().storage[place as usize]), instr))
 }
 
 /// How many bytes the next instruction has, and what they read as.
@@ -177,17 +175,21 @@ fn next_instruction(
     image: &CpuImage,
     program: &Program,
 ) -> (u8, Option<Instr>)
-    ensures { IsNext result (at_hand (storage_of program.now.storage) (progress attempt.now (cpu_of image.now))) }
+    ensures length { let p = at_hand (storage_of program.now.storage) (progress attempt.now (cpu_of image.now)) in
+        result.0 ≡ length_at p }
+    ensures reading { let p = at_hand (storage_of program.now.storage) (progress attempt.now (cpu_of image.now)) in
+        result.1 ≡ instruction_at p }
 {
-    if let Some(next) = stored_instruction(attempt, image, program) {
-        return next;
+    if let Some((length, instr)) = known_next(attempt, image, program) {
+        return (length, Some(*instr));
     }
     let bytes = attempt.text_bytes(image.address, image.prefix, &program.image().storage);
     let length = length_of(bytes[0]);
     (length, read(&bytes[..length as usize]))
 }
 
-/// What comes of the next instruction, whose bytes are read from the storage of the program.
+/// What comes of the next instruction, whose bytes are those that the attempt sees over the storage of the
+/// program.
 pub fn next_plan(attempt: &Attempt, image: &CpuImage, program: &Program) -> Plan
     ensures { fate_of result ≡ fate_by_progress (items program.now.guard) (storage_of program.now.storage)
         (progress attempt.now (cpu_of image.now)) }

@@ -113,20 +113,15 @@ impl Program {
         &self.image
     }
 
-    /// How many bytes the instruction at an even absolute address has, and what its bytes read as. It begins at
-    /// least six bytes before the end of storage.
-    pub fn instruction_at(&self, place: u64) -> (u8, Option<Instr>)
-        requires end { place + 6 ≤ storage_size }
-        requires even { place % 2 ≡ 0 }
-        ensures length { result.0 ≡ length_at self.now.storage place }
-        ensures reading { result.1 ≡ read_at self.now.storage place }
+    /// The instruction that was read at an even absolute address; None where none was.
+    pub fn known(&self, place: u64) -> Option<&Instr>
+        requires { place % 2 ≡ 0 }
+        ensures { IfSome result (λ i. read_at self.now.storage place ≡ Some i.now) }
     {
-        let place = place as usize;
-        let length = length_of(self.image.storage[place]);
-        let number = self.numbers[place / 2] as usize;
+        let number = *self.numbers.get(place as usize / 2)? as usize;
         if number == 0 {
-            return (length, read_from(&self.image.storage, place));
+            return None;
         }
-        (length, self.instrs.get(number - 1).copied())
+        self.instrs.get(number - 1)
     }
 }
