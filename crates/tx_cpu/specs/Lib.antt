@@ -2,6 +2,7 @@
 pub mod Tracked
 pub mod Parts
 pub mod Same
+pub mod Plain
 pub mod Plans
 pub mod Programs
 pub mod Blocks

@@ -33,6 +33,8 @@ ghost use Rattle.tx_serial.specs.Flat.{bytes_seen};
 ghost use Rattle.tx_serial.specs.Fate.{overflow_in};
 ghost use Rattle.tx_progress.specs.Trial.{constraint_refusal};
 ghost use Rattle.tx_cpu.specs.Refused.{found};
+ghost use Rattle.tx_cpu.specs.Plain.{IsPlain};
+ghost use Rattle.std.specs.Prelude.{IfSome, None, false};
 
 use crate::advancing::{add_operands, change_nest};
 use crate::gathering::gather_stores;
@@ -205,20 +207,32 @@ impl Attempt {
         }
     }
 
-    /// The absolute address of six bytes of the program from an even real address on, where the attempt has stored
-    /// none of their blocks and they lie one after the other in storage; else None.
-    pub fn text_place(&self, first: u64, prefix: Option<u32>) -> Option<u64>
-        requires { IsTrue (is_prefix prefix) }
-        ensures { IfSome result (λ place. IsTextPlace (stores_of self.now.stores).overlay prefix first place) }
+    /// Whether the attempt has stored a byte in the block of one or of the other address.
+    fn has_stored(&self, first: u64, last: u64) -> bool
+        requires within { last < storage_size }
+        requires order { first ≤ last }
+        requires near { last < first + 128 }
+        ensures { result ≡ false → (a : ℕ) → first ≤ a → a ≤ last → (stores_of self.now.stores).overlay a ≡ None }
     {
-        if first % 2 == 1 || first >= STORAGE_SIZE || first % AREA_SIZE > AREA_SIZE - 6 {
+        let block = BLOCK_SIZE as u64;
+        self.stores.has_block((first / block) as u32) || self.stores.has_block((last / block) as u32)
+    }
+
+    /// The absolute address of up to 128 bytes from a real address on, where they lie one after the other in storage
+    /// and the attempt has stored nothing near them; else None.
+    pub fn plain_place(&self, first: u64, length: u32, prefix: Option<u32>) -> Option<u64>
+        requires prefix_in { IsTrue (is_prefix prefix) }
+        requires some { 0 < length }
+        requires few { length ≤ 128 }
+        ensures { IfSome result (λ place.
+            IsPlain (stores_of self.now.stores).overlay prefix first length place) }
+    {
+        let length = u64::from(length);
+        if first >= STORAGE_SIZE || first % AREA_SIZE + length > AREA_SIZE {
             return None;
         }
         let place = place_of(prefix, first);
-        let stores = &self.stores;
-        let block = place / BLOCK_SIZE as u64;
-        let last = (place + 5) / BLOCK_SIZE as u64;
-        if stores.has_block(block as u32) || stores.has_block(last as u32) {
+        if self.has_stored(place, place + (length - 1)) {
             return None;
         }
         Some(place)

@@ -1,17 +1,13 @@
 //! What comes of the next instruction.
-ghost use Rattle.std.specs.Prelude.{◌≡◌, length, map, Some, None, Err, Ok, [], ◌∷◌, MatchResult};
+ghost use Rattle.std.specs.Prelude.{◌≡◌, length, Some, None, [], ◌∷◌};
 ghost use Rattle.std.specs.FinSet.{items};
 ghost use Rattle.z_regs.specs.Cpu.{cpu_of};
-ghost use Rattle.z_regs.specs.Prefix.{storage_size};
-ghost use Rattle.z_instr.specs.Computing.{reading_of};
-ghost use Rattle.z_instr.specs.Layout.{length_by};
 ghost use Rattle.z_instr.specs.Operands.{unspecified, operation};
 ghost use Rattle.z_instr.specs.Table.{entry_at};
-ghost use Rattle.std.specs.Prelude.{slice_index};
 ghost use Rattle.tx_control.specs.declared.causes.Why.TheVariants as why;
 ghost use Rattle.tx_serial.specs.Fate.{aborts_where, is_restricted, first_refusal, operands as operands_of};
 ghost use Rattle.tx_serial.specs.Fate.{restricted_refusal, specified_refusal, depth_refusal, operand_refusal};
-ghost use Rattle.tx_serial.specs.Fate.{Excepts, excepted};
+ghost use Rattle.tx_serial.specs.Fate.{Excepts, excepted, length_at, instruction_at};
 ghost use Rattle.tx_progress.specs.Trial.{at_hand, text_refusal_by, place_refusal_by, overflow_refusal_by};
 ghost use Rattle.tx_progress.specs.Trial.{tests_by, tried as tried_by, fate_by_progress};
 ghost use Rattle.tx_serial.specs.Flat.{Storage};
@@ -19,9 +15,8 @@ ghost use Rattle.tx_cpu.specs.Tracked.{progress};
 ghost use Rattle.tx_cpu.specs.Parts.{storage_of};
 ghost use Rattle.tx_cpu.specs.Plans.{fate_of};
 ghost use Rattle.tx_cpu.specs.Refused.{refusal_of, found};
-ghost use Rattle.std.specs.Prelude.{ℕ, List, ◌&&◌, nat_le, false};
+ghost use Rattle.std.specs.Prelude.{◌&&◌, nat_le, IfSome, ◌<◌};
 ghost use Rattle.z_instr.specs.Roles.{begins as is_begun};
-ghost use Rattle.tx_cpu.specs.Refused.{AreOperands};
 
 use crate::attempt::Attempt;
 use crate::program::{Program, read};
@@ -162,9 +157,9 @@ fn known_next<'a>(
     program: &'a Program,
 ) -> Option<(u8, &'a Instr)>
     ensures { let p = at_hand (storage_of program.now.storage) (progress attempt.now (cpu_of image.now)) in
-        IfSome result (λ next. IsNext p next.0 next.1.now) }
+        IfSome result (λ next. (length_at p ≡ next.0) × (instruction_at p ≡ Some next.1.now)) }
 {
-    let place = attempt.text_place(image.address, image.prefix)?;
+    let place = attempt.plain_place(image.address, 6, image.prefix)?;
     let instr = program.known(place)?;
     Some((length_of(program.image().storage[place as usize]), instr))
 }
@@ -175,10 +170,10 @@ fn next_instruction(
     image: &CpuImage,
     program: &Program,
 ) -> (u8, Option<Instr>)
-    ensures length { let p = at_hand (storage_of program.now.storage) (progress attempt.now (cpu_of image.now)) in
-        result.0 ≡ length_at p }
-    ensures reading { let p = at_hand (storage_of program.now.storage) (progress attempt.now (cpu_of image.now)) in
-        result.1 ≡ instruction_at p }
+    ensures length { let q = progress attempt.now (cpu_of image.now) in
+        result.0 ≡ length_at (at_hand (storage_of program.now.storage) q) }
+    ensures reading { let q = progress attempt.now (cpu_of image.now) in
+        result.1 ≡ instruction_at (at_hand (storage_of program.now.storage) q) }
 {
     if let Some((length, instr)) = known_next(attempt, image, program) {
         return (length, Some(*instr));

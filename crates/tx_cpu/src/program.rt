@@ -1,11 +1,9 @@
 //! A program whose instructions have been read.
-ghost use Rattle.std.specs.Prelude.{◌≡◌, ◌+◌, ◌≤◌, ◌<◌, ◌*◌, ◌%◌, ◌/◌, ℕ, List, length, take, IfOk, slice_index, slice_set};
-ghost use Rattle.std.specs.Prelude.{All, vec_len};
+ghost use Rattle.std.specs.Prelude.{◌≡◌, ◌+◌, ◌≤◌, length, Some, IfOk, IfSome, OnOk, slice_index};
 ghost use Rattle.std.specs.Arc.{arc_value};
 ghost use Rattle.z_regs.specs.Prefix.{storage_size};
 ghost use Rattle.z_instr.specs.Computing.{reading_of};
 ghost use Rattle.z_instr.specs.Layout.{length_by};
-ghost use Rattle.tx_journal.specs.Image.{length_at, HasReading};
 ghost use Rattle.tx_cpu.specs.Programs.{read_at, AreRead};
 
 use std::alloc::Global;
@@ -113,11 +111,13 @@ impl Program {
         &self.image
     }
 
-    /// The instruction that was read at an even absolute address; None where none was.
+    /// The instruction that was read at an absolute address; None where none was.
     pub fn known(&self, place: u64) -> Option<&Instr>
-        requires { place % 2 ≡ 0 }
         ensures { IfSome result (λ i. read_at self.now.storage place ≡ Some i.now) }
     {
+        if place % 2 == 1 {
+            return None;
+        }
         let number = *self.numbers.get(place as usize / 2)? as usize;
         if number == 0 {
             return None;

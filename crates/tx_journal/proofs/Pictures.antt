@@ -1,5 +1,5 @@
 -- Sets of pages, CPUs and images that are found to be the same.
-use Rattle.std.proofs.Common.{◌≡◌, ℕ, ◌<◌, ◌≤◌, suc, List, [], ◌∷◌, length, get_or, map, Bool, true, false}
+use Rattle.std.proofs.Common.{◌≡◌, ℕ, ◌<◌, ◌≤◌, suc, List, [], ◌∷◌, length, get_or, map, Bool}
 use Rattle.std.proofs.Common.{arith, sym, ap, ◌∙◌, refl, IsTrue, ◌↔◌, ◌&&◌, ◌==◌}
 use Rattle.std.proofs.Math.Bool.{beq}
 use Rattle.std.specs.Bool.{Decides}

@@ -205,3 +205,9 @@ few_ranges prefix (r ∷ ranges) =
       at_most_two prefix r,
       few_ranges prefix ranges,
     )
+
+-- without a prefix the ranges stay as they are
+pub ranges_stay : (ranges : List Range) → absolute_ranges None ranges ≡ ranges
+unfolding absolute_range
+ranges_stay [] = refl
+ranges_stay (r ∷ rs) = ap (λ (xs : List Range). r ∷ xs) (ranges_stay rs)

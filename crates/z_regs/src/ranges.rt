@@ -92,6 +92,12 @@ impl Touches {
         requires accessible { All (IsAccessible prefix) self.now }
         ensures { result ≡ absolute_ranges prefix self.now }
     {
+        let Some(_) = prefix else {
+            return Touches {
+                ranges: self.ranges,
+                count: self.count,
+            };
+        };
         let mut all = Touches::none();
         for i in 0..self.count() {
             all.add_absolute(self.at(i), prefix);

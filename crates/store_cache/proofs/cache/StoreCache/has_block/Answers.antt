@@ -1,10 +1,10 @@
-use Rattle.std.proofs.Common.{◌≡◌, ◌/◌, true, false}
+use Rattle.std.proofs.Common.{◌≡◌, ◌/◌, false}
 use Rattle.std.proofs.Common.{ℕ, Option, is_some, None, Some, refl, sym, ap, ◌∙◌, arith}
 use Rattle.slot_index.specs.Slots.{slot_in}
 use Rattle.store_cache.specs.declared.cache.TheConstants.{BLOCK_SIZE}
 use Rattle.store_cache.specs.Overlay.{has_block}
 use Rattle.store_cache.specs.Stores.{Stores}
-use Rattle.store_cache.specs.Entries.{items_of, stores_of}
+use Rattle.store_cache.specs.Entries.{stores_of}
 use Rattle.store_cache.proofs.Cells.{items_of-none}
 use Rattle.store_cache.proofs.Kept.{shown, stores_of-now}
 use Rattle.store_cache.proofs.cache.StoreCache.has_block.Goals as goal
