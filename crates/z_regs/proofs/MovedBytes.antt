@@ -12,7 +12,7 @@ use Rattle.z_regs.proofs.Exchange.{IsArea, area, moves}
 
 -- ---- within one area absolute addresses go on as real ones do
 
-along : (p a i : ℕ) → IsArea p → a % 8192 + i < 8192 →
+pub along : (p a i : ℕ) → IsArea p → a % 8192 + i < 8192 →
     absolute_of (Some p) (a + i) ≡ absolute_of (Some p) a + i
 along p a i r h =
     let m = moves p a r.low in
