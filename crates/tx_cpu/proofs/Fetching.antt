@@ -27,23 +27,29 @@ pub put-true : (s : List ℕ) (f : ℕ → ℕ) (a b x : ℕ) → a < length s �
 put-true s f a b x h e same =
     ap (λ k. get_or (set s a b) k 0) same ∙ get_or-set_same s a b 0 h ∙ e ∙ ap f (sym same)
 
-pub taken-at : (n a : ℕ) (t : List ℕ) (f : ℕ → ℕ) → ((k : ℕ) → k < n → get_or t (a + k) 0 ≡ f (a + k))
-    → a + n ≤ length t → take n (drop a t) ≡ map f (from_up a n)
-taken-at zero a t f at h = refl
-taken-at (suc n) a t f at h =
+pub taken-moved : (n a b : ℕ) (t : List ℕ) (f : ℕ → ℕ) → ((k : ℕ) → k < n → get_or t (a + k) 0 ≡ f (b + k))
+    → a + n ≤ length t → take n (drop a t) ≡ map f (from_up b n)
+taken-moved zero a b t f at h = refl
+taken-moved (suc n) a b t f at h =
     let within : a < length t = omega (arith, h) in
     let next : a + 1 ≡ suc a = omega arith in
     let here : a + 0 ≡ a = omega arith in
+    let there : b + 0 ≡ b = omega arith in
     let some : 0 < suc n = omega arith in
-    let first : get_or t a 0 ≡ f a = subst (λ x. get_or t x 0 ≡ f x) here (at 0 some) in
+    let first : get_or t a 0 ≡ f b = ap (λ x. get_or t x 0) (sym here) ∙ at 0 some ∙ ap f there in
     let rest : suc a + n ≤ length t = omega (arith, h) in
     ap (take (suc n)) (drop_more t a 0 within)
-    ∙ ap (λ b. b ∷ take n (drop (a + 1) t)) first
-    ∙ ap (λ k. f a ∷ take n (drop k t)) next
-    ∙ ap (λ bs. f a ∷ bs) (taken-at n (suc a) t f (λ k lt.
+    ∙ ap (λ x. x ∷ take n (drop (a + 1) t)) first
+    ∙ ap (λ k. f b ∷ take n (drop k t)) next
+    ∙ ap (λ bs. f b ∷ bs) (taken-moved n (suc a) (suc b) t f (λ k lt.
     let more : suc k < suc n = omega (arith, lt) in
-    let same : a + suc k ≡ suc a + k = omega arith in
-    subst (λ x. get_or t x 0 ≡ f x) same (at (suc k) more)) rest)
+    let same : suc a + k ≡ a + suc k = omega arith in
+    let moved : b + suc k ≡ suc b + k = omega arith in
+    ap (λ x. get_or t x 0) same ∙ at (suc k) more ∙ ap f moved) rest)
+
+pub taken-at : (n a : ℕ) (t : List ℕ) (f : ℕ → ℕ) → ((k : ℕ) → k < n → get_or t (a + k) 0 ≡ f (a + k))
+    → a + n ≤ length t → take n (drop a t) ≡ map f (from_up a n)
+taken-at n a t f at h = taken-moved n a a t f at h
 
 touched-first : (r : Span) (rs : List Span) (s : List ℕ) → touched (r ∷ rs) s
     ≡ range_at s r.first r.length ++ touched rs s

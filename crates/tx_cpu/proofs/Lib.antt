@@ -19,3 +19,4 @@ pub mod Goes
 pub mod LastingStores
 pub mod Inside
 pub mod Preparing
+pub mod Programs

@@ -207,32 +207,26 @@ impl Attempt {
         }
     }
 
-    /// Whether the attempt has stored a byte in the block of one or of the other address.
-    fn has_stored(&self, first: u64, last: u64) -> bool
-        requires within { last < storage_size }
-        requires order { first ≤ last }
-        requires near { last < first + 128 }
-        ensures { result ≡ false → (a : ℕ) → first ≤ a → a ≤ last → (stores_of self.now.stores).overlay a ≡ None }
+    /// Whether the attempt has stored a byte in the block of an address, or in that of the last of six bytes.
+    fn has_stored(&self, place: u64) -> bool
+        requires { place + 6 ≤ storage_size }
+        ensures { result ≡ false → (k : ℕ) → k < 6 → (stores_of self.now.stores).overlay (place + k) ≡ None }
     {
         let block = BLOCK_SIZE as u64;
-        self.stores.has_block((first / block) as u32) || self.stores.has_block((last / block) as u32)
+        self.stores.has_block((place / block) as u32) || self.stores.has_block(((place + 5) / block) as u32)
     }
 
-    /// The absolute address of up to 128 bytes from a real address on, where they lie one after the other in storage
+    /// The absolute address of the six bytes from a real address on, where they lie one after the other in storage
     /// and the attempt has stored nothing near them; else None.
-    pub fn plain_place(&self, first: u64, length: u32, prefix: Option<u32>) -> Option<u64>
-        requires prefix_in { IsTrue (is_prefix prefix) }
-        requires some { 0 < length }
-        requires few { length ≤ 128 }
-        ensures { IfSome result (λ place.
-            IsPlain (stores_of self.now.stores).overlay prefix first length place) }
+    pub fn text_place(&self, first: u64, prefix: Option<u32>) -> Option<u64>
+        requires { IsTrue (is_prefix prefix) }
+        ensures { IfSome result (λ place. IsPlain (stores_of self.now.stores).overlay prefix first place) }
     {
-        let length = u64::from(length);
-        if first >= STORAGE_SIZE || first % AREA_SIZE + length > AREA_SIZE {
+        if first >= STORAGE_SIZE || first % AREA_SIZE > AREA_SIZE - 6 {
             return None;
         }
         let place = place_of(prefix, first);
-        if self.has_stored(place, place + (length - 1)) {
+        if place > STORAGE_SIZE - 6 || self.has_stored(place) {
             return None;
         }
         Some(place)

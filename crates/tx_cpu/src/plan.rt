@@ -159,7 +159,7 @@ fn known_next<'a>(
     ensures { let p = at_hand (storage_of program.now.storage) (progress attempt.now (cpu_of image.now)) in
         IfSome result (λ next. (length_at p ≡ next.0) × (instruction_at p ≡ Some next.1.now)) }
 {
-    let place = attempt.plain_place(image.address, 6, image.prefix)?;
+    let place = attempt.text_place(image.address, image.prefix)?;
     let instr = program.known(place)?;
     Some((length_of(program.image().storage[place as usize]), instr))
 }

@@ -1,0 +1,127 @@
+-- Instructions that were read before they are executed: where they stand, and that they are the ones that are seen.
+use Rattle.std.proofs.Common.{◌≡◌, ◌≢◌, ℕ, ◌+◌, ◌*◌, ◌-◌, ◌/◌, ◌%◌, ◌<◌, ◌≤◌, true, false, List, [], ◌∷◌, ◌++◌}
+use Rattle.std.proofs.Common.{length, get_or, set, take, drop, Option, Some, None, refl, sym, ap, ◌∙◌, arith, inl, inr, ◌⊎◌}
+use Rattle.std.specs.Prelude.{slice_get, replicate, if◌then◌else◌, nat_lt, map, unwrap_or}
+use Rattle.std.proofs.lemmas.Bool.{cases_eq, cases_lt}
+use Rattle.std.proofs.lemmas.List.{get_or-set_same, get_or-set_other, get_or_past, get_or_append_left, length-set, length-append, get_or-replicate, length-replicate}
+use Rattle.std.proofs.lemmas.Option.{slice_get-get_or}
+use Rattle.z_regs.specs.Prefix.{storage_size, area_size, is_prefix, absolute_of}
+use Rattle.z_regs.proofs.Exchange.{area}
+use Rattle.z_regs.proofs.MovedBytes.{along}
+use Rattle.z_instr.specs.Layout.{length_by}
+use Rattle.z_instr.specs.Computing.{reading_of}
+use Rattle.z_instr.specs.declared.instr.Instr.{Instr}
+use Rattle.store_cache.specs.Overlay.{Overlay}
+use Rattle.tx_journal.specs.Image as image
+use Rattle.tx_serial.specs.Flat.{bytes_seen}
+use Rattle.tx_serial.specs.Fate.{length_at, instruction_at}
+use Rattle.tx_progress.specs.Progress.{Progress, seen_through}
+use Rattle.tx_progress.specs.Trial.{at_hand}
+use Rattle.tx_cpu.specs.Parts.{storage_of}
+use Rattle.tx_cpu.specs.Plain.{IsPlain}
+use Rattle.tx_cpu.specs.Programs.{read_at, AreRead}
+use Rattle.tx_cpu.proofs.Fetching.{taken-moved}
+
+-- ---- within one area absolute addresses go on as real ones do
+
+pub goes_along : (prefix : Option ℕ) (a k : ℕ) → is_prefix prefix ≡ true → a % 8192 + k < 8192
+    → absolute_of prefix (a + k) ≡ absolute_of prefix a + k
+goes_along None a k h within = refl
+goes_along (Some p) a k h within = along p a k (area p h) within
+
+-- ---- plain bytes are seen as they are in storage
+
+pub seen-plain : (o : Overlay) (prefix : Option ℕ) (first place k : ℕ) (bytes : List ℕ) → IsPlain o prefix first place
+    → k < 6 → get_or bytes (place + k) 0 ≡ seen_through o (storage_of bytes) (absolute_of prefix (first + k))
+seen-plain o prefix first place k bytes plain lt =
+    sym (ap (λ a. seen_through o (storage_of bytes) a) (plain.there k lt)
+    ∙ ap (λ (b : Option ℕ). unwrap_or b (get_or bytes (place + k) 0)) (plain.bare k lt))
+
+length_few : (b : ℕ) → length_by b ≤ 6
+length_few b = few (nat_lt b 64) (nat_lt b 192)
+  where
+    few : (x y : Bool) → (if x then 2 else if y then 4 else 6) ≤ 6
+    few true y = omega arith
+    few false true = omega arith
+    few false false = omega arith
+
+pub plain_length : (q : Progress) (bytes : List ℕ) (place : ℕ) → IsPlain q.overlay q.cpu.prefix q.cpu.address place
+    → image.length_at bytes place ≡ length_at (at_hand (storage_of bytes) q)
+plain_length q bytes place plain =
+    let here : place + 0 ≡ place = omega arith in
+    let there : q.cpu.address + 0 ≡ q.cpu.address = omega arith in
+    ap length_by (ap (λ a. get_or bytes a 0) (sym here)
+    ∙ seen-plain q.overlay q.cpu.prefix q.cpu.address place 0 bytes plain (omega arith)
+    ∙ ap (λ a. seen_through q.overlay (storage_of bytes) (absolute_of q.cpu.prefix a)) there)
+
+pub plain_reading : (q : Progress) (bytes : List ℕ) (place : ℕ) → length bytes ≡ storage_size
+    → IsPlain q.overlay q.cpu.prefix q.cpu.address place
+    → read_at bytes place ≡ instruction_at (at_hand (storage_of bytes) q)
+plain_reading q bytes place size plain =
+    let seen = seen_through q.overlay (storage_of bytes) in
+    let n = length_at (at_hand (storage_of bytes) q) in
+    let most : n ≤ 6 = length_few (seen (absolute_of q.cpu.prefix q.cpu.address)) in
+    let ends = plain.ends in
+    ap (λ m. reading_of (take m (drop place bytes))) (plain_length q bytes place plain)
+    ∙ ap reading_of (taken-moved n place q.cpu.address bytes (λ a. seen (absolute_of q.cpu.prefix a))
+    (λ k lt. seen-plain q.overlay q.cpu.prefix q.cpu.address place k bytes plain (omega (arith, lt, most)))
+    (omega (arith, most, ends, size)))
+
+-- ---- one instruction more is read
+
+kept-earlier : (instrs : List Instr) (i : Instr) (n : ℕ) → n < length instrs
+    → slice_get (instrs ++ i ∷ []) n ≡ slice_get instrs n
+kept-earlier instrs i n h =
+    let more : n < length (instrs ++ i ∷ []) = let l = length-append instrs (i ∷ []) in omega (arith, h, l) in
+    slice_get-get_or (instrs ++ i ∷ []) n i more ∙ ap Some (get_or_append_left instrs (i ∷ []) i n h)
+    ∙ sym (slice_get-get_or instrs n i h)
+
+last_here : (instrs : List Instr) (i : Instr) → slice_get (instrs ++ i ∷ []) (length instrs) ≡ Some i
+last_here [] i = refl
+last_here (x ∷ xs) i = last_here xs i
+
+zeros : (n half : ℕ) → get_or (replicate n 0) half 0 ≡ 0
+zeros n half = elim (cases_lt half n) [
+  | inl lt ↦ get_or-replicate n half 0 0 lt
+  | inr ge ↦ get_or_past (replicate n 0) half 0 (let l = length-replicate n 0 in omega (arith, l, ge))
+]
+
+pub one_read : (storage numbers : List ℕ) (instrs : List Instr) (i : Instr) (half : ℕ)
+    → AreRead storage numbers instrs → half < length numbers → Some i ≡ read_at storage (2 * half)
+    → AreRead storage (set numbers half (length instrs + 1)) (instrs ++ i ∷ [])
+one_read storage numbers instrs i half are within reads = record {
+  size = ap (λ n. 2 * n) (length-set numbers half (length instrs + 1)) ∙ are.size;
+  within = λ other. few other (cases_eq other half);
+  read = λ other some. found other some (cases_eq other half);
+}
+  where
+    number : ℕ → ℕ
+    number other = get_or (set numbers half (length instrs + 1)) other 0
+    total : length (instrs ++ i ∷ []) ≡ length instrs + 1
+    total = length-append instrs (i ∷ [])
+    new : (other : ℕ) → other ≡ half → number other ≡ length instrs + 1
+    new other e = ap number e ∙ get_or-set_same numbers half (length instrs + 1) 0 within
+    old : (other : ℕ) → other ≢ half → number other ≡ get_or numbers other 0
+    old other ne = get_or-set_other numbers half other (length instrs + 1) 0 ne
+    few : (other : ℕ) → (other ≡ half) ⊎ (other ≢ half) → number other ≤ length (instrs ++ i ∷ [])
+    few other (inl e) = let n = new other e in omega (arith, n, total)
+    few other (inr ne) = let n = old other ne in let w = are.within other in omega (arith, n, w, total)
+    found : (other : ℕ) → 0 < number other → (other ≡ half) ⊎ (other ≢ half)
+        → slice_get (instrs ++ i ∷ []) (number other - 1) ≡ read_at storage (2 * other)
+    found other some (inl e) =
+        let n : number other - 1 ≡ length instrs = let m = new other e in omega (arith, m) in
+        ap (slice_get (instrs ++ i ∷ [])) n ∙ last_here instrs i ∙ reads
+        ∙ ap (λ h. read_at storage (2 * h)) (sym e)
+    found other some (inr ne) =
+        let n = old other ne in
+        let w = are.within other in
+        let lt : number other - 1 < length instrs = omega (arith, n, w, some) in
+        kept-earlier instrs i (number other - 1) lt ∙ ap (λ m. slice_get instrs (m - 1)) n
+        ∙ are.read other (omega (arith, n, some))
+
+pub none_read : (storage : List ℕ) → AreRead storage (replicate 524288 0) []
+none_read storage = record {
+  size = ap (λ n. 2 * n) (length-replicate 524288 0);
+  within = λ half. let z = zeros 524288 half in omega (arith, z);
+  read = λ half some. let z = zeros 524288 half in absurd (omega (arith, z, some));
+}
