@@ -1,4 +1,5 @@
--- Spans of places, marking them, and the limits.
+-- Spans of places, marking them, bounds on them, and the limits.
 pub mod Marking
 pub mod Spans
+pub mod Bounds
 pub mod Limits

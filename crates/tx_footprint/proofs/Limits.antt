@@ -1,13 +1,13 @@
 -- Footprints and their limits: what is kept beside the marks stays true, and the counts are those of the
 -- sets.
 use Rattle.std.proofs.Common.{◌≡◌, ℕ, ◌+◌, ◌<◌, ◌≤◌, Bool, true, false, cond, ltb, List, [], ◌∷◌, length}
-use Rattle.std.proofs.Common.{get_or, replicate, Result, Ok, Err, refl, sym, ap, ◌∙◌, arith}
+use Rattle.std.proofs.Common.{get_or, replicate, Result, Ok, Err, refl, sym, ap, subst, ◌∙◌, arith}
 use Rattle.std.specs.Prelude.{◌||◌, ◌&&◌, not}
 use Rattle.std.proofs.lemmas.Bool.{cases_lt, cond-true, cond-false, lt-ltb, le-ltb}
 use Rattle.std.proofs.lemmas.List.{ext_get_or, length-replicate}
 use borrow.Enum.Arm.{by_way}
 use Rattle.bit_set.specs.Counts.{count_below}
-use Rattle.bit_set.proofs.Counts.{count_agree, count_none}
+use Rattle.bit_set.proofs.Counts.{count_agree, count_none, count_or}
 use Rattle.bit_set.proofs.Marks.{clear_at}
 use Rattle.z_regs.specs.declared.ranges.Range.{Range}
 use Rattle.line_table.specs.declared.table.TheConstants.{LINES}
@@ -20,6 +20,7 @@ use Rattle.tx_footprint.specs.declared.places.TheConstants.{LINE_SIZE, BLOCKS}
 use Rattle.tx_footprint.specs.Places.{has_place, fetches, stores, touched_by, marked_or_touched}
 use Rattle.tx_footprint.specs.Touched.{Sets, untouched, touching, line_count, block_count, fit_of}
 use Rattle.tx_footprint.specs.Touched.{Touched, sets_of, IsKept}
+use Rattle.tx_footprint.proofs.Marking.{or_false}
 
 -- ---- a line is touched where it is fetched or stored
 
@@ -81,6 +82,15 @@ fits_from sets e =
     (λ le. by_way (cases_lt MOST_BLOCKS (block_count sets))
     (λ over. let n : Err Store ≡ Ok tt = sym (too_many_blocks sets le over) ∙ e in cc)
     (λ few. (le, few)))
+
+-- no ranges touch nothing more
+pub nothing_more : (sets : Sets) (ranges : List Range) → length ranges ≡ 0 → touching sets ranges ≡ sets
+nothing_more sets [] e = λ i. record {
+  fetched = λ line. or_false (sets.fetched line) i;
+  stored = λ line. or_false (sets.stored line) i;
+  blocks = λ block. or_false (sets.blocks block) i;
+}
+nothing_more sets (r ∷ rs) e = absurd (omega arith)
 
 -- ---- nothing is touched
 
@@ -167,6 +177,63 @@ module _ {touched fetched stored blocks : List Bool} {lines stored_blocks : ℕ}
   blocks_after added view_is counted =
       let here : stored_blocks + added ≡ block_count after = omega (arith, kept.counted_blocks, counted) in
       here ∙ ap (λ (v : Touched). block_count (touching (sets_of v) ranges)) view_is
+
+  -- the same counts from the marks before and after
+  adds : {marks marks' : List Bool} (kind : Kind) (added size : ℕ) → AreAdded kind ranges marks marks'
+      → added + count_below size (λ k. get_or marks k false) ≡ count_below size (λ k. get_or marks' k false)
+      → Adds added size marks kind
+  adds {marks} {marks'} kind added size are_added counted =
+      counted
+      ∙ count_agree size (λ k. get_or marks' k false) (marked_or_touched marks kind ranges)
+      (λ k _. are_added.marks k)
+
+  pub lines_marked : {seen : Touched} {touched' : List Bool} (added : ℕ)
+      → record { fetched = fetched; stored = stored; blocks = blocks } ≡ seen
+      → AreAdded Line ranges touched touched'
+      → added + count_below LINES (λ k. get_or touched k false) ≡ count_below
+      LINES (λ k. get_or touched' k false)
+      → lines + added ≡ line_count (touching (sets_of seen) ranges)
+  lines_marked added view_is are_added counted =
+      lines_after added view_is (adds Line added LINES are_added counted)
+
+  pub blocks_marked : {seen : Touched} {blocks' : List Bool} (added : ℕ)
+      → record { fetched = fetched; stored = stored; blocks = blocks } ≡ seen
+      → AreAdded StoredBlock ranges blocks blocks'
+      → added + count_below BLOCKS (λ k. get_or blocks k false) ≡ count_below
+      BLOCKS (λ k. get_or blocks' k false)
+      → stored_blocks + added ≡ block_count (touching (sets_of seen) ranges)
+  blocks_marked added view_is are_added counted =
+      blocks_after added view_is (adds StoredBlock added BLOCKS are_added counted)
+
+  -- marks and touched places together are no more than both
+  at_most : (marks : List Bool) (kind : Kind) (size most : ℕ)
+      → count_below size (touched_by kind ranges) ≤ most
+      → count_below size (marked_or_touched marks kind ranges) ≤ count_below size (λ k. get_or marks k false)
+      + most
+  at_most marks kind size most le =
+      omega (arith, le, count_or size (λ k. get_or marks k false) (touched_by kind ranges))
+
+  -- no more lines and blocks than before and a bound on those that are touched
+  pub most_lines_after : {seen : Touched} (most : ℕ)
+      → record { fetched = fetched; stored = stored; blocks = blocks } ≡ seen
+      → count_below LINES (touched_by Line ranges) ≤ most
+      → line_count (touching (sets_of seen) ranges) ≤ lines + most
+  most_lines_after most view_is le =
+      let alike =
+      count_agree LINES (marked_or_touched touched Line ranges) (λ k. after.fetched k || after.stored k)
+      (λ k _. together k) in
+      let here : line_count after ≤ lines + most =
+      omega (arith, alike, kept.counted_lines, at_most touched Line LINES most le) in
+      subst (λ (v : Touched). line_count (touching (sets_of v) ranges) ≤ lines + most) view_is here
+
+  pub most_blocks_after : {seen : Touched} (most : ℕ)
+      → record { fetched = fetched; stored = stored; blocks = blocks } ≡ seen
+      → count_below BLOCKS (touched_by StoredBlock ranges) ≤ most
+      → block_count (touching (sets_of seen) ranges) ≤ stored_blocks + most
+  most_blocks_after most view_is le =
+      let here : block_count after ≤ stored_blocks + most =
+      omega (arith, kept.counted_blocks, at_most blocks StoredBlock BLOCKS most le) in
+      subst (λ (v : Touched). block_count (touching (sets_of v) ranges) ≤ stored_blocks + most) view_is here
 
   pub added_kept : {seen : Touched} {touched' fetched' stored' blocks' : List Bool}
       {lines' stored_blocks' : ℕ}

@@ -1,10 +1,10 @@
 -- Marking and counting the places of ranges, one range and one place after the other.
 use Rattle.std.proofs.Common.{◌≡◌, ◌≢◌, ℕ, ◌+◌, ◌<◌, ◌≤◌, Bool, true, false, ltb, leb, List, length, get_or}
-use Rattle.std.proofs.Common.{take, Some, refl, sym, ap, subst, ◌∙◌, arith}
+use Rattle.std.proofs.Common.{set, take, Some, refl, sym, ap, subst, ◌∙◌, arith}
 use Rattle.std.specs.Prelude.{◌||◌, ◌&&◌, not, All, slice_get}
 use Rattle.std.specs.Int.{from_bool}
 use Rattle.std.proofs.lemmas.Bool.{cases_eq, cases_lt, and_right, and_from, or_from, le-leb, lt-ltb, le-ltb}
-use Rattle.std.proofs.lemmas.List.{get_or-take, length-take}
+use Rattle.std.proofs.lemmas.List.{get_or-take, length-take, get_or-set_same, get_or-set_other}
 use Rattle.std.proofs.lemmas.List.Folds.{list_any_more, list_any_at}
 use Rattle.std.proofs.lemmas.Option.{get_or_from_slice_get, slice_get_within}
 use borrow.Enum.Arm.{by_way}
@@ -83,6 +83,10 @@ lies_last first at le =
 lies_not_yet : (first at : ℕ) → lies_in first at at ≡ false
 lies_not_yet first at = and_right (leb first at) (ltb at at) (le-ltb at at (omega arith))
 
+one_or_other : (b : Bool) → one_if b + from_bool (not b) ≡ 1
+one_or_other true = refl
+one_or_other false = refl
+
 -- one place more: it counts where it was not there
 pub count_next : (n : ℕ) (there : ℕ → Bool) (first at : ℕ) → first ≤ at → at < n
     → count_below n (λ k. there k || lies_in first (at + 1) k) ≡ count_below n
@@ -97,7 +101,7 @@ count_next n there first at le lt =
       count_but_at n so_far at true lt,
       ap one_if
           (ap (λ b. there at || b) (lies_not_yet first at) ∙ or_false (there at)),
-      split (there at),
+      one_or_other (there at),
     )
   where
     each : (k : ℕ)
@@ -112,9 +116,31 @@ count_next n there first at le lt =
         (λ ne. ap (λ b. there k || b) (lies_next first at k ne)
         ∙ sym (but_at-other (λ j. there j || lies_in first at j) at true k ne))
 
-    split : (b : Bool) → one_if b + from_bool (not b) ≡ 1
-    split true = refl
-    split false = refl
+-- one place more is marked: it counts where it was not marked
+pub count_set : (n : ℕ) (marks : List Bool) (at : ℕ) → at < n → n ≡ length marks
+    → count_below n (λ k. get_or (set marks at true) k false) ≡ count_below n (λ k. get_or marks k false)
+    + from_bool (not (get_or marks at false))
+count_set n marks at lt size =
+    let alike =
+    count_agree n (λ k. get_or (set marks at true) k false) (but_at (λ k. get_or marks k false) at true)
+    (λ k _. each k) in
+    omega (
+      arith,
+      alike,
+      count_but_at n (λ k. get_or marks k false) at true lt,
+      one_or_other (get_or marks at false),
+    )
+  where
+    each : (k : ℕ) → get_or (set marks at true) k false ≡ but_at (λ j. get_or marks j false) at true k
+    each k =
+        by_way (cases_eq k at)
+        (λ e.
+        ap (λ j. get_or (set marks at true) j false) e
+        ∙ get_or-set_same marks at true false (omega (arith, lt, size))
+        ∙ sym (ap (but_at (λ j. get_or marks j false) at true) e
+        ∙ but_at-same (λ j. get_or marks j false) at true))
+        (λ ne. get_or-set_other marks at k true false ne
+        ∙ sym (but_at-other (λ j. get_or marks j false) at true k ne))
 
 -- after the last place all of the range is
 pub count_end : (n : ℕ) (marks : List Bool) (kind : Kind) (ranges : List Range) (i first end : ℕ) (r : Range)

@@ -5,7 +5,7 @@ ghost use Rattle.tx_footprint.specs.Touched.{Touched, untouched, touching, line_
 ghost use Rattle.tx_footprint.specs.Touched.{sets_of};
 
 pub use crate::places::BLOCKS;
-use crate::places::{Kind, added, mark};
+use crate::places::{Kind, added, mark, mark_new, most_places};
 use bit_set::BitSet;
 use line_table::{LINES, MOST_HELD};
 use std::alloc::{AllocError, Global};
@@ -99,6 +99,10 @@ impl Footprint {
         ensures fetch { (result ≡ Err Overflow.Fetch)
             ↔ (MOST_LINES < line_count (touching (sets_of self.now) touches.now)) }
     {
+        let most = most_places(touches);
+        if self.line_count + most <= MOST_LINES && self.block_count + most <= MOST_BLOCKS {
+            return Ok(());
+        }
         if self.line_count + added(&self.touched, touches, Kind::Line) > MOST_LINES {
             return Err(Overflow::Fetch);
         }
@@ -114,12 +118,13 @@ impl Footprint {
         requires fits { fit_of (touching (sets_of self.old) touches.now) ≡ Ok tt }
         ensures { sets_of self.new ≡ touching (sets_of self.old) touches.now }
     {
-        self.line_count += added(&self.touched, touches, Kind::Line);
-        self.block_count += added(&self.blocks, touches, Kind::StoredBlock);
-        mark(&mut self.touched, touches, Kind::Line);
+        if touches.count() == 0 {
+            return;
+        }
+        self.line_count += mark_new(&mut self.touched, touches, Kind::Line);
+        self.block_count += mark_new(&mut self.blocks, touches, Kind::StoredBlock);
         mark(&mut self.fetched, touches, Kind::FetchedLine);
         mark(&mut self.stored, touches, Kind::StoredLine);
-        mark(&mut self.blocks, touches, Kind::StoredBlock);
     }
 
     /// Whether both have fetched and stored the same lines and stored the same blocks.

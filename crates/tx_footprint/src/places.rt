@@ -1,7 +1,7 @@
 //! Places of storage that ranges of absolute addresses touch: lines and blocks, counted and marked in sets.
 
 ghost use Rattle.std.specs.Prelude.{◌≡◌, ℕ, ◌+◌, ◌<◌, ◌≤◌, ◌||◌, All, List, length, take, slice_index_or};
-ghost use Rattle.std.specs.Prelude.{false, not};
+ghost use Rattle.std.specs.Prelude.{◌^◌, slice_set, true, false, not};
 ghost use Rattle.bit_set.specs.Counts.{count_below};
 ghost use Rattle.tx_footprint.specs.Places.{IsInStorage, size_of, places_of, records, covers, touched_by};
 ghost use Rattle.tx_footprint.specs.Places.{lies_in, marked_or_touched};
@@ -92,6 +92,18 @@ fn span_of(range: Range, kind: Kind) -> Span
     }
 }
 
+/// A bound on how many places of any one kind the ranges touch, by their lengths alone.
+pub fn most_places(touches: &Touches) -> u32
+    ensures places { (kind : Kind) → count_below (places_of kind) (touched_by kind touches.now) ≤ result }
+    ensures few { result ≤ 2 ^ 28 }
+{
+    let mut most = 0;
+    for i in 0..touches.count() {
+        most += touches.at(i).length / BLOCK_SIZE as u32 + 2;
+    }
+    most
+}
+
 /// Whether one of the first `before` ranges touches the place.
 fn is_touched_before(touches: &Touches, before: u8, kind: Kind, place: usize) -> bool
     requires some { before ≤ length touches.now }
@@ -175,4 +187,54 @@ pub fn mark(set: &mut BitSet, touches: &Touches, kind: Kind)
     for i in 0..touches.count() {
         mark_span(set, span_of(touches.at(i), kind));
     }
+}
+
+/// Adds a number to the set, and tells whether it was not there before.
+fn insert_new(set: &mut BitSet, place: usize) -> bool
+    requires { place < length set.old }
+    ensures marks { set.new ≡ slice_set set.old place true }
+    ensures new { result ≡ not (slice_index_or set.old place false) }
+{
+    let new = !set.has(place);
+    if new {
+        set.insert(place);
+    }
+    new
+}
+
+/// Adds the numbers of a span to the set, and tells how many of them were not there before.
+fn mark_span_new(set: &mut BitSet, span: Span) -> u32
+    requires order { span.first ≤ span.end }
+    requires within { span.end ≤ length set.old }
+    requires few { length set.old ≤ BLOCKS }
+    ensures size { length set.new ≡ length set.old }
+    ensures marks { (k : ℕ) → slice_index_or set.new k
+        false ≡ (slice_index_or set.old k false || lies_in span.first span.end k) }
+    ensures new { let places = length set.old in
+        result + count_below places (λ place. slice_index_or set.old place false)
+        ≡ count_below places (λ place. slice_index_or set.new place false) }
+{
+    let mut new = 0;
+    for place in span.first..span.end {
+        new += u32::from(insert_new(set, place));
+    }
+    new
+}
+
+/// Adds the places that the ranges touch to the set, and tells how many of them were not there before,
+/// each counted once.
+pub fn mark_new(set: &mut BitSet, touches: &Touches, kind: Kind) -> u32
+    requires size { length set.old ≡ places_of kind }
+    requires in_storage { All IsInStorage touches.now }
+    ensures size { length set.new ≡ length set.old }
+    ensures marks { (k : ℕ) → slice_index_or set.new k false ≡ marked_or_touched set.old kind touches.now k }
+    ensures new { let places = places_of kind in
+        result + count_below places (λ place. slice_index_or set.old place false)
+        ≡ count_below places (λ place. slice_index_or set.new place false) }
+{
+    let mut new = 0;
+    for i in 0..touches.count() {
+        new += mark_span_new(set, span_of(touches.at(i), kind));
+    }
+    new
 }

@@ -7,10 +7,31 @@ use Rattle.tx_footprint.specs.declared.places.Kind.TheVariants.{Line, StoredBloc
 use Rattle.tx_footprint.specs.Places.{marked_or_touched}
 use Rattle.tx_footprint.specs.Touched.{Sets, touching, sets_of}
 use Rattle.tx_footprint.proofs.Limits.{lines_after, blocks_after, too_many_lines, too_many_blocks, all_fit}
+use Rattle.tx_footprint.proofs.Limits.{most_lines_after, most_blocks_after}
 use Rattle.tx_footprint.proofs.footprint.Footprint.fits.Goals as goal
 
-pub overflow_add-self-inside : goal.overflow_add-self-inside
-overflow_add-self-inside c =
+pub returns-then-self-most-le-MOST_BLOCKS-clause-exact :
+    goal.returns-then-self-most-le-MOST_BLOCKS-clause-exact
+returns-then-self-most-le-MOST_BLOCKS-clause-exact c =
+    let after : Sets = touching (sets_of c.args.self.now) c.args.touches.now in
+    let lines =
+    most_lines_after c.self.invariant c.args.touches.now c.most_places-most.result c.self.view_is
+    (c.most_places-most.ensures.places Line) in
+    let blocks =
+    most_blocks_after c.self.invariant c.args.touches.now c.most_places-most.result c.self.view_is
+    (c.most_places-most.ensures.places StoredBlock) in
+    sym (all_fit after (omega arith) (omega arith))
+
+pub returns-then-self-most-le-MOST_BLOCKS-clause-fetch :
+    goal.returns-then-self-most-le-MOST_BLOCKS-clause-fetch
+returns-then-self-most-le-MOST_BLOCKS-clause-fetch c =
+    let lines =
+    most_lines_after c.self.invariant c.args.touches.now c.most_places-most.result c.self.view_is
+    (c.most_places-most.ensures.places Line) in
+    (λ e. let n : Ok tt ≡ Err Fetch = e in cc, λ over. absurd (omega arith))
+
+pub overflow_add-self-inside-2 : goal.overflow_add-self-inside-2
+overflow_add-self-inside-2 c =
     omega (
       arith,
       c.self.invariant.most_lines,
@@ -35,8 +56,8 @@ returns-then-self-added-gt-MOST_LINES-clause-fetch c =
     lines_after c.self.invariant c.args.touches.now c.added.result c.self.view_is c.added.ensures in
     (λ _. omega arith, λ _. refl)
 
-pub overflow_add-self-inside-2 : goal.overflow_add-self-inside-2
-overflow_add-self-inside-2 c =
+pub overflow_add-self-inside-3 : goal.overflow_add-self-inside-3
+overflow_add-self-inside-3 c =
     omega (
       arith,
       c.self.invariant.most_blocks,
