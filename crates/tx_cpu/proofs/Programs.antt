@@ -1,11 +1,11 @@
 -- Instructions that were read before they are executed: where they stand, and that they are the ones that are seen.
-use Rattle.std.proofs.Common.{◌≡◌, ◌≢◌, ℕ, ◌+◌, ◌*◌, ◌-◌, ◌/◌, ◌%◌, ◌<◌, ◌≤◌, true, false, List, [], ◌∷◌, ◌++◌}
+use Rattle.std.proofs.Common.{◌≡◌, ◌≢◌, ℕ, Bool, zero, ◌+◌, ◌*◌, ◌-◌, ◌/◌, ◌%◌, ◌<◌, ◌≤◌, true, false, List, [], ◌∷◌, ◌++◌}
 use Rattle.std.proofs.Common.{length, get_or, set, take, drop, Option, Some, None, refl, sym, ap, ◌∙◌, arith, inl, inr, ◌⊎◌}
-use Rattle.std.specs.Prelude.{slice_get, replicate, if◌then◌else◌, nat_lt, map, unwrap_or}
+use Rattle.std.specs.Prelude.{slice_get, replicate, IfSome, if◌then◌else◌, nat_lt, unwrap_or}
 use Rattle.std.proofs.lemmas.Bool.{cases_eq, cases_lt}
 use Rattle.std.proofs.lemmas.List.{get_or-set_same, get_or-set_other, get_or_past, get_or_append_left, length-set, length-append, get_or-replicate, length-replicate}
 use Rattle.std.proofs.lemmas.Option.{slice_get-get_or}
-use Rattle.z_regs.specs.Prefix.{storage_size, area_size, is_prefix, absolute_of}
+use Rattle.z_regs.specs.Prefix.{storage_size, is_prefix, absolute_of}
 use Rattle.z_regs.proofs.Exchange.{area}
 use Rattle.z_regs.proofs.MovedBytes.{along}
 use Rattle.z_instr.specs.Layout.{length_by}
@@ -13,7 +13,6 @@ use Rattle.z_instr.specs.Computing.{reading_of}
 use Rattle.z_instr.specs.declared.instr.Instr.{Instr}
 use Rattle.store_cache.specs.Overlay.{Overlay}
 use Rattle.tx_journal.specs.Image as image
-use Rattle.tx_serial.specs.Flat.{bytes_seen}
 use Rattle.tx_serial.specs.Fate.{length_at, instruction_at}
 use Rattle.tx_progress.specs.Progress.{Progress, seen_through}
 use Rattle.tx_progress.specs.Trial.{at_hand}
@@ -80,10 +79,10 @@ last_here : (instrs : List Instr) (i : Instr) → slice_get (instrs ++ i ∷ [])
 last_here [] i = refl
 last_here (x ∷ xs) i = last_here xs i
 
-zeros : (n half : ℕ) → get_or (replicate n 0) half 0 ≡ 0
+zeros : (n half : ℕ) → get_or (replicate n zero) half zero ≡ zero
 zeros n half = elim (cases_lt half n) [
-  | inl lt ↦ get_or-replicate n half 0 0 lt
-  | inr ge ↦ get_or_past (replicate n 0) half 0 (let l = length-replicate n 0 in omega (arith, l, ge))
+  | inl lt ↦ get_or-replicate n half zero zero lt
+  | inr ge ↦ get_or_past (replicate n zero) half zero (let l = length-replicate n zero in omega (arith, l, ge))
 ]
 
 pub one_read : (storage numbers : List ℕ) (instrs : List Instr) (i : Instr) (half : ℕ)
@@ -97,15 +96,20 @@ one_read storage numbers instrs i half are within reads = record {
   where
     number : ℕ → ℕ
     number other = get_or (set numbers half (length instrs + 1)) other 0
+
     total : length (instrs ++ i ∷ []) ≡ length instrs + 1
     total = length-append instrs (i ∷ [])
+
     new : (other : ℕ) → other ≡ half → number other ≡ length instrs + 1
     new other e = ap number e ∙ get_or-set_same numbers half (length instrs + 1) 0 within
+
     old : (other : ℕ) → other ≢ half → number other ≡ get_or numbers other 0
     old other ne = get_or-set_other numbers half other (length instrs + 1) 0 ne
+
     few : (other : ℕ) → (other ≡ half) ⊎ (other ≢ half) → number other ≤ length (instrs ++ i ∷ [])
     few other (inl e) = let n = new other e in omega (arith, n, total)
     few other (inr ne) = let n = old other ne in let w = are.within other in omega (arith, n, w, total)
+
     found : (other : ℕ) → 0 < number other → (other ≡ half) ⊎ (other ≢ half)
         → slice_get (instrs ++ i ∷ []) (number other - 1) ≡ read_at storage (2 * other)
     found other some (inl e) =
@@ -119,9 +123,22 @@ one_read storage numbers instrs i half are within reads = record {
         kept-earlier instrs i (number other - 1) lt ∙ ap (λ m. slice_get instrs (m - 1)) n
         ∙ are.read other (omega (arith, n, some))
 
-pub none_read : (storage : List ℕ) → AreRead storage (replicate 524288 0) []
-none_read storage = record {
-  size = ap (λ n. 2 * n) (length-replicate 524288 0);
-  within = λ half. let z = zeros 524288 half in omega (arith, z);
-  read = λ half some. let z = zeros 524288 half in absurd (omega (arith, z, some));
+pub none_read : (storage : List ℕ) (n : ℕ) → 2 * n ≡ storage_size → AreRead storage (replicate n zero) []
+none_read storage n h = record {
+  size = let l = length-replicate n zero in omega (arith, l, h);
+  within = λ half. let z = zeros n half in omega (arith, z);
+  read = λ half some. let z = zeros n half in absurd (omega (arith, z, some));
 }
+
+-- ---- the instruction with a number
+
+pub number_read : {X : Type 0} (value : X → Instr) (storage numbers : List ℕ) (instrs : List Instr) (place number : ℕ)
+    (found : Option X) → AreRead storage numbers instrs → number ≡ get_or numbers (place / 2) 0 → place % 2 ≡ 0
+    → number ≢ 0 → IfSome found (λ x. slice_get instrs (number - 1) ≡ Some (value x))
+    → IfSome found (λ x. read_at storage place ≡ Some (value x))
+number_read value storage numbers instrs place number None are e even some h = tt
+number_read value storage numbers instrs place number (Some x) are e even some h =
+    let half : 2 * (place / 2) ≡ place = omega (arith, even) in
+    sym (ap (read_at storage) half)
+    ∙ sym (are.read (place / 2) (omega (arith, e, some)))
+    ∙ ap (λ n. slice_get instrs (n - 1)) (sym e) ∙ h

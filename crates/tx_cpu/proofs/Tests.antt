@@ -10,7 +10,7 @@ use Rattle.z_instr.specs.Operands.{spans, unspecified, inaccessible}
 use Rattle.z_instr.specs.Access.{accessible_pages, text_pages}
 use Rattle.z_instr.specs.Table.{entry_at}
 use Rattle.z_instr.proofs.SmallOperands.{sizes}
-use Rattle.z_touch.specs.Refusals.{answer, refusal, first_of, fetch_answer, at_fetch}
+use Rattle.z_touch.specs.Refusals.{answer, fetch_answer, at_fetch}
 use Rattle.z_instr.specs.Layout.{length_by}
 use Rattle.tx_control.specs.declared.begins.Begin.{Begin}
 use Rattle.tx_control.specs.declared.exceptions.Exception.{Exception}
@@ -21,7 +21,6 @@ use Rattle.tx_serial.specs.Flat.{Storage, bytes_seen}
 use Rattle.tx_progress.specs.Progress.{Progress}
 use Rattle.tx_progress.specs.Trial.{at_hand, tried, fetched, fate_by_progress, tests_by, text_refusal_by}
 use Rattle.tx_progress.specs.Trial.{place_refusal_by, overflow_refusal_by}
-use Rattle.tx_cpu.specs.Refused.{AreOperands}
 use Rattle.tx_serial.proofs.FreeOperands.{inside_operands}
 use Rattle.tx_cpu.proofs.Reached.{accessible_spans}
 
@@ -53,24 +52,21 @@ not-excepted i (Some code) h = absurd (cc)
 
 -- ---- operands
 
-answered : (o : Option ℕ) (i : Instr) (need ranges : List Range) → Ok need ≡ answer o i ranges
-    → (o ≡ None) × (need ≡ ranges)
-answered None i need ranges h = (refl, cc)
-answered (Some code) i need ranges h = absurd (cc)
+answered : (o : Option ℕ) (i : Instr) (fits : Unit {0}) → Ok fits ≡ answer o i fits → o ≡ None
+answered None i fits h = refl
+answered (Some code) i fits h = absurd (cc)
 
--- an instruction that is well specified, and whose operands the next test lets pass, has accessible ones
-pub accessible-need : (text : List ℕ) (i : Instr) (c : Cpu) (depth : ℕ) (need : List Range)
-    → unspecified i c.general depth ≡ None
-    → Ok need ≡ answer (refusal i c depth text) i (operands i c)
+-- an instruction whose operands pass the tests of addressing has accessible ones
+pub accessible-need : (text : List ℕ) (i : Instr) (c : Cpu) (depth : ℕ) (need : List Range) (fits : Unit {0})
+    → need ≡ operands i c
+    → Ok fits ≡ answer (inaccessible i c.general c.condition depth (accessible_pages c.prefix)
+    (text_pages c.prefix text)) i fits
     → All (IsAccessible c.prefix) need
-accessible-need text i c depth need specified h =
-    let tested = inaccessible i c.general c.condition depth (accessible_pages c.prefix) (text_pages c.prefix
-    text) in
-    let parts = answered (refusal i c depth text) i need (operands i c) h in
-    let passed : tested ≡ None = ap (λ o. first_of o tested) (sym specified) ∙ parts.0 in
-    subst (All (IsAccessible c.prefix)) (sym parts.1)
+accessible-need text i c depth need fits e h =
+    subst (All (IsAccessible c.prefix)) (sym e)
     (accessible_spans c.prefix (spans i c.general c.condition)
-    (sizes (entry_at i.op.number).operands i c.general c.condition) (inside_operands text i c depth passed))
+    (sizes (entry_at i.op.number).operands i c.general c.condition)
+    (inside_operands text i c depth (answered _ i fits h)))
 
 -- ---- the fate of an instruction that is read
 
@@ -96,16 +92,16 @@ tried-first q i xs ys nest r f en e h =
     e ∙ ap (λ (n : List Begin). fate_after n r) en ∙ sym (ap (tried q i) (first-found xs ys r h))
 
 pub tried-later : (q : Progress) (i : Instr) (xs ys : List (Option Refusal)) (nest : List Begin) (r : Refusal)
-    (f : Fate) → nest ≡ q.nest → f ≡ fate_after nest r → None ≡ first_refusal xs → first_refusal ys ≡ Some r
+    (f : Fate) → nest ≡ q.nest → f ≡ fate_after nest r → None ≡ first_refusal xs → Some r ≡ first_refusal ys
     → f ≡ tried q i (first_refusal (xs ++ ys))
 tried-later q i xs ys nest r f en e none h =
-    e ∙ ap (λ (n : List Begin). fate_after n r) en ∙ sym (ap (tried q i) (first-none xs ys none ∙ h))
+    e ∙ ap (λ (n : List Begin). fate_after n r) en ∙ sym (ap (tried q i) (first-none xs ys none ∙ sym h))
 
 pub tried-goes : (q : Progress) (i : Instr) (xs ys : List (Option Refusal)) (need : List Range)
-    → None ≡ first_refusal xs → AreOperands need (first_refusal ys) (operands i q.cpu)
+    → None ≡ first_refusal xs → None ≡ first_refusal ys → need ≡ operands i q.cpu
     → Goes i need ≡ tried q i (first_refusal (xs ++ ys))
-tried-goes q i xs ys need none h =
-    ap (Goes i) h.touches ∙ sym (ap (tried q i) (first-none xs ys none ∙ h.passed))
+tried-goes q i xs ys need none passed same =
+    ap (Goes i) same ∙ sym (ap (tried q i) (first-none xs ys none ∙ sym passed))
 
 -- ---- the fate of the next instruction
 

@@ -1,5 +1,5 @@
 -- The instructions of a program, read once: where in a list of them the reading at an address stands.
-use Rattle.std.specs.Prelude.{◌≡◌, ℕ, ◌+◌, ◌*◌, ◌-◌, ◌<◌, ◌≤◌, List, length, take, drop, slice_get}
+use Rattle.std.specs.Prelude.{◌≡◌, ℕ, ◌*◌, ◌-◌, ◌<◌, ◌≤◌, List, length, take, drop, slice_get}
 use Rattle.std.specs.List.{slice_index_or}
 use Rattle.z_regs.specs.Prefix.{storage_size}
 use Rattle.z_instr.specs.declared.instr.Instr.{Instr}

@@ -213,7 +213,8 @@ impl Attempt {
         ensures { result ≡ false → (k : ℕ) → k < 6 → (stores_of self.now.stores).overlay (place + k) ≡ None }
     {
         let block = BLOCK_SIZE as u64;
-        self.stores.has_block((place / block) as u32) || self.stores.has_block(((place + 5) / block) as u32)
+        self.stores.has_block((place / block) as u32)
+            || self.stores.has_block(((place + 5) / block) as u32)
     }
 
     /// The absolute address of the six bytes from a real address on, where they lie one after the other in storage

@@ -136,10 +136,10 @@ impl Cpu {
     }
 
     /// The interruption that waits, where there is one.
-    pub fn waiting(&self) -> Option<&Waiting>
+    pub fn waiting(&self) -> &Option<Waiting>
         ensures { result.now ≡ (local_of self.now).waiting }
     {
-        self.waiting.as_ref()
+        &self.waiting
     }
 
     /// What comes of the next instruction. Its bytes are those of the program's storage, where they are as long as

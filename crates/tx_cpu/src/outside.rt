@@ -63,12 +63,7 @@ pub fn end_outside(image: &mut CpuImage, ended: Ended, length: u8)
 }
 
 /// An interruption waits from now on where the instruction has ended by an exception.
-pub fn wait_outside(
-    waiting: &mut Option<Waiting>,
-    prefix: Option<u32>,
-    length: u8,
-    ended: Ended,
-)
+pub fn wait_outside(waiting: &mut Option<Waiting>, prefix: Option<u32>, length: u8, ended: Ended)
     ensures { waiting.new ≡ waits_outside prefix length ended waiting.old }
 {
     match ended {

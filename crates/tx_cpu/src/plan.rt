@@ -15,7 +15,7 @@ ghost use Rattle.tx_cpu.specs.Tracked.{progress};
 ghost use Rattle.tx_cpu.specs.Parts.{storage_of};
 ghost use Rattle.tx_cpu.specs.Plans.{fate_of};
 ghost use Rattle.tx_cpu.specs.Refused.{refusal_of, found};
-ghost use Rattle.std.specs.Prelude.{◌&&◌, nat_le, IfSome, ◌<◌};
+ghost use Rattle.std.specs.Prelude.{◌&&◌, nat_le, IfSome, false};
 ghost use Rattle.z_instr.specs.Roles.{begins as is_begun};
 
 use crate::attempt::Attempt;
@@ -161,15 +161,11 @@ fn known_next<'a>(
 {
     let place = attempt.text_place(image.address, image.prefix)?;
     let instr = program.known(place)?;
-    Some((length_of(program.image().storage[place as usize]), instr))
+    Some((length_of(program.bytes()[place as usize]), instr))
 }
 
 /// How many bytes the next instruction has, and what they read as.
-fn next_instruction(
-    attempt: &Attempt,
-    image: &CpuImage,
-    program: &Program,
-) -> (u8, Option<Instr>)
+fn next_instruction(attempt: &Attempt, image: &CpuImage, program: &Program) -> (u8, Option<Instr>)
     ensures length { let q = progress attempt.now (cpu_of image.now) in
         result.0 ≡ length_at (at_hand (storage_of program.now.storage) q) }
     ensures reading { let q = progress attempt.now (cpu_of image.now) in
@@ -178,7 +174,7 @@ fn next_instruction(
     if let Some((length, instr)) = known_next(attempt, image, program) {
         return (length, Some(*instr));
     }
-    let bytes = attempt.text_bytes(image.address, image.prefix, &program.image().storage);
+    let bytes = attempt.text_bytes(image.address, image.prefix, program.bytes());
     let length = length_of(bytes[0]);
     (length, read(&bytes[..length as usize]))
 }
@@ -189,7 +185,7 @@ pub fn next_plan(attempt: &Attempt, image: &CpuImage, program: &Program) -> Plan
     ensures { fate_of result ≡ fate_by_progress (items program.now.guard) (storage_of program.now.storage)
         (progress attempt.now (cpu_of image.now)) }
 {
-    let guard = &program.image().guard;
+    let guard = program.guard();
     let nest = attempt.nest();
     let (length, reading) = next_instruction(attempt, image, program);
     match fetchable(image, guard, length) {

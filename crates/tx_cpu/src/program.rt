@@ -1,5 +1,6 @@
 //! A program whose instructions have been read.
-ghost use Rattle.std.specs.Prelude.{◌≡◌, ◌+◌, ◌≤◌, length, Some, IfOk, IfSome, OnOk, slice_index};
+ghost use Rattle.std.specs.Prelude.{◌≡◌, ℕ, ◌+◌, ◌*◌, ◌≤◌, List, [], length, Some, IfOk, IfSome, OnOk, slice_index, slice_get};
+ghost use Rattle.std.specs.List.{slice_index_or};
 ghost use Rattle.std.specs.Arc.{arc_value};
 ghost use Rattle.z_regs.specs.Prefix.{storage_size};
 ghost use Rattle.z_instr.specs.Computing.{reading_of};
@@ -13,7 +14,7 @@ use tx_journal::Image;
 use z_decode::{decode, length_of};
 use z_instr::instr::Instr;
 use z_instr::laws::reading_computes;
-use z_regs::{NoMemory, STORAGE_SIZE};
+use z_regs::{Guard, NoMemory, STORAGE_SIZE};
 
 /// The halfwords of storage; an instruction begins at one of them.
 const HALFWORDS: usize = STORAGE_SIZE as usize / 2;
@@ -63,7 +64,12 @@ fn read_from(storage: &[u8], place: usize) -> Option<Instr>
 }
 
 /// Reads the instruction that begins at an address, and gives it the next number.
-fn add(storage: &[u8], start: u32, numbers: &mut Vec<u32>, instrs: &mut Vec<Instr>) -> Result<(), NoMemory>
+fn add(
+    storage: &[u8],
+    start: u32,
+    numbers: &mut Vec<u32>,
+    instrs: &mut Vec<Instr>,
+) -> Result<(), NoMemory>
     requires size { length storage.now ≡ storage_size }
     requires read { AreRead storage.now numbers.old.items instrs.old.items }
     ensures { OnOk result (AreRead storage.now numbers.new.items instrs.new.items) }
@@ -82,19 +88,59 @@ fn add(storage: &[u8], start: u32, numbers: &mut Vec<u32>, instrs: &mut Vec<Inst
     Ok(())
 }
 
+/// Reads the assembled instructions of an image.
+fn add_all(image: &Image, numbers: &mut Vec<u32>, instrs: &mut Vec<Instr>) -> Result<(), NoMemory>
+    requires { AreRead image.now.storage numbers.old.items instrs.old.items }
+    ensures { OnOk result (AreRead image.now.storage numbers.new.items instrs.new.items) }
+{
+    let _cpus = image.cpu_count();
+    for start in image.starts.as_slice() {
+        add(&image.storage, *start, numbers, instrs)?;
+    }
+    Ok(())
+}
+
+/// Halfwords of which none has a number; they are those of all storage.
+fn unread(alloc: Global, halfwords: usize) -> Result<Vec<u32>, NoMemory>
+    requires { 2 * halfwords ≡ storage_size }
+    ensures { IfOk result (λ numbers. (storage : List ℕ) → AreRead storage numbers.items []) }
+{
+    match vec![in alloc; 0u32; halfwords] {
+        Ok(numbers) => Ok(numbers),
+        Err(_) => Err(NoMemory),
+    }
+}
+
+/// The number of a halfword, 0 for none.
+fn number_of(numbers: &[u32], half: usize) -> usize
+    ensures { result ≡ slice_index_or numbers.now half 0 }
+{
+    match numbers.get(half) {
+        None => 0,
+        Some(number) => *number as usize,
+    }
+}
+
+/// The instruction at an index, where there is one.
+fn nth(instrs: &[Instr], index: usize) -> Option<&Instr>
+    ensures { IfSome result (λ i. slice_get instrs.now index ≡ Some i.now) }
+{
+    instrs.get(index)
+}
+
 impl Program {
     /// The program of an image. The error is want of memory.
     pub fn open(alloc: Global, image: Arc<Image>) -> Result<Program, NoMemory>
         ensures { IfOk result (λ program. program ≡ arc_value image) }
     {
-        let Ok(mut numbers) = vec![in alloc; 0u32; HALFWORDS] else {
-            return Err(NoMemory);
-        };
+        let mut numbers = unread(alloc, HALFWORDS)?;
         let mut instrs = Vec::new(alloc);
-        for start in image.starts.as_slice() {
-            add(&image.storage, *start, &mut numbers, &mut instrs)?;
-        }
-        Ok(Program { image, numbers, instrs })
+        add_all(&image, &mut numbers, &mut instrs)?;
+        Ok(Program {
+            image,
+            numbers,
+            instrs,
+        })
     }
 
     /// The image.
@@ -111,6 +157,22 @@ impl Program {
         &self.image
     }
 
+    /// The bytes of its storage.
+    pub fn bytes(&self) -> &[u8]
+        ensures value { result.now ≡ self.now.storage }
+        ensures size { length self.now.storage ≡ storage_size }
+    {
+        let _cpus = self.image.cpu_count();
+        self.image.storage.as_slice()
+    }
+
+    /// Its text pages.
+    pub fn guard(&self) -> &Guard
+        ensures { result.now ≡ self.now.guard }
+    {
+        &self.image.guard
+    }
+
     /// The instruction that was read at an absolute address; None where none was.
     pub fn known(&self, place: u64) -> Option<&Instr>
         ensures { IfSome result (λ i. read_at self.now.storage place ≡ Some i.now) }
@@ -118,10 +180,10 @@ impl Program {
         if place % 2 == 1 {
             return None;
         }
-        let number = *self.numbers.get(place as usize / 2)? as usize;
+        let number = number_of(&self.numbers, place as usize / 2);
         if number == 0 {
             return None;
         }
-        self.instrs.get(number - 1)
+        nth(&self.instrs, number - 1)
     }
 }

@@ -32,5 +32,5 @@ returns-clause-value g c =
     (progress p.attempt p.image)) c.perform-ended.result _ _
     (take (first_size need) c.perform-ended.new.stored) _ _ _ _ _ c.length_in-length.result live
     (c.is_sound.ensures.rests (none_of _ live)) first c.perform-ended.ensures.value
-    c.perform-ended.ensures.image length c.end_outside.ensures c.waiting_outside-self-inside.ensures
+    c.perform-ended.ensures.image length c.end_outside.ensures c.wait_outside.ensures
     c.store_outside.ensures.value c.delay_after-turns.ensures c.told.ensures)

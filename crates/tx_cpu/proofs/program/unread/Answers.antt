@@ -1,0 +1,9 @@
+-- No halfword has a number.
+use Rattle.std.proofs.Common.{List, ℕ, [], subst, sym}
+use Rattle.tx_cpu.specs.Programs.{AreRead}
+use Rattle.tx_cpu.proofs.Programs.{none_read}
+use Rattle.tx_cpu.proofs.program.unread.Goals as goal
+
+pub returns-in-Ok : goal.returns-in-Ok
+returns-in-Ok c storage =
+    subst (λ (xs : List ℕ). AreRead storage xs []) (sym (c.in-Ok.ensures.items_if_clones_equal (λ y e. e))) (none_read storage c.args.halfwords c.requires)
