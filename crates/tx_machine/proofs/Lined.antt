@@ -67,7 +67,7 @@ use Rattle.std.specs.Prelude.{◌++◌}
 use Rattle.tx_machine.specs.Works.{KeepsBooks, seats_of}
 use Rattle.tx_meaning.specs.Turn.{is_tick}
 use Rattle.tx_machine.specs.Steps.{k_counted, k_waited}
-use Rattle.tx_machine.specs.InTurn.{MayAct}
+use Rattle.tx_machine.specs.InTurn.{MayAct, block_awaited}
 use Rattle.tx_machine.specs.Turned.{turned_as}
 use Rattle.tx_machine.specs.Works.{Works, Seat, kept_by, IsSameSize}
 use Rattle.tx_machine.proofs.Seats.{no_seat}
@@ -143,6 +143,33 @@ acting-block m i k (Some b) w a t e told =
     let same : a ≡ b.address = cc in
     told ∙ ap (λ n. k_with_lines m i (operand_needs (k.locals i).attempt.cpu.prefix (stored n 256 ∷ [])) k
     (λ (t : Kept). k_turned (k_storing i t) Executed)) same
+
+-- an interruption that waits, with or without a diagnostic block as is said
+pub record Awaited (waiting : Option Waiting) (block : Bool) : Type 0 where
+  pub interruption : Waiting
+  pub waits : waiting ≡ Some interruption
+  pub same : is_some interruption.block ≡ block
+
+pub awaited : (waiting : Option Waiting) (block : Bool) → Some block ≡ block_awaited waiting → Awaited waiting block
+awaited None block e = absurd (cc)
+awaited (Some w) block e = record { interruption = w; waits = refl; same = cc }
+
+pub acting-taken : (m : Setting) (i : ℕ) (k : Kept) (p : Option Pending) (waiting : Option Waiting) (block : Bool)
+    (t : KTurned) → None ≡ address_of p → Some block ≡ block_awaited waiting
+    → ((bytes : Option (List ℕ)) → is_some bytes ≡ block
+    → t ≡ k_with_lines m i (operand_needs (k.locals i).attempt.cpu.prefix (interruption_ranges bytes)) k
+    (λ (t : Kept). k_turned (k_taking i t) Executed))
+    → t ≡ k_acting m i k p waiting
+acting-taken m i k None None block t none e told = absurd (cc)
+acting-taken m i k None (Some w) block t none e told = told w.block (let same : is_some w.block ≡ block = cc in same)
+acting-taken m i k (Some b) waiting block t none e told = absurd (cc)
+
+-- an instruction that touches nothing needs no line
+pub without-needs : (m : Setting) (i : ℕ) (k : Kept) (prefix : Option ℕ) (need : List Range) (next : Kept → KTurned)
+    → length need ≡ 0 → next k ≡ k_with_lines m i (operand_needs prefix need) k next
+unfolding needs_of
+without-needs m i k prefix [] next e = refl
+without-needs m i k prefix (r ∷ rs) next e = absurd (omega arith)
 
 pub same-ranges : (a b : Option (List ℕ)) → is_some a ≡ is_some b → interruption_ranges a ≡
     interruption_ranges b

@@ -22,14 +22,14 @@ happen-turned-requires-clause-events c = has_events_room _ c.args.works.now _ c.
 
 pub returns-clause-stands : goal.returns-clause-stands
 returns-clause-stands c =
-    let m : Setting = record { image = c.args.image.now; limits = c.args.limits } in
+    let m : Setting = record { image = c.args.program.now; limits = c.args.limits } in
     stands_after m c.args.works.now c.happen-turned.new.self _ _ c.requires.stands c.args.e c.requires.known
     c.happen-turned.ensures.size (ap (λ (q : KTurned). q.kept) (c.happen-turned.ensures.value (nobody m)))
     c.left_behind.ensures
 
 pub returns-clause-state : goal.returns-clause-state
 returns-clause-state c =
-    let m : Setting = record { image = c.args.image.now; limits = c.args.limits } in
+    let m : Setting = record { image = c.args.program.now; limits = c.args.limits } in
     let kept = ap (λ (q : KTurned). q.kept) (c.happen-turned.ensures.value (nobody m)) in
     means m c.args.works.now c.happen-turned.new.self _ _ c.requires.stands
     (stands_after m c.args.works.now c.happen-turned.new.self _ _ c.requires.stands c.args.e c.requires.known
@@ -38,18 +38,18 @@ returns-clause-state c =
 
 pub returns-clause-events : goal.returns-clause-events
 returns-clause-events c =
-    let m : Setting = record { image = c.args.image.now; limits = c.args.limits } in
+    let m : Setting = record { image = c.args.program.now; limits = c.args.limits } in
     ap (λ (q : KTurned). q.kept.state.events) (c.happen-turned.ensures.value (nobody m))
     ∙ ap (λ (t : Turned). t.state.events) (tells m c.args.works.now _ c.requires.stands c.args.e c.requires.known)
 
 pub returns-clause-reject : goal.returns-clause-reject
 returns-clause-reject c =
-    let m : Setting = record { image = c.args.image.now; limits = c.args.limits } in
+    let m : Setting = record { image = c.args.program.now; limits = c.args.limits } in
     ap (λ (q : KTurned). q.reject) (c.happen-turned.ensures.value (nobody m))
     ∙ ap (λ (t : Turned). t.reject) (tells m c.args.works.now _ c.requires.stands c.args.e c.requires.known)
 
 pub returns-clause-outcome : goal.returns-clause-outcome
 returns-clause-outcome c =
-    let m : Setting = record { image = c.args.image.now; limits = c.args.limits } in
+    let m : Setting = record { image = c.args.program.now; limits = c.args.limits } in
     ap (λ (q : KTurned). q.outcome) (c.happen-turned.ensures.value (nobody m))
     ∙ ap (λ (t : Turned). t.outcome) (tells m c.args.works.now _ c.requires.stands c.args.e c.requires.known)

@@ -17,7 +17,7 @@ use Rattle.tx_machine.proofs.Laws.{queue_at_its_ends, few_turns_of_heads, unreje
 use Rattle.tx_machine.proofs.machine.Machine.event.Goals as goal
 
 abbrev setting : goal.After-advance → Setting
-setting c = record { image = arc_value c.self.inside.image; limits = c.self.inside.limits }
+setting c = record { image = c.self.inside.program; limits = c.self.inside.limits }
 
 stands : (c : goal.After-advance) → Stands (setting c) c.advance.new.works c.advance.new.externals_left
 stands c =

@@ -9,6 +9,6 @@ use Rattle.tx_machine.proofs.machine.Machine.finished.Goals as goal
 
 pub returns : goal.returns
 returns c =
-    let m : Setting = record { image = arc_value c.self.inside.image; limits = c.self.inside.limits } in
+    let m : Setting = record { image = c.self.inside.program; limits = c.self.inside.limits } in
     c.is_finished.ensures (nobody m) ∙ sym (reads_finished m c.self.inside.works _ c.self.invariant c.args.cpu)
     ∙ ap (λ (s : Seen). is_finished (setting_of s) (state_of s) c.args.cpu) c.self.view_is

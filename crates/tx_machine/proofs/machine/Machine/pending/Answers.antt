@@ -15,7 +15,7 @@ use Rattle.tx_machine.proofs.machine.Machine.pending.Goals as goal
 
 pub returns : goal.returns
 returns c =
-    let m : Setting = record { image = arc_value c.self.inside.image; limits = c.self.inside.limits } in
+    let m : Setting = record { image = c.self.inside.program; limits = c.self.inside.limits } in
     let cpu = c.args.cpu in
     let within : cpu < length c.self.inside.works.slots =
     subst (λ n. cpu < n) (sym c.self.invariant.cpus)

@@ -13,7 +13,7 @@ use Rattle.tx_machine.proofs.machine.Machine.spent.Goals as goal
 
 pub returns : goal.returns
 returns c =
-    let m : Setting = record { image = arc_value c.self.inside.image; limits = c.self.inside.limits } in
+    let m : Setting = record { image = c.self.inside.program; limits = c.self.inside.limits } in
     ap (λ (n : ℕ). nat_le c.self-inside.inside.0.1.0.turns n) (c.turns.ensures (nobody m))
     ∙ ap (λ (i : Inside). nat_le i.limits.turns ((kept_by (nobody m) i.works).state.numbers c.args.cpu).turns)
     c.self-inside.view_is

@@ -8,7 +8,7 @@ use Rattle.tx_meaning.specs.Limits.{Setting}
 use Rattle.tx_machine.specs.Turned.{turned_as}
 use Rattle.tx_machine.specs.Works.{kept_by}
 use Rattle.tx_machine.proofs.Seats.{no_seat}
-use Rattle.tx_machine.proofs.Lined.{no_limits, block-inside, block-holds, acting-block, same-ranges}
+use Rattle.tx_machine.proofs.Lined.{no_limits, block-inside, block-holds, acting-block, acting-taken, awaited, same-ranges}
 use Rattle.tx_machine.proofs.works.Works.act.Goals as goal
 
 pub store_pending-requires-clause-inside : goal.store_pending-requires-clause-inside
@@ -25,7 +25,7 @@ store_pending-requires-clause-holds c rest =
 
 pub returns-in-Some-clause-value : goal.returns-in-Some-clause-value
 returns-in-Some-clause-value c rest limits =
-    let m : Setting = record { image = c.args.image.now; limits = limits } in
+    let m : Setting = record { image = c.args.program.now; limits = limits } in
     let k = kept_by rest c.args.self.now in
     acting-block m c.args.cpu k (k.locals c.args.cpu).pending (k.locals c.args.cpu).waiting c.in-Some.address
     (turned_as (kept_by rest c.store_pending.new.self) c.store_pending.result) ((c.in-Some.ensures) rest)
@@ -33,13 +33,24 @@ returns-in-Some-clause-value c rest limits =
 
 pub take_waiting-requires-clause-rests : goal.take_waiting-requires-clause-rests
 take_waiting-requires-clause-rests c rest =
-    (c.requires.turns rest no_limits).rests c.in-Some-waiting.waiting (sym ((c.in-Some-waiting.ensures) rest))
+    let k = kept_by rest c.args.self.now in
+    let w = awaited (k.locals c.args.cpu).waiting c.in-Some-block.block ((c.in-Some-block.ensures) rest) in
+    (c.requires.turns rest no_limits).rests w.interruption w.waits
 
 pub take_waiting-requires-clause-holds : goal.take_waiting-requires-clause-holds
 take_waiting-requires-clause-holds c rest bytes is =
     let k = kept_by rest c.args.self.now in
+    let w = awaited (k.locals c.args.cpu).waiting c.in-Some-block.block ((c.in-Some-block.ensures) rest) in
     subst (λ (rs : List Range). MayHold c.args.cpu (operand_needs (k.locals c.args.cpu).attempt.cpu.prefix
     rs) k)
-    (same-ranges c.in-Some-waiting.waiting.block bytes (sym c.is_some.ensures ∙ sym is))
-    ((c.requires.turns rest no_limits).takes c.in-Some-waiting.waiting
-    (sym ((c.in-Some-waiting.ensures) rest)))
+    (same-ranges w.interruption.block bytes (w.same ∙ sym is))
+    ((c.requires.turns rest no_limits).takes w.interruption w.waits)
+
+pub returns-in-Some-block-clause-value : goal.returns-in-Some-block-clause-value
+returns-in-Some-block-clause-value c rest limits =
+    let m : Setting = record { image = c.args.program.now; limits = limits } in
+    let k = kept_by rest c.args.self.now in
+    acting-taken m c.args.cpu k (k.locals c.args.cpu).pending (k.locals c.args.cpu).waiting c.in-Some-block.block
+    (turned_as (kept_by rest c.take_waiting.new.self) c.take_waiting.result)
+    ((c.in_default.ensures) rest) ((c.in-Some-block.ensures) rest)
+    (λ bytes is. c.take_waiting.ensures.value rest m bytes is c.requires.cpus)

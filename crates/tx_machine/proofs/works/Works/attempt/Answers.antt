@@ -13,7 +13,7 @@ use Rattle.tx_machine.proofs.works.Works.attempt.Goals as goal
 
 pub go-requires-clause-prepared : goal.go-requires-clause-prepared
 go-requires-clause-prepared c rest =
-    let m : Setting = record { image = c.args.image.now; limits = no_limits } in
+    let m : Setting = record { image = c.args.program.now; limits = no_limits } in
     record {
       text = text_of m;
       storage = image_storage m;
@@ -38,7 +38,7 @@ end_by-requires-clause-live c rest =
 pub end_by-requires-clause-climbs : goal.end_by-requires-clause-climbs
 end_by-requires-clause-climbs c rest =
     let k = kept_by rest c.args.self.now in
-    let m : Setting = record { image = c.args.image.now; limits = no_limits } in
+    let m : Setting = record { image = c.args.program.now; limits = no_limits } in
     may-end-own c.in-Ends.why k c.args.cpu
     (fate-own (text_of m) (image_storage m) (k.locals c.args.cpu).attempt c.in-Ends.why
     (sym ((c.in-Ends.ensures).value rest no_limits)))
@@ -59,7 +59,7 @@ go-requires-clause-rested c rest = (c.requires.turns rest no_limits).rested
 
 pub returns-in-Go-clause-value : goal.returns-in-Go-clause-value
 returns-in-Go-clause-value c rest limits =
-    let m : Setting = record { image = c.args.image.now; limits = limits } in
+    let m : Setting = record { image = c.args.program.now; limits = limits } in
     let k = kept_by rest c.args.self.now in
     c.go.ensures.value rest m c.requires.cpus
     ∙ ap (k_attempting m c.args.cpu k)
@@ -67,7 +67,7 @@ returns-in-Go-clause-value c rest limits =
 
 pub returns-in-Ends-clause-value : goal.returns-in-Ends-clause-value
 returns-in-Ends-clause-value c rest limits =
-    let m : Setting = record { image = c.args.image.now; limits = limits } in
+    let m : Setting = record { image = c.args.program.now; limits = limits } in
     let k = kept_by rest c.args.self.now in
     c.end_by.ensures.value rest
     ∙ ap (λ at. k_ends_by c.args.cpu c.in-Ends.why at k) (c.next_address-at.ensures rest)
@@ -76,7 +76,7 @@ returns-in-Ends-clause-value c rest limits =
 
 pub returns-in-Stops-clause-value : goal.returns-in-Stops-clause-value
 returns-in-Stops-clause-value c rest limits =
-    let m : Setting = record { image = c.args.image.now; limits = limits } in
+    let m : Setting = record { image = c.args.program.now; limits = limits } in
     let k = kept_by rest c.args.self.now in
     c.stop.ensures.value rest
     ∙ ap (k_attempting m c.args.cpu k)

@@ -13,7 +13,7 @@ external-requires-clause-room c = room-now c.args.self.now (c.requires.acts no_s
 
 pub returns-then-is_tick-clause-value : goal.returns-then-is_tick-clause-value
 returns-then-is_tick-clause-value c rest =
-    let m : Setting = record { image = c.args.image.now; limits = c.args.limits } in
+    let m : Setting = record { image = c.args.program.now; limits = c.args.limits } in
     let k = kept_by rest c.args.self.now in
     ticked-is m k c.args.cpu (turned_as (kept_by rest c.external.new.self) c.external.result)
     (sym (ap (is_tick c.args.limits) (c.turns-turns.ensures rest)) ∙ sym c.is_tick.ensures ∙
@@ -22,7 +22,7 @@ returns-then-is_tick-clause-value c rest =
 
 pub returns-then-delay_of-gt0-clause-value : goal.returns-then-delay_of-gt0-clause-value
 returns-then-delay_of-gt0-clause-value c rest =
-    let m : Setting = record { image = c.args.image.now; limits = c.args.limits } in
+    let m : Setting = record { image = c.args.program.now; limits = c.args.limits } in
     let k = kept_by rest c.args.self.now in
     let mine = c.delay_of.ensures rest in
     let waits : 0 < (k.state.numbers c.args.cpu).delay = omega (arith, c.if-delay_of-gt0.true) in
@@ -33,7 +33,7 @@ returns-then-delay_of-gt0-clause-value c rest =
 
 pub returns-clause-value : goal.returns-clause-value
 returns-clause-value c rest =
-    let m : Setting = record { image = c.args.image.now; limits = c.args.limits } in
+    let m : Setting = record { image = c.args.program.now; limits = c.args.limits } in
     let k = kept_by rest c.args.self.now in
     let mine = c.delay_of.ensures rest in
     let rests : (k.state.numbers c.args.cpu).delay ≤ 0 = omega (arith, c.if-delay_of-gt0.false) in

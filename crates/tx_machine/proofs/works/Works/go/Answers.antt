@@ -10,7 +10,7 @@ use Rattle.tx_machine.specs.Ready.{MayHold}
 use Rattle.tx_machine.specs.Turned.{turned_as}
 use Rattle.tx_machine.specs.Works.{kept_by}
 use Rattle.tx_machine.proofs.Seats.{no_seat}
-use Rattle.tx_machine.proofs.Lined.{given-is, room-left}
+use Rattle.tx_machine.proofs.Lined.{given-is, room-left, without-needs}
 use Rattle.tx_machine.proofs.works.Works.go.Goals as goal
 
 pub operand_places-places-requires-clause-few : goal.operand_places-places-requires-clause-few
@@ -72,3 +72,11 @@ returns-in-None-clause-value c rest m e =
     (kept_by rest c.get_lines.new.self) None (k_executing c.args.cpu c.args.instr.now c.args.need.now)
     (turned_as (kept_by rest c.execute.new.self) c.execute.result) places ((c.in-None.ensures).kept rest m e)
     (c.execute.ensures.value rest)
+
+pub returns-then-count-eq0-clause-value : goal.returns-then-count-eq0-clause-value
+returns-then-count-eq0-clause-value c rest m e =
+    let k = kept_by rest c.args.self.now in
+    c.execute.ensures.value rest
+    ∙ without-needs m c.args.cpu k (k.locals c.args.cpu).attempt.cpu.prefix c.args.need.now
+    (k_executing c.args.cpu c.args.instr.now c.args.need.now)
+    (sym c.count.ensures.value ∙ c.if-count-eq0.true)

@@ -15,7 +15,7 @@ external-requires-clause-room c =
 pub returns-in-External-clause-value : goal.returns-in-External-clause-value
 unfolding k_happen
 returns-in-External-clause-value c rest =
-    let m : Setting = record { image = c.args.image.now; limits = c.args.limits } in
+    let m : Setting = record { image = c.args.program.now; limits = c.args.limits } in
     let now = c.args.self.now in
     let cpu = c.in-External.cpu in
     c.external.ensures.value rest
