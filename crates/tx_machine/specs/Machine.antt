@@ -113,6 +113,16 @@ counts_with t history i = record {
   aborts = count_by (aborts_of i) history;
 }
 
+-- what is counted of a CPU beside the history
+abbrev pub tally_at : State → ℕ → Tally
+tally_at s i = record {
+  attempts = (s.numbers i).attempts;
+  delay = (s.numbers i).delay;
+  turns = (s.numbers i).turns;
+  asked = (s.numbers i).asked;
+  rejected = (s.numbers i).rejected;
+}
+
 -- ---- what is kept beside it
 
 -- the seat behind the last CPU

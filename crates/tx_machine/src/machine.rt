@@ -24,6 +24,7 @@ ghost use Rattle.tx_serial.specs.Apply.{interruption_code};
 ghost use Rattle.tx_cpu.specs.Parts.{local_of};
 ghost use Rattle.tx_machine.specs.Machine.{IsLeft, Stands, setting_of, state_of, opened, event_of, after};
 ghost use Rattle.tx_machine.specs.Machine.{levels_at, code_awaited, counts_at, counts_with, commits_of, aborts_of};
+ghost use Rattle.tx_machine.specs.Machine.{tally_at};
 
 use crate::slot::Tally;
 use crate::works::Works;
@@ -374,5 +375,15 @@ impl Machine {
     {
         let tally = self.works.slots[cpu as usize].tally;
         counts_of(tally, self.works.history.as_slice(), cpu)
+    }
+
+    /// What is counted of the CPU beside the history. That has less than 2^32 entries, so what is counted in it
+    /// for all CPUs at once fits 32 bits.
+    pub fn tally(&self, cpu: u32) -> Tally
+        requires { cpu < length self.now.image.cpus }
+        ensures value { result ≡ tally_at (state_of self.now) cpu }
+        ensures short { length (state_of self.now).history < 2 ^ 32 }
+    {
+        self.works.slots[cpu as usize].tally
     }
 }

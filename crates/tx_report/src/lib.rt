@@ -3,6 +3,7 @@
 
 mod bytes;
 mod counters;
+mod ends;
 mod processors;
 #[cfg(test)]
 mod tests;
