@@ -41,7 +41,7 @@ use Rattle.tx_keeping.specs.Asking.{k_all_given, k_get_unless, k_then_ask}
 use Rattle.tx_machine.specs.Works.{Works, Seat, IsSameSize, kept_by}
 use Rattle.tx_machine.specs.Ready.{MayAsk, MayHold}
 use Rattle.tx_machine.specs.Asks.{AskLeaves, IsReady, IsFew, asked_by}
-use Rattle.tx_machine.proofs.Leaves.{leaves_none, leaves_then, leaves_at_most}
+use Rattle.tx_machine.proofs.Leaves.{leaves_then, leaves_at_most}
 
 -- ---- a line to give up
 

@@ -29,15 +29,15 @@ use Rattle.z_regs.specs.Prefix.{storage_size}
 use Rattle.z_regs.specs.declared.waiting.Waiting.{Waiting}
 use Rattle.tx_serial.specs.Flat.{Pending}
 use Rattle.tx_cpu.specs.Plans.{address_of}
-use Rattle.tx_progress.specs.Trial.{fate_by_progress}
-use Rattle.tx_meaning.specs.Needs.{needs_of, operand_needs, block_needs, interruption_needs, stored}
+use Rattle.tx_meaning.specs.Needs.{needs_of, operand_needs, block_needs, stored}
 use Rattle.tx_meaning.specs.Needs.{interruption_ranges}
 use Rattle.tx_meaning.specs.declared.outcome.Outcome.TheVariants.{Executed}
+use Rattle.tx_keeping.specs.Asking as asking
 use Rattle.tx_keeping.specs.Moves.{k_storing, k_taking}
-use Rattle.tx_keeping.specs.Turn.{k_turned, k_acting, k_attempting}
+use Rattle.tx_keeping.specs.Turn.{k_turned, k_acting}
 use Rattle.tx_meaning.specs.State.{is_live}
 use Rattle.tx_meaning.specs.declared.asking.Reject.{Reject}
-use Rattle.tx_keeping.specs.Kept.{Kept, text_of, with_state}
+use Rattle.tx_keeping.specs.Kept.{Kept, with_state}
 use Rattle.tx_keeping.specs.Asking.{KAsked, k_get_lines}
 use Rattle.tx_keeping.specs.Turn.{
   KTurned,
@@ -167,7 +167,7 @@ acting-taken m i k (Some b) waiting block t none e told = absurd (cc)
 -- an instruction that touches nothing needs no line
 pub without-needs : (m : Setting) (i : ℕ) (k : Kept) (prefix : Option ℕ) (need : List Range) (next : Kept → KTurned)
     → length need ≡ 0 → next k ≡ k_with_lines m i (operand_needs prefix need) k next
-unfolding needs_of
+unfolding needs_of asking.k_get_each
 without-needs m i k prefix [] next e = refl
 without-needs m i k prefix (r ∷ rs) next e = absurd (omega arith)
 

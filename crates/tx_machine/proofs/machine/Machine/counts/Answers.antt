@@ -3,7 +3,6 @@ use Rattle.std.proofs.Common.{◌<◌, sym, ap, ◌∙◌, subst, length}
 use Rattle.std.specs.Prelude.{List, get_or}
 use Rattle.tx_journal.specs.declared.entries.Entry.{Entry}
 use Rattle.std.proofs.lemmas.List.{get_or_default}
-use Rattle.std.specs.Arc.{arc_value}
 use Rattle.tx_meaning.specs.Limits.{Setting}
 use Rattle.tx_meaning.specs.State.{State}
 use Rattle.tx_machine.specs.Machine.{counts_at, counts_with}

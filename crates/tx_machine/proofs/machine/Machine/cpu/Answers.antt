@@ -2,7 +2,6 @@
 use Rattle.std.proofs.Common.{◌<◌, sym, ap, ◌∙◌, subst, length}
 use Rattle.std.specs.Prelude.{get_or}
 use Rattle.std.proofs.lemmas.List.{get_or_default}
-use Rattle.std.specs.Arc.{arc_value}
 use Rattle.tx_meaning.specs.Limits.{Setting}
 use Rattle.tx_meaning.specs.State.{cpu_of}
 use Rattle.tx_machine.specs.Works.{Seat}

@@ -1,7 +1,5 @@
 -- What holds behind every event holds behind this one.
 use Rattle.std.proofs.Common.{◌≡◌, ◌+◌, ◌<◌, ◌≤◌, None, true, sym, subst, length}
-use Rattle.std.specs.Arc.{arc_value}
-use Rattle.tx_journal.specs.Content.{Content}
 use Rattle.tx_journal.specs.Image.{cpu_of_event}
 use Rattle.tx_meaning.specs.Limits.{Setting}
 use Rattle.tx_meaning.specs.Meaning.{meaning}
@@ -20,16 +18,11 @@ abbrev setting : goal.After-advance → Setting
 setting c = record { image = c.self.inside.program; limits = c.self.inside.limits }
 
 stands : (c : goal.After-advance) → Stands (setting c) c.advance.new.works c.advance.new.externals_left
-stands c =
-    subst (λ (i : Content). Stands (record { image = i; limits = c.self.inside.limits }) c.advance.new.works
-    c.advance.new.externals_left) c.deref.ensures c.advance.ensures.stands
+stands c = c.advance.ensures.stands
 
 means : (c : goal.After-advance) → (happen (setting c) c.args.e (meaning (setting c) c.self.inside.works.events)).state
     ≡ meaning (setting c) c.advance.new.works.events
-means c =
-    sym (subst (λ (i : Content). let m : Setting = record { image = i; limits = c.self.inside.limits } in
-    meaning m c.advance.new.works.events ≡ (happen m c.args.e (meaning m c.self.inside.works.events)).state)
-    c.deref.ensures c.advance.ensures.state)
+means c = sym c.advance.ensures.state
 
 known : (c : goal.After-advance) → cpu_of_event c.args.e < cpus_of (setting c)
 known c =

@@ -1,6 +1,5 @@
 -- What is kept is what the recorded events mean.
 use Rattle.std.proofs.Common.{sym, ap, ◌∙◌}
-use Rattle.std.specs.Arc.{arc_value}
 use Rattle.tx_meaning.specs.Idle.{is_finished}
 use Rattle.tx_meaning.specs.Limits.{Setting}
 use Rattle.tx_machine.specs.Machine.{Seen, setting_of, state_of, nobody}

@@ -1,9 +1,10 @@
 -- A machine that is opened stands for its image, and for no event.
-use Rattle.std.proofs.Common.{◌≡◌, ℕ, ◌+◌, ◌*◌, ap, ◌∙◌, subst, length}
+use Rattle.std.proofs.Common.{◌≡◌, ℕ, ◌+◌, ◌*◌, ap, sym, ◌∙◌, subst, length}
 use Rattle.std.specs.Arc.{arc_value}
 use Rattle.tx_journal.specs.Content.{Content}
 use Rattle.tx_journal.specs.Image.{IsImage}
 use Rattle.tx_meaning.specs.Limits.{Setting, RunLimits, AreAllowed}
+use Rattle.tx_machine.specs.Machine.{Stands}
 use Rattle.tx_machine.specs.Opened.{AreUnused}
 use Rattle.tx_machine.proofs.Opened.{stands}
 use Rattle.tx_machine.proofs.machine.Machine.open.Goals as goal
@@ -13,7 +14,9 @@ invariant_of-result c =
     let m : Setting = record { image = arc_value c.args.image; limits = c.args.limits } in
     let w = c.in_ok-works.works in
     let image : c.deref-2.result.now ≡ m.image = c.deref-2.ensures in
-    stands m w _ c.limits.inside.externals record {
+    subst (λ (i : Content). Stands (record { image = i; limits = c.args.limits }) w c.limits.inside.externals)
+    (sym c.in-Ok.ensures)
+    (stands m w _ c.limits.inside.externals record {
       image = subst IsImage c.deref.ensures c.cpu_count.ensures.image;
       limits = subst AreAllowed c.limits.view_is c.limits.invariant;
     }
@@ -29,4 +32,4 @@ invariant_of-result c =
     (ap (λ (n : ℕ). n * c.limits.inside.turns + c.limits.inside.externals + 1)
     (c.cpu_count.ensures.count ∙ ap (λ (i : Content). length i.cpus) c.deref.ensures)
     ∙ ap (λ (l : RunLimits). length m.image.cpus * l.turns + l.externals + 1) c.limits.view_is)
-    c.in_ok-works.ensures.room c.in_ok-works.ensures.events_room
+    c.in_ok-works.ensures.room c.in_ok-works.ensures.events_room)

@@ -1,6 +1,5 @@
 -- What is kept is what the recorded events mean.
 use Rattle.std.proofs.Common.{sym, ap, ◌∙◌}
-use Rattle.std.specs.Arc.{arc_value}
 use Rattle.std.specs.Prelude.{is_none}
 use Rattle.tx_meaning.specs.Idle.{is_ready}
 use Rattle.tx_meaning.specs.Limits.{Setting}

@@ -1,6 +1,5 @@
 -- What is kept is what the recorded events mean.
 use Rattle.std.proofs.Common.{ℕ, sym, ap, ◌∙◌}
-use Rattle.std.specs.Arc.{arc_value}
 use Rattle.std.specs.Prelude.{nat_le}
 use Rattle.tx_meaning.specs.Limits.{Setting}
 use Rattle.tx_meaning.specs.State.{State}

@@ -34,23 +34,23 @@ returns-in-Some-clause-value c rest limits =
 pub take_waiting-requires-clause-rests : goal.take_waiting-requires-clause-rests
 take_waiting-requires-clause-rests c rest =
     let k = kept_by rest c.args.self.now in
-    let w = awaited (k.locals c.args.cpu).waiting c.in-Some-block.block ((c.in-Some-block.ensures) rest) in
+    let w = awaited (k.locals c.args.cpu).waiting c.in-Some-awaited.block ((c.in-Some-awaited.ensures) rest) in
     (c.requires.turns rest no_limits).rests w.interruption w.waits
 
 pub take_waiting-requires-clause-holds : goal.take_waiting-requires-clause-holds
 take_waiting-requires-clause-holds c rest bytes is =
     let k = kept_by rest c.args.self.now in
-    let w = awaited (k.locals c.args.cpu).waiting c.in-Some-block.block ((c.in-Some-block.ensures) rest) in
+    let w = awaited (k.locals c.args.cpu).waiting c.in-Some-awaited.block ((c.in-Some-awaited.ensures) rest) in
     subst (λ (rs : List Range). MayHold c.args.cpu (operand_needs (k.locals c.args.cpu).attempt.cpu.prefix
     rs) k)
     (same-ranges w.interruption.block bytes (w.same ∙ sym is))
     ((c.requires.turns rest no_limits).takes w.interruption w.waits)
 
-pub returns-in-Some-block-clause-value : goal.returns-in-Some-block-clause-value
-returns-in-Some-block-clause-value c rest limits =
+pub returns-in-Some-awaited-clause-value : goal.returns-in-Some-awaited-clause-value
+returns-in-Some-awaited-clause-value c rest limits =
     let m : Setting = record { image = c.args.program.now; limits = limits } in
     let k = kept_by rest c.args.self.now in
-    acting-taken m c.args.cpu k (k.locals c.args.cpu).pending (k.locals c.args.cpu).waiting c.in-Some-block.block
+    acting-taken m c.args.cpu k (k.locals c.args.cpu).pending (k.locals c.args.cpu).waiting c.in-Some-awaited.block
     (turned_as (kept_by rest c.take_waiting.new.self) c.take_waiting.result)
-    ((c.in_default.ensures) rest) ((c.in-Some-block.ensures) rest)
+    ((c.in_default.ensures) rest) ((c.in-Some-awaited.ensures) rest)
     (λ bytes is. c.take_waiting.ensures.value rest m bytes is c.requires.cpus)

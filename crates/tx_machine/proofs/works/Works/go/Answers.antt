@@ -10,7 +10,7 @@ use Rattle.tx_machine.specs.Ready.{MayHold}
 use Rattle.tx_machine.specs.Turned.{turned_as}
 use Rattle.tx_machine.specs.Works.{kept_by}
 use Rattle.tx_machine.proofs.Seats.{no_seat}
-use Rattle.tx_machine.proofs.Lined.{given-is, room-left, without-needs}
+use Rattle.tx_machine.proofs.Lined.{given-is, room-left, room-now, without-needs}
 use Rattle.tx_machine.proofs.works.Works.go.Goals as goal
 
 pub operand_places-places-requires-clause-few : goal.operand_places-places-requires-clause-few
@@ -42,7 +42,10 @@ refuse-requires-clause-room c =
     (c.requires.acts no_seat).room c.get_lines.ensures.size
 
 pub execute-requires-clause-room : goal.execute-requires-clause-room
-execute-requires-clause-room c =
+execute-requires-clause-room c = room-now c.args.self.now (c.requires.acts no_seat).room
+
+pub execute-requires-in-None-clause-room : goal.execute-requires-in-None-clause-room
+execute-requires-in-None-clause-room c =
     room-left c.args.self.now c.get_lines.new.self (c.get_lines.ensures.owed_no_more no_seat)
     (c.requires.acts no_seat).room c.get_lines.ensures.size
 
@@ -70,8 +73,8 @@ returns-in-None-clause-value c rest m e =
     given-is m c.args.cpu c.operand_places-places.result
     (absolute_ranges (k.locals c.args.cpu).attempt.cpu.prefix (c.args.need.now)) k
     (kept_by rest c.get_lines.new.self) None (k_executing c.args.cpu c.args.instr.now c.args.need.now)
-    (turned_as (kept_by rest c.execute.new.self) c.execute.result) places ((c.in-None.ensures).kept rest m e)
-    (c.execute.ensures.value rest)
+    (turned_as (kept_by rest c.execute-in-None.new.self) c.execute-in-None.result) places ((c.in-None.ensures).kept rest m e)
+    (c.execute-in-None.ensures.value rest)
 
 pub returns-then-count-eq0-clause-value : goal.returns-then-count-eq0-clause-value
 returns-then-count-eq0-clause-value c rest m e =
