@@ -1,9 +1,9 @@
 -- Marked items laid one after the other, by the marks below a place.
-use Rattle.std.proofs.Common.{◌≡◌, ◌≢◌, ℕ, ◌+◌, ◌*◌, ◌/◌, ◌%◌, ◌<◌, ◌≤◌, Bool, false, cond, ltb}
-use Rattle.std.proofs.Common.{List, length, get_or, set, take, Some, None, sym, ap}
+use Rattle.std.proofs.Common.{◌≡◌, ◌≢◌, ℕ, ◌+◌, ◌*◌, ◌/◌, ◌%◌, ◌<◌, ◌≤◌, Bool, false, cond}
+use Rattle.std.proofs.Common.{List, length, get_or, take, Some, None, sym, ap}
 use Rattle.std.proofs.Common.{◌∙◌, arith}
-use Rattle.std.proofs.lemmas.Bool.{cases_eq, cases_lt, cond-true, cond-false, lt-ltb, le-ltb}
-use Rattle.std.proofs.lemmas.List.{get_or-take, get_or_past, length-take, get_or-set_same, get_or-set_other}
+use Rattle.std.proofs.lemmas.Bool.{cases_lt, cond-true}
+use Rattle.std.proofs.lemmas.List.{get_or-take, get_or_past, length-take}
 use Rattle.std.proofs.lemmas.Nat.{mul-add-lt}
 use Rattle.std.proofs.Math.Nat.{mod-lt, mul_comm}
 use Rattle.bit_set.specs.Bits.{IsNext, NoneMarked}
@@ -98,38 +98,3 @@ all_below size pos blocks items marks from end is none i place = at_place i
         ∙ sym (items_of-at size blocks items marks place at.0 at.1))
         (λ absent. items_of-none size blocks items (take from marks) place absent
         ∙ sym (items_of-none size blocks items marks place absent))
-
--- ---- marks taken away
-
--- the marks from a place on, the ones below it taken away
-pub unmarked_more : (marks now then : List Bool) (from end at : ℕ)
-    → ((k : ℕ) → get_or now k false ≡ cond (ltb k from) false (get_or marks k false))
-    → IsNext now from end at → then ≡ set now at false → at < length now → (k : ℕ)
-    → get_or then k false ≡ cond (ltb k (at + 1)) false (get_or marks k false)
-unmarked_more marks now then from end at so_far next is room k =
-    ap (λ l. get_or l k false) is
-    ∙ by_way (cases_lt k (at + 1))
-    (λ lt. by_way (cases_eq k at)
-    (λ e. ap (λ n. get_or (set now at false) n false) e ∙ get_or-set_same now at false false room ∙ gone lt)
-    (λ ne. get_or-set_other now at k false false ne ∙ by_way (cases_lt k from)
-    (λ under. so_far k ∙ cond-true (ltb k from) false (get_or marks k false) (lt-ltb k from under) ∙ gone lt)
-    (λ le. next.first k le (omega (arith, lt, ne)) ∙ gone lt)))
-    (λ le. get_or-set_other now at k false false (λ e. absurd (omega (arith, e, le))) ∙ so_far k
-    ∙ cond-false (ltb k from) false (get_or marks k false) (le-ltb k from (omega (arith, le, next.from_on)))
-    ∙ sym (cond-false (ltb k (at + 1)) false (get_or marks k false) (le-ltb k (at + 1) le)))
-  where
-    gone : k < at + 1 → false ≡ cond (ltb k (at + 1)) false (get_or marks k false)
-    gone lt = sym (cond-true (ltb k (at + 1)) false (get_or marks k false) (lt-ltb k (at + 1) lt))
-
-pub unmarked_all : (marks now : List Bool) (from end : ℕ) → from ≤ end
-    → ((k : ℕ) → get_or now k false ≡ cond (ltb k from) false (get_or marks k false))
-    → NoneMarked now from end → (k : ℕ) → get_or now k false ≡ cond (ltb k end) false (get_or marks k false)
-unmarked_all marks now from end order so_far none k =
-    by_way (cases_lt k end)
-    (λ lt. by_way (cases_lt k from)
-    (λ under. so_far k ∙ cond-true (ltb k from) false (get_or marks k false) (lt-ltb k from under))
-    (λ le. none k le lt)
-    ∙ sym (cond-true (ltb k end) false (get_or marks k false) (lt-ltb k end lt)))
-    (λ le. so_far k
-    ∙ cond-false (ltb k from) false (get_or marks k false) (le-ltb k from (omega (arith, le, order)))
-    ∙ sym (cond-false (ltb k end) false (get_or marks k false) (le-ltb k end le)))

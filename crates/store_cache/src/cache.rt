@@ -8,7 +8,7 @@ ghost use Rattle.store_cache.specs.Stores.{no_stores, with_store, with_ntstg, la
 ghost use Rattle.store_cache.specs.Stores.{IsSound};
 ghost use Rattle.store_cache.specs.Entries.{stores_of};
 
-use crate::laying::{lay_bytes, lay_values, unmark};
+use crate::laying::{lay_bytes, lay_values};
 use bit_set::BitSet;
 use byteorder::{BigEndian, ByteOrder};
 use slot_index::SlotIndex;
@@ -202,9 +202,8 @@ impl StoreCache {
     fn empty(&mut self)
         ensures { stores_of self.new ≡ no_stores }
     {
-        let count = self.index.count();
-        unmark(&mut self.marks, count * BLOCK_SIZE);
-        unmark(&mut self.value_marks, count * DOUBLEWORDS);
+        self.marks.clear();
+        self.value_marks.clear();
         self.index.clear();
     }
 }

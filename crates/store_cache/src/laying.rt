@@ -64,18 +64,3 @@ fn put_all<V: Bytes>(into: &mut V, address: u64, bytes: &[u8])
         into.put(address + at as u64, *byte);
     }
 }
-
-/// Takes away the marks below an end.
-pub fn unmark(marks: &mut BitSet, end: usize)
-    requires { end ≤ length marks.old }
-    ensures size { length marks.new ≡ length marks.old }
-    ensures value { (at : ℕ)
-        → slice_index_or marks.new at false
-        ≡ (if nat_lt at end then false else slice_index_or marks.old at false) }
-{
-    let mut from = 0;
-    while let Some(at) = marks.next(from, end) {
-        marks.remove(at);
-        from = at + 1;
-    }
-}
