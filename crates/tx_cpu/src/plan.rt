@@ -15,7 +15,7 @@ ghost use Rattle.tx_cpu.specs.Tracked.{progress};
 ghost use Rattle.tx_cpu.specs.Parts.{storage_of};
 ghost use Rattle.tx_cpu.specs.Plans.{fate_of};
 ghost use Rattle.tx_cpu.specs.Refused.{refusal_of, found};
-ghost use Rattle.std.specs.Prelude.{◌&&◌, nat_le, IfSome, false};
+ghost use Rattle.std.specs.Prelude.{◌&&◌, nat_le, false};
 ghost use Rattle.z_instr.specs.Roles.{begins as is_begun};
 
 use crate::attempt::Attempt;
@@ -149,21 +149,6 @@ fn tried(attempt: &Attempt, image: &CpuImage, instr: Instr, guard: &Guard) -> Pl
     }
 }
 
-/// The next instruction and how many bytes it has, where it is one of those that the program has read and the
-/// attempt has stored nothing over it; else None.
-fn known_next<'a>(
-    attempt: &Attempt,
-    image: &CpuImage,
-    program: &'a Program,
-) -> Option<(u8, &'a Instr)>
-    ensures { let p = at_hand (storage_of program.now.storage) (progress attempt.now (cpu_of image.now)) in
-        IfSome result (λ next. (length_at p ≡ next.0) × (instruction_at p ≡ Some next.1.now)) }
-{
-    let place = attempt.text_place(image.address, image.prefix)?;
-    let instr = program.known(place)?;
-    Some((length_of(program.bytes()[place as usize]), instr))
-}
-
 /// How many bytes the next instruction has, and what they read as.
 fn next_instruction(attempt: &Attempt, image: &CpuImage, program: &Program) -> (u8, Option<Instr>)
     ensures length { let q = progress attempt.now (cpu_of image.now) in
@@ -171,8 +156,9 @@ fn next_instruction(attempt: &Attempt, image: &CpuImage, program: &Program) -> (
     ensures reading { let q = progress attempt.now (cpu_of image.now) in
         result.1 ≡ instruction_at (at_hand (storage_of program.now.storage) q) }
 {
-    if let Some((length, instr)) = known_next(attempt, image, program) {
-        return (length, Some(*instr));
+    if let Some(place) = attempt.text_place(image.address, image.prefix) {
+        let length = length_of(program.bytes()[place as usize]);
+        return (length, program.reading_at(place));
     }
     let bytes = attempt.text_bytes(image.address, image.prefix, program.bytes());
     let length = length_of(bytes[0]);
