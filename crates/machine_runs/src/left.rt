@@ -1,14 +1,14 @@
 //! What a machine shows, as text.
 ghost use Rattle.std.specs.Prelude.{◌<◌, length};
 
+use anyhow::{Context, Result};
 use std::alloc::Global;
 use std::fmt::Write;
-use std::test::Fail;
 use tx_journal::{Entry, entry_text};
 use tx_machine::machine::{Counts, Machine};
 use z_regs::{CpuImage, RunState, STORAGE_SIZE};
 
-fn add_state(text: &mut String, image: &CpuImage) -> Result<(), Fail> {
+fn add_state(text: &mut String, image: &CpuImage) -> Result<()> {
     match image.state {
         RunState::Running => text.push_str("running")?,
         RunState::Halted => text.push_str("halted")?,
@@ -32,7 +32,7 @@ fn add_state(text: &mut String, image: &CpuImage) -> Result<(), Fail> {
 }
 
 /// The attempt, the block and the interruption of a CPU, where there are any.
-fn add_attempt(text: &mut String, machine: &Machine, cpu: u32) -> Result<(), Fail>
+fn add_attempt(text: &mut String, machine: &Machine, cpu: u32) -> Result<()>
     requires { cpu < length machine.now.image.cpus }
 {
     if let Some((depth, completed)) = machine.live(cpu) {
@@ -47,7 +47,7 @@ fn add_attempt(text: &mut String, machine: &Machine, cpu: u32) -> Result<(), Fai
     Ok(())
 }
 
-fn add_counts(text: &mut String, counts: &Counts) -> Result<(), Fail> {
+fn add_counts(text: &mut String, counts: &Counts) -> Result<()> {
     let turns = counts.turns;
     let asked = counts.asked;
     let rejected = counts.rejected;
@@ -59,7 +59,7 @@ fn add_counts(text: &mut String, counts: &Counts) -> Result<(), Fail> {
 }
 
 /// The CPUs of a machine, one in a line.
-fn add_cpus(text: &mut String, machine: &Machine) -> Result<(), Fail> {
+fn add_cpus(text: &mut String, machine: &Machine) -> Result<()> {
     for cpu in 0..machine.image().cpu_count() {
         write!(text, "{cpu} ")?;
         add_state(text, machine.cpu(cpu))?;
@@ -80,7 +80,7 @@ fn add_cpus(text: &mut String, machine: &Machine) -> Result<(), Fail> {
 }
 
 /// The head of the stop queue, and the reject in the last event, where there are any.
-fn add_last(text: &mut String, machine: &Machine) -> Result<(), Fail> {
+fn add_last(text: &mut String, machine: &Machine) -> Result<()> {
     if let Some(head) = machine.queue_head() {
         writeln!(text, "stopped for {head}")?;
     }
@@ -93,7 +93,7 @@ fn add_last(text: &mut String, machine: &Machine) -> Result<(), Fail> {
 }
 
 /// A doubleword of storage that is no longer as it was.
-fn add_doubleword(text: &mut String, machine: &Machine, address: u32) -> Result<(), Fail> {
+fn add_doubleword(text: &mut String, machine: &Machine, address: u32) -> Result<()> {
     write!(text, "{address:x}: ")?;
     for k in 0..8_u32 {
         let at = address.wrapping_add(k);
@@ -121,7 +121,7 @@ fn is_changed(machine: &Machine, address: u32) -> bool {
 }
 
 /// The doublewords of storage that are no longer as they were.
-fn add_changes(text: &mut String, machine: &Machine) -> Result<(), Fail> {
+fn add_changes(text: &mut String, machine: &Machine) -> Result<()> {
     for k in 0..STORAGE_SIZE as u32 / 8 {
         let address = k.wrapping_mul(8);
         if is_changed(machine, address) {
@@ -131,21 +131,19 @@ fn add_changes(text: &mut String, machine: &Machine) -> Result<(), Fail> {
     Ok(())
 }
 
-/// What a machine shows, but its history, of which only the length is told.
-pub fn left_by(alloc: Global, machine: &Machine) -> Result<String, Fail> {
-    let mut text = String::new(alloc);
-    add_cpus(&mut text, machine)?;
-    add_last(&mut text, machine)?;
-    add_changes(&mut text, machine)?;
-    let entries = machine.journal().len();
-    writeln!(text, "history {entries}")?;
-    Ok(text)
+/// Adds what a machine shows, but its history.
+pub fn add_shown(text: &mut String, machine: &Machine) -> Result<()> {
+    add_cpus(text, machine)?;
+    add_last(text, machine)?;
+    add_changes(text, machine)
 }
 
-/// Entries of a history, one in a line.
-pub fn add_history(text: &mut String, alloc: Global, history: &[Entry]) -> Result<(), Fail> {
+/// Adds the length of a history, and its entries, one in a line.
+pub fn add_history(text: &mut String, alloc: Global, history: &[Entry]) -> Result<()> {
+    let entries = history.len();
+    writeln!(text, "history {entries}")?;
     for entry in history {
-        let line = entry_text(alloc, entry)?;
+        let line = entry_text(alloc, entry).ok().context("no memory")?;
         text.push_str(str::from_utf8(line.as_slice())?)?;
     }
     Ok(())
