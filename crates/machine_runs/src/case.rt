@@ -40,15 +40,13 @@ fn begun<'a>(alloc: Global, heading: &'a str) -> Result<Case<'a>> {
     let (turns, rest) = heading.split_once(' ').context("no turns")?;
     let (tick, rest) = rest.split_once(' ').context("no tick")?;
     let (events, name) = rest.split_once(' ').context("no events")?;
-    Ok(
-        Case {
-            name,
-            turns: turns.parse::<u32>()?,
-            tick: tick.parse::<u32>()?,
-            course: course_of(events)?,
-            listing: String::new(alloc),
-        },
-    )
+    Ok(Case {
+        name,
+        turns: turns.parse::<u32>()?,
+        tick: tick.parse::<u32>()?,
+        course: course_of(events)?,
+        listing: String::new(alloc),
+    })
 }
 
 /// All cases of the input, in their order.

@@ -31,7 +31,9 @@ pub struct Outcomes {
 impl Outcomes {
     /// No events.
     pub fn none(alloc: Global) -> Outcomes {
-        Outcomes { counts: BTreeMap::new(alloc) }
+        Outcomes {
+            counts: BTreeMap::new(alloc),
+        }
     }
 
     /// Counts the outcome of one event more.

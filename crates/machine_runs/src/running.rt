@@ -26,7 +26,9 @@ fn opened(alloc: Global, case: &Case) -> Result<Machine> {
         tick,
         externals: EXTERNALS,
     };
-    let image = assemble(alloc, case.listing.as_bytes()).ok().context("no image")?;
+    let image = assemble(alloc, case.listing.as_bytes())
+        .ok()
+        .context("no image")?;
     Machine::open(alloc, Arc::new(alloc, image)?, limits)
         .ok()
         .context("no memory")
@@ -48,7 +50,11 @@ fn happen(machine: &mut Machine, event: Event, outcomes: &mut Outcomes) -> Resul
 /// The first events of the listing's schedule.
 fn follow(machine: &mut Machine, count: usize, outcomes: &mut Outcomes) -> Result<()> {
     for place in 0..count {
-        let event = *machine.image().schedule.get(place).context("the schedule is shorter")?;
+        let event = *machine
+            .image()
+            .schedule
+            .get(place)
+            .context("the schedule is shorter")?;
         happen(machine, event, outcomes)?;
     }
     Ok(())
