@@ -7,6 +7,3 @@ mod families;
 mod run;
 
 pub use run::{execute, is_mine};
-
-#[cfg(test)]
-mod tests;

@@ -11,6 +11,3 @@ mod results;
 mod run;
 
 pub use run::{execute, is_mine};
-
-#[cfg(test)]
-mod tests;

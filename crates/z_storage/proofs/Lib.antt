@@ -8,4 +8,3 @@ pub mod Bytewise
 pub mod Order
 pub mod Whole
 pub mod Executing
-pub mod LowOperands

@@ -11,6 +11,3 @@ mod run;
 mod stored;
 
 pub use run::{execute, is_mine};
-
-#[cfg(test)]
-mod tests;

@@ -143,6 +143,3 @@ pub fn compare_bytes<V: Bytes>(
     advance(image, n);
     Ok(())
 }
-
-#[cfg(test)]
-mod tests;

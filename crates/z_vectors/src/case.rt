@@ -159,6 +159,14 @@ impl<'a> Case<'a> {
     }
 }
 
+/// The only state of a CPU that has a word.
+fn halted(text: &str) -> Result<RunState, Fault> {
+    match text {
+        "halted" => Ok(RunState::Halted),
+        _ => Err(Fault::Malformed),
+    }
+}
+
 /// What stands behind the arrow: what an instruction leaves of the CPU before it, and the exception's code.
 fn ending(alloc: Global, mut image: CpuImage, text: &str) -> Result<(Scene, Option<u16>), Fault> {
     let mut words = Words { rest: text };
@@ -168,5 +176,8 @@ fn ending(alloc: Global, mut image: CpuImage, text: &str) -> Result<(Scene, Opti
         Some(code) => Some(u16::try_from(hexadecimal(code)?).map_err(|_| Fault::Malformed)?),
         None => None,
     };
+    if let Some(state) = words.value_if_any("state=") {
+        image.state = halted(state)?;
+    }
     Ok((Scene::read(alloc, image, words.rest)?, exception))
 }

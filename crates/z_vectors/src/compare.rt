@@ -8,7 +8,16 @@ use crate::trial::{Answer, attempt};
 use crate::view::Watched;
 use std::alloc::{AllocError, Global};
 use std::fmt::Display;
-use z_regs::{Bytes, CpuImage};
+use z_regs::{Bytes, CpuImage, RunState};
+
+/// A number for each state: 0 running, 1 halted.
+fn state_number(state: RunState) -> u64 {
+    match state {
+        RunState::Running => 0,
+        RunState::Halted => 1,
+        RunState::Interrupted(code) => 65_536 + u64::from(code),
+    }
+}
 
 /// Differences in words.
 #[derive(Drop)]
@@ -42,6 +51,7 @@ impl Differences {
         self.add("at", ours.address, theirs.address)?;
         self.add("cc", u64::from(ours.condition), u64::from(theirs.condition))?;
         self.add("pm", u64::from(ours.mask), u64::from(theirs.mask))?;
+        self.add("state", state_number(ours.state), state_number(theirs.state))?;
         let (ours, theirs) = (answer.exception, case.exception);
         self.add(
             "x",

@@ -33,6 +33,11 @@ impl Report {
         Ok(())
     }
 
+    /// How many lines there were.
+    pub fn cases(&self) -> u64 {
+        self.cases
+    }
+
     /// How many lines differ.
     pub fn mismatches(&self) -> u64 {
         self.mismatches
