@@ -23,6 +23,3 @@ pub use laws::{
 pub use parameter::Parameter;
 pub use setup::Setup;
 pub use whole::{MOST_BYTES, MOST_LINES, assemble};
-
-#[cfg(test)]
-mod tests;
