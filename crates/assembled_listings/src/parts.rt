@@ -84,7 +84,10 @@ fn add_parms(text: &mut String, image: &Image) -> Result<()> {
     let starve = image.parms.starve;
     let stop = image.parms.stop;
     let delay = image.parms.delay;
-    write!(text, "; parms {reject} {firm} {late} {starve} {stop} {delay}")?;
+    write!(
+        text,
+        "; parms {reject} {firm} {late} {starve} {stop} {delay}"
+    )?;
     Ok(())
 }
 

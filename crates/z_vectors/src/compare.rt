@@ -51,7 +51,11 @@ impl Differences {
         self.add("at", ours.address, theirs.address)?;
         self.add("cc", u64::from(ours.condition), u64::from(theirs.condition))?;
         self.add("pm", u64::from(ours.mask), u64::from(theirs.mask))?;
-        self.add("state", state_number(ours.state), state_number(theirs.state))?;
+        self.add(
+            "state",
+            state_number(ours.state),
+            state_number(theirs.state),
+        )?;
         let (ours, theirs) = (answer.exception, case.exception);
         self.add(
             "x",

@@ -24,7 +24,10 @@ fn difference<'a>(
     }
     match line.split_once(" is ") {
         Some((name, kind)) => (name, kind_difference(alloc, name, kind)),
-        None => (Words { rest: line }.next(), effect_difference(alloc, line, view)),
+        None => (
+            Words { rest: line }.next(),
+            effect_difference(alloc, line, view),
+        ),
     }
 }
 

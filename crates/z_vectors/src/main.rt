@@ -37,7 +37,9 @@ const CHANGED: &str = "\nCHANGED\n";
 fn main(rt: HostRuntime) -> Result<()> {
     let mut source = ReaderSource::new(rt.reader());
     let input = read_all(rt.alloc(), &mut source, LIMIT)?;
-    let text = str::from_utf8(input.as_slice()).ok().context("the input is no text")?;
+    let text = str::from_utf8(input.as_slice())
+        .ok()
+        .context("the input is no text")?;
     let (vectors, changed) = text.split_once(CHANGED).unwrap_or((text, ""));
     let vectors = judge::judge(rt.alloc(), vectors)?;
     let changed = judge::judge(rt.alloc(), changed)?;
@@ -47,6 +49,9 @@ fn main(rt: HostRuntime) -> Result<()> {
         write_all(&mut sink, changed.text()?.as_bytes())?;
     }
     ensure!(vectors.mismatches() == 0, "there are mismatches");
-    ensure!(changed.mismatches() == changed.cases(), "a changed line is answered alike");
+    ensure!(
+        changed.mismatches() == changed.cases(),
+        "a changed line is answered alike"
+    );
     Ok(())
 }
