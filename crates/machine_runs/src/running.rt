@@ -1,5 +1,4 @@
 //! The machine of a case, and its events.
-ghost use Rattle.std.specs.Prelude.{◌<◌, length};
 
 use crate::case::{Case, Course};
 use crate::left::{add_history, add_shown};
