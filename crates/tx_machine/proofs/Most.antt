@@ -11,7 +11,7 @@ use Rattle.tx_meaning.specs.Room.{is_turn}
 use Rattle.tx_meaning.specs.State.{State, beginning}
 use Rattle.tx_meaning.specs.Turn.{happen}
 use Rattle.tx_meaning.proofs.Books.{few_turns, all_externals}
-use Rattle.tx_keeping.specs.Views.{AreKnown}
+use Rattle.tx_meaning.specs.Views.{AreKnown}
 use Rattle.tx_machine.specs.Machine.{most_events}
 
 abbrev if_turn : Event → ℕ

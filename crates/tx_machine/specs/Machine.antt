@@ -21,7 +21,7 @@ use Rattle.tx_serial.specs.Apply.{interruption_code}
 use Rattle.tx_meaning.specs.State.{is_live, attempt_of, State, cpus_of}
 use Rattle.tx_meaning.specs.Turn.{Turned, happen}
 use Rattle.tx_keeping.specs.Keeping.{keeping}
-use Rattle.tx_machine.specs.declared.machine.Counts.{Counts}
+use Rattle.tx_meaning.specs.declared.counts.Counts.{Counts}
 use Rattle.tx_machine.specs.declared.slot.Tally.{Tally}
 use Rattle.tx_machine.specs.Works.{Seat, Works, kept_by}
 
@@ -69,39 +69,12 @@ after s e = record s { events = (event_of s e).state.events; reject = (event_of 
 
 -- ---- what is read of it
 
--- how many begins are open, and how many instructions are completed, of an attempt that is live
-abbrev pub levels_at : Setting → State → ℕ → Option (ℕ × ℕ)
-levels_at m s i = if is_live s i then Some (length (attempt_of m s i).nest, (s.numbers i).completed) else None
-
 -- the code of an interruption that waits on a CPU in this state
 abbrev pub code_awaited : RunState → Option Waiting → Option ℕ
 code_awaited state None = None
 code_awaited state (Some w) = Some (interruption_code state)
 
 -- ---- counted in the history
-
-abbrev pub commits_of : ℕ → Entry → Bool
-commits_of i (Commit j n) = j == i
-commits_of i (Step j) = false
-commits_of i (Abort j n why) = false
-commits_of i (Tdb j) = false
-commits_of i (Interrupt j) = false
-
-abbrev pub aborts_of : ℕ → Entry → Bool
-aborts_of i (Abort j n why) = j == i
-aborts_of i (Step j) = false
-aborts_of i (Commit j n) = false
-aborts_of i (Tdb j) = false
-aborts_of i (Interrupt j) = false
-
-abbrev pub counts_at : State → ℕ → Counts
-counts_at s i = record {
-  turns = (s.numbers i).turns;
-  asked = (s.numbers i).asked;
-  rejected = (s.numbers i).rejected;
-  commits = count_by (commits_of i) s.history;
-  aborts = count_by (aborts_of i) s.history;
-}
 
 -- the same by what is kept
 abbrev pub counts_with : Tally → List Entry → ℕ → Counts

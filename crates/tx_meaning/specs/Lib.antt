@@ -12,3 +12,6 @@ pub mod Schedules
 pub mod Stretches
 pub mod Queues
 pub mod Room
+pub mod Heads
+pub mod Views
+pub mod Shown
