@@ -22,7 +22,7 @@ ghost use Rattle.tx_serial.specs.History.{IsLegal};
 ghost use Rattle.tx_cpu.specs.Plans.{address_of};
 ghost use Rattle.tx_serial.specs.Apply.{interruption_code};
 ghost use Rattle.tx_cpu.specs.Parts.{local_of};
-ghost use Rattle.tx_machine.specs.Machine.{IsLeft, Stands, setting_of, state_of, opened, event_of, after};
+ghost use Rattle.tx_machine.specs.Machine.{IsLeft, Stands, setting_of, state_of, opened, event_of, after, most_events};
 ghost use Rattle.tx_machine.specs.Machine.{levels_at, code_awaited, counts_at, counts_with, commits_of, aborts_of};
 ghost use Rattle.tx_machine.specs.Machine.{tally_at};
 
@@ -244,10 +244,13 @@ impl Machine {
         )
     }
 
-    /// What is recorded, in order: every event but turns that were idle.
+    /// What is recorded, in order: every event but turns that were idle. There are at most as many as all CPUs
+    /// may have turns, with the external events added; and never fewer than entries in the history.
     pub fn events(&self) -> &[Event]
         ensures recorded { result.now ≡ self.now.events }
         ensures meant { result.now ≡ (state_of self.now).events }
+        ensures most { length result.now ≤ most_events (setting_of self.now) }
+        ensures entries { length (state_of self.now).history ≤ length result.now }
     {
         self.works.events.as_slice()
     }
