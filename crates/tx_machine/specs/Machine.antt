@@ -1,13 +1,10 @@
 -- What a machine is seen as, and what it stands for.
-use Rattle.std.specs.Prelude.{◌≡◌, ℕ, ◌<◌, ◌+◌, ◌*◌, Bool, false, ◌==◌, List, [], length}
-use Rattle.std.specs.Prelude.{Option, Some, None, if◌then◌else◌, count_by}
-use Rattle.std.specs.Prelude.{refl}
+use Rattle.std.specs.Prelude.{◌≡◌, ℕ, ◌<◌, ◌+◌, ◌*◌, List, [], length, Option, Some, None, count_by, refl}
 use Rattle.std.specs.Coded.{Coded, code_by, coded×, coded_ℕ, coded_list, coded_option}
 use Rattle.tx_journal.specs.contracts.events.Event as event
 use Rattle.tx_meaning.specs.contracts.asking.Reject as reject
 use Rattle.tx_journal.specs.Content.{Content, content_code}
 use Rattle.tx_journal.specs.declared.entries.Entry.{Entry}
-use Rattle.tx_journal.specs.declared.entries.Entry.TheVariants.{Step, Commit, Abort, Tdb, Interrupt}
 use Rattle.tx_journal.specs.declared.events.Event.{Event}
 use Rattle.tx_journal.specs.declared.events.Event.TheVariants.{Turn, External}
 use Rattle.tx_ladder.specs.Rungs.{fresh}
@@ -18,7 +15,8 @@ use Rattle.tx_meaning.specs.Meaning.{IsSetting, AreEvents, meaning, is_external}
 use Rattle.z_regs.specs.declared.image.RunState.{RunState}
 use Rattle.z_regs.specs.declared.waiting.Waiting.{Waiting}
 use Rattle.tx_serial.specs.Apply.{interruption_code}
-use Rattle.tx_meaning.specs.State.{is_live, attempt_of, State, cpus_of}
+use Rattle.tx_meaning.specs.State.{State, cpus_of}
+use Rattle.tx_meaning.specs.Shown.{commits_of, aborts_of}
 use Rattle.tx_meaning.specs.Turn.{Turned, happen}
 use Rattle.tx_keeping.specs.Keeping.{keeping}
 use Rattle.tx_meaning.specs.declared.counts.Counts.{Counts}
@@ -76,7 +74,7 @@ code_awaited state (Some w) = Some (interruption_code state)
 
 -- ---- counted in the history
 
--- the same by what is kept
+-- what is counted of a CPU, by what is kept of it
 abbrev pub counts_with : Tally → List Entry → ℕ → Counts
 counts_with t history i = record {
   turns = t.turns;

@@ -24,7 +24,7 @@ ghost use Rattle.tx_serial.specs.Apply.{interruption_code};
 ghost use Rattle.tx_cpu.specs.Parts.{local_of};
 ghost use Rattle.tx_machine.specs.Machine.{IsLeft, Stands, setting_of, state_of, opened, event_of, after};
 ghost use Rattle.tx_meaning.specs.Shown.{levels_at, counts_at, commits_of, aborts_of};
-ghost use Rattle.tx_machine.specs.Machine.{code_awaited, counts_with};
+ghost use Rattle.tx_machine.specs.Machine.{code_awaited, counts_with, most_events};
 ghost use Rattle.tx_machine.specs.Machine.{tally_at};
 
 use crate::slot::Tally;
@@ -34,7 +34,7 @@ use std::marker::Model;
 use std::sync::Arc;
 use tx_cpu::{Cpu, Program};
 use tx_journal::{Entry, Event, Image};
-use tx_meaning::{Limits, Outcome, Reject};
+use tx_meaning::{Counts, Limits, Outcome, Reject};
 use z_regs::{CpuImage, RunState};
 
 /// There was no memory.
@@ -230,10 +230,13 @@ impl Machine {
         )
     }
 
-    /// What is recorded, in order: every event but turns that were idle.
+    /// What is recorded, in order: every event but turns that were idle. There are at most as many as all CPUs
+    /// may have turns, with the external events added; and never fewer than entries in the history.
     pub fn events(&self) -> &[Event]
         ensures recorded { result.now ≡ self.now.events }
         ensures meant { result.now ≡ (state_of self.now).events }
+        ensures most { length result.now ≤ most_events (setting_of self.now) }
+        ensures entries { length (state_of self.now).history ≤ length result.now }
     {
         self.works.events.as_slice()
     }

@@ -6,6 +6,7 @@ pub mod Needs
 pub mod Changes
 pub mod Asking
 pub mod Idle
+pub mod IdleOutcomes
 pub mod Turn
 pub mod Meaning
 pub mod Schedules
