@@ -1,6 +1,6 @@
 //! The answer of a holder.
 ghost use Rattle.std.specs.Prelude.{◌≡◌, ◌<◌};
-ghost use Rattle.line_table.specs.declared.table.TheConstants.{LINES};
+ghost use Rattle.line_table.specs.Sizes.{storage_lines};
 ghost use Rattle.tx_footprint.specs.Touched.{sets_of};
 ghost use Rattle.interrogate.specs.Replies.{conflicts, may_hold_out, cause_at, reply, after};
 
@@ -12,7 +12,7 @@ use tx_ladder::Ladder;
 
 /// Whether a request for the line conflicts with the holder's attempt.
 fn is_conflict(live: bool, footprint: &Footprint, line: u32, mode: Mode) -> bool
-    requires { line < LINES }
+    requires { line < storage_lines }
     ensures { result ≡
         conflicts live (sets_of footprint.now).fetched (sets_of footprint.now).stored line mode }
 {
@@ -34,7 +34,7 @@ fn is_firm(ladder: &Ladder, asker: Asker) -> bool
 
 /// The cause of an abort that a conflict over the line brings.
 fn cause_of(footprint: &Footprint, line: u32) -> Why
-    requires { line < LINES }
+    requires { line < storage_lines }
     ensures { result ≡ cause_at (sets_of footprint.now).stored line }
 {
     if footprint.stored(line) {
@@ -60,7 +60,7 @@ pub fn answer(
     mode: Mode,
     asker: Asker,
 ) -> Answer
-    requires { line < LINES }
+    requires { line < storage_lines }
     ensures value { result ≡
         reply live (sets_of footprint.now).fetched (sets_of footprint.now).stored ladder.old line mode asker }
     ensures counted { ladder.new ≡ after result ladder.old }

@@ -12,7 +12,7 @@ use Rattle.bit_set.proofs.Counts.{count_agree}
 use Rattle.slot_index.specs.Slots.{Slots, slot_in, slot_without, is_key}
 use borrow.Enum.Arm.{by_way}
 use Rattle.slot_index.proofs.Found.{slot_in-has, slot_in-add, slot_in-none, slot_cases}
-use Rattle.l1_data.specs.declared.copies.TheConstants.{LINES, LINE_SIZE}
+use Rattle.l1_data.specs.Sizes.{storage_lines, line_size}
 use Rattle.l1_data.specs.Copies.{Kept, Copies, copies_of, with_copy, no_copies, copy_count, byte_in, IsSound}
 use Rattle.l1_data.specs.Copies.{IsKept}
 
@@ -179,8 +179,8 @@ byte_found lines copies line slot at e lt =
     ∙ slice_get-get_or (get_or copies slot []) at 0 lt)
 
 pub counted_copies : (lines : List ℕ) (copies : List (List ℕ))
-    → count_below LINES (is_key lines) ≡ copy_count (copy_at lines copies)
-counted_copies lines copies = count_agree LINES (is_key lines) (λ line. is_some (copy_at lines copies line))
+    → count_below storage_lines (is_key lines) ≡ copy_count (copy_at lines copies)
+counted_copies lines copies = count_agree storage_lines (is_key lines) (λ line. is_some (copy_at lines copies line))
     (λ line lt. sym (is_some-copy_at lines copies line))
 
 -- what the invariant says of the copies
@@ -192,7 +192,7 @@ sound index copies kept within counted below =
       few = omega (arith, kept.most, within, number);
       in_storage = λ line past. at_none index.keys copies line (below line (omega (arith, past, kept.limit)));
       sized = λ line. by_way (slot_cases index.keys line)
-          (λ found. subst (λ o. IfSome o (λ copy. length copy ≡ LINE_SIZE))
+          (λ found. subst (λ o. IfSome o (λ copy. length copy ≡ line_size))
           (sym (at_found index.keys copies line found.0 found.1))
           (kept.sized found.0 (omega (
             arith,
@@ -200,7 +200,7 @@ sound index copies kept within counted below =
             within,
             kept.most,
           ))))
-          (λ none. subst (λ o. IfSome o (λ copy. length copy ≡ LINE_SIZE))
+          (λ none. subst (λ o. IfSome o (λ copy. length copy ≡ line_size))
           (sym (at_none index.keys copies line none)) tt);
     }
   where

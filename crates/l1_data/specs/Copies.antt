@@ -5,7 +5,7 @@ use Rattle.std.specs.List.{slice_index_or}
 use Rattle.std.specs.Option.{option_and_then, option_map}
 use Rattle.bit_set.specs.Counts.{count_below}
 use Rattle.slot_index.specs.Slots.{Slots, slot_in}
-use Rattle.l1_data.specs.declared.copies.TheConstants.{LINES, LINE_SIZE, MOST_COPIES}
+use Rattle.l1_data.specs.Sizes.{storage_lines, line_size, copy_limit}
 
 -- the bytes of the copy of each line that has one
 abbrev pub Copies : Type 0
@@ -20,7 +20,7 @@ with_copy copies line copy l = if l == line then copy else copies l
 
 -- how many lines have a copy
 abbrev pub copy_count : Copies → ℕ
-copy_count copies = count_below LINES (λ line. is_some (copies line))
+copy_count copies = count_below storage_lines (λ line. is_some (copies line))
 
 -- a byte of the copy of a line
 abbrev pub byte_in : Copies → ℕ → ℕ → Option ℕ
@@ -28,9 +28,9 @@ byte_in copies line at = option_and_then (λ copy. slice_get copy at) (copies li
 
 -- copies are of lines of storage and have a line's bytes, and there are not too many
 pub record IsSound (copies : Copies) : Type 0 where
-  pub few : copy_count copies ≤ MOST_COPIES
-  pub in_storage : (line : ℕ) → LINES ≤ line → copies line ≡ None
-  pub sized : (line : ℕ) → IfSome (copies line) (λ copy. length copy ≡ LINE_SIZE)
+  pub few : copy_count copies ≤ copy_limit
+  pub in_storage : (line : ℕ) → storage_lines ≤ line → copies line ≡ None
+  pub sized : (line : ℕ) → IfSome (copies line) (λ copy. length copy ≡ line_size)
 
 -- copies as data: the lines that have one, and for each of them in order the copy; what follows is of no
 -- account
@@ -43,7 +43,7 @@ copies_of kept line = option_map (λ slot. slice_index_or kept.copies slot []) (
 
 -- room for all copies, each of a line's size
 pub record IsKept (index : Slots) (copies : List (List ℕ)) : Type 0 where
-  pub limit : index.limit ≡ LINES
-  pub most : index.most ≡ MOST_COPIES
-  pub room : length copies ≡ MOST_COPIES
-  pub sized : (slot : ℕ) → slot < MOST_COPIES → length (slice_index_or copies slot []) ≡ LINE_SIZE
+  pub limit : index.limit ≡ storage_lines
+  pub most : index.most ≡ copy_limit
+  pub room : length copies ≡ copy_limit
+  pub sized : (slot : ℕ) → slot < copy_limit → length (slice_index_or copies slot []) ≡ line_size

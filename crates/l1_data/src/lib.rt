@@ -3,6 +3,7 @@
 #![tactic(auto)]
 
 mod copies;
+pub mod laws;
 
 pub use copies::{L1, LINE_SIZE, LINES, MOST_COPIES, NoMemory};
 

@@ -13,7 +13,7 @@ use borrow.Enum.Arm.{by_way}
 use Rattle.bit_set.specs.Counts.{one_if, count_below, but_at}
 use Rattle.bit_set.proofs.Counts.{count_but_at, but_at-other, one_outside}
 use Rattle.line_table.specs.declared.table.Mode.{Mode}
-use Rattle.line_table.specs.declared.table.TheConstants.{LINES, MOST_HELD}
+use Rattle.line_table.specs.Sizes.{storage_lines, held_limit}
 use Rattle.line_table.specs.Holders.{Holders, against, is_against, lines_held, IsOutside}
 
 abbrev is_in : List ℕ → ℕ → Bool
@@ -129,7 +129,7 @@ none_against cpus held cpu line wanted none = λ other lt ne.
 
 outside_from : (held : Holders) (cpu : ℕ) (kept kept' : ℕ → Bool)
     → ((k : ℕ) → is_some (held cpu k) ≡ true → kept' k ≡ false → kept k ≡ false)
-    → ((k : ℕ) × (k < LINES) × ((is_some (held cpu k) && not (kept' k)) ≡ true))
+    → ((k : ℕ) × (k < storage_lines) × ((is_some (held cpu k) && not (kept' k)) ≡ true))
     → (line : ℕ) × IsOutside held cpu kept line
 outside_from held cpu kept kept' weaker found =
     let parts = and_parts (is_some (held cpu found.0)) (not (kept' found.0)) found.2 in (
@@ -143,22 +143,22 @@ outside_from held cpu kept kept' weaker found =
     )
 
 pub holds_outside : (held : Holders) (cpu : ℕ) (kept : ℕ → Bool)
-    → count_below LINES kept < lines_held held cpu → (line : ℕ) × IsOutside held cpu kept line
+    → count_below storage_lines kept < lines_held held cpu → (line : ℕ) × IsOutside held cpu kept line
 holds_outside held cpu kept more =
     outside_from held cpu kept kept (λ k _ off. off)
-    (one_outside LINES (λ line. is_some (held cpu line)) kept more)
+    (one_outside storage_lines (λ line. is_some (held cpu line)) kept more)
 
 pub holds_outside_for_one_more : (held : Holders) (cpu wanted : ℕ) (kept : ℕ → Bool)
-    → MOST_HELD ≤ lines_held held cpu → count_below LINES kept ≤ MOST_HELD → wanted < LINES
+    → held_limit ≤ lines_held held cpu → count_below storage_lines kept ≤ held_limit → wanted < storage_lines
     → kept wanted ≡ true → held cpu wanted ≡ None → (line : ℕ) × IsOutside held cpu kept line
 holds_outside_for_one_more held cpu wanted kept full few lt needed free =
-    let fewer : count_below LINES (but_at kept wanted false) < lines_held held cpu =
-    omega (arith, count_but_at LINES kept wanted false lt, ap one_if needed, full, few) in
+    let fewer : count_below storage_lines (but_at kept wanted false) < lines_held held cpu =
+    omega (arith, count_but_at storage_lines kept wanted false lt, ap one_if needed, full, few) in
     outside_from held cpu kept (but_at kept wanted false)
     (λ k holds off. by_way (cases_eq k wanted)
     (λ e. let n : false ≡ true = sym (ap is_some (ap (held cpu) e ∙ free)) ∙ holds in cc)
     (λ ne. sym (but_at-other kept wanted false k ne) ∙ off))
-    (one_outside LINES (λ line. is_some (held cpu line)) (but_at kept wanted false) fewer)
+    (one_outside storage_lines (λ line. is_some (held cpu line)) (but_at kept wanted false) fewer)
 
 nil_from_none : (xs : List ℕ) → ((x : ℕ) → Contains xs x → ⊥) → xs ≡ []
 nil_from_none [] none = refl

@@ -5,7 +5,7 @@ use Rattle.std.specs.List.{slice_index_or, range_with_len}
 use Rattle.bit_set.specs.Counts.{count_below}
 use Rattle.line_table.specs.declared.table.Mode.{Mode}
 use Rattle.line_table.specs.declared.table.Mode.TheVariants.{Shared, Exclusive}
-use Rattle.line_table.specs.declared.table.TheConstants.{LINES, MOST_HELD}
+use Rattle.line_table.specs.Sizes.{storage_lines, held_limit}
 
 -- how each CPU holds each line, where it does
 abbrev pub Holders : Type 0
@@ -21,7 +21,7 @@ holding held cpu line mode c l = if c == cpu && l == line then mode else held c 
 
 -- how many lines a CPU holds
 abbrev pub lines_held : Holders → ℕ → ℕ
-lines_held held cpu = count_below LINES (λ line. is_some (held cpu line))
+lines_held held cpu = count_below storage_lines (λ line. is_some (held cpu line))
 
 -- whether another CPU's hold stands against a request: an exclusive one against any, a shared one against
 -- an exclusive request
@@ -39,7 +39,7 @@ against cpus held cpu line wanted =
 -- an exclusive holder is alone, and no CPU holds more lines than it may
 pub record IsSound (held : Holders) : Type 0 where
   pub alone : (cpu other line : ℕ) → held cpu line ≡ Some Exclusive → other ≢ cpu → held other line ≡ None
-  pub within : (cpu : ℕ) → lines_held held cpu ≤ MOST_HELD
+  pub within : (cpu : ℕ) → lines_held held cpu ≤ held_limit
 
 -- the first number from `from` on where something is held
 pub record IsFirstHeld (modes : ℕ → Option Mode) (from at : ℕ) : Type 0 where
@@ -49,7 +49,7 @@ pub record IsFirstHeld (modes : ℕ → Option Mode) (from at : ℕ) : Type 0 wh
 
 -- a line that a CPU holds and that is not kept
 pub record IsOutside (held : Holders) (cpu : ℕ) (kept : ℕ → Bool) (line : ℕ) : Type 0 where
-  pub in_storage : line < LINES
+  pub in_storage : line < storage_lines
   pub held_line : is_some (held cpu line) ≡ true
   pub not_kept : kept line ≡ false
 
@@ -60,4 +60,5 @@ pub record Holdings : Type 0 where
 
 -- how a CPU holds a line; not at all past the last CPU and the last line
 unfoldable pub mode_in : Holdings → Holders
-mode_in t cpu line = if nat_lt line LINES then slice_index_or t.modes (cpu * LINES + line) None else None
+mode_in t cpu line =
+    if nat_lt line storage_lines then slice_index_or t.modes (cpu * storage_lines + line) None else None

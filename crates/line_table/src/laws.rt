@@ -7,6 +7,7 @@ ghost use Rattle.bit_set.specs.Counts.{count_below};
 ghost use Rattle.line_table.specs.Holders.{Holders, against, is_against, lines_held, IsOutside};
 ghost use Rattle.line_table.specs.declared.table.Mode.{Mode};
 ghost use Rattle.line_table.specs.declared.table.TheConstants.{LINES, MOST_HELD};
+ghost use Rattle.line_table.specs.Sizes.{storage_lines, held_limit};
 
 /// The list of those that stand against a request has just the other CPUs whose hold does, in rising
 /// order.
@@ -22,8 +23,15 @@ pub fn against_lists_the_others()
 /// lines as it may, keeps no more, and keeps one that it does not hold yet, has a line to give up.
 pub fn holds_a_line_outside()
     ensures of_fewer { (held : Holders) (cpu : ℕ) (kept : ℕ → Bool)
-        → count_below LINES kept < lines_held held cpu → (line : ℕ) × IsOutside held cpu kept line }
+        → count_below storage_lines kept < lines_held held cpu → (line : ℕ) × IsOutside held cpu kept line }
     ensures for_one_more { (held : Holders) (cpu wanted : ℕ) (kept : ℕ → Bool)
-        → MOST_HELD ≤ lines_held held cpu → count_below LINES kept ≤ MOST_HELD → wanted < LINES
+        → held_limit ≤ lines_held held cpu → count_below storage_lines kept ≤ held_limit
+        → wanted < storage_lines
         → kept wanted ≡ true → held cpu wanted ≡ None → (line : ℕ) × IsOutside held cpu kept line }
+{}
+
+/// The numbers of the code are those of the definitions.
+pub fn sizes_are_the_defined_ones()
+    ensures lines { LINES ≡ storage_lines }
+    ensures held { MOST_HELD ≡ held_limit }
 {}

@@ -11,7 +11,7 @@ use Rattle.bit_set.proofs.Counts.{count_agree}
 use Rattle.slot_index.specs.Slots.{Slots, slot_in, is_key}
 use borrow.Enum.Arm.{by_way}
 use Rattle.slot_index.proofs.Found.{slot_in-has, slot_in-add, slot_in-none, slot_cases}
-use Rattle.store_cache.specs.declared.cache.TheConstants.{BLOCKS, BLOCK_SIZE, DOUBLEWORDS, MOST_BLOCKS}
+use Rattle.store_cache.specs.Sizes.{storage_blocks, block_size, block_doublewords, block_limit}
 use Rattle.store_cache.specs.Overlay.{Overlay, with_one, with_bytes, has_block, block_count}
 use Rattle.store_cache.specs.Stores.{Stores, no_stores, has_room, IsSound}
 use Rattle.store_cache.specs.Entries.{Entries, items_of, stores_of, IsKept}
@@ -24,9 +24,9 @@ use Rattle.store_cache.proofs.Cells.{items_of-none, items_of-empty, items_of-add
 abbrev pub shown : List ℕ → List ℕ → List Bool → List ℕ → List Bool → Stores
 shown blocks bytes marks values value_marks =
     record {
-      overlay = items_of BLOCK_SIZE blocks bytes marks;
+      overlay = items_of block_size blocks bytes marks;
       lasting =
-          items_of DOUBLEWORDS blocks values value_marks;
+          items_of block_doublewords blocks values value_marks;
     }
 
 pub stores_of-is : (blocks bytes : List ℕ) (marks : List Bool) (values : List ℕ) (value_marks : List Bool)
@@ -56,19 +56,19 @@ pub shown-empty : (bytes : List ℕ) (marks : List Bool) (values : List ℕ) (va
     → shown [] bytes marks values value_marks ≡ no_stores
 shown-empty bytes marks values value_marks i =
     record {
-      overlay = items_of-empty BLOCK_SIZE bytes marks i;
+      overlay = items_of-empty block_size bytes marks i;
       lasting =
-          items_of-empty DOUBLEWORDS values value_marks i;
+          items_of-empty block_doublewords values value_marks i;
     }
 
 -- ---- how many blocks are stored
 
 pub counted_blocks : (index : Slots) (bytes : List ℕ) (marks : List Bool) (values : List ℕ)
     (value_marks : List Bool) → IsKept index bytes marks values value_marks
-    → count_below index.limit (is_key index.keys) ≡ block_count (items_of BLOCK_SIZE index.keys bytes marks)
+    → count_below index.limit (is_key index.keys) ≡ block_count (items_of block_size index.keys bytes marks)
 counted_blocks index bytes marks values value_marks kept =
     ap (λ n. count_below n (is_key index.keys)) kept.limit
-    ∙ count_agree BLOCKS (is_key index.keys) (has_block (items_of BLOCK_SIZE index.keys bytes marks))
+    ∙ count_agree storage_blocks (is_key index.keys) (has_block (items_of block_size index.keys bytes marks))
     (λ block lt. sym (kept.stored block))
 
 pub sound : (index : Slots) (bytes : List ℕ) (marks : List Bool) (values : List ℕ) (value_marks : List Bool)
@@ -78,16 +78,16 @@ pub sound : (index : Slots) (bytes : List ℕ) (marks : List Bool) (values : Lis
 sound index bytes marks values value_marks kept within below =
     record {
       few = omega (arith, within, kept.most, counted_blocks index bytes marks values value_marks kept);
-      in_storage = λ address past. items_of-none BLOCK_SIZE index.keys bytes marks address
-          (below (address / BLOCK_SIZE) (omega (arith, past, kept.limit)));
+      in_storage = λ address past. items_of-none block_size index.keys bytes marks address
+          (below (address / block_size) (omega (arith, past, kept.limit)));
     }
 
 -- a block that is no entry's has room only where there is room for one more entry
 pub room_left : (overlay : Overlay) (block : ℕ) → has_block overlay block ≡ false
-    → has_room overlay block ≡ true → block_count overlay < MOST_BLOCKS
+    → has_room overlay block ≡ true → block_count overlay < block_limit
 room_left overlay block new room =
-    ltb-true (block_count overlay) MOST_BLOCKS
-    (sym (ap (λ b. b || ltb (block_count overlay) MOST_BLOCKS) new) ∙ room)
+    ltb-true (block_count overlay) block_limit
+    (sym (ap (λ b. b || ltb (block_count overlay) block_limit) new) ∙ room)
 
 -- ---- no entries
 
@@ -99,9 +99,9 @@ unmarked_at room cell = elim (cases_lt cell room) [
 ]
 
 pub emptied : (index : Slots) (bytes : List ℕ) (marks : List Bool) (values : List ℕ)
-    (value_marks : List Bool) → index.limit ≡ BLOCKS → index.most ≡ MOST_BLOCKS
-    → length bytes ≡ MOST_BLOCKS * BLOCK_SIZE → length marks ≡ MOST_BLOCKS * BLOCK_SIZE
-    → length values ≡ MOST_BLOCKS * DOUBLEWORDS → length value_marks ≡ MOST_BLOCKS * DOUBLEWORDS
+    (value_marks : List Bool) → index.limit ≡ storage_blocks → index.most ≡ block_limit
+    → length bytes ≡ block_limit * block_size → length marks ≡ block_limit * block_size
+    → length values ≡ block_limit * block_doublewords → length value_marks ≡ block_limit * block_doublewords
     → index.keys ≡ [] → ((cell : ℕ) → get_or marks cell false ≡ false)
     → ((cell : ℕ) → get_or value_marks cell false ≡ false) → IsKept index bytes marks values value_marks
 emptied index bytes marks values value_marks limit most byte_room mark_room value_room value_mark_room none
@@ -116,8 +116,8 @@ emptied index bytes marks values value_marks limit most byte_room mark_room valu
       unmarked = λ cell le. unmarked cell;
       no_value = λ cell le. no_value cell;
       stored = λ block.
-          ap (λ keys. has_block (items_of BLOCK_SIZE keys bytes marks) block) none
-          ∙ ap (λ (o : Overlay). has_block o block) (items_of-empty BLOCK_SIZE bytes marks)
+          ap (λ keys. has_block (items_of block_size keys bytes marks) block) none
+          ∙ ap (λ (o : Overlay). has_block o block) (items_of-empty block_size bytes marks)
           ∙ has_block-nothing block
           ∙ sym (ap is_some (ap (λ keys. slot_in keys block) none
           ∙ slot_in-none [] block (λ j lt. absurd (omega (arith, lt)))));
@@ -130,8 +130,8 @@ pub record Entered (old index : Slots) (bytes : List ℕ) (marks : List Bool) (v
   pub limit : index.limit ≡ old.limit
   pub most : index.most ≡ old.most
   pub longer : length old.keys ≤ length index.keys
-  pub same_bytes : items_of BLOCK_SIZE index.keys bytes marks ≡ items_of BLOCK_SIZE old.keys bytes marks
-  pub same_values : items_of DOUBLEWORDS index.keys values value_marks ≡ items_of DOUBLEWORDS old.keys values
+  pub same_bytes : items_of block_size index.keys bytes marks ≡ items_of block_size old.keys bytes marks
+  pub same_values : items_of block_doublewords index.keys values value_marks ≡ items_of block_doublewords old.keys values
       value_marks
   pub here : is_key index.keys block ≡ true
   pub others : (b : ℕ) → b ≢ block → is_key index.keys b ≡ is_key old.keys b
@@ -160,8 +160,8 @@ entered old index bytes marks values value_marks block kept is =
       limit = refl;
       most = refl;
       longer = omega (arith, length_push old.keys block);
-      same_bytes = items_of-add BLOCK_SIZE old.keys bytes marks block (none no) kept.unmarked;
-      same_values = items_of-add DOUBLEWORDS old.keys values value_marks block (none no) kept.no_value;
+      same_bytes = items_of-add block_size old.keys bytes marks block (none no) kept.unmarked;
+      same_values = items_of-add block_doublewords old.keys values value_marks block (none no) kept.no_value;
       here = ap is_some (slot_in-add old.keys block block (none no)
           ∙ cond-true (eqb block block) (Some (length old.keys)) (slot_in old.keys block)
           (eq-eqb block block refl));
@@ -182,20 +182,20 @@ entered old index bytes marks values value_marks block kept is =
 
 pub byte_shown : (old index : Slots) (bytes : List ℕ) (marks : List Bool) (values : List ℕ)
     (value_marks : List Bool) (address slot cell byte : ℕ) → IsKept old bytes marks values value_marks
-    → Entered old index bytes marks values value_marks (address / BLOCK_SIZE)
-    → slot_in index.keys (address / BLOCK_SIZE) ≡ Some slot → cell ≡ slot * BLOCK_SIZE + address % BLOCK_SIZE
-    → slot < MOST_BLOCKS → items_of BLOCK_SIZE index.keys (set bytes cell byte)
-    (set marks cell true) ≡ with_one (items_of BLOCK_SIZE old.keys bytes marks) address byte
+    → Entered old index bytes marks values value_marks (address / block_size)
+    → slot_in index.keys (address / block_size) ≡ Some slot → cell ≡ slot * block_size + address % block_size
+    → slot < block_limit → items_of block_size index.keys (set bytes cell byte)
+    (set marks cell true) ≡ with_one (items_of block_size old.keys bytes marks) address byte
 byte_shown old index bytes marks values value_marks address slot cell byte kept in_entry found is within =
-    items_of-store BLOCK_SIZE (omega arith) index.keys bytes marks address slot cell byte found is
+    items_of-store block_size (omega arith) index.keys bytes marks address slot cell byte found is
     (omega (arith, is, within, kept.byte_room)) (omega (arith, is, within, kept.mark_room))
     ∙ ap (λ (o : Overlay). with_one o address byte) in_entry.same_bytes
 
 pub byte_kept : (old index : Slots) (bytes : List ℕ) (marks : List Bool) (values : List ℕ)
     (value_marks : List Bool) (address slot cell byte : ℕ) → IsKept old bytes marks values value_marks
-    → Entered old index bytes marks values value_marks (address / BLOCK_SIZE)
-    → slot_in index.keys (address / BLOCK_SIZE) ≡ Some slot → cell ≡ slot * BLOCK_SIZE + address % BLOCK_SIZE
-    → slot < MOST_BLOCKS → IsKept index (set bytes cell byte) (set marks cell true) values value_marks
+    → Entered old index bytes marks values value_marks (address / block_size)
+    → slot_in index.keys (address / block_size) ≡ Some slot → cell ≡ slot * block_size + address % block_size
+    → slot < block_limit → IsKept index (set bytes cell byte) (set marks cell true) values value_marks
 byte_kept old index bytes marks values value_marks address slot cell byte kept in_entry found is within =
     record {
       limit = in_entry.limit ∙ kept.limit;
@@ -212,32 +212,32 @@ byte_kept old index bytes marks values value_marks address slot cell byte kept i
           ap (λ (o : Overlay). has_block o block)
           (byte_shown old index bytes marks values value_marks address slot cell byte kept in_entry found
           is within)
-          ∙ by_way (cases_eq block (address / BLOCK_SIZE))
-          (λ e. has_block-here (items_of BLOCK_SIZE old.keys bytes marks) address byte block e
+          ∙ by_way (cases_eq block (address / block_size))
+          (λ e. has_block-here (items_of block_size old.keys bytes marks) address byte block e
           ∙ sym (ap (is_key index.keys) e ∙ in_entry.here))
-          (λ ne. has_block-other (items_of BLOCK_SIZE old.keys bytes marks) address byte block ne
+          (λ ne. has_block-other (items_of block_size old.keys bytes marks) address byte block ne
           ∙ kept.stored block ∙ sym (in_entry.others block ne));
     }
   where
     used : slot < length index.keys
-    used = (slot_in-has index.keys (address / BLOCK_SIZE) slot found).within
+    used = (slot_in-has index.keys (address / block_size) slot found).within
 
 -- ---- a lasting value
 
 pub value_shown : (index : Slots) (bytes : List ℕ) (marks : List Bool) (values : List ℕ)
     (value_marks : List Bool) (doubleword slot cell value : ℕ) → IsKept index bytes marks values value_marks
-    → slot_in index.keys (doubleword / DOUBLEWORDS) ≡ Some slot
-    → cell ≡ slot * DOUBLEWORDS + doubleword % DOUBLEWORDS → slot < MOST_BLOCKS
-    → items_of DOUBLEWORDS index.keys (set values cell value) (set value_marks cell true) ≡ with_one
-    (items_of DOUBLEWORDS index.keys values value_marks) doubleword value
+    → slot_in index.keys (doubleword / block_doublewords) ≡ Some slot
+    → cell ≡ slot * block_doublewords + doubleword % block_doublewords → slot < block_limit
+    → items_of block_doublewords index.keys (set values cell value) (set value_marks cell true) ≡ with_one
+    (items_of block_doublewords index.keys values value_marks) doubleword value
 value_shown index bytes marks values value_marks doubleword slot cell value kept found is within =
-    items_of-store DOUBLEWORDS (omega arith) index.keys values value_marks doubleword slot cell value found
+    items_of-store block_doublewords (omega arith) index.keys values value_marks doubleword slot cell value found
     is (omega (arith, is, within, kept.value_room)) (omega (arith, is, within, kept.value_mark_room))
 
 pub value_kept : (index : Slots) (bytes : List ℕ) (marks : List Bool) (values : List ℕ)
     (value_marks : List Bool) (doubleword slot cell value : ℕ) → IsKept index bytes marks values value_marks
-    → slot_in index.keys (doubleword / DOUBLEWORDS) ≡ Some slot
-    → cell ≡ slot * DOUBLEWORDS + doubleword % DOUBLEWORDS
+    → slot_in index.keys (doubleword / block_doublewords) ≡ Some slot
+    → cell ≡ slot * block_doublewords + doubleword % block_doublewords
     → IsKept index bytes marks (set values cell value) (set value_marks cell true)
 value_kept index bytes marks values value_marks doubleword slot cell value kept found is =
     record {
@@ -255,30 +255,30 @@ value_kept index bytes marks values value_marks doubleword slot cell value kept 
     }
   where
     used : slot < length index.keys
-    used = (slot_in-has index.keys (doubleword / DOUBLEWORDS) slot found).within
+    used = (slot_in-has index.keys (doubleword / block_doublewords) slot found).within
 
 -- ---- bytes from an address on
 
 pub has_block-with_bytes : (overlay : Overlay) (address : ℕ) (bytes : List ℕ) → 0 < length bytes
-    → has_block (with_bytes overlay address bytes) (address / BLOCK_SIZE) ≡ true
+    → has_block (with_bytes overlay address bytes) (address / block_size) ≡ true
 has_block-with_bytes overlay address bytes some =
-    let same : address / BLOCK_SIZE * BLOCK_SIZE + address % BLOCK_SIZE ≡ address = omega arith in
-    has_block-at (with_bytes overlay address bytes) (address / BLOCK_SIZE) (address % BLOCK_SIZE)
+    let same : address / block_size * block_size + address % block_size ≡ address = omega arith in
+    has_block-at (with_bytes overlay address bytes) (address / block_size) (address % block_size)
     (omega arith)
     (ap (λ n. is_some (with_bytes overlay address bytes n)) same
     ∙ ap is_some (with_bytes-inside overlay address bytes address (omega arith) (omega (arith, some))))
 
 pub room_stays : (overlay : Overlay) (address n : ℕ) (bytes : List ℕ) → n ≤ length bytes
-    → has_room overlay (address / BLOCK_SIZE) ≡ true
-    → has_room (with_bytes overlay address (take n bytes)) (address / BLOCK_SIZE) ≡ true
+    → has_room overlay (address / block_size) ≡ true
+    → has_room (with_bytes overlay address (take n bytes)) (address / block_size) ≡ true
 room_stays overlay address n bytes le room =
     by_way (cases_lt 0 n)
-    (λ some. or_left (has_block (with_bytes overlay address (take n bytes)) (address / BLOCK_SIZE))
-    (ltb (block_count (with_bytes overlay address (take n bytes))) MOST_BLOCKS)
+    (λ some. or_left (has_block (with_bytes overlay address (take n bytes)) (address / block_size))
+    (ltb (block_count (with_bytes overlay address (take n bytes))) block_limit)
     (has_block-with_bytes overlay address (take n bytes)
     (omega (arith, some, length-take-le n bytes le))))
     (λ none.
     let zero : n ≡ 0 = omega arith in
-    ap (λ k. has_room (with_bytes overlay address (take k bytes)) (address / BLOCK_SIZE)) zero
-    ∙ ap (λ (o : Overlay). has_room o (address / BLOCK_SIZE)) (with_bytes-none overlay address)
+    ap (λ k. has_room (with_bytes overlay address (take k bytes)) (address / block_size)) zero
+    ∙ ap (λ (o : Overlay). has_room o (address / block_size)) (with_bytes-none overlay address)
     ∙ room)

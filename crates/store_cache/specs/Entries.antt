@@ -4,7 +4,7 @@ use Rattle.std.specs.Prelude.{length, Some, None, slice_index}
 use Rattle.std.specs.List.{slice_index_or}
 use Rattle.std.specs.Option.{option_and_then}
 use Rattle.slot_index.specs.Slots.{Slots, slot_in, is_key}
-use Rattle.store_cache.specs.declared.cache.TheConstants.{BLOCKS, BLOCK_SIZE, DOUBLEWORDS, MOST_BLOCKS}
+use Rattle.store_cache.specs.Sizes.{storage_blocks, block_size, block_doublewords, block_limit}
 use Rattle.store_cache.specs.Overlay.{Overlay, has_block}
 use Rattle.store_cache.specs.Stores.{Stores}
 
@@ -28,21 +28,21 @@ items_of size blocks items marks place =
 unfoldable pub stores_of : Entries → Stores
 stores_of entries =
     record {
-      overlay = items_of BLOCK_SIZE entries.blocks entries.bytes entries.marks;
-      lasting = items_of DOUBLEWORDS entries.blocks entries.values entries.value_marks;
+      overlay = items_of block_size entries.blocks entries.bytes entries.marks;
+      lasting = items_of block_doublewords entries.blocks entries.values entries.value_marks;
     }
 
 -- room for all entries, no mark behind those in use, and a stored byte in each of these
 pub record IsKept (index : Slots) (bytes : List ℕ) (marks : List Bool) (values : List ℕ)
     (value_marks : List Bool) : Type 0 where
-  pub limit : index.limit ≡ BLOCKS
-  pub most : index.most ≡ MOST_BLOCKS
-  pub byte_room : length bytes ≡ MOST_BLOCKS * BLOCK_SIZE
-  pub mark_room : length marks ≡ MOST_BLOCKS * BLOCK_SIZE
-  pub value_room : length values ≡ MOST_BLOCKS * DOUBLEWORDS
-  pub value_mark_room : length value_marks ≡ MOST_BLOCKS * DOUBLEWORDS
-  pub unmarked : (cell : ℕ) → length index.keys * BLOCK_SIZE ≤ cell → slice_index_or marks cell false ≡ false
-  pub no_value : (cell : ℕ) → length index.keys * DOUBLEWORDS ≤ cell
+  pub limit : index.limit ≡ storage_blocks
+  pub most : index.most ≡ block_limit
+  pub byte_room : length bytes ≡ block_limit * block_size
+  pub mark_room : length marks ≡ block_limit * block_size
+  pub value_room : length values ≡ block_limit * block_doublewords
+  pub value_mark_room : length value_marks ≡ block_limit * block_doublewords
+  pub unmarked : (cell : ℕ) → length index.keys * block_size ≤ cell → slice_index_or marks cell false ≡ false
+  pub no_value : (cell : ℕ) → length index.keys * block_doublewords ≤ cell
       → slice_index_or value_marks cell false ≡ false
-  pub stored : (block : ℕ) → has_block (items_of BLOCK_SIZE index.keys bytes marks) block ≡ is_key index.keys
+  pub stored : (block : ℕ) → has_block (items_of block_size index.keys bytes marks) block ≡ is_key index.keys
       block

@@ -1,3 +1,4 @@
+pub mod Sizes
 pub mod Overlay
 pub mod Stores
 pub mod Entries

@@ -4,7 +4,7 @@ use Rattle.std.specs.Prelude.{length, map, fold, Option, None, Some, is_some, un
 use Rattle.std.specs.Prelude.{slice_set, slice_get}
 use Rattle.std.specs.List.{range_with_len}
 use Rattle.bit_set.specs.Counts.{count_below}
-use Rattle.store_cache.specs.declared.cache.TheConstants.{BLOCKS, BLOCK_SIZE}
+use Rattle.store_cache.specs.Sizes.{storage_blocks, block_size}
 
 -- the last number stored at each place, if any
 abbrev pub Overlay : Type 0
@@ -48,9 +48,9 @@ stored_in base stores = fold (λ bytes store. slice_set bytes store.address stor
 
 -- whether a byte of a block was stored
 unfoldable pub has_block : Overlay → ℕ → Bool
-has_block overlay block = nat_lt 0 (count_below BLOCK_SIZE
-    (λ at. is_some (overlay (block * BLOCK_SIZE + at))))
+has_block overlay block = nat_lt 0 (count_below block_size
+    (λ at. is_some (overlay (block * block_size + at))))
 
 -- how many blocks have a stored byte
 abbrev pub block_count : Overlay → ℕ
-block_count overlay = count_below BLOCKS (has_block overlay)
+block_count overlay = count_below storage_blocks (has_block overlay)

@@ -4,8 +4,8 @@ use Rattle.std.specs.Prelude.{◌≡◌, ℕ, ◌/◌, ◌%◌, ◌≤◌, Bool,
 use Rattle.std.specs.Prelude.{slice_get}
 use Rattle.std.specs.Option.{option_and_then}
 use Rattle.byteorder.specs.Endian.{big_bytes}
-use Rattle.z_regs.specs.declared.prefix.TheConstants.{STORAGE_SIZE}
-use Rattle.store_cache.specs.declared.cache.TheConstants.{MOST_BLOCKS}
+use Rattle.z_regs.specs.Prefix.{storage_size}
+use Rattle.store_cache.specs.Sizes.{block_limit}
 use Rattle.store_cache.specs.Overlay.{Overlay, nothing, with_one, with_bytes, has_block, block_count}
 
 -- the last byte stored at each address, by whatever instruction, and the last value that NTSTG gave each
@@ -40,9 +40,9 @@ lasting_bytes lasting address = option_and_then (λ value. slice_get (big_bytes 
 
 -- whether a byte of a block may be stored
 abbrev pub has_room : Overlay → ℕ → Bool
-has_room overlay block = has_block overlay block || nat_lt (block_count overlay) MOST_BLOCKS
+has_room overlay block = has_block overlay block || nat_lt (block_count overlay) block_limit
 
 -- not too many blocks are stored, and all of them in storage
 pub record IsSound (stores : Stores) : Type 0 where
-  pub few : block_count stores.overlay ≤ MOST_BLOCKS
-  pub in_storage : (address : ℕ) → STORAGE_SIZE ≤ address → stores.overlay address ≡ None
+  pub few : block_count stores.overlay ≤ block_limit
+  pub in_storage : (address : ℕ) → storage_size ≤ address → stores.overlay address ≡ None

@@ -5,7 +5,9 @@ ghost use Rattle.std.specs.Prelude.{slice_set};
 ghost use Rattle.byteorder.specs.Endian.{big_bytes};
 ghost use Rattle.store_cache.specs.Overlay.{Overlay, Store, with_one, with_bytes, byte_through};
 ghost use Rattle.store_cache.specs.Overlay.{bytes_through, overlay_of, stored_in};
+ghost use Rattle.store_cache.specs.Sizes.{block_size, block_doublewords, block_limit, storage_blocks};
 ghost use Rattle.store_cache.specs.Stores.{lasting_bytes};
+ghost use Rattle.store_cache.specs.declared.cache.TheConstants as code;
 
 /// Stores that go into storage one after the other, in program order, leave what their overlay leaves that is
 /// laid over storage once.
@@ -39,4 +41,12 @@ pub fn the_last_value_lasts()
     ensures { (lasting : Overlay) (doubleword value : ℕ)
         → lasting_bytes (with_one lasting doubleword value)
         ≡ with_bytes (lasting_bytes lasting) (doubleword * 8) (big_bytes 8 value) }
+{}
+
+/// The numbers of the code are those of the definitions.
+pub fn sizes_are_the_defined_ones()
+    ensures block { code.BLOCK_SIZE ≡ block_size }
+    ensures doublewords { code.DOUBLEWORDS ≡ block_doublewords }
+    ensures blocks { code.BLOCKS ≡ storage_blocks }
+    ensures most { code.MOST_BLOCKS ≡ block_limit }
 {}

@@ -25,7 +25,7 @@ use Rattle.z_instr.specs.Roles.{begins}
 use Rattle.z_instr.specs.Table.{Entry, entry_at}
 use Rattle.z_touch.specs.Refusals.{range_of}
 use Rattle.tx_control.specs.declared.begins.Begin.{Begin}
-use Rattle.line_table.specs.declared.table.TheConstants.{LINES}
+use Rattle.line_table.specs.Sizes.{storage_lines}
 use Rattle.tx_constraint.specs.Bytes.{pieces}
 use Rattle.tx_constraint.specs.Constraints.{Step, first_of}
 use Rattle.tx_constraint.specs.Kept.{Kept, kept, next_operand_breach}
@@ -33,8 +33,8 @@ use Rattle.tx_constraint.specs.Octowords.{with_octoword, with_octowords}
 use Rattle.tx_footprint.specs.Places.{has_place, fetches, stores, stores_block}
 use Rattle.tx_footprint.specs.Touched.{Sets, touching, untouched, line_count, block_count, fit_of}
 use Rattle.tx_footprint.specs.declared.footprint.Overflow.TheVariants.{Fetch, Store}
-use Rattle.tx_footprint.specs.declared.footprint.TheConstants.{MOST_LINES, MOST_BLOCKS}
-use Rattle.tx_footprint.specs.declared.places.TheConstants.{LINE_SIZE, BLOCK_SIZE, BLOCKS}
+use Rattle.tx_footprint.specs.Sizes.{line_limit, block_limit}
+use Rattle.tx_footprint.specs.Sizes.{line_size, block_size, storage_blocks}
 use Rattle.tx_serial.specs.Alike as alike
 use Rattle.tx_serial.specs.Alike.{addresses_in}
 use Rattle.tx_serial.specs.Attempt.{Run, Missing, footprint, attempt_of}
@@ -102,10 +102,10 @@ piled p found (x ∷ xs) h =
 abbrev HoldsOctowords : ℕ → Type 0
 HoldsOctowords size = (x y : ℕ) → x / 32 ≡ y / 32 → x / size ≡ y / size
 
-lines_hold : HoldsOctowords LINE_SIZE
+lines_hold : HoldsOctowords line_size
 lines_hold x y e = omega arith
 
-blocks_hold : HoldsOctowords BLOCK_SIZE
+blocks_hold : HoldsOctowords block_size
 blocks_hold x y e = omega arith
 
 module _ (prefix : Option ℕ) (ok : is_prefix prefix ≡ true) (size : ℕ) (whole : HoldsOctowords size) where
@@ -297,11 +297,11 @@ or_of_lines false false false d h = h
 
 sets_lines : (touched new : List Range) (line : ℕ)
     → (let s = touching (touching untouched touched) new in s.fetched line || s.stored line) ≡ true
-    → (list_any (λ r. has_place LINE_SIZE r line) touched || list_any (λ r. has_place LINE_SIZE r line) new)
+    → (list_any (λ r. has_place line_size r line) touched || list_any (λ r. has_place line_size r line) new)
     ≡ true
 sets_lines touched new line h =
-    (λ k. either_way (λ r. has_place LINE_SIZE r line) touched k
-    || either_way (λ r. has_place LINE_SIZE r line) new k)
+    (λ k. either_way (λ r. has_place line_size r line) touched k
+    || either_way (λ r. has_place line_size r line) new k)
     ∙ or_of_lines (fetches touched line) (fetches new line) (stores touched line) (stores new line) h
 
 or_of_blocks : (a b c d : Bool) → ((false || a) || b) ≡ true → ((c || a) || (d || b)) ≡ true
@@ -314,23 +314,23 @@ or_of_blocks false false c d h = absurd (true≢false (sym h))
 
 sets_blocks : (touched new : List Range) (block : ℕ)
     → (touching (touching untouched touched) new).blocks block ≡ true
-    → (list_any (λ r. has_place BLOCK_SIZE r block) touched
-    || list_any (λ r. has_place BLOCK_SIZE r block) new)
+    → (list_any (λ r. has_place block_size r block) touched
+    || list_any (λ r. has_place block_size r block) new)
     ≡ true
 sets_blocks touched new block h =
-    (λ k. either_way (λ r. has_place BLOCK_SIZE r block) touched k
-    || either_way (λ r. has_place BLOCK_SIZE r block) new k)
+    (λ k. either_way (λ r. has_place block_size r block) touched k
+    || either_way (λ r. has_place block_size r block) new k)
     ∙ or_of_blocks (stores_block touched block) (stores_block new block)
-    (list_any (λ r. not r.store && has_place BLOCK_SIZE r block) touched)
-    (list_any (λ r. not r.store && has_place BLOCK_SIZE r block) new) h
+    (list_any (λ r. not r.store && has_place block_size r block) touched)
+    (list_any (λ r. not r.store && has_place block_size r block) new) h
 
 fits : (sets : Sets) → line_count sets ≤ 4 → block_count sets ≤ 4 → overflow_of (fit_of sets) ≡ None
 fits sets lines blocks =
     ap (λ b. overflow_of (if b then Err Fetch else
-    (if nat_lt MOST_BLOCKS (block_count sets) then Err Store else Ok tt)))
-    (le-ltb MOST_LINES (line_count sets) (omega (arith, lines)))
+    (if nat_lt block_limit (block_count sets) then Err Store else Ok tt)))
+    (le-ltb line_limit (line_count sets) (omega (arith, lines)))
     ∙ ap (λ b. overflow_of (if b then Err Store else Ok tt))
-    (le-ltb MOST_BLOCKS (block_count sets) (omega (arith, blocks)))
+    (le-ltb block_limit (block_count sets) (omega (arith, blocks)))
 
 -- ---- what is kept of the attempt
 
@@ -370,11 +370,11 @@ room_by f i k exists ok rs small few =
     let sets = touching (footprint (run f i k)) new in
     let os = with_octowords (kept (attempt_of (run f i k).steps)).octowords rs in
     fits sets
-    (few_places prefix ok LINE_SIZE lines_hold LINES (λ line. sets.fetched line || sets.stored line) os few
-    (λ line h. place_found f i k exists ok LINE_SIZE lines_hold line rs small
+    (few_places prefix ok line_size lines_hold storage_lines (λ line. sets.fetched line || sets.stored line) os few
+    (λ line h. place_found f i k exists ok line_size lines_hold line rs small
     (sets_lines touched new line h)))
-    (few_places prefix ok BLOCK_SIZE blocks_hold BLOCKS sets.blocks os few
-    (λ block h. place_found f i k exists ok BLOCK_SIZE blocks_hold block rs small
+    (few_places prefix ok block_size blocks_hold storage_blocks sets.blocks os few
+    (λ block h. place_found f i k exists ok block_size blocks_hold block rs small
     (sets_blocks touched new block h)))
 
 in_nest : (nest : List Begin) (sets : Sets) → overflow_of (fit_of sets) ≡ None → overflow_in nest sets ≡ None

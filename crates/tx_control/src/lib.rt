@@ -6,6 +6,7 @@ mod begins;
 mod causes;
 pub mod codes;
 mod exceptions;
+pub mod laws;
 mod nesting;
 
 pub use begins::Begin;

@@ -25,7 +25,7 @@ use Rattle.tx_footprint.proofs.Limits.{fits_from}
 use Rattle.store_cache.specs.Overlay.{Overlay, Store, has_block, with_one}
 use Rattle.store_cache.specs.Stores.{lasting_bytes}
 use Rattle.store_cache.specs.Entries.{Entries, stores_of}
-use Rattle.store_cache.specs.declared.cache.TheConstants.{BLOCK_SIZE}
+use Rattle.store_cache.specs.Sizes.{block_size}
 use Rattle.store_cache.proofs.Overlays.{with_one-other}
 use Rattle.tx_serial.specs.Flat.{operand_stores, stores_at}
 use Rattle.tx_serial.specs.Run.{nest_after, lasting_of, stores_lastingly}
@@ -72,11 +72,11 @@ get-all prefix (q ∷ rs) r h get =
 pub block-there : (prefix : Option ℕ) (need : List Range) (r : Range) (k : ℕ) → is_prefix prefix ≡ true
     → All (IsAccessible prefix) need → StoresFirst need → slice_get need 0 ≡ Some r → r.store ≡ true
     → k < r.length
-    → stores_block (absolute_ranges prefix need) (absolute_of prefix (r.first + k) / BLOCK_SIZE) ≡ true
+    → stores_block (absolute_ranges prefix need) (absolute_of prefix (r.first + k) / block_size) ≡ true
 unfolding has_place
 block-there prefix need r k ok accessible first get e lt =
-    let block = absolute_of prefix (r.first + k) / BLOCK_SIZE in
-    let test : ℕ → Bool = λ a. a / BLOCK_SIZE == block in
+    let block = absolute_of prefix (r.first + k) / block_size in
+    let test : ℕ → Bool = λ a. a / block_size == block in
     let bytes : List ℕ = replicate 256 0 in
     let size : length bytes ≡ 256 = length-replicate {A = ℕ} 256 0 in
     let few = first-small prefix need accessible in
@@ -103,8 +103,8 @@ room-for t i prefix need ok accessible first sound may r get e = record {
   covers = λ b h. or_left ((sets_of t.footprint).blocks b) (stores_block (absolute_ranges prefix need) b)
       (sound.blocks b h);
   there = λ k lt. or_right
-      ((sets_of t.footprint).blocks (absolute_of prefix (r.first + k) / BLOCK_SIZE))
-      (stores_block (absolute_ranges prefix need) (absolute_of prefix (r.first + k) / BLOCK_SIZE))
+      ((sets_of t.footprint).blocks (absolute_of prefix (r.first + k) / block_size))
+      (stores_block (absolute_ranges prefix need) (absolute_of prefix (r.first + k) / block_size))
       (block-there prefix need r k ok accessible first get e lt);
 }
 
@@ -161,7 +161,7 @@ laid-none end (s ∷ ss) o all none = laid-none end ss (with_one o s.address s.b
     with_one-other o s.address s.byte a other ∙ none a past)
 
 laid-covered : (blocks : ℕ → Bool) (ss : List Store) (o : Overlay)
-    → AllAt (λ a. blocks (a / BLOCK_SIZE) ≡ true) ss → ((b : ℕ) → has_block o b ≡ true → blocks b ≡ true)
+    → AllAt (λ a. blocks (a / block_size) ≡ true) ss → ((b : ℕ) → has_block o b ≡ true → blocks b ≡ true)
     → (b : ℕ) → has_block (laying o ss) b ≡ true → blocks b ≡ true
 laid-covered blocks [] o all covers = covers
 laid-covered blocks (s ∷ ss) o all covers =
@@ -249,10 +249,10 @@ advanced-sound t i general prefix need bytes nest f k s sound live may ok access
     → absolute_of prefix (r.first + j) < storage_size = λ r get store j lt.
     let end = (get-all prefix need r accessible get).end in
     absolute_within prefix (r.first + j) ok (omega (arith, end, lt)) in
-    let there = operand-all (λ a. sets.blocks (a / BLOCK_SIZE) ≡ true) prefix need bytes first
+    let there = operand-all (λ a. sets.blocks (a / block_size) ≡ true) prefix need bytes first
     (λ r get store j lt. or_right ((sets_of t.footprint).blocks (absolute_of prefix
-    (r.first + j) / BLOCK_SIZE))
-    (stores_block (absolute_ranges prefix need) (absolute_of prefix (r.first + j) / BLOCK_SIZE))
+    (r.first + j) / block_size))
+    (stores_block (absolute_ranges prefix need) (absolute_of prefix (r.first + j) / block_size))
     (block-there prefix need r j ok accessible first get store lt)) in
     let within = operand-all (λ a. a < storage_size) prefix need bytes first ends in
     record {

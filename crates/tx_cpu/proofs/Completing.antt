@@ -13,7 +13,7 @@ use Rattle.z_effect.specs.After.{cpu_after, exception}
 use Rattle.z_effect.specs.One.{length_of}
 use Rattle.z_effect.specs.Outcome.{Outcome, Did, Overflowed, Divides, Aborts}
 use Rattle.z_effect.specs.Interrupted.{cpu_outside, with_interruption, interrupted_by}
-use Rattle.tx_control.specs.declared.codes.TheConstants.{FIXED_POINT_OVERFLOW, FIXED_POINT_DIVIDE}
+use Rattle.tx_control.specs.Codes.{fixed_point_overflow_code, fixed_point_divide_code}
 use Rattle.tx_serial.specs.Flat.{Storage, laid_over, operand_stores}
 use Rattle.tx_serial.specs.Remains.{waiting_with}
 use Rattle.tx_progress.proofs.Rows.{any_row}
@@ -138,15 +138,15 @@ outside-by p i need (Overflowed x all) c image bytes w old new told turns live r
     es ∙ ap (λ (bs : List ℕ). laid_over (storage_of old) (operand_stores p.image.prefix need bs))
     (ap stored_in eo)
     ∙ ap (laid_over (storage_of old)) (trimmed-stores p.image.prefix need all first) in
-    let same : image ≡ with_interruption FIXED_POINT_OVERFLOW x =
-    ei ∙ ap (with_interruption FIXED_POINT_OVERFLOW) ec in
+    let same : image ≡ with_interruption fixed_point_overflow_code x =
+    ei ∙ ap (with_interruption fixed_point_overflow_code) ec in
     let waits : w ≡ waiting_with x.prefix (length_of i) None =
     ew ∙ ap (λ (y : Cpu). waiting_with y.prefix (length_of i) None) same in
-    after-is p image (with_interruption FIXED_POINT_OVERFLOW x) w _ new _ told turns
+    after-is p image (with_interruption fixed_point_overflow_code x) w _ new _ told turns
     (delay_given i (local_of p).cpu) rests same waits stored
     (ed ∙ ap (delay_given i) (sym (cpu-rests p live))) et
 outside-by p i need Divides c image bytes w old new told turns live rests first eo ec ei ew es ed et =
-    let e = exception FIXED_POINT_DIVIDE (length_of i) in
+    let e = exception fixed_point_divide_code (length_of i) in
     let same : image ≡ interrupted_by e (local_of p).cpu =
     ei ∙ ap (interrupted_by e) (ec ∙ sym (cpu-rests p live)) in
     let waits : w ≡ waiting_with (interrupted_by e (local_of p).cpu).prefix (length_of i) None =

@@ -21,7 +21,7 @@ use Rattle.z_effect.specs.declared.kind.Transaction.{Transaction}
 use Rattle.z_effect.specs.declared.kind.Transaction.TheVariants.{Begin, BeginConstrained, End, Abort}
 use Rattle.z_effect.specs.declared.kind.Transaction.TheVariants.{ExtractDepth}
 use Rattle.z_effect.specs.declared.kind.Transaction.TheVariants.{StoreLasting, Assist}
-use Rattle.tx_control.specs.declared.codes.TheConstants.{FIXED_POINT_OVERFLOW, FIXED_POINT_DIVIDE}
+use Rattle.tx_control.specs.Codes.{fixed_point_overflow_code, fixed_point_divide_code}
 use Rattle.tx_control.specs.declared.exceptions.Exception.{Exception}
 use Rattle.tx_serial.specs.Fate.{operands}
 use Rattle.tx_cpu.specs.declared.performing.Ended.{Ended}
@@ -44,9 +44,9 @@ ended-told : (o : Outcome) (n : ℕ) (r : Result (Unit {0}) Exception) → told 
 ended-told (Did c bytes) n (Ok u) h = refl
 ended-told (Did c bytes) n (Err x) h = absurd (cc)
 ended-told (Overflowed c bytes) n (Ok u) h = absurd (cc)
-ended-told (Overflowed c bytes) n (Err x) h = raised x (exception FIXED_POINT_OVERFLOW n) h
+ended-told (Overflowed c bytes) n (Err x) h = raised x (exception fixed_point_overflow_code n) h
 ended-told Divides n (Ok u) h = absurd (cc)
-ended-told Divides n (Err x) h = raised x (exception FIXED_POINT_DIVIDE n) h
+ended-told Divides n (Err x) h = raised x (exception fixed_point_divide_code n) h
 ended-told (Aborts code) n (Ok u) h = absurd (cc)
 ended-told (Aborts code) n (Err x) h = absurd (cc)
 

@@ -20,7 +20,7 @@ use Rattle.z_effect.specs.Outcome.{Outcome, Did, Overflowed, Divides, Aborts}
 use Rattle.tx_control.specs.declared.begins.Begin.{Begin}
 use Rattle.tx_control.specs.declared.causes.Why.{Why}
 use Rattle.tx_control.specs.declared.causes.Why.TheVariants.{Tabort}
-use Rattle.tx_control.specs.declared.codes.TheConstants.{FIXED_POINT_OVERFLOW, FIXED_POINT_DIVIDE}
+use Rattle.tx_control.specs.Codes.{fixed_point_overflow_code, fixed_point_divide_code}
 use Rattle.store_cache.specs.Entries.{stores_of}
 use Rattle.store_cache.specs.Overlay.{Store, Overlay}
 use Rattle.tx_serial.specs.Fate.{operands, cause_in}
@@ -211,7 +211,7 @@ pub exceeded-is : (p : Parts) (i : Instr) (need : List Range) (o : Outcome) (ima
     (t : Tracked) (old : List ℕ) (why : Why) → nat_lt 0 p.attempt.count ≡ true → 0 < t.count
     → StoresFirst need
     → outcome_from ended.Exceeded image (take (first_size need) stored) ≡ trimmed (first_size need) o
-    → IsNext p i need stored t → why ≡ cause_in t.nest (exception FIXED_POINT_OVERFLOW (length_of i))
+    → IsNext p i need stored t → why ≡ cause_in t.nest (exception fixed_point_overflow_code (length_of i))
     → ◌≡◌ {A = Executed} (record {
       after = beside (record p { image = image; attempt = t }) old;
       told = done.Ended why;
@@ -219,8 +219,8 @@ pub exceeded-is : (p : Parts) (i : Instr) (need : List Range) (o : Outcome) (ima
 exceeded-is p i need (Overflowed c bytes) image stored t old why live more first eo ea ew =
     let next = next_by p i need c bytes in
     let e = next-so p i need c image bytes stored t first (ap (cpu_after image) eo) (ap stored_in eo) ea in
-    let cause : why ≡ cause_in next.nest (exception FIXED_POINT_OVERFLOW (length_of i)) =
-    ew ∙ ap (λ (q : Progress). cause_in q.nest (exception FIXED_POINT_OVERFLOW (length_of i))) e in
+    let cause : why ≡ cause_in next.nest (exception fixed_point_overflow_code (length_of i)) =
+    ew ∙ ap (λ (q : Progress). cause_in q.nest (exception fixed_point_overflow_code (length_of i))) e in
     goes-on p image t next old (done.Ended why) live (live-so t.count more) e
     ∙ (λ j. record { after = going_on next (beside p old); told = done.Ended (cause j) })
 exceeded-is p i need (Did c bytes) image stored t old why live more first eo ea ew = absurd (cc)
@@ -238,7 +238,7 @@ unchanged-is p image old told live ei =
 pub suppressed-is : (p : Parts) (i : Instr) (need : List Range) (o : Outcome) (image x : Cpu)
     (bytes old : List ℕ) (why : Why) → nat_lt 0 p.attempt.count ≡ true
     → outcome_from ended.Suppressed x bytes ≡ trimmed (first_size need) o → image ≡ cpu_after p.image o
-    → why ≡ cause_in p.attempt.nest (exception FIXED_POINT_DIVIDE (length_of i))
+    → why ≡ cause_in p.attempt.nest (exception fixed_point_divide_code (length_of i))
     → ◌≡◌ {A = Executed} (record {
       after = beside (record p { image = image }) old;
       told = done.Ended why;

@@ -45,7 +45,7 @@ use Rattle.tx_progress.specs.Doing.{executed, executed_where, inside, outside, c
 use Rattle.tx_progress.specs.Doing.{delay_given, stores_of}
 use Rattle.tx_progress.specs.declared.done.Done.{Done}
 use Rattle.tx_progress.specs.declared.done.Done.TheVariants as done
-use Rattle.tx_control.specs.declared.codes.TheConstants.{FIXED_POINT_OVERFLOW, FIXED_POINT_DIVIDE}
+use Rattle.tx_control.specs.Codes.{fixed_point_overflow_code, fixed_point_divide_code}
 use Rattle.z_regs.specs.declared.image.RunState.{RunState}
 use Rattle.z_regs.specs.declared.image.RunState.TheVariants.{Running, Halted, Interrupted}
 use Rattle.z_regs.specs.declared.ranges.Range.{Range}
@@ -251,8 +251,8 @@ inside-room i ranges b (Did c bytes) =
     let next = advanced i ranges c (stores_of ranges bytes q) q in
     closed-room next next.nest b
 inside-room i ranges b (outcome.Overflowed c bytes) =
-    cause-room _ (exception FIXED_POINT_OVERFLOW (length_of i)) (lit< tt)
-inside-room i ranges b Divides = cause-room _ (exception FIXED_POINT_DIVIDE (length_of i)) (lit< tt)
+    cause-room _ (exception fixed_point_overflow_code (length_of i)) (lit< tt)
+inside-room i ranges b Divides = cause-room _ (exception fixed_point_divide_code (length_of i)) (lit< tt)
 inside-room i ranges b (Aborts code) = tt
 
 where-room : (live begin : Bool) (i : Instr) (ranges : List Range) (b : Beside) (o : Outcome)

@@ -7,7 +7,7 @@ use Rattle.bit_set.specs.Counts.{count_below}
 use Rattle.z_regs.specs.Prefix.{absolute_of}
 use Rattle.store_cache.specs.Overlay.{Overlay, has_block}
 use Rattle.store_cache.specs.Stores.{Stores}
-use Rattle.store_cache.specs.declared.cache.TheConstants.{BLOCKS, BLOCK_SIZE, MOST_BLOCKS}
+use Rattle.store_cache.specs.Sizes.{storage_blocks, block_size, block_limit}
 use Rattle.tx_serial.specs.Flat.{stores_at}
 use Rattle.tx_progress.specs.Progress.{laying}
 
@@ -15,9 +15,9 @@ use Rattle.tx_progress.specs.Progress.{laying}
 -- these bytes, are among some blocks that are not too many.
 pub record HasRoomFor (overlay : Overlay) (prefix : Option ℕ) (first length : ℕ) : Type 0 where
   pub blocks : ℕ → Bool
-  pub few : count_below BLOCKS blocks ≤ MOST_BLOCKS
+  pub few : count_below storage_blocks blocks ≤ block_limit
   pub covers : (block : ℕ) → has_block overlay block ≡ true → blocks block ≡ true
-  pub there : (k : ℕ) → k < length → blocks (absolute_of prefix (first + k) / BLOCK_SIZE) ≡ true
+  pub there : (k : ℕ) → k < length → blocks (absolute_of prefix (first + k) / block_size) ≡ true
 
 -- with bytes stored from a real address on
 abbrev pub with_gathered : Option ℕ → ℕ → List ℕ → Stores → Stores

@@ -12,7 +12,7 @@ use Rattle.z_effect.specs.declared.kind.Kind.{Kind}
 use Rattle.z_effect.specs.declared.kind.Kind.TheVariants as kind
 use Rattle.z_effect.specs.declared.kind.Transaction.{Transaction}
 use Rattle.z_effect.specs.declared.kind.Transaction.TheVariants.{StoreLasting}
-use Rattle.tx_control.specs.declared.codes.TheConstants.{FIXED_POINT_DIVIDE}
+use Rattle.tx_control.specs.Codes.{fixed_point_divide_code}
 use Rattle.tx_control.specs.declared.exceptions.Exception.{Exception}
 use Rattle.z_regs.specs.declared.waiting.Waiting.{Waiting}
 use Rattle.tx_serial.specs.Flat.{Storage, laid_over, operand_stores}
@@ -30,7 +30,7 @@ ended_of (Aborts code) = ended.Aborting code
 -- what the answer of a call says of that
 abbrev pub ended_in : Result (Unit {0}) Exception → Ended
 ended_in (Ok u) = ended.Completed
-ended_in (Err e) = if nat_eq e.code FIXED_POINT_DIVIDE then ended.Suppressed else ended.Exceeded
+ended_in (Err e) = if nat_eq e.code fixed_point_divide_code then ended.Suppressed else ended.Exceeded
 
 -- a call tells how the instruction ended, and leaves the CPU and what it sees of storage
 pub record IsLeft (o : Outcome) (ranges : List Range) (old new : Cpu) (s t : List ℕ) (e : Ended) : Type 0

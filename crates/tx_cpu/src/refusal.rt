@@ -1,7 +1,7 @@
 //! What a test of the next instruction finds wrong.
 ghost use Rattle.std.specs.Prelude.{◌≡◌, Some, Err};
 ghost use Rattle.z_touch.specs.Refusals.{refused};
-ghost use Rattle.tx_control.specs.declared.codes.TheConstants.{TRANSACTION_CONSTRAINT as CONSTRAINT};
+ghost use Rattle.tx_control.specs.Codes.{transaction_constraint_code};
 ghost use Rattle.tx_serial.specs.Fate.{cause_in as cause_under, fate_after, Excepts};
 ghost use Rattle.tx_cpu.specs.Refused.{refusal_of};
 ghost use Rattle.tx_cpu.specs.Plans.{fate_of};
@@ -25,7 +25,7 @@ pub enum Refusal {
 
 /// The exception of an instruction that breaks a constraint.
 pub fn breach(instr: &Instr) -> Refusal
-    ensures { refusal_of result ≡ Excepts (refused instr.now CONSTRAINT) }
+    ensures { refusal_of result ≡ Excepts (refused instr.now transaction_constraint_code) }
 {
     let length = length_in(line(instr.op).format);
     Refusal::Excepts(exception(TRANSACTION_CONSTRAINT, length))

@@ -14,12 +14,12 @@ use Rattle.z_effect.specs.One.{length_of}
 use Rattle.z_effect.specs.Outcome.{Outcome, Did, Divides, Aborts}
 use Rattle.z_effect.specs.Outcome as outcome
 use Rattle.z_effect.specs.After.{AreInside, ranges_of, exception}
-use Rattle.line_table.specs.declared.table.TheConstants.{LINES}
+use Rattle.line_table.specs.Sizes.{storage_lines}
 use Rattle.tx_control.specs.declared.begins.Begin.{Begin}
 use Rattle.tx_control.specs.declared.causes.Why.{Why}
 use Rattle.tx_control.specs.declared.causes.Why.TheVariants.{Tabort}
-use Rattle.tx_control.specs.declared.codes.TheConstants.{FIXED_POINT_OVERFLOW, FIXED_POINT_DIVIDE}
-use Rattle.tx_footprint.specs.declared.places.TheConstants.{LINE_SIZE}
+use Rattle.tx_control.specs.Codes.{fixed_point_overflow_code, fixed_point_divide_code}
+use Rattle.tx_footprint.specs.Sizes.{line_size}
 use Rattle.tx_footprint.specs.Places.{IsInStorage, has_place}
 use Rattle.tx_footprint.specs.Touched.{Sets, sets_of}
 use Rattle.tx_footprint.proofs.Spans.{address_of}
@@ -60,11 +60,11 @@ overflows nest i (Aborts code) h = absurd (cc)
 
 pub divides : (nest : List Begin) (i : Instr) (o : Outcome) (n : ℕ) (why : Why)
     → completion.Divides ≡ completion_of o → n ≡ length_of i
-    → why ≡ cause_in nest (exception FIXED_POINT_DIVIDE n) → Some why ≡ outcome_cause nest i o
+    → why ≡ cause_in nest (exception fixed_point_divide_code n) → Some why ≡ outcome_cause nest i o
 divides nest i (Did c bytes) n why h e d = absurd (cc)
 divides nest i (outcome.Overflowed c bytes) n why h e d = absurd (cc)
 divides nest i Divides n why h e d =
-    ap (λ x. Some x) (d ∙ ap (λ m. cause_in nest (exception FIXED_POINT_DIVIDE m)) e)
+    ap (λ x. Some x) (d ∙ ap (λ m. cause_in nest (exception fixed_point_divide_code m)) e)
 divides nest i (Aborts code) n why h e d = absurd (cc)
 
 pub aborts : (nest : List Begin) (i : Instr) (o : Outcome) (code : ℕ)
@@ -115,62 +115,62 @@ unfolding ending
 ending_missing text p e = sym (ap (λ m. ending_of m text p) e)
 
 pub ending_overflowed : (base : Storage) (text : List ℕ) (a : Attempt) (p : Run) (why : Why) → Shows base a p
-    → p.mark ≡ run.Overflowed → why ≡ cause_in a.nest (exception FIXED_POINT_OVERFLOW a.last.length)
+    → p.mark ≡ run.Overflowed → why ≡ cause_in a.nest (exception fixed_point_overflow_code a.last.length)
     → Some why ≡ ending text p
 unfolding ending
 ending_overflowed base text a p why shows e same =
     let told = shows.last e in
     ap (λ x. Some x)
-    (same ∙ ap (λ n. cause_in n (exception FIXED_POINT_OVERFLOW a.last.length)) shows.nest
-    ∙ ap (λ n. cause_in p.nest (exception FIXED_POINT_OVERFLOW n)) (sym told.size))
+    (same ∙ ap (λ n. cause_in n (exception fixed_point_overflow_code a.last.length)) shows.nest
+    ∙ ap (λ n. cause_in p.nest (exception fixed_point_overflow_code n)) (sym told.size))
     ∙ sym (ap (overflow_cause p.nest) told.there)
     ∙ sym (ap (λ m. ending_of m text p) e)
 
 -- ---- lines
 
-line_in : (r : Range) (line : ℕ) → IsInStorage r → has_place LINE_SIZE r line ≡ true → line < LINES
+line_in : (r : Range) (line : ℕ) → IsInStorage r → has_place line_size r line ≡ true → line < storage_lines
 line_in r line h there =
-    let found = address_of LINE_SIZE r line there in
+    let found = address_of line_size r line there in
     let within = h found.0 found.1 found.2 in
     let place = found.3 in
     omega (arith, within, place)
 
 -- no line behind the end of storage is touched
-none_beyond : (kind : Bool → Bool) (ranges : List Range) (line : ℕ) → All IsInStorage ranges → LINES ≤ line
-    → list_any (λ r. kind r.store && has_place LINE_SIZE r line) ranges ≡ false
+none_beyond : (kind : Bool → Bool) (ranges : List Range) (line : ℕ) → All IsInStorage ranges → storage_lines ≤ line
+    → list_any (λ r. kind r.store && has_place line_size r line) ranges ≡ false
 none_beyond kind [] line h past = refl
 none_beyond kind (r ∷ rs) line h past =
-    first (kind r.store) (has_place LINE_SIZE r line) refl
+    first (kind r.store) (has_place line_size r line) refl
     ∙ none_beyond kind rs line (All-tail IsInStorage r rs h) past
   where
-    first : (x y : Bool) → has_place LINE_SIZE r line ≡ y
-        → ((x && has_place LINE_SIZE r line) || list_any (λ q. kind q.store && has_place LINE_SIZE q line) rs)
-        ≡ list_any (λ q. kind q.store && has_place LINE_SIZE q line) rs
+    first : (x y : Bool) → has_place line_size r line ≡ y
+        → ((x && has_place line_size r line) || list_any (λ q. kind q.store && has_place line_size q line) rs)
+        ≡ list_any (λ q. kind q.store && has_place line_size q line) rs
     first false y e = refl
     first true true e =
         let low = line_in r line (All-head IsInStorage r rs h) e in
         absurd (omega (arith, low, past))
     first true false e =
-        ap (λ b. b || list_any (λ q. kind q.store && has_place LINE_SIZE q line) rs) e
+        ap (λ b. b || list_any (λ q. kind q.store && has_place line_size q line) rs) e
 
-bounded : (b : Bool) (line : ℕ) → (LINES ≤ line → b ≡ false) → (line < LINES) ⊎ (LINES ≤ line)
-    → (nat_lt line LINES && b) ≡ b
-bounded b line beyond (inl low) = ap (λ t. t && b) (lt-ltb line LINES low)
-bounded b line beyond (inr high) = ap (λ t. t && b) (le-ltb line LINES high) ∙ sym (beyond high)
+bounded : (b : Bool) (line : ℕ) → (storage_lines ≤ line → b ≡ false) → (line < storage_lines) ⊎ (storage_lines ≤ line)
+    → (nat_lt line storage_lines && b) ≡ b
+bounded b line beyond (inl low) = ap (λ t. t && b) (lt-ltb line storage_lines low)
+bounded b line beyond (inr high) = ap (λ t. t && b) (le-ltb line storage_lines high) ∙ sym (beyond high)
 
 pub stored_by : (base : Storage) (a : Attempt) (p : Run) (line : ℕ) → Shows base a p
-    → (nat_lt line LINES && (sets_of a.footprint).stored line) ≡ (footprint p).stored line
+    → (nat_lt line storage_lines && (sets_of a.footprint).stored line) ≡ (footprint p).stored line
 stored_by base a p line shows =
-    ap (λ (s : Sets). nat_lt line LINES && s.stored line) shows.sets
+    ap (λ (s : Sets). nat_lt line storage_lines && s.stored line) shows.sets
     ∙ bounded ((footprint p).stored line) line (none_beyond (λ b. b) p.touched line shows.touched)
-    (cases_lt line LINES)
+    (cases_lt line storage_lines)
 
 pub fetched_by : (base : Storage) (a : Attempt) (p : Run) (line : ℕ) → Shows base a p
-    → (nat_lt line LINES && (sets_of a.footprint).fetched line) ≡ (footprint p).fetched line
+    → (nat_lt line storage_lines && (sets_of a.footprint).fetched line) ≡ (footprint p).fetched line
 fetched_by base a p line shows =
-    ap (λ (s : Sets). nat_lt line LINES && s.fetched line) shows.sets
+    ap (λ (s : Sets). nat_lt line storage_lines && s.fetched line) shows.sets
     ∙ bounded ((footprint p).fetched line) line (none_beyond not p.touched line shows.touched)
-    (cases_lt line LINES)
+    (cases_lt line storage_lines)
 
 -- ---- from outside
 

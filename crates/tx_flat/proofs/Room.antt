@@ -26,7 +26,7 @@ use Rattle.tx_control.specs.Nesting.{effective_pifc, is_constrained}
 use Rattle.tx_control.specs.declared.begins.Begin as open_begin
 use Rattle.tx_control.specs.declared.causes.Why.{Why}
 use Rattle.tx_control.specs.declared.causes.Why.TheVariants.{Program, Filtered, Restricted, Depth}
-use Rattle.tx_control.specs.declared.codes.TheConstants.{FIXED_POINT_OVERFLOW, FIXED_POINT_DIVIDE}
+use Rattle.tx_control.specs.Codes.{fixed_point_overflow_code, fixed_point_divide_code}
 use Rattle.tx_control.specs.declared.exceptions.Exception.{Exception}
 use Rattle.tx_constraint.specs.Constraints.{Step, Attempt, with_step, text_breach, operand_breach}
 use Rattle.tx_footprint.specs.declared.footprint.Overflow.{Overflow}
@@ -218,7 +218,7 @@ fate_room text p =
 outcome_room : (nest : List open_begin.Begin) (i : Instr) (o : Outcome) → RoomIn (outcome_cause nest i o)
 outcome_room nest i (Did c bytes) = tt
 outcome_room nest i (outcome.Overflowed c bytes) = tt
-outcome_room nest i Divides = cause_room nest (exception FIXED_POINT_DIVIDE (length_of i)) (lit< tt)
+outcome_room nest i Divides = cause_room nest (exception fixed_point_divide_code (length_of i)) (lit< tt)
 outcome_room nest i (Aborts code) = tt
 
 next_room : (p : Run) (o : Fate) → EndRoom o → RoomIn (fate_cause p o)
@@ -229,7 +229,7 @@ next_room p (Stops e) h = tt
 overflow_room : (nest : List open_begin.Begin) (o : Option Step) → RoomIn (overflow_cause nest o)
 overflow_room nest None = tt
 overflow_room nest (Some s) =
-    cause_room nest (exception FIXED_POINT_OVERFLOW (length_of s.instruction)) (lit< tt)
+    cause_room nest (exception fixed_point_overflow_code (length_of s.instruction)) (lit< tt)
 
 ending_room : (m : Mark) (text : List ℕ) (p : Run) → RoomIn (ending_of m text p)
 ending_room Open text p = next_room p (fate text p) (fate_room text p)

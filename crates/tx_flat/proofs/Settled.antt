@@ -31,7 +31,7 @@ use Rattle.tx_constraint.specs.Constraints.{Step, Attempt, begun, with_step, tex
 use Rattle.tx_constraint.specs.Constraints.{GoesOn}
 use Rattle.tx_constraint.specs.Constraints.{first_of, has_barred, is_too_long, leaves_its_bytes}
 use Rattle.tx_footprint.specs.Places.{has_place}
-use Rattle.tx_footprint.specs.declared.places.TheConstants.{LINE_SIZE, BLOCK_SIZE}
+use Rattle.tx_footprint.specs.Sizes.{line_size, block_size}
 use Rattle.tx_footprint.proofs.Marking.{or_assoc}
 use Rattle.tx_footprint.specs.Touched.{Sets, untouched, touching}
 use Rattle.tx_serial.specs.Flat.{Storage, bytes_of, laid_over, operand_stores}
@@ -118,9 +118,9 @@ joined a test xs ys =
 
 added_in_turn : (sets : Sets) (xs ys : List Range) → touching (touching sets xs) ys ≡ touching sets (xs ++ ys)
 added_in_turn sets xs ys = λ k. record {
-  fetched = λ line. joined (sets.fetched line) (λ r. not r.store && has_place LINE_SIZE r line) xs ys k;
-  stored = λ line. joined (sets.stored line) (λ r. r.store && has_place LINE_SIZE r line) xs ys k;
-  blocks = λ block. joined (sets.blocks block) (λ r. r.store && has_place BLOCK_SIZE r block) xs ys k;
+  fetched = λ line. joined (sets.fetched line) (λ r. not r.store && has_place line_size r line) xs ys k;
+  stored = λ line. joined (sets.stored line) (λ r. r.store && has_place line_size r line) xs ys k;
+  blocks = λ block. joined (sets.blocks block) (λ r. r.store && has_place block_size r block) xs ys k;
 }
 
 pub touched_more : (p : Run) (absolute : List Range)

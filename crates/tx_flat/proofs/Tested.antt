@@ -11,7 +11,7 @@ use Rattle.z_instr.specs.Access.{accessible_pages, text_pages}
 use Rattle.z_touch.specs.Refusals.{answer, refusal, refused, first_of}
 use Rattle.tx_control.specs.Nesting.{is_constrained}
 use Rattle.tx_control.specs.declared.begins.Begin.{Begin}
-use Rattle.tx_control.specs.declared.codes.TheConstants.{TRANSACTION_CONSTRAINT}
+use Rattle.tx_control.specs.Codes.{transaction_constraint_code}
 use Rattle.tx_control.specs.declared.exceptions.Exception.{Exception}
 use Rattle.tx_constraint.specs.Constraints.{Attempt, begun, with_step, text_breach, operand_breach, verdict}
 use Rattle.tx_constraint.specs.Kept.{next_text_breach, next_operand_breach}
@@ -57,7 +57,7 @@ pub answer_kept : (o : Option ℕ) (i : Instr) → Ok tt ≡ verdict o → None 
 answer_kept None i h = refl
 answer_kept (Some n) i h = absurd (cc)
 
-pub answer_broken : (o : Option ℕ) (i : Instr) (n : ℕ) (e : Exception) → e ≡ refused i TRANSACTION_CONSTRAINT
+pub answer_broken : (o : Option ℕ) (i : Instr) (n : ℕ) (e : Exception) → e ≡ refused i transaction_constraint_code
     → Err n ≡ verdict o → found (Some (refuses.Excepts e)) ≡ broken_by o i
 answer_broken None i n e same h = absurd (cc)
 answer_broken (Some m) i n e same h = ap (λ x. Some (Excepts x)) same

@@ -5,7 +5,7 @@ use Rattle.z_regs.specs.declared.waiting.Waiting.{Waiting}
 use Rattle.z_instr.specs.declared.instr.Instr.{Instr}
 use Rattle.z_effect.specs.After.{exception}
 use Rattle.z_effect.specs.Interrupted.{with_interruption, interrupted_by}
-use Rattle.tx_control.specs.declared.codes.TheConstants.{FIXED_POINT_OVERFLOW, FIXED_POINT_DIVIDE}
+use Rattle.tx_control.specs.Codes.{fixed_point_overflow_code, fixed_point_divide_code}
 use Rattle.tx_control.specs.declared.exceptions.Exception.{Exception}
 use Rattle.tx_serial.specs.Apply.{with_outcome}
 use Rattle.tx_serial.specs.Attempt.{at_rest}
@@ -29,8 +29,8 @@ pub record HasStopped (e : Exception) (old new : Slot) : Type 0 where
 -- the CPU behind an instruction of n bytes that has left it so
 abbrev pub cpu_ended : ℕ → Completion → Cpu → Cpu
 cpu_ended n Completed c = c
-cpu_ended n Overflowed c = with_interruption FIXED_POINT_OVERFLOW c
-cpu_ended n Divides c = interrupted_by (exception FIXED_POINT_DIVIDE n) c
+cpu_ended n Overflowed c = with_interruption fixed_point_overflow_code c
+cpu_ended n Divides c = interrupted_by (exception fixed_point_divide_code n) c
 cpu_ended n (Aborts code) c = c
 
 -- and the interruption that waits then

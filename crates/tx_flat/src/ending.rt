@@ -1,7 +1,7 @@
 //! How an attempt ends that does not commit.
 ghost use Rattle.std.specs.Prelude.{◌≡◌, ◌≤◌, ◌&&◌, nat_lt, length};
 ghost use Rattle.std.specs.FinSet.{items};
-ghost use Rattle.line_table.specs.declared.table.TheConstants.{LINES};
+ghost use Rattle.line_table.specs.Sizes.{storage_lines};
 ghost use Rattle.z_regs.specs.Cpu.{cpu_of};
 ghost use Rattle.z_regs.specs.Prefix.{storage_size};
 ghost use Rattle.z_effect.specs.After.{AreInside, ranges_of};
@@ -81,14 +81,14 @@ pub fn ending(a: &mut Attempt, guard: &Guard) -> Option<Why>
 
 /// Whether a line was stored; no line behind the end of storage was.
 fn stored(footprint: &Footprint, line: u32) -> bool
-    ensures { result ≡ (nat_lt line LINES && (sets_of footprint.now).stored line) }
+    ensures { result ≡ (nat_lt line storage_lines && (sets_of footprint.now).stored line) }
 {
     (line as usize) < LINES && footprint.stored(line)
 }
 
 /// Whether a line was fetched.
 fn fetched(footprint: &Footprint, line: u32) -> bool
-    ensures { result ≡ (nat_lt line LINES && (sets_of footprint.now).fetched line) }
+    ensures { result ≡ (nat_lt line storage_lines && (sets_of footprint.now).fetched line) }
 {
     (line as usize) < LINES && footprint.fetched(line)
 }

@@ -9,7 +9,7 @@ use Rattle.bit_set.proofs.Counts.{count_agree, count_le, count_none, count_or}
 use Rattle.z_regs.specs.declared.ranges.Range.{Range}
 use Rattle.tx_footprint.specs.declared.places.Kind.{Kind}
 use Rattle.tx_footprint.specs.declared.places.Kind.TheVariants.{Line, FetchedLine, StoredLine, StoredBlock}
-use Rattle.tx_footprint.specs.declared.places.TheConstants.{BLOCK_SIZE}
+use Rattle.tx_footprint.specs.Sizes.{block_size}
 use Rattle.tx_footprint.specs.Places.{has_place, size_of, places_of, records, covers, touched_by, lies_in}
 use Rattle.tx_footprint.proofs.Marking.{touched_more}
 use Rattle.tx_footprint.proofs.Spans.{span_is, no_bytes, some_size}
@@ -45,7 +45,7 @@ count_span n first end = omega (arith, span_below n first end)
 
 -- the places of a range, for blocks and for the larger lines alike
 span_size : (kind : Kind) (first length : ℕ) → 0 < length
-    → (first + length - 1) / size_of kind + 1 - first / size_of kind ≤ length / BLOCK_SIZE + 2
+    → (first + length - 1) / size_of kind + 1 - first / size_of kind ≤ length / block_size + 2
 span_size Line first length some = omega arith
 span_size FetchedLine first length some = omega arith
 span_size StoredLine first length some = omega arith
@@ -53,7 +53,7 @@ span_size StoredBlock first length some = omega arith
 
 -- the places of one kind that a range touches
 most_covered : (kind : Kind) (r : Range)
-    → count_below (places_of kind) (covers kind r) ≤ r.length / BLOCK_SIZE + 2
+    → count_below (places_of kind) (covers kind r) ≤ r.length / block_size + 2
 most_covered kind r =
     by_way (cases_eq r.length 0)
     (λ none. omega (
@@ -80,7 +80,7 @@ pub most_more : (kind : Kind) (ranges : List Range) (i : ℕ) (r : Range) (most 
     → slice_get ranges i ≡ Some r
     → count_below (places_of kind) (touched_by kind (take i ranges)) ≤ most
     → count_below (places_of kind) (touched_by kind (take (i + 1) ranges)) ≤ most
-    + (r.length / BLOCK_SIZE + 2)
+    + (r.length / block_size + 2)
 most_more kind ranges i r most e before =
     omega (
       arith,

@@ -10,13 +10,13 @@ use Rattle.bit_set.specs.Counts.{count_below}
 use Rattle.bit_set.proofs.Counts.{count_agree, count_none, count_or}
 use Rattle.bit_set.proofs.Marks.{clear_at}
 use Rattle.z_regs.specs.declared.ranges.Range.{Range}
-use Rattle.line_table.specs.declared.table.TheConstants.{LINES}
+use Rattle.line_table.specs.Sizes.{storage_lines}
 use Rattle.tx_footprint.specs.declared.footprint.Overflow.{Overflow}
 use Rattle.tx_footprint.specs.declared.footprint.Overflow.TheVariants.{Fetch, Store}
-use Rattle.tx_footprint.specs.declared.footprint.TheConstants.{MOST_LINES, MOST_BLOCKS}
+use Rattle.tx_footprint.specs.Sizes.{line_limit, block_limit}
 use Rattle.tx_footprint.specs.declared.places.Kind.{Kind}
 use Rattle.tx_footprint.specs.declared.places.Kind.TheVariants.{Line, FetchedLine, StoredLine, StoredBlock}
-use Rattle.tx_footprint.specs.declared.places.TheConstants.{LINE_SIZE, BLOCKS}
+use Rattle.tx_footprint.specs.Sizes.{line_size, storage_blocks}
 use Rattle.tx_footprint.specs.Places.{has_place, fetches, stores, touched_by, marked_or_touched}
 use Rattle.tx_footprint.specs.Touched.{Sets, untouched, touching, line_count, block_count, fit_of}
 use Rattle.tx_footprint.specs.Touched.{Touched, sets_of, IsKept}
@@ -35,8 +35,8 @@ touched_line : (ranges : List Range) (line : ℕ)
     → touched_by Line ranges line ≡ (fetches ranges line || stores ranges line)
 touched_line [] line = refl
 touched_line (r ∷ rs) line =
-    ap (λ b. has_place LINE_SIZE r line || b) (touched_line rs line)
-    ∙ either_way r.store (has_place LINE_SIZE r line) (fetches rs line) (stores rs line)
+    ap (λ b. has_place line_size r line || b) (touched_line rs line)
+    ∙ either_way r.store (has_place line_size r line) (fetches rs line) (stores rs line)
 
 regroup : (f s a b : Bool) → ((f || s) || (a || b)) ≡ ((f || a) || (s || b))
 regroup true s a b = refl
@@ -54,32 +54,32 @@ union_after f s t ranges line e =
 
 -- the second limit, which is tested where the first is kept
 abbrev blocks_fit : Sets → Result (Unit {0}) Overflow
-blocks_fit sets = cond (ltb MOST_BLOCKS (block_count sets)) (Err Store) (Ok tt)
+blocks_fit sets = cond (ltb block_limit (block_count sets)) (Err Store) (Ok tt)
 
-pub too_many_lines : (sets : Sets) → MOST_LINES < line_count sets → fit_of sets ≡ Err Fetch
+pub too_many_lines : (sets : Sets) → line_limit < line_count sets → fit_of sets ≡ Err Fetch
 too_many_lines sets lt =
-    cond-true (ltb MOST_LINES (line_count sets)) (Err Fetch) (blocks_fit sets) (lt-ltb _ _ lt)
+    cond-true (ltb line_limit (line_count sets)) (Err Fetch) (blocks_fit sets) (lt-ltb _ _ lt)
 
-pub lines_fit : (sets : Sets) → line_count sets ≤ MOST_LINES → fit_of sets ≡ blocks_fit sets
+pub lines_fit : (sets : Sets) → line_count sets ≤ line_limit → fit_of sets ≡ blocks_fit sets
 lines_fit sets le =
-    cond-false (ltb MOST_LINES (line_count sets)) (Err Fetch) (blocks_fit sets) (le-ltb _ _ le)
+    cond-false (ltb line_limit (line_count sets)) (Err Fetch) (blocks_fit sets) (le-ltb _ _ le)
 
-pub too_many_blocks : (sets : Sets) → line_count sets ≤ MOST_LINES → MOST_BLOCKS < block_count sets
+pub too_many_blocks : (sets : Sets) → line_count sets ≤ line_limit → block_limit < block_count sets
     → fit_of sets ≡ Err Store
 too_many_blocks sets le lt =
-    lines_fit sets le ∙ cond-true (ltb MOST_BLOCKS (block_count sets)) (Err Store) (Ok tt) (lt-ltb _ _ lt)
+    lines_fit sets le ∙ cond-true (ltb block_limit (block_count sets)) (Err Store) (Ok tt) (lt-ltb _ _ lt)
 
-pub all_fit : (sets : Sets) → line_count sets ≤ MOST_LINES → block_count sets ≤ MOST_BLOCKS
+pub all_fit : (sets : Sets) → line_count sets ≤ line_limit → block_count sets ≤ block_limit
     → fit_of sets ≡ Ok tt
 all_fit sets le few =
-    lines_fit sets le ∙ cond-false (ltb MOST_BLOCKS (block_count sets)) (Err Store) (Ok tt) (le-ltb _ _ few)
+    lines_fit sets le ∙ cond-false (ltb block_limit (block_count sets)) (Err Store) (Ok tt) (le-ltb _ _ few)
 
 pub fits_from : (sets : Sets) → fit_of sets ≡ Ok tt
-    → (line_count sets ≤ MOST_LINES) × (block_count sets ≤ MOST_BLOCKS)
+    → (line_count sets ≤ line_limit) × (block_count sets ≤ block_limit)
 fits_from sets e =
-    by_way (cases_lt MOST_LINES (line_count sets))
+    by_way (cases_lt line_limit (line_count sets))
     (λ over. let n : Err Fetch ≡ Ok tt = sym (too_many_lines sets over) ∙ e in cc)
-    (λ le. by_way (cases_lt MOST_BLOCKS (block_count sets))
+    (λ le. by_way (cases_lt block_limit (block_count sets))
     (λ over. let n : Err Store ≡ Ok tt = sym (too_many_blocks sets le over) ∙ e in cc)
     (λ few. (le, few)))
 
@@ -105,9 +105,9 @@ are_clear n size is same = record {
   none = λ k. ap (λ l. get_or l k false) is ∙ clear_at n k;
 }
 
-pub nothing_kept : {touched fetched stored blocks : List Bool} → AreClear LINES touched
-    → AreClear LINES fetched
-    → AreClear LINES stored → AreClear BLOCKS blocks → IsKept touched fetched stored blocks 0 0
+pub nothing_kept : {touched fetched stored blocks : List Bool} → AreClear storage_lines touched
+    → AreClear storage_lines fetched
+    → AreClear storage_lines stored → AreClear storage_blocks blocks → IsKept touched fetched stored blocks 0 0
 nothing_kept {touched} {fetched} {stored} {blocks} no_touched no_fetched no_stored no_blocks =
     record {
       touched_size = no_touched.size_is;
@@ -116,14 +116,14 @@ nothing_kept {touched} {fetched} {stored} {blocks} no_touched no_fetched no_stor
       blocks_size = no_blocks.size_is;
       union = λ k. no_touched.none k
           ∙ sym (ap (λ b. b || get_or stored k false) (no_fetched.none k) ∙ no_stored.none k);
-      counted_lines = sym (count_none LINES (λ k. get_or touched k false) (λ k _. no_touched.none k));
-      counted_blocks = sym (count_none BLOCKS (λ k. get_or blocks k false) (λ k _. no_blocks.none k));
+      counted_lines = sym (count_none storage_lines (λ k. get_or touched k false) (λ k _. no_touched.none k));
+      counted_blocks = sym (count_none storage_blocks (λ k. get_or blocks k false) (λ k _. no_blocks.none k));
       most_lines = omega arith;
       most_blocks = omega arith;
     }
 
-pub nothing_touched : {fetched stored blocks : List Bool} → AreClear LINES fetched → AreClear LINES stored
-    → AreClear BLOCKS blocks
+pub nothing_touched : {fetched stored blocks : List Bool} → AreClear storage_lines fetched → AreClear storage_lines stored
+    → AreClear storage_blocks blocks
     → sets_of (record { fetched = fetched; stored = stored; blocks = blocks }) ≡ untouched
 nothing_touched no_fetched no_stored no_blocks = λ i. record {
   fetched = λ k. no_fetched.none k i;
@@ -156,23 +156,23 @@ module _ {touched fetched stored blocks : List Bool} {lines stored_blocks : ℕ}
       added + count_below size (λ k. get_or marks k false) ≡ count_below size
       (marked_or_touched marks kind ranges)
 
-  lines_counted : (added : ℕ) → Adds added LINES touched Line → lines + added ≡ line_count after
+  lines_counted : (added : ℕ) → Adds added storage_lines touched Line → lines + added ≡ line_count after
   lines_counted added counted =
       let alike =
-      count_agree LINES (marked_or_touched touched Line ranges) (λ k. after.fetched k || after.stored k)
+      count_agree storage_lines (marked_or_touched touched Line ranges) (λ k. after.fetched k || after.stored k)
       (λ k _. together k) in
       omega (arith, kept.counted_lines, counted, alike)
 
   -- the counts of what the footprint is seen as
   pub lines_after : {seen : Touched} (added : ℕ)
-      → record { fetched = fetched; stored = stored; blocks = blocks } ≡ seen → Adds added LINES touched Line
+      → record { fetched = fetched; stored = stored; blocks = blocks } ≡ seen → Adds added storage_lines touched Line
       → lines + added ≡ line_count (touching (sets_of seen) ranges)
   lines_after added view_is counted =
       lines_counted added counted ∙ ap (λ (v : Touched). line_count (touching (sets_of v) ranges)) view_is
 
   pub blocks_after : {seen : Touched} (added : ℕ)
       → record { fetched = fetched; stored = stored; blocks = blocks } ≡ seen
-      → Adds added BLOCKS blocks StoredBlock
+      → Adds added storage_blocks blocks StoredBlock
       → stored_blocks + added ≡ block_count (touching (sets_of seen) ranges)
   blocks_after added view_is counted =
       let here : stored_blocks + added ≡ block_count after = omega (arith, kept.counted_blocks, counted) in
@@ -190,20 +190,20 @@ module _ {touched fetched stored blocks : List Bool} {lines stored_blocks : ℕ}
   pub lines_marked : {seen : Touched} {touched' : List Bool} (added : ℕ)
       → record { fetched = fetched; stored = stored; blocks = blocks } ≡ seen
       → AreAdded Line ranges touched touched'
-      → added + count_below LINES (λ k. get_or touched k false) ≡ count_below
-      LINES (λ k. get_or touched' k false)
+      → added + count_below storage_lines (λ k. get_or touched k false) ≡ count_below
+      storage_lines (λ k. get_or touched' k false)
       → lines + added ≡ line_count (touching (sets_of seen) ranges)
   lines_marked added view_is are_added counted =
-      lines_after added view_is (adds Line added LINES are_added counted)
+      lines_after added view_is (adds Line added storage_lines are_added counted)
 
   pub blocks_marked : {seen : Touched} {blocks' : List Bool} (added : ℕ)
       → record { fetched = fetched; stored = stored; blocks = blocks } ≡ seen
       → AreAdded StoredBlock ranges blocks blocks'
-      → added + count_below BLOCKS (λ k. get_or blocks k false) ≡ count_below
-      BLOCKS (λ k. get_or blocks' k false)
+      → added + count_below storage_blocks (λ k. get_or blocks k false) ≡ count_below
+      storage_blocks (λ k. get_or blocks' k false)
       → stored_blocks + added ≡ block_count (touching (sets_of seen) ranges)
   blocks_marked added view_is are_added counted =
-      blocks_after added view_is (adds StoredBlock added BLOCKS are_added counted)
+      blocks_after added view_is (adds StoredBlock added storage_blocks are_added counted)
 
   -- marks and touched places together are no more than both
   at_most : (marks : List Bool) (kind : Kind) (size most : ℕ)
@@ -216,23 +216,23 @@ module _ {touched fetched stored blocks : List Bool} {lines stored_blocks : ℕ}
   -- no more lines and blocks than before and a bound on those that are touched
   pub most_lines_after : {seen : Touched} (most : ℕ)
       → record { fetched = fetched; stored = stored; blocks = blocks } ≡ seen
-      → count_below LINES (touched_by Line ranges) ≤ most
+      → count_below storage_lines (touched_by Line ranges) ≤ most
       → line_count (touching (sets_of seen) ranges) ≤ lines + most
   most_lines_after most view_is le =
       let alike =
-      count_agree LINES (marked_or_touched touched Line ranges) (λ k. after.fetched k || after.stored k)
+      count_agree storage_lines (marked_or_touched touched Line ranges) (λ k. after.fetched k || after.stored k)
       (λ k _. together k) in
       let here : line_count after ≤ lines + most =
-      omega (arith, alike, kept.counted_lines, at_most touched Line LINES most le) in
+      omega (arith, alike, kept.counted_lines, at_most touched Line storage_lines most le) in
       subst (λ (v : Touched). line_count (touching (sets_of v) ranges) ≤ lines + most) view_is here
 
   pub most_blocks_after : {seen : Touched} (most : ℕ)
       → record { fetched = fetched; stored = stored; blocks = blocks } ≡ seen
-      → count_below BLOCKS (touched_by StoredBlock ranges) ≤ most
+      → count_below storage_blocks (touched_by StoredBlock ranges) ≤ most
       → block_count (touching (sets_of seen) ranges) ≤ stored_blocks + most
   most_blocks_after most view_is le =
       let here : block_count after ≤ stored_blocks + most =
-      omega (arith, kept.counted_blocks, at_most blocks StoredBlock BLOCKS most le) in
+      omega (arith, kept.counted_blocks, at_most blocks StoredBlock storage_blocks most le) in
       subst (λ (v : Touched). block_count (touching (sets_of v) ranges) ≤ stored_blocks + most) view_is here
 
   pub added_kept : {seen : Touched} {touched' fetched' stored' blocks' : List Bool}
@@ -240,8 +240,8 @@ module _ {touched fetched stored blocks : List Bool} {lines stored_blocks : ℕ}
       → record { fetched = fetched; stored = stored; blocks = blocks } ≡ seen
       → AreAdded Line ranges touched touched' → AreAdded FetchedLine ranges fetched fetched'
       → AreAdded StoredLine ranges stored stored' → AreAdded StoredBlock ranges blocks blocks'
-      → lines' ≡ line_count (touching (sets_of seen) ranges) → lines' ≤ MOST_LINES
-      → stored_blocks' ≡ block_count (touching (sets_of seen) ranges) → stored_blocks' ≤ MOST_BLOCKS
+      → lines' ≡ line_count (touching (sets_of seen) ranges) → lines' ≤ line_limit
+      → stored_blocks' ≡ block_count (touching (sets_of seen) ranges) → stored_blocks' ≤ block_limit
       → IsKept touched' fetched' stored' blocks' lines' stored_blocks'
   added_kept {seen} {touched'} {fetched'} {stored'} {blocks'} view_is t f s b lines_are few_lines blocks_are
       few_blocks =
@@ -255,11 +255,11 @@ module _ {touched fetched stored blocks : List Bool} {lines stored_blocks : ℕ}
             ∙ ap (λ x. after.fetched k || x) (s.marks k));
         counted_lines = lines_are
             ∙ sym (ap (λ (v : Touched). line_count (touching (sets_of v) ranges)) view_is)
-            ∙ sym (count_agree LINES (λ k. get_or touched' k false) (λ k. after.fetched k || after.stored k)
+            ∙ sym (count_agree storage_lines (λ k. get_or touched' k false) (λ k. after.fetched k || after.stored k)
             (λ k _. t.marks k ∙ together k));
         counted_blocks = blocks_are
             ∙ sym (ap (λ (v : Touched). block_count (touching (sets_of v) ranges)) view_is)
-            ∙ sym (count_agree BLOCKS (λ k. get_or blocks' k false) after.blocks (λ k _. b.marks k));
+            ∙ sym (count_agree storage_blocks (λ k. get_or blocks' k false) after.blocks (λ k _. b.marks k));
         most_lines = few_lines;
         most_blocks = few_blocks;
       }

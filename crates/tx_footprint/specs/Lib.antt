@@ -1,3 +1,4 @@
 -- The places of ranges, and what a footprint is seen as.
+pub mod Sizes
 pub mod Places
 pub mod Touched

@@ -4,10 +4,10 @@ use Rattle.std.specs.Prelude.{List}
 use Rattle.std.specs.List.{list_any, range_with_len, slice_index_or}
 use Rattle.z_regs.specs.Prefix.{storage_size}
 use Rattle.z_regs.specs.declared.ranges.Range.{Range}
-use Rattle.line_table.specs.declared.table.TheConstants.{LINES}
+use Rattle.line_table.specs.Sizes.{storage_lines}
 use Rattle.tx_footprint.specs.declared.places.Kind.{Kind}
 use Rattle.tx_footprint.specs.declared.places.Kind.TheVariants.{Line, FetchedLine, StoredLine, StoredBlock}
-use Rattle.tx_footprint.specs.declared.places.TheConstants.{LINE_SIZE, BLOCK_SIZE, BLOCKS}
+use Rattle.tx_footprint.specs.Sizes.{line_size, block_size, storage_blocks}
 
 -- the addresses of a range, and its bytes all in storage
 abbrev pub addresses : Range → List ℕ
@@ -22,26 +22,26 @@ has_place size r place = list_any (λ address. address / size == place) (address
 
 -- the lines that ranges fetch from, the lines that they store into, and the blocks that they store into
 abbrev pub fetches : List Range → ℕ → Bool
-fetches ranges line = list_any (λ r. not r.store && has_place LINE_SIZE r line) ranges
+fetches ranges line = list_any (λ r. not r.store && has_place line_size r line) ranges
 
 abbrev pub stores : List Range → ℕ → Bool
-stores ranges line = list_any (λ r. r.store && has_place LINE_SIZE r line) ranges
+stores ranges line = list_any (λ r. r.store && has_place line_size r line) ranges
 
 abbrev pub stores_block : List Range → ℕ → Bool
-stores_block ranges block = list_any (λ r. r.store && has_place BLOCK_SIZE r block) ranges
+stores_block ranges block = list_any (λ r. r.store && has_place block_size r block) ranges
 
 -- the same by the kind of place, lines whether fetched or stored among them
 abbrev pub size_of : Kind → ℕ
-size_of Line = LINE_SIZE
-size_of FetchedLine = LINE_SIZE
-size_of StoredLine = LINE_SIZE
-size_of StoredBlock = BLOCK_SIZE
+size_of Line = line_size
+size_of FetchedLine = line_size
+size_of StoredLine = line_size
+size_of StoredBlock = block_size
 
 abbrev pub places_of : Kind → ℕ
-places_of Line = LINES
-places_of FetchedLine = LINES
-places_of StoredLine = LINES
-places_of StoredBlock = BLOCKS
+places_of Line = storage_lines
+places_of FetchedLine = storage_lines
+places_of StoredLine = storage_lines
+places_of StoredBlock = storage_blocks
 
 abbrev pub records : Kind → Bool → Bool
 records Line store = true

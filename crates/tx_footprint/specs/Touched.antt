@@ -4,11 +4,11 @@ use Rattle.std.specs.Prelude.{Err}
 use Rattle.std.specs.List.{slice_index_or}
 use Rattle.bit_set.specs.Counts.{count_below}
 use Rattle.z_regs.specs.declared.ranges.Range.{Range}
-use Rattle.line_table.specs.declared.table.TheConstants.{LINES}
+use Rattle.line_table.specs.Sizes.{storage_lines}
 use Rattle.tx_footprint.specs.declared.footprint.Overflow.{Overflow}
 use Rattle.tx_footprint.specs.declared.footprint.Overflow.TheVariants.{Fetch, Store}
-use Rattle.tx_footprint.specs.declared.footprint.TheConstants.{MOST_LINES, MOST_BLOCKS}
-use Rattle.tx_footprint.specs.declared.places.TheConstants.{BLOCKS}
+use Rattle.tx_footprint.specs.Sizes.{line_limit, block_limit}
+use Rattle.tx_footprint.specs.Sizes.{storage_blocks}
 use Rattle.tx_footprint.specs.Places.{fetches, stores, stores_block}
 
 -- the lines that were fetched, the lines that were stored, and the blocks that were stored
@@ -31,16 +31,16 @@ touching sets ranges =
 
 -- how many lines, each counted once whether it was fetched or stored or both, and how many stored blocks
 abbrev pub line_count : Sets → ℕ
-line_count sets = count_below LINES (λ line. sets.fetched line || sets.stored line)
+line_count sets = count_below storage_lines (λ line. sets.fetched line || sets.stored line)
 
 abbrev pub block_count : Sets → ℕ
-block_count sets = count_below BLOCKS sets.blocks
+block_count sets = count_below storage_blocks sets.blocks
 
 -- whether sets keep the limits
 abbrev pub fit_of : Sets → Result (Unit {0}) Overflow
 fit_of sets =
-    if nat_lt MOST_LINES (line_count sets) then Err Fetch else
-    (if nat_lt MOST_BLOCKS (block_count sets) then Err Store else Ok tt)
+    if nat_lt line_limit (line_count sets) then Err Fetch else
+    (if nat_lt block_limit (block_count sets) then Err Store else Ok tt)
 
 -- a footprint as data: a mark for each line and block of storage
 pub record Touched : Type 0 where
@@ -58,14 +58,14 @@ sets_of t =
 
 -- what is kept beside the marks: which lines were touched in either way, and how many lines and blocks
 pub record IsKept (touched fetched stored blocks : List Bool) (lines stored_blocks : ℕ) : Type 0 where
-  pub touched_size : length touched ≡ LINES
-  pub fetched_size : length fetched ≡ LINES
-  pub stored_size : length stored ≡ LINES
-  pub blocks_size : length blocks ≡ BLOCKS
+  pub touched_size : length touched ≡ storage_lines
+  pub fetched_size : length fetched ≡ storage_lines
+  pub stored_size : length stored ≡ storage_lines
+  pub blocks_size : length blocks ≡ storage_blocks
   pub union : (line : ℕ)
       → slice_index_or touched line
       false ≡ (slice_index_or fetched line false || slice_index_or stored line false)
-  pub counted_lines : lines ≡ count_below LINES (λ line. slice_index_or touched line false)
-  pub counted_blocks : stored_blocks ≡ count_below BLOCKS (λ block. slice_index_or blocks block false)
-  pub most_lines : lines ≤ MOST_LINES
-  pub most_blocks : stored_blocks ≤ MOST_BLOCKS
+  pub counted_lines : lines ≡ count_below storage_lines (λ line. slice_index_or touched line false)
+  pub counted_blocks : stored_blocks ≡ count_below storage_blocks (λ block. slice_index_or blocks block false)
+  pub most_lines : lines ≤ line_limit
+  pub most_blocks : stored_blocks ≤ block_limit

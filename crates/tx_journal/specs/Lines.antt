@@ -7,7 +7,7 @@ use Rattle.std.specs.Int.{to_be_bytes}
 use Rattle.hex.specs.Hex.{encode_lower}
 use mir.Syntax.{w16, w64}
 use Rattle.z_regs.specs.Prefix.{storage_size}
-use Rattle.tx_control.specs.declared.abort_codes.TheConstants as abort
+use Rattle.tx_control.specs.AbortCodes as abort
 use Rattle.tx_control.specs.declared.causes.Why.{Why}
 use Rattle.tx_control.specs.declared.causes.Why.TheVariants.{Program, FetchConflict, StoreConflict, Filtered}
 use Rattle.tx_control.specs.Causes.{code_number}
@@ -77,16 +77,16 @@ history_text history = flat_map entry_text history
 -- line
 abbrev pub says_nothing : ℕ → Bool
 says_nothing code =
-    nat_eq code abort.EXTERNAL_INTERRUPTION
-    || (nat_eq code abort.FETCH_OVERFLOW || (nat_eq code abort.STORE_OVERFLOW
-    || (nat_eq code abort.RESTRICTED_INSTRUCTION || (nat_eq code abort.NESTING_DEPTH
-    || (nat_eq code abort.STARVED || nat_lt abort.STARVED code)))))
+    nat_eq code abort.external_interruption
+    || (nat_eq code abort.fetch_overflow || (nat_eq code abort.store_overflow
+    || (nat_eq code abort.restricted_instruction || (nat_eq code abort.nesting_depth
+    || (nat_eq code abort.starved || nat_lt abort.starved code)))))
 
 abbrev pub says_exception : ℕ → Bool
-says_exception code = nat_eq code abort.PROGRAM_INTERRUPTION || nat_eq code abort.FILTERED_EXCEPTION
+says_exception code = nat_eq code abort.program_interruption || nat_eq code abort.filtered_exception
 
 abbrev pub says_line : ℕ → Bool
-says_line code = nat_eq code abort.FETCH_CONFLICT || nat_eq code abort.STORE_CONFLICT
+says_line code = nat_eq code abort.fetch_conflict || nat_eq code abort.store_conflict
 
 -- a line of storage begins there
 pub record IsLineAddress (address : ℕ) : Type 0 where

@@ -1,6 +1,6 @@
 -- Entries that a machine can write, and what their lines leave out.
 use Rattle.std.specs.Prelude.{ℕ, ◌<◌, ◌^◌, false}
-use Rattle.tx_control.specs.declared.abort_codes.TheConstants as abort
+use Rattle.tx_control.specs.AbortCodes as abort
 use Rattle.tx_control.specs.declared.exceptions.Exception.{Exception}
 use Rattle.tx_control.specs.declared.causes.Why.{Why}
 use Rattle.tx_control.specs.declared.causes.Why.TheVariants.{Program, FetchConflict, StoreConflict, Filtered}
@@ -15,7 +15,7 @@ IsCause (Program e) = e.code < 2 ^ 16
 IsCause (Filtered e) = e.code < 2 ^ 16
 IsCause (FetchConflict line) = line < 4096
 IsCause (StoreConflict line) = line < 4096
-IsCause (Tabort code) = (abort.STARVED < code) × (code < 2 ^ 64)
+IsCause (Tabort code) = (abort.starved < code) × (code < 2 ^ 64)
 IsCause _ = Unit {0}
 
 -- CPU and count fit 32 bits, and the cause is one that a machine finds

@@ -8,7 +8,7 @@ use Rattle.std.proofs.lemmas.Bool.{not_from_false}
 use borrow.Enum.Arm.{by_way}
 use Rattle.tx_control.specs.declared.causes.Why.{Why}
 use Rattle.tx_control.specs.declared.causes.Why.TheVariants.{StoreConflict, FetchConflict}
-use Rattle.tx_footprint.specs.declared.places.TheConstants.{LINE_SIZE}
+use Rattle.tx_footprint.specs.Sizes.{line_size}
 use Rattle.tx_footprint.specs.Touched.{Sets, untouched}
 use Rattle.tx_ladder.specs.Rungs.{Standing, rejecting, rejected, is_late}
 use Rattle.tx_journal.specs.declared.entries.Entry.{Entry}
@@ -57,8 +57,8 @@ state_of q = record { state = q.kept.state; reject = q.reject }
 pub record Keeps (k after : Kept) (x : ℕ) : Type 0 where
   pub completed : (after.state.numbers x).completed ≡ (k.state.numbers x).completed
   pub local : after.locals x ≡ k.locals x
-  pub bytes : (a : ℕ) → ((k.locals x).attempt.footprint.fetched (a / LINE_SIZE)
-      || (k.locals x).attempt.footprint.stored (a / LINE_SIZE)) ≡ true → after.storage a ≡ k.storage a
+  pub bytes : (a : ℕ) → ((k.locals x).attempt.footprint.fetched (a / line_size)
+      || (k.locals x).attempt.footprint.stored (a / line_size)) ≡ true → after.storage a ≡ k.storage a
 
 pub keeps_untouched : (k after : Kept) (x : ℕ) → Untouched k after x → Keeps k after x
 keeps_untouched k after x u = record {
@@ -72,8 +72,8 @@ keeps_then k mid after x f g = record {
   completed = g.completed ∙ f.completed;
   local = g.local ∙ f.local;
   bytes = λ a is. g.bytes a
-      (ap (λ (l : Local). l.attempt.footprint.fetched (a / LINE_SIZE)
-      || l.attempt.footprint.stored (a / LINE_SIZE)) f.local ∙ is) ∙ f.bytes a is;
+      (ap (λ (l : Local). l.attempt.footprint.fetched (a / line_size)
+      || l.attempt.footprint.stored (a / line_size)) f.local ∙ is) ∙ f.bytes a is;
 }
 
 pub keeps_restated : (k : Kept) (s : State) (x : ℕ) → (s.numbers x).completed ≡ (k.state.numbers x).completed

@@ -4,7 +4,7 @@ use Rattle.std.proofs.Common.{◌≡◌, ℕ, ◌/◌, ◌<◌, true, false, Lis
 use Rattle.std.proofs.Common.{Some, refl, sym, ap, subst, ◌∙◌}
 use Rattle.std.specs.Prelude.{◌||◌}
 use Rattle.std.proofs.lemmas.List.Elements.{All-head, All-tail}
-use Rattle.tx_footprint.specs.declared.places.TheConstants.{LINE_SIZE}
+use Rattle.tx_footprint.specs.Sizes.{line_size}
 use Rattle.tx_footprint.specs.Touched.{Sets}
 use Rattle.tx_journal.specs.Image.{cpu_of_event}
 use Rattle.tx_journal.specs.declared.events.Event.{Event}
@@ -28,7 +28,7 @@ use Rattle.tx_keeping.specs.Views.{AreKnown, turned_of, GoesOnWith, IsSameView, 
 use Rattle.tx_keeping.proofs.Truth.{TrueAt, Truth, attempt_is, footprint_is}
 use Rattle.bit_set.proofs.Counts.{count_none}
 use Rattle.std.proofs.Common.{arith}
-use Rattle.line_table.specs.declared.table.TheConstants.{LINES}
+use Rattle.line_table.specs.Sizes.{storage_lines}
 use Rattle.tx_keeping.proofs.Room.{AllWithin}
 use Rattle.tx_keeping.proofs.Holding.{Holds}
 use Rattle.tx_keeping.proofs.Moves.{IsGood}
@@ -176,7 +176,7 @@ module _ (m : Setting) (s : IsSetting m) where
       let view : IsSameView (run f i n) (run g i n) = record {
         shows = stays.track;
         bytes = λ a is. copy_at f g i n n a stays.track (keeps.bytes a
-            (ap (λ (sets : Sets). sets.fetched (a / LINE_SIZE) || sets.stored (a / LINE_SIZE))
+            (ap (λ (sets : Sets). sets.fetched (a / line_size) || sets.stored (a / line_size))
             (sym (footprint_is m k t i) ∙ ap footprint (attempt_is m k t i)) ∙ is));
       } in
       subst (λ p. IsSameView p (attempt_of m after.state i)) (sym (attempt_is m k t i))
@@ -198,7 +198,7 @@ module _ (m : Setting) (s : IsSetting m) where
 
   begins_within : AllWithin (kept_beginning m).state.held
   unfolding kept_beginning
-  begins_within cpu = let none = count_none LINES (λ line. false) (λ k lt. refl) in omega (arith, none)
+  begins_within cpu = let none = count_none storage_lines (λ line. false) (λ k lt. refl) in omega (arith, none)
 
   pub held_so : (events : List Event) → AreKnown m events → IsHeld m (keeping m events)
   held_so events known =

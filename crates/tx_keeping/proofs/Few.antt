@@ -16,8 +16,8 @@ use Rattle.z_instr.specs.declared.instr.Instr.{Instr}
 use Rattle.z_instr.specs.declared.operand.Operands.{Operands}
 use Rattle.z_instr.specs.Operands.{Span, IsSmall, spans, spans_in, selects}
 use Rattle.z_instr.specs.Table.{entry_at}
-use Rattle.line_table.specs.declared.table.TheConstants.{LINES}
-use Rattle.tx_footprint.specs.declared.places.TheConstants.{LINE_SIZE}
+use Rattle.line_table.specs.Sizes.{storage_lines}
+use Rattle.tx_footprint.specs.Sizes.{line_size}
 use Rattle.tx_footprint.specs.Places.{has_place, fetches, stores}
 use Rattle.tx_footprint.specs.Touched.{Sets, untouched, touching, fit_of}
 use Rattle.tx_footprint.proofs.Limits.{fits_from}
@@ -59,22 +59,22 @@ use Rattle.tx_keeping.proofs.Room.{HasRoom}
 -- ---- the lines of one range
 
 -- at most 256 bytes lie in two lines
-two_lines : (r : Range) (line : ℕ) → r.length ≤ 256 → has_place LINE_SIZE r line ≡ true
-    → list_any (λ x. eqb x line) (r.first / LINE_SIZE ∷ (r.first / LINE_SIZE + 1) ∷ []) ≡ true
+two_lines : (r : Range) (line : ℕ) → r.length ≤ 256 → has_place line_size r line ≡ true
+    → list_any (λ x. eqb x line) (r.first / line_size ∷ (r.first / line_size + 1) ∷ []) ≡ true
 unfolding has_place
 two_lines r line small h =
     let s = spot r.first r.length line h in
-    let first = r.first / LINE_SIZE in
+    let first = r.first / line_size in
     by_way (cases_eq first line)
     (λ e. or_left (eqb first line) (eqb (first + 1) line || false) (eq-eqb first line e))
     (λ ne. let next : first + 1 ≡ line = omega (arith, s.low, s.high, s.there, small, ne) in
     or_right (eqb first line) (eqb (first + 1) line || false)
     (or_left (eqb (first + 1) line) false (eq-eqb (first + 1) line next)))
 
-range_count : (n : ℕ) (r : Range) → r.length ≤ 256 → count_below n (has_place LINE_SIZE r) ≤ 2
+range_count : (n : ℕ) (r : Range) → r.length ≤ 256 → count_below n (has_place line_size r) ≤ 2
 range_count n r small =
-    let xs = r.first / LINE_SIZE ∷ (r.first / LINE_SIZE + 1) ∷ [] in
-    let le = count_le n (has_place LINE_SIZE r) (λ line. list_any (λ x. eqb x line) xs)
+    let xs = r.first / line_size ∷ (r.first / line_size + 1) ∷ [] in
+    let le = count_le n (has_place line_size r) (λ line. list_any (λ x. eqb x line) xs)
     (λ line lt h. two_lines r line small h) in
     omega (arith, le, count_listed n xs)
 
@@ -85,7 +85,7 @@ AreShort [] = Unit {0}
 AreShort (r ∷ rs) = (r.length ≤ 256) × AreShort rs
 
 abbrev in_any : List Range → ℕ → Bool
-in_any ranges line = list_any (λ r. has_place LINE_SIZE r line) ranges
+in_any ranges line = list_any (λ r. has_place line_size r line) ranges
 
 any_count : (n : ℕ) (ranges : List Range) → AreShort ranges
     → count_below n (in_any ranges) ≤ 2 * length ranges
@@ -93,7 +93,7 @@ any_count n [] short = omega (arith, count_none n (λ line. false) (λ k lt. ref
 any_count n (r ∷ rs) short =
     omega (
       arith,
-      count_or n (has_place LINE_SIZE r)
+      count_or n (has_place line_size r)
           (in_any rs),
       range_count n r short.0,
       any_count n rs short.1,
@@ -122,7 +122,7 @@ absolute_parts None r small = record { short = (small, tt); few = omega arith }
 absolute_parts (Some p) r small = split_parts p r (nat_le r.length (to_edge r.first)) small refl
 
 any_append : (xs ys : List Range) (line : ℕ) → in_any (xs ++ ys) line ≡ (in_any xs line || in_any ys line)
-any_append xs ys line = list_any-append (λ r. has_place LINE_SIZE r line) xs ys
+any_append xs ys line = list_any-append (λ r. has_place line_size r line) xs ys
 
 absolute_count : (n : ℕ) (prefix : Option ℕ) (ranges : List Range) → AreShort ranges
     → count_below n (in_any (absolute_ranges prefix ranges)) ≤ 4 * length ranges
@@ -144,14 +144,14 @@ absolute_count n prefix (r ∷ rs) short =
     )
 
 some_any : (test : Range → Bool) (ranges : List Range) (line : ℕ)
-    → list_any (λ r. test r && has_place LINE_SIZE r line) ranges ≡ true → in_any ranges line ≡ true
+    → list_any (λ r. test r && has_place line_size r line) ranges ≡ true → in_any ranges line ≡ true
 some_any test [] line h = h
 some_any test (r ∷ rs) line h =
-    by_way (or_cases (test r && has_place LINE_SIZE r line)
-    (list_any (λ r. test r && has_place LINE_SIZE r line) rs) h)
-    (λ here. or_left (has_place LINE_SIZE r line) (in_any rs line)
-    (and_parts (test r) (has_place LINE_SIZE r line) here).1)
-    (λ later. or_right (has_place LINE_SIZE r line) (in_any rs line) (some_any test rs line later))
+    by_way (or_cases (test r && has_place line_size r line)
+    (list_any (λ r. test r && has_place line_size r line) rs) h)
+    (λ here. or_left (has_place line_size r line) (in_any rs line)
+    (and_parts (test r) (has_place line_size r line) here).1)
+    (λ later. or_right (has_place line_size r line) (in_any rs line) (some_any test rs line later))
 
 touched_any : (ranges : List Range) (line : ℕ) → (fetches ranges line || stores ranges line) ≡ true
     → in_any ranges line ≡ true
@@ -166,12 +166,12 @@ pub untouched_room : (sets : Sets) (prefix : Option ℕ) (ranges : List Range) �
     → length ranges ≤ 96 → HasRoom sets (operand_needs prefix ranges)
 untouched_room sets prefix ranges none short few =
     let abs = absolute_ranges prefix ranges in
-    let le = count_le LINES (λ line. (sets.fetched line || sets.stored line) || is_needed (needs_of abs) line)
+    let le = count_le storage_lines (λ line. (sets.fetched line || sets.stored line) || is_needed (needs_of abs) line)
     (in_any abs) (λ line lt h. touched_any abs line
     (sym (needed_lines abs line)
     ∙ ap (λ (s : Sets). (s.fetched line || s.stored line) || is_needed (needs_of abs) line) (sym none)
     ∙ h)) in
-    record { few = omega (arith, le, absolute_count LINES prefix ranges short, few) }
+    record { few = omega (arith, le, absolute_count storage_lines prefix ranges short, few) }
 
 pub small_interruption : (block : Option (List ℕ)) → AreShort (interruption_ranges block)
 small_interruption None = (omega arith, (omega arith, (omega arith, tt)))
@@ -195,7 +195,7 @@ pub fitting_room : (sets : Sets) (prefix : Option ℕ) (ranges : List Range)
 fitting_room sets prefix ranges fits =
     let abs = absolute_ranges prefix ranges in
     let most = (fits_from (touching sets abs) fits).0 in
-    let same = count_agree LINES
+    let same = count_agree storage_lines
     (λ line. (sets.fetched line || sets.stored line) || is_needed (needs_of abs) line)
     (λ line. (sets.fetched line || fetches abs line) || (sets.stored line || stores abs line))
     (λ line lt. ap (λ b. (sets.fetched line || sets.stored line) || b) (needed_lines abs line)

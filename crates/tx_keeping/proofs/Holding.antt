@@ -10,7 +10,7 @@ use Rattle.std.proofs.lemmas.Bool.{or_parts}
 use borrow.Enum.Arm.{by_way}
 use Rattle.line_table.specs.declared.table.Mode.{Mode}
 use Rattle.line_table.specs.declared.table.Mode.TheVariants.{Shared, Exclusive}
-use Rattle.line_table.specs.declared.table.TheConstants.{LINES}
+use Rattle.line_table.specs.Sizes.{storage_lines}
 use Rattle.line_table.specs.Holders.{Holders, holding, is_against}
 use Rattle.line_table.proofs.Seen.{holding_here}
 use Rattle.tx_footprint.specs.Touched.{Sets}
@@ -176,7 +176,7 @@ makes_room true held i sets needs = same_room held i sets needs
 makes_room false held i sets needs =
     gives_up held i sets needs (spare_line held i sets needs)
     (λ line e. spare_parts held i sets needs line
-    (lowest_passes (is_spare held i sets needs) (range_with_len 0 LINES) line e))
+    (lowest_passes (is_spare held i sets needs) (range_with_len 0 storage_lines) line e))
 
 -- ---- a line is granted
 

@@ -9,7 +9,7 @@ use Rattle.tx_control.specs.declared.causes.Why.{Why}
 use Rattle.tx_control.specs.declared.causes.Why.TheVariants.{External, Program, FetchConflict}
 use Rattle.tx_control.specs.declared.causes.Why.TheVariants.{StoreConflict, FetchOverflow, StoreOverflow}
 use Rattle.tx_control.specs.declared.causes.Why.TheVariants.{Restricted, Filtered, Depth, Starved, Tabort}
-use Rattle.tx_footprint.specs.declared.places.TheConstants.{LINE_SIZE}
+use Rattle.tx_footprint.specs.Sizes.{line_size}
 use Rattle.tx_footprint.specs.Touched.{Sets, untouched}
 use Rattle.tx_ladder.specs.Rungs.{Standing, after_conflict, descended, next_rung}
 use Rattle.tx_ladder.specs.declared.ladder.Next.{Next}
@@ -160,7 +160,7 @@ moved_other m k after i e b lines g d x ne = record {
   standing = d.standings x ne;
   bytes = λ a is. ap (λ (s : Storage). s a) d.storage
       ∙ d.changes a (apart (cpus_of m) k.state.held (kept_footprint k) i x lines g.holds ne d.exclusive
-      (a / LINE_SIZE) is);
+      (a / line_size) is);
 }
 
 moved_flat : (m : Setting) (k after : Kept) (i : ℕ) (e : Entry) (b : Beside) (lines : ℕ → Bool)

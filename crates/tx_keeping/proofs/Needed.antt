@@ -12,7 +12,7 @@ use Rattle.z_instr.specs.Table.{entry_at}
 use Rattle.z_instr.specs.Roles.{begins}
 use Rattle.tx_control.specs.declared.causes.Why.{Why}
 use Rattle.tx_control.specs.declared.exceptions.Exception.{Exception}
-use Rattle.tx_footprint.specs.declared.places.TheConstants.{LINE_SIZE}
+use Rattle.tx_footprint.specs.Sizes.{line_size}
 use Rattle.tx_footprint.specs.Places.{fetches, stores}
 use Rattle.tx_footprint.specs.Touched.{Sets}
 use Rattle.tx_journal.specs.declared.entries.Entry.{Entry}
@@ -78,7 +78,7 @@ use Rattle.z_effect.specs.After.{exception}
 use Rattle.tx_progress.proofs.Rows.{role_done}
 use Rattle.z_instr.specs.Roles.{is_end}
 use Rattle.tx_control.specs.declared.begins.Begin.{Begin}
-use Rattle.tx_control.specs.declared.codes.TheConstants.{FIXED_POINT_OVERFLOW}
+use Rattle.tx_control.specs.Codes.{fixed_point_overflow_code}
 use Rattle.store_cache.specs.Overlay.{Store}
 use Rattle.tx_serial.specs.Ending.{outcome_cause}
 use Rattle.tx_serial.specs.Fate.{cause_in}
@@ -144,8 +144,8 @@ pub record StaysFollowed (f g : FlatState) (i : ℕ) (local : Local) : Type 0 wh
 pub stays_followed : (f g : FlatState) (i : ℕ) (local : Local) → IsKept f → IsFollowed f i local
     → g.text ≡ f.text → SameText f.text f.storage g.storage → g.cpus i ≡ f.cpus i
     → g.pending i ≡ f.pending i → g.waiting i ≡ f.waiting i
-    → ((a : ℕ) → (local.attempt.footprint.fetched (a / LINE_SIZE)
-    || local.attempt.footprint.stored (a / LINE_SIZE)) ≡ true → g.storage a ≡ f.storage a)
+    → ((a : ℕ) → (local.attempt.footprint.fetched (a / line_size)
+    || local.attempt.footprint.stored (a / line_size)) ≡ true → g.storage a ≡ f.storage a)
     → StaysFollowed f g i local
 stays_followed f g i local kept h text same cpu pending waiting bytes =
     let n = local.attempt.count in
@@ -165,8 +165,8 @@ stays_followed f g i local kept h text same cpu pending waiting bytes =
         pages = text;
         text = λ a is. same (absolute_of prefix a) (text_there prefix f.text a (kept.prefixes i) is);
         touched = λ a is. bytes (absolute_of prefix a)
-            (ap (λ (sets : Sets). sets.fetched (absolute_of prefix a / LINE_SIZE)
-            || sets.stored (absolute_of prefix a / LINE_SIZE)) (sym (its_footprint f i local h))
+            (ap (λ (sets : Sets). sets.fetched (absolute_of prefix a / line_size)
+            || sets.stored (absolute_of prefix a / line_size)) (sym (its_footprint f i local h))
             ∙ touched_lines f i n a (kept.prefixes i) exists is);
       };
     }
@@ -350,7 +350,7 @@ pub lasting_in_stored : (f : FlatState) (i : ℕ) (local : Local) → IsKept f �
     → ChangesIn local.attempt.footprint.stored f.storage (seen_through local.attempt.lasting f.storage)
 lasting_in_stored f i local kept h a off =
     ap (λ o. unwrap_or o (f.storage a))
-    (none_there (local.attempt.lasting a) (local.attempt.footprint.stored (a / LINE_SIZE)) off
+    (none_there (local.attempt.lasting a) (local.attempt.footprint.stored (a / line_size)) off
     (λ byte e. lasting_line f i a byte local h (ap (λ (c : Cpu). is_prefix c.prefix) (sym h.cpu)
     ∙ kept.prefixes i) e))
 
@@ -460,7 +460,7 @@ inside_facts text storage locals i instr ranges (outcome.Overflowed c bytes) h l
     inl (
       ap (λ (r : Run). r.mark) longer,
       ap (ending text) longer ∙ over_ending text p instr ranges c stores
-          ∙ ap (λ nest. Some (cause_in nest (exception FIXED_POINT_OVERFLOW (length_of instr))))
+          ∙ ap (λ nest. Some (cause_in nest (exception fixed_point_overflow_code (length_of instr))))
           (its_nest over next (over_progress p q instr ranges c bytes h.attempt)),
       refl,
     )
@@ -676,8 +676,8 @@ none_lasting test false xs off = refl
 record Touching (q : Progress) (storage : Storage) (ranges : List Range) : Type 0 where
   prefix : is_prefix q.cpu.prefix ≡ true
   small : AreSmall ranges
-  overlay : (a : ℕ) → q.footprint.stored (a / LINE_SIZE) ≡ false → q.overlay a ≡ None
-  lasting : (a : ℕ) → q.footprint.stored (a / LINE_SIZE) ≡ false → q.lasting a ≡ None
+  overlay : (a : ℕ) → q.footprint.stored (a / line_size) ≡ false → q.overlay a ≡ None
+  lasting : (a : ℕ) → q.footprint.stored (a / line_size) ≡ false → q.lasting a ≡ None
 
 same_touches : (l : Local) (storage : Storage) (ranges : List Range) → Touching l.attempt storage ranges
     → TouchesMore l.attempt storage ranges (record { local = l; storage = storage })
@@ -689,14 +689,14 @@ same_touches l storage ranges t =
       stored = λ line is. or_left (q.footprint.stored line) (stores abs line) is;
       fetched = λ line is. or_left (q.footprint.fetched line) (fetches abs line) is;
       lasting = λ a off. ap (λ o. unwrap_or o (storage a)) (t.lasting a
-          (or_parts (q.footprint.stored (a / LINE_SIZE)) (stores abs (a / LINE_SIZE)) off).0);
+          (or_parts (q.footprint.stored (a / line_size)) (stores abs (a / line_size)) off).0);
     }
 
 -- stores of operands go to no other lines
 no_store : (q : Progress) (storage : Storage) (ranges : List Range) (bytes : List ℕ) (a : ℕ)
     → Touching q storage ranges → stored_size ranges ≤ length bytes
-    → stores (absolute_ranges q.cpu.prefix ranges) (a / LINE_SIZE) ≡ false
-    → goes_there (in_line (a / LINE_SIZE)) (stores_of ranges bytes q) ≡ false
+    → stores (absolute_ranges q.cpu.prefix ranges) (a / line_size) ≡ false
+    → goes_there (in_line (a / line_size)) (stores_of ranges bytes q) ≡ false
 no_store q storage ranges bytes a t enough off =
     operands_elsewhere q.cpu.prefix ranges bytes a t.prefix t.small enough off
 
@@ -712,10 +712,10 @@ on_touches l storage ranges instr c bytes t enough =
       stored = λ line is. is;
       fetched = λ line is. is;
       lasting = λ a off.
-          let parts = or_parts (q.footprint.stored (a / LINE_SIZE)) (stores abs (a / LINE_SIZE)) off in
+          let parts = or_parts (q.footprint.stored (a / line_size)) (stores abs (a / line_size)) off in
           ap (λ o. unwrap_or o (storage a))
           (laying_elsewhere (lasting_of instr (stores_of ranges bytes q)) q.lasting a
-          (none_lasting (in_line (a / LINE_SIZE)) (stores_lastingly (entry_at instr.op.number))
+          (none_lasting (in_line (a / line_size)) (stores_lastingly (entry_at instr.op.number))
           (stores_of ranges bytes q) (no_store q storage ranges bytes a t enough parts.1))
           ∙ t.lasting a parts.0);
     }
@@ -747,7 +747,7 @@ committed_touches l storage ranges instr c bytes t enough =
     gone_touches q storage ranges (committed (next_of l instr ranges c bytes)
     (record { local = l; storage = storage }))
     refl (λ a off.
-    let parts = or_parts (q.footprint.stored (a / LINE_SIZE)) (stores abs (a / LINE_SIZE)) off in
+    let parts = or_parts (q.footprint.stored (a / line_size)) (stores abs (a / line_size)) off in
     ap (λ o. unwrap_or o (storage a))
     (laying_elsewhere (stores_of ranges bytes q) q.overlay a
     (no_store q storage ranges bytes a t enough parts.1)
@@ -772,8 +772,8 @@ laid_touches l storage ranges bytes after t enough rest =
     let q = l.attempt in
     gone_touches q storage ranges
     (record { local = after; storage = laid_over storage (stores_of ranges bytes q) }) rest (λ a off.
-    let parts = or_parts (q.footprint.stored (a / LINE_SIZE))
-    (stores (absolute_ranges q.cpu.prefix ranges) (a / LINE_SIZE)) off in
+    let parts = or_parts (q.footprint.stored (a / line_size))
+    (stores (absolute_ranges q.cpu.prefix ranges) (a / line_size)) off in
     laid_elsewhere (stores_of ranges bytes q) storage a (no_store q storage ranges bytes a t enough parts.1))
 
 touches_by : (l : Local) (storage : Storage) (ranges : List Range) (instr : Instr) (live begin : Bool)
@@ -819,9 +819,9 @@ executed_touches text storage locals i instr ranges kept h goes =
     (record {
       prefix = ap is_prefix (keeps_prefix f i l h) ∙ ok;
       small = facts.small;
-      overlay = λ a off. none_there (l.attempt.overlay a) (l.attempt.footprint.stored (a / LINE_SIZE)) off
+      overlay = λ a off. none_there (l.attempt.overlay a) (l.attempt.footprint.stored (a / line_size)) off
           (λ byte e. stored_line f i a byte l h ok e);
-      lasting = λ a off. none_there (l.attempt.lasting a) (l.attempt.footprint.stored (a / LINE_SIZE)) off
+      lasting = λ a off. none_there (l.attempt.lasting a) (l.attempt.footprint.stored (a / line_size)) off
           (λ byte e. lasting_line f i a byte l h ok e);
     }) facts.filled
 
@@ -879,8 +879,8 @@ words_change : (c : Cpu) (w : Waiting) (rest : List Range) (storage : Storage) �
     (identified c w) storage))
 words_change c w rest storage ok a off =
     let first = first_stores c.prefix (stored identification 4) (stored old_psw 16 ∷ rest)
-    (a / LINE_SIZE) off in
-    let second = first_stores c.prefix (stored old_psw 16) rest (a / LINE_SIZE) first.1 in
+    (a / line_size) off in
+    let second = first_stores c.prefix (stored old_psw 16) rest (a / line_size) first.1 in
     bytes_change c.prefix old_psw 16 (psw_of c) (with_bytes_at c.prefix identification
     (identified c w) storage) ok
     (psw_size c) (omega arith) a second.0
@@ -896,9 +896,9 @@ stored_change c w None e storage ok size a off = words_change c w (stored new_ps
 stored_change c w (Some bytes) e storage ok size a off =
     let rest = stored new_psw 16 ∷ stored interruption_block 256 ∷ [] in
     let first = first_stores c.prefix (stored identification 4) (stored old_psw 16 ∷ rest)
-    (a / LINE_SIZE) off in
-    let second = first_stores c.prefix (stored old_psw 16) rest (a / LINE_SIZE) first.1 in
-    let third = first_stores c.prefix (stored new_psw 16) (stored interruption_block 256 ∷ []) (a / LINE_SIZE)
+    (a / line_size) off in
+    let second = first_stores c.prefix (stored old_psw 16) rest (a / line_size) first.1 in
+    let third = first_stores c.prefix (stored new_psw 16) (stored interruption_block 256 ∷ []) (a / line_size)
     second.1 in
     bytes_change c.prefix interruption_block 256 bytes
     (with_bytes_at c.prefix old_psw (psw_of c) (with_bytes_at c.prefix identification

@@ -13,7 +13,7 @@ use borrow.Enum.Arm.{by_way}
 use Rattle.z_regs.specs.declared.ranges.Range.{Range}
 use Rattle.line_table.specs.declared.table.Mode.{Mode}
 use Rattle.line_table.specs.declared.table.Mode.TheVariants.{Shared, Exclusive}
-use Rattle.tx_footprint.specs.declared.places.TheConstants.{LINE_SIZE}
+use Rattle.tx_footprint.specs.Sizes.{line_size}
 use Rattle.tx_footprint.specs.Places.{has_place, fetches, stores}
 use Rattle.tx_meaning.specs.declared.asking.Need.{Need}
 use Rattle.tx_meaning.specs.Needs.{first_line, last_line, has_line, lines_of, with_number, rising, mode_for}
@@ -89,20 +89,20 @@ pub record Spot (a n line : ℕ) : Type 0 where
   pub at : ℕ
   pub low : a ≤ at
   pub high : at < a + n
-  pub there : at / LINE_SIZE ≡ line
+  pub there : at / line_size ≡ line
 
-pub spot : (a n line : ℕ) → list_any (λ x. eqb (x / LINE_SIZE) line) (range_with_len a n) ≡ true
+pub spot : (a n line : ℕ) → list_any (λ x. eqb (x / line_size) line) (range_with_len a n) ≡ true
     → Spot a n line
 spot a zero line h = absurd (let e : false ≡ true = h in cc)
 spot a (suc n) line h =
-    by_way (or_cases (eqb (a / LINE_SIZE) line) (list_any (λ x. eqb (x / LINE_SIZE) line) (range_with_len
+    by_way (or_cases (eqb (a / line_size) line) (list_any (λ x. eqb (x / line_size) line) (range_with_len
     (a + 1) n)) h)
     (λ here. record {
       at = a;
       low = omega arith;
       high = omega arith;
       there = eqb-true
-          (a / LINE_SIZE) line here;
+          (a / line_size) line here;
     })
     (λ later. let s = spot (a + 1) n line later in
     record { at = s.at; low = omega (arith, s.low); high = omega (arith, s.high); there = s.there })
@@ -112,7 +112,7 @@ record IsLine (r : Range) (line : ℕ) : Type 0 where
   low : first_line r ≤ line
   high : line ≤ last_line r
 
-place_line : (r : Range) (line : ℕ) → has_place LINE_SIZE r line ≡ true → IsLine r line
+place_line : (r : Range) (line : ℕ) → has_place line_size r line ≡ true → IsLine r line
 unfolding has_place
 place_line r line h =
     let s = spot r.first r.length line h in
@@ -136,21 +136,21 @@ line_in r line h =
 
 -- a range that passes a test
 line_of_some : (test : Range → Bool) (ranges : List Range) (line : ℕ)
-    → list_any (λ r. test r && has_place LINE_SIZE r line) ranges ≡ true → In line (flat_map lines_of ranges)
+    → list_any (λ r. test r && has_place line_size r line) ranges ≡ true → In line (flat_map lines_of ranges)
 line_of_some test [] line h = absurd (let e : false ≡ true = h in cc)
 line_of_some test (r ∷ rest) line h =
-    by_way (or_cases (test r && has_place LINE_SIZE r line)
-    (list_any (λ r. test r && has_place LINE_SIZE r line) rest) h)
+    by_way (or_cases (test r && has_place line_size r line)
+    (list_any (λ r. test r && has_place line_size r line) rest) h)
     (λ here. in_first line (lines_of r) (flat_map lines_of rest)
-    (line_in r line (place_line r line (and_parts (test r) (has_place LINE_SIZE r line) here).1)))
+    (line_in r line (place_line r line (and_parts (test r) (has_place line_size r line) here).1)))
     (λ later. in_second line (lines_of r) (flat_map lines_of rest) (line_of_some test rest line later))
 
 stored_line : (ranges : List Range) (line : ℕ) → stores ranges line ≡ true
     → list_any (λ r. r.store && has_line line r) ranges ≡ true
 stored_line [] line h = h
 stored_line (r ∷ rest) line h =
-    by_way (or_cases (r.store && has_place LINE_SIZE r line) (stores rest line) h)
-    (λ here. let both = and_parts r.store (has_place LINE_SIZE r line) here in
+    by_way (or_cases (r.store && has_place line_size r line) (stores rest line) h)
+    (λ here. let both = and_parts r.store (has_place line_size r line) here in
     or_left (r.store && has_line line r) (list_any (λ r. r.store && has_line line r) rest)
     (and_from r.store (has_line line r) both.0 (line_has r line (place_line r line both.1))))
     (λ later. or_right (r.store && has_line line r) (list_any (λ r. r.store && has_line line r) rest)

@@ -4,7 +4,7 @@ use Rattle.std.proofs.Common.{Some, refl, sym, ap, subst, ◌∙◌, ⊎_elim}
 use Rattle.std.specs.Prelude.{◌||◌, ◌&&◌, nat_lt, if◌then◌else◌}
 use Rattle.std.proofs.lemmas.Bool.{cases_eq, ne_eqb}
 use Rattle.tx_control.specs.Nesting.{is_constrained}
-use Rattle.tx_footprint.specs.declared.places.TheConstants.{LINE_SIZE}
+use Rattle.tx_footprint.specs.Sizes.{line_size}
 use Rattle.tx_ladder.specs.Rungs.{Standing}
 use Rattle.tx_journal.specs.Content.{Content}
 use Rattle.tx_journal.specs.declared.entries.Entry.{Entry}
@@ -133,8 +133,8 @@ pub record Untouched (k after : Kept) (x : ℕ) : Type 0 where
   pub numbers : after.state.numbers x ≡ k.state.numbers x
   pub local : after.locals x ≡ k.locals x
   pub standing : after.standings x ≡ k.standings x
-  pub bytes : (a : ℕ) → ((k.locals x).attempt.footprint.fetched (a / LINE_SIZE)
-      || (k.locals x).attempt.footprint.stored (a / LINE_SIZE)) ≡ true → after.storage a ≡ k.storage a
+  pub bytes : (a : ℕ) → ((k.locals x).attempt.footprint.fetched (a / line_size)
+      || (k.locals x).attempt.footprint.stored (a / line_size)) ≡ true → after.storage a ≡ k.storage a
 
 module _ (m : Setting) (s : IsSetting m) where
   pub kept_is : (k : Kept) → Truth m k → IsKept (kept_flat m k)

@@ -2,7 +2,7 @@
 use Rattle.std.specs.Prelude.{◌≡◌, ℕ, ◌/◌, ◌<◌, true, ◌||◌, List, ◌++◌, All, Some, is_some}
 use Rattle.line_table.specs.declared.table.Mode.TheVariants.{Exclusive}
 use Rattle.line_table.specs.Holders.{IsSound}
-use Rattle.tx_footprint.specs.declared.places.TheConstants.{LINE_SIZE}
+use Rattle.tx_footprint.specs.Sizes.{line_size}
 use Rattle.tx_journal.specs.Image.{cpu_of_event}
 use Rattle.tx_journal.specs.declared.entries.Entry.{Entry}
 use Rattle.tx_journal.specs.declared.events.Event.{Event}
@@ -30,7 +30,7 @@ pub record GoesOnWith (history after : List Entry) : Type 0 where
 -- the same byte at each absolute address in a line that they touched
 pub record IsSameView (p q : Run) : Type 0 where
   pub shows : track_of q ≡ track_of p
-  pub bytes : (a : ℕ) → ((footprint p).fetched (a / LINE_SIZE) || (footprint p).stored (a / LINE_SIZE)) ≡ true
+  pub bytes : (a : ℕ) → ((footprint p).fetched (a / line_size) || (footprint p).stored (a / line_size)) ≡ true
       → q.copy a ≡ p.copy a
 
 -- each attempt that is live, and has completed as many instructions after an event as before it, sees the same

@@ -1,9 +1,7 @@
 -- Where a CPU stands on the retry ladder, and what moves it.
 use Rattle.std.specs.Prelude.{ℕ, ◌+◌, ◌-◌, ◌^◌, ◌≤◌, min, Bool, false, ◌&&◌, ◌==◌, nat_le, nat_lt}
 use Rattle.std.specs.Prelude.{if◌then◌else◌}
-use Rattle.tx_ladder.specs.Parameters.{Parameters, IsAllowed}
-use Rattle.tx_ladder.specs.declared.parms.TheConstants.{MOST_REJECTS}
-use Rattle.tx_ladder.specs.declared.ladder.TheConstants.{DELAY_BASE}
+use Rattle.tx_ladder.specs.Parameters.{Parameters, IsAllowed, most_rejects}
 use Rattle.tx_ladder.specs.declared.ladder.Next.{Next}
 use Rattle.tx_ladder.specs.declared.ladder.Next.TheVariants.{Plain, Delay, Queue}
 
@@ -21,7 +19,7 @@ pub record Standing : Type 0 where
 pub record IsWithin (parms : Parameters) (conflicts given : ℕ) : Type 0 where
   pub allowed : IsAllowed parms
   pub few_conflicts : conflicts ≤ parms.stop
-  pub few_given : given ≤ MOST_REJECTS
+  pub few_given : given ≤ most_rejects
 
 abbrev pub fresh : Parameters → Standing
 fresh parms = record {
@@ -62,7 +60,7 @@ is_starved s = s.constrained && s.requests_rejected == s.parms.starve
 
 -- how many turns a CPU waits after so many conflict aborts
 abbrev pub delay_after : Parameters → ℕ → ℕ
-delay_after parms aborts = min (DELAY_BASE ^ aborts) parms.delay
+delay_after parms aborts = min (2 ^ aborts) parms.delay
 
 -- a conflict abort counts for constrained attempts alone
 abbrev pub after_conflict : Standing → Standing

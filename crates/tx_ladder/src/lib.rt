@@ -6,6 +6,7 @@
 #![tactic(auto)]
 
 mod ladder;
+pub mod laws;
 mod parms;
 mod queue;
 #[cfg(test)]

@@ -8,7 +8,7 @@ use borrow.Enum.Arm.{by_way}
 use Rattle.bit_set.specs.Counts.{count_below, one_if, but_at}
 use Rattle.bit_set.proofs.Counts.{count_agree, count_but_at, but_at-same, but_at-other}
 use Rattle.line_table.specs.declared.table.Mode.{Mode}
-use Rattle.line_table.specs.declared.table.TheConstants.{LINES}
+use Rattle.line_table.specs.Sizes.{storage_lines}
 use Rattle.line_table.specs.Holders.{Holders, holding, against, is_against, lines_held}
 use Rattle.line_table.proofs.Seen.{holding_here, holding_other_cpu, holding_other_line}
 use Rattle.tx_lines.specs.Next.{stands_against}
@@ -43,13 +43,13 @@ held_line held cpu given l =
     (λ ne. ap is_some (holding_other_line held cpu given None cpu l ne)
     ∙ sym (but_at-other (λ k. is_some (held cpu k)) given false l ne))
 
-pub one_fewer : (held : Holders) (cpu given : ℕ) → given < LINES → is_some (held cpu given) ≡ true
+pub one_fewer : (held : Holders) (cpu given : ℕ) → given < storage_lines → is_some (held cpu given) ≡ true
     → lines_held (holding held cpu given None) cpu + 1 ≡ lines_held held cpu
 one_fewer held cpu given lt some =
     let same : lines_held (holding held cpu given None) cpu
-    ≡ count_below LINES (but_at (λ k. is_some (held cpu k)) given false) =
-    count_agree LINES (λ l. is_some (holding held cpu given None cpu l))
+    ≡ count_below storage_lines (but_at (λ k. is_some (held cpu k)) given false) =
+    count_agree storage_lines (λ l. is_some (holding held cpu given None cpu l))
     (but_at (λ k. is_some (held cpu k)) given false) (λ l low. held_line held cpu given l) in
-    let counted = count_but_at LINES (λ k. is_some (held cpu k)) given false lt in
+    let counted = count_but_at storage_lines (λ k. is_some (held cpu k)) given false lt in
     let one : one_if (is_some (held cpu given)) ≡ 1 = ap one_if some in
     omega arith

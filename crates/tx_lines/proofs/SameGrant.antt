@@ -2,7 +2,7 @@
 use Rattle.std.proofs.Common.{◌≡◌, ℕ, Bool, true, false, List, [], ◌∷◌, refl, ap, ◌∙◌, is_some, map, Some}
 use Rattle.std.specs.Prelude.{◌&&◌, ◌||◌, not, ◌==◌}
 use Rattle.std.specs.List.{list_any, filter, range_with_len}
-use Rattle.line_table.specs.declared.table.TheConstants.{LINES}
+use Rattle.line_table.specs.Sizes.{storage_lines}
 use Rattle.line_table.specs.Holders.{Holders, holding}
 use Rattle.tx_footprint.specs.Touched.{Sets}
 use Rattle.tx_meaning.specs.declared.asking.Need.{Need}
@@ -33,10 +33,10 @@ same_first (line ∷ rest) = refl
 pub same_line : (held : Holders) (cpu : ℕ) (footprint : Sets) (needs : List Need)
     → lowest_spare held cpu footprint (lines_of_needs needs) ≡ spare_line held cpu footprint needs
 same_line held cpu footprint needs =
-    ap first_of (from_first (may_give_up held cpu footprint (lines_of_needs needs)) LINES)
-    ∙ ap (λ (test : ℕ → Bool). first_of (filter test (range_with_len 0 LINES)))
+    ap first_of (from_first (may_give_up held cpu footprint (lines_of_needs needs)) storage_lines)
+    ∙ ap (λ (test : ℕ → Bool). first_of (filter test (range_with_len 0 storage_lines)))
     (λ i line. same_spare held cpu footprint needs line i)
-    ∙ same_first (filter (is_spare held cpu footprint needs) (range_with_len 0 LINES))
+    ∙ same_first (filter (is_spare held cpu footprint needs) (range_with_len 0 storage_lines))
 
 same_room : (b : Bool) (held : Holders) (cpu : ℕ) (footprint : Sets) (needs : List Need)
     → with_room b held cpu footprint (lines_of_needs needs) ≡ meaning.with_room b held cpu footprint needs

@@ -1,7 +1,7 @@
 -- The line that a CPU gives up for another one.
 use Rattle.std.specs.Prelude.{ℕ, Bool, true, false, ◌&&◌, ◌||◌, not, ◌==◌, is_some, List, Option, Some}
 use Rattle.std.specs.List.{list_any}
-use Rattle.line_table.specs.declared.table.TheConstants.{LINES}
+use Rattle.line_table.specs.Sizes.{storage_lines}
 use Rattle.line_table.specs.Holders.{Holders}
 use Rattle.tx_footprint.specs.Touched.{Sets}
 use Rattle.tx_meaning.specs.declared.asking.Need.{Need}
@@ -18,7 +18,8 @@ abbrev pub may_give_up : Holders → ℕ → Sets → List ℕ → ℕ → Bool
 may_give_up held cpu footprint needed line = is_some (held cpu line) && is_unused footprint needed line
 
 abbrev pub lowest_spare : Holders → ℕ → Sets → List ℕ → Option ℕ
-lowest_spare held cpu footprint needed = first_of (passing_from (may_give_up held cpu footprint needed) LINES 0)
+lowest_spare held cpu footprint needed =
+    first_of (passing_from (may_give_up held cpu footprint needed) storage_lines 0)
 
 abbrev pub with_room : Bool → Holders → ℕ → Sets → List ℕ → Holders
 with_room true held cpu footprint needed = held

@@ -2,7 +2,7 @@
 ghost use Rattle.std.specs.Prelude.{◌≡◌, ◌≢◌, ℕ, ◌<◌, ◌≤◌, [], Some, None, IfOk, IfSome, IfNone, length, slice_index};
 ghost use Rattle.std.specs.Prelude.{false, true, is_some, slice_get, not, ◌==◌, ◌&&◌, ◌+◌, ◌^◌};
 ghost use Rattle.z_regs.specs.Prefix.{storage_size};
-ghost use Rattle.line_table.specs.declared.table.TheConstants.{LINES};
+ghost use Rattle.line_table.specs.Sizes.{storage_lines};
 ghost use Rattle.line_table.specs.Holders.{nobody, holding, against, is_against, lines_held, IsSound};
 ghost use Rattle.tx_footprint.specs.Touched.{sets_of};
 ghost use Rattle.tx_meaning.specs.Asking.{is_there};
@@ -78,7 +78,7 @@ impl Lines {
     /// Whether the CPU holds a line as it needs it: in that mode, or exclusively.
     pub fn is_there(&self, cpu: u32, need: Need) -> bool
         requires cpu { cpu < self.now.cpus }
-        requires line { need.line < LINES }
+        requires line { need.line < storage_lines }
         ensures value { result ≡ is_there need.mode (holders_in self.now cpu need.line) }
         ensures sound { IsSound (holders_in self.now) }
     {
@@ -93,7 +93,7 @@ impl Lines {
     /// gives it up. It must hold the line.
     pub fn yield_line(&mut self, holder: u32, line: u32, wanted: Mode)
         requires cpu { holder < self.old.cpus }
-        requires line { line < LINES }
+        requires line { line < storage_lines }
         requires held { holders_in self.old holder line ≢ None }
         ensures bytes { self.new.bytes ≡ self.old.bytes }
         ensures cpus { self.new.cpus ≡ self.old.cpus }
@@ -108,7 +108,7 @@ impl Lines {
     /// Whether another CPU's hold stands against a CPU's request for a line.
     fn stands_against(&self, other: u32, cpu: u32, need: Need) -> bool
         requires cpu { other < self.now.cpus }
-        requires line { need.line < LINES }
+        requires line { need.line < storage_lines }
         ensures { result ≡ stands_against (holders_in self.now) cpu need.line need.mode other }
     {
         if other == cpu {
@@ -124,7 +124,7 @@ impl Lines {
     /// The lowest CPU at or above `from` whose hold stands against a CPU's request for a line; None exactly
     /// where there is none.
     pub fn next_against(&self, cpu: u32, need: Need, from: u32) -> Option<u32>
-        requires line { need.line < LINES }
+        requires line { need.line < storage_lines }
         requires from { from ≤ self.now.cpus }
         ensures { result ≡ next_against self.now.cpus (holders_in self.now) cpu need.line need.mode from }
     {
@@ -141,7 +141,7 @@ impl Lines {
     /// Whether a CPU may give a line up that it holds: its attempt has not touched it, and this turn does not
     /// need it.
     fn is_free(&self, line: u32, footprint: &Footprint, needed: &[u32]) -> bool
-        requires { line < LINES }
+        requires { line < storage_lines }
         ensures { result ≡ is_unused (sets_of footprint.now) needed.now line }
     {
         if footprint.fetched(line) || footprint.stored(line) {
@@ -155,7 +155,7 @@ impl Lines {
     pub fn spare(&self, cpu: u32, footprint: &Footprint, needed: &[u32]) -> Option<u32>
         requires { cpu < self.now.cpus }
         ensures value { result ≡ lowest_spare (holders_in self.now) cpu (sets_of footprint.now) needed.now }
-        ensures in_range { IfSome result (λ line. line < LINES) }
+        ensures in_range { IfSome result (λ line. line < storage_lines) }
         ensures held { IfSome result (λ line. is_some (holders_in self.now cpu line) ≡ true) }
     {
         let mut at = 0;
@@ -173,7 +173,7 @@ impl Lines {
     /// must be.
     pub fn grant(&mut self, cpu: u32, need: Need, footprint: &Footprint, needed: &[u32])
         requires cpu { cpu < self.old.cpus }
-        requires line { need.line < LINES }
+        requires line { need.line < storage_lines }
         requires free { against self.old.cpus (holders_in self.old) cpu need.line need.mode ≡ [] }
         requires spare { has_room (holders_in self.old) cpu need.line ≡ false
             → is_some (lowest_spare (holders_in self.old) cpu (sets_of footprint.now) needed.now) ≡ true }
@@ -194,7 +194,7 @@ impl Lines {
     /// Whether the CPU may hold the line, as far as numbers say.
     fn has_room(&self, cpu: u32, line: u32) -> bool
         requires cpu { cpu < self.now.cpus }
-        requires line { line < LINES }
+        requires line { line < storage_lines }
         ensures value { result ≡ has_room (holders_in self.now) cpu line }
         ensures sound { IsSound (holders_in self.now) }
     {

@@ -18,7 +18,7 @@ use Rattle.std.proofs.Common.{List}
 use Rattle.std.proofs.lemmas.List.{get_or_default}
 use Rattle.std.proofs.lemmas.Nat.{mul-le}
 use Rattle.bit_set.proofs.Counts.{count_agree}
-use Rattle.line_table.specs.declared.table.TheConstants.{LINES, MOST_HELD}
+use Rattle.line_table.specs.Sizes.{storage_lines, held_limit}
 use Rattle.tx_ladder.specs.Waiting.{waits_in}
 use Rattle.tx_cpu.specs.Parts.{local_of}
 use Rattle.tx_lines.specs.Owned.{storage_in}
@@ -91,8 +91,8 @@ module _ (m : Setting) (w : Works) (remaining : ℕ) (s : Stands m w remaining) 
       → MayHold i (needs ((kept_by rest w).locals i).attempt.cpu.prefix) (kept_by rest w)
   holds_alike rest i lt needs h = record {
     within = h.within;
-    few = subst (λ (s : Seat). let q = (local_of s.cpu).attempt in count_below LINES (λ line.
-        (q.footprint.fetched line || q.footprint.stored line) || is_needed (needs q.cpu.prefix) line) ≤ MOST_HELD)
+    few = subst (λ (s : Seat). let q = (local_of s.cpu).attempt in count_below storage_lines (λ line.
+        (q.footprint.fetched line || q.footprint.stored line) || is_needed (needs q.cpu.prefix) line) ≤ held_limit)
         (same_seat rest i lt) h.few;
   }
 

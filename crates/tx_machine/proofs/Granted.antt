@@ -17,7 +17,7 @@ use Rattle.z_regs.specs.Prefix.{storage_size}
 use Rattle.z_regs.specs.declared.ranges.Range.{Range}
 use Rattle.line_table.specs.declared.table.Mode.{Mode}
 use Rattle.line_table.specs.declared.table.Mode.TheVariants.{Shared}
-use Rattle.line_table.specs.declared.table.TheConstants.{LINES, MOST_HELD}
+use Rattle.line_table.specs.Sizes.{storage_lines, held_limit}
 use Rattle.line_table.specs.Holders.{Holders, against, lines_held}
 use Rattle.line_table.proofs.Against.{holds_outside_for_one_more}
 use Rattle.tx_footprint.specs.Touched.{Sets}
@@ -63,19 +63,19 @@ not_some (Some mode) h = absurd (let n : true ≡ false = h in cc)
 
 -- where a CPU holds as many lines as it may, there is one that neither its attempt nor this turn needs
 pub one_is_spare : (held : Holders) (i line : ℕ) (sets : Sets) (lines : List ℕ) → has_room held i line ≡ false
-    → count_below LINES (λ line. (sets.fetched line || sets.stored line) || list_any
+    → count_below storage_lines (λ line. (sets.fetched line || sets.stored line) || list_any
     (λ other. other == line) lines)
-    ≤ MOST_HELD
-    → list_any (λ other. other == line) lines ≡ true → line < LINES
+    ≤ held_limit
+    → list_any (λ other. other == line) lines ≡ true → line < storage_lines
     → is_some (lowest_spare held i sets lines) ≡ true
 one_is_spare held i line sets lines full few needed lt =
-    let p = or_parts (is_some (held i line)) (nat_lt (lines_held held i) MOST_HELD) full in
+    let p = or_parts (is_some (held i line)) (nat_lt (lines_held held i) held_limit) full in
     let kept = λ (line : ℕ). (sets.fetched line || sets.stored line) || list_any (λ other. other == line)
     lines in
-    let out = holds_outside_for_one_more held i line kept (ltb-false (lines_held held i) MOST_HELD p.1) few lt
+    let out = holds_outside_for_one_more held i line kept (ltb-false (lines_held held i) held_limit p.1) few lt
     (or_right (sets.fetched line || sets.stored line) (list_any (λ other. other == line) lines) needed)
     (not_some (held i line) p.0) in
-    some_by LINES (may_give_up held i sets lines) LINES 0 out.0 (omega arith) (omega arith) out.1.in_storage
+    some_by storage_lines (may_give_up held i sets lines) storage_lines 0 out.0 (omega arith) (omega arith) out.1.in_storage
     (and_from (is_some (held i out.0)) (is_unused sets lines out.0) out.1.held_line
     (not_from_false (kept out.0) out.1.not_kept))
 
@@ -150,9 +150,9 @@ pub still_few : (cpus n i : ℕ) (lines : List ℕ) (k after : Kept) → AskLeav
     → IsFew i lines after
 still_few cpus n i lines k after leaves few =
     record {
-      few = subst (λ (l : Local). count_below LINES (λ line.
+      few = subst (λ (l : Local). count_below storage_lines (λ line.
           (l.attempt.footprint.fetched line || l.attempt.footprint.stored line)
-          || list_any (λ other. other == line) lines) ≤ MOST_HELD) (sym leaves.local) few.few;
+          || list_any (λ other. other == line) lines) ≤ held_limit) (sym leaves.local) few.few;
     }
 
 needed_among : (needs : List Need) (line : ℕ)
@@ -164,7 +164,7 @@ pub few_needed : (i : ℕ) (needs : List Need) (lines : List ℕ) (k : Kept)
     → map (λ (need : Need). need.line) needs ≡ lines → MayHold i needs k → IsFew i lines k
 few_needed i needs lines k those may =
     let sets = kept_footprint k i in
-    let same = count_agree LINES (λ line. (sets.fetched line || sets.stored line) || is_needed needs line)
+    let same = count_agree storage_lines (λ line. (sets.fetched line || sets.stored line) || is_needed needs line)
     (λ line. (sets.fetched line || sets.stored line) || list_any (λ other. other == line) lines)
     (λ line lt. ap (λ b. (sets.fetched line || sets.stored line) || b)
     (needed_among needs line ∙ ap (list_any (λ other. other == line)) those)) in
@@ -323,15 +323,15 @@ all_got i ranges lines before w n these le g rest m cpus =
 
 abbrev AllSmall : List ℕ → Type 0
 AllSmall [] = Unit {0}
-AllSmall (line ∷ rest) = (line < LINES) × AllSmall rest
+AllSmall (line ∷ rest) = (line < storage_lines) × AllSmall rest
 
-small_with_by : (n line : ℕ) (rest more : List ℕ) (less same : Bool) → n < LINES → AllSmall (line ∷ rest)
+small_with_by : (n line : ℕ) (rest more : List ℕ) (less same : Bool) → n < storage_lines → AllSmall (line ∷ rest)
     → AllSmall more → AllSmall (if less then n ∷ line ∷ rest else (if same then line ∷ rest else line ∷ more))
 small_with_by n line rest more true same lt small put = (lt, small)
 small_with_by n line rest more false true lt small put = small
 small_with_by n line rest more false false lt small put = (small.0, put)
 
-small_with : (n : ℕ) (sorted : List ℕ) → n < LINES → AllSmall sorted → AllSmall (with_number n sorted)
+small_with : (n : ℕ) (sorted : List ℕ) → n < storage_lines → AllSmall sorted → AllSmall (with_number n sorted)
 unfolding with_number
 small_with n [] lt small = (lt, tt)
 small_with n (line ∷ rest) lt small =
@@ -344,7 +344,7 @@ small_rising [] sorted small so = so
 small_rising (n ∷ rest) sorted small so = small_rising rest (with_number n sorted) small.1
     (small_with n sorted small.0 so)
 
-small_range : (a n : ℕ) → a + n ≤ LINES → AllSmall (range_with_len a n)
+small_range : (a n : ℕ) → a + n ≤ storage_lines → AllSmall (range_with_len a n)
 small_range a zero le = tt
 small_range a (suc n) le = (omega arith, small_range (a + 1) n (omega arith))
 
@@ -357,8 +357,8 @@ small_lines_by : (r : Range) (b : Bool) → nat_eq r.length 0 ≡ b → r.first 
 small_lines_by r true e within = tt
 small_lines_by r false e within =
     let some : r.length ≢ 0 = eqb-false r.length 0 e in
-    let last : last_line r < LINES = omega arith in
-    let first : first_line r < LINES = omega arith in
+    let last : last_line r < storage_lines = omega arith in
+    let first : first_line r < storage_lines = omega arith in
     small_range (first_line r) (last_line r + 1 - first_line r) (omega (arith, first, last))
 
 small_ranges : (ranges : List Range) → All (λ (r : Range). r.first + r.length ≤ storage_size) ranges
@@ -370,20 +370,20 @@ small_ranges (r ∷ rest) within =
     r rest within))
     (small_ranges rest (All-tail (λ (r : Range). r.first + r.length ≤ storage_size) r rest within))
 
-all_from_small : (lines : List ℕ) → AllSmall lines → All (λ line. line < LINES) lines
-all_from_small [] small = All-nil (λ line. line < LINES)
+all_from_small : (lines : List ℕ) → AllSmall lines → All (λ line. line < storage_lines) lines
+all_from_small [] small = All-nil (λ line. line < storage_lines)
 all_from_small (line ∷ rest) small =
-    All-cons (λ line. line < LINES) line rest small.0 (all_from_small rest small.1)
+    All-cons (λ line. line < storage_lines) line rest small.0 (all_from_small rest small.1)
 
 pub needed_in_storage : (ranges : List Range) (lines : List ℕ)
     → All (λ (r : Range). r.first + r.length ≤ storage_size) ranges → map (need_at ranges) lines ≡ needs_of
     ranges
-    → All (λ line. line < LINES) lines
+    → All (λ line. line < storage_lines) lines
 unfolding needs_of
 needed_in_storage ranges lines within these =
     let sorted = rising (flat_map lines_of ranges) in
     let same : lines ≡ sorted =
     sym (mapped_lines (need_at ranges) (λ line. refl) lines) ∙ ap (map (λ (need : Need). need.line)) these
     ∙ mapped_lines (need_at ranges) (λ line. refl) sorted in
-    subst (All (λ line. line < LINES)) (sym same)
+    subst (All (λ line. line < storage_lines)) (sym same)
     (all_from_small sorted (small_rising (flat_map lines_of ranges) [] (small_ranges ranges within) tt))

@@ -2,7 +2,7 @@
 use Rattle.std.specs.Prelude.{◌≡◌, ℕ, ◌+◌, ◌*◌, ◌<◌, ◌≤◌, List, length, Option, Some, None}
 use Rattle.std.specs.Prelude.{if◌then◌else◌, ◌||◌, ◌&&◌, ◌==◌, Bool}
 use Rattle.std.specs.List.{list_any}
-use Rattle.line_table.specs.declared.table.TheConstants.{LINES, MOST_HELD}
+use Rattle.line_table.specs.Sizes.{storage_lines, held_limit}
 use Rattle.bit_set.specs.Counts.{count_below}
 use Rattle.tx_ladder.specs.Rungs.{rejected, is_starved}
 use Rattle.interrogate.specs.declared.kinds.Answer.{Answer}
@@ -90,6 +90,6 @@ asked_by rest w r = record { kept = kept_by rest w; reject = r }
 
 -- with all that its attempt has touched, these lines are no more than a CPU may hold
 pub record IsFew (i : ℕ) (lines : List ℕ) (k : Kept) : Type 0 where
-  pub few : count_below LINES (λ line.
+  pub few : count_below storage_lines (λ line.
       ((kept_footprint k i).fetched line || (kept_footprint k i).stored line)
-      || list_any (λ other. other == line) lines) ≤ MOST_HELD
+      || list_any (λ other. other == line) lines) ≤ held_limit

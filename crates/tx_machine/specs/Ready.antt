@@ -2,7 +2,7 @@
 use Rattle.std.specs.Prelude.{◌≡◌, ◌≢◌, ℕ, ◌+◌, ◌*◌, ◌<◌, ◌≤◌, ◌||◌, true, false, List, length}
 use Rattle.std.specs.Prelude.{All}
 use Rattle.bit_set.specs.Counts.{count_below}
-use Rattle.line_table.specs.declared.table.TheConstants.{LINES, MOST_HELD}
+use Rattle.line_table.specs.Sizes.{storage_lines, held_limit}
 use Rattle.line_table.specs.Holders.{lines_held}
 use Rattle.tx_control.specs.declared.causes.Why.{Why}
 use Rattle.tx_control.specs.declared.causes.Why.TheVariants.{External, Program, FetchConflict}
@@ -26,7 +26,7 @@ use Rattle.tx_serial.specs.Fate.{Goes, Ends, Stops}
 use Rattle.tx_progress.specs.Progress.{resting}
 use Rattle.tx_progress.specs.Trial.{fate_by_progress}
 use Rattle.tx_meaning.specs.Limits.{Setting}
-use Rattle.tx_meaning.specs.declared.limits.TheConstants.{MOST_TURNS}
+use Rattle.tx_meaning.specs.Limits.{turn_limit}
 use Rattle.tx_meaning.specs.Needs.{operand_needs, block_needs, interruption_needs}
 use Rattle.tx_keeping.specs.Kept.{text_of}
 use Rattle.tx_machine.specs.Works.{Works, Seat, numbers_of}
@@ -73,9 +73,9 @@ owed w k = length w.history + count_below (length w.slots) (is_live k.state)
 -- a CPU that needs lines holds no more than it may, and what its attempt has touched and what it needs are
 -- together no more than that
 pub record MayHold (i : ℕ) (needs : List Need) (k : Kept) : Type 0 where
-  pub within : lines_held k.state.held i ≤ MOST_HELD
-  pub few : count_below LINES (λ line.
-      ((kept_footprint k i).fetched line || (kept_footprint k i).stored line) || is_needed needs line) ≤ MOST_HELD
+  pub within : lines_held k.state.held i ≤ held_limit
+  pub few : count_below storage_lines (λ line.
+      ((kept_footprint k i).fetched line || (kept_footprint k i).stored line) || is_needed needs line) ≤ held_limit
 
 -- ---- a turn
 
@@ -114,7 +114,7 @@ pub record MayTurn (m : Setting) (i : ℕ) (k : Kept) : Type 0 where
 -- each attempt and each completed instruction took a turn, and a turn asks at most 128 questions: for at most
 -- 8 lines, each of at most 15 other CPUs
 pub record IsCounted (s : Seat) : Type 0 where
-  pub turns : s.tally.turns ≤ MOST_TURNS
+  pub turns : s.tally.turns ≤ turn_limit
   pub attempts : s.tally.attempts ≤ s.tally.turns
   pub completed : (numbers_of s).completed ≤ s.tally.turns
   pub asked : s.tally.asked ≤ 128 * s.tally.turns

@@ -1,7 +1,7 @@
 //! How a CPU asks the holders of a line for it.
 ghost use Rattle.std.specs.Prelude.{◌≡◌, ◌≢◌, ℕ, ◌*◌, ◌<◌, ◌≤◌, true, false, None, [], length, is_some};
 ghost use Rattle.std.specs.Prelude.{◌&&◌, IfSome};
-ghost use Rattle.line_table.specs.declared.table.TheConstants.{LINES};
+ghost use Rattle.line_table.specs.Sizes.{storage_lines};
 ghost use Rattle.line_table.specs.Holders.{is_against, against};
 ghost use Rattle.interrogate.specs.Replies.{after, reply};
 ghost use Rattle.tx_ladder.specs.Rungs.{is_starved};
@@ -70,7 +70,7 @@ fn count_reject(slot: &mut Slot) -> bool
 
 /// What the CPU answers to this asker's request for a line. A reject is counted in its ladder.
 fn answer_by(slot: &mut Slot, need: Need, asker: Asker) -> Answer
-    requires { need.line < LINES }
+    requires { need.line < storage_lines }
     ensures value { result ≡ reply_of slot.old need asker }
     ensures counted { slot.new ≡ record slot.old { ladder = after result slot.old.ladder } }
 {
@@ -125,7 +125,7 @@ impl Works {
     /// What the holder answers to this asker's request. A reject is counted for the holder.
     fn answer_of(&mut self, holder: u32, need: Need, asker: Asker) -> Answer
         requires holder { holder < length self.old.slots }
-        requires line { need.line < LINES }
+        requires line { need.line < storage_lines }
         ensures value { (rest : Seat) → let k = kept_by rest self.old in
             result ≡ reply (is_cpu_live k.state holder) (kept_footprint k holder).fetched
             (kept_footprint k holder).stored (k.standings holder) need.line need.mode asker }
@@ -153,7 +153,7 @@ impl Works {
     /// The holder yields the line as it is needed.
     fn yield_line(&mut self, holder: u32, need: Need)
         requires holder { holder < length self.old.slots }
-        requires line { need.line < LINES }
+        requires line { need.line < storage_lines }
         requires stands { is_against need.mode (holders_in self.old.lines holder need.line) ≡ true }
         ensures kept { (rest : Seat) → kept_by rest self.new
             ≡ k_yielding holder need.line need.mode (kept_by rest self.old) }
@@ -176,7 +176,7 @@ impl Works {
         requires cpu { cpu < length self.old.slots }
         requires holder { holder < length self.old.slots }
         requires other { holder ≢ cpu }
-        requires line { need.line < LINES }
+        requires line { need.line < storage_lines }
         requires stands { is_against need.mode (holders_in self.old.lines holder need.line) ≡ true }
         requires ready { (rest : Seat) → IsReady 1 cpu self.old (kept_by rest self.old) }
         ensures kept { (rest : Seat) → asked_by rest self.new (rejected_in result)
@@ -211,7 +211,7 @@ impl Works {
 
     /// The lowest CPU at or above `from` whose hold stands against a CPU's request for a line.
     fn next_against(&self, cpu: u32, need: Need, from: u32) -> Option<u32>
-        requires line { need.line < LINES }
+        requires line { need.line < storage_lines }
         requires from { from ≤ length self.now.slots }
         ensures value { result
             ≡ next_against (length self.now.slots) (holders_in self.now.lines) cpu need.line need.mode from }
@@ -224,7 +224,7 @@ impl Works {
     /// if one does; else nobody stands against the request any more.
     pub fn ask_all(&mut self, cpu: u32, need: Need) -> Option<Refused>
         requires cpu { cpu < length self.old.slots }
-        requires line { need.line < LINES }
+        requires line { need.line < storage_lines }
         requires ready { (rest : Seat) → IsReady 16 cpu self.old (kept_by rest self.old) }
         ensures kept { (rest : Seat) → asked_by rest self.new (rejected_in result) ≡ k_ask_each cpu need
             (against (length self.old.slots) (holders_in self.old.lines) cpu need.line need.mode)

@@ -3,7 +3,7 @@ ghost use Rattle.std.specs.Prelude.{◌≡◌, ℕ, ◌+◌, ◌<◌, ◌≤◌,
 ghost use Rattle.std.specs.Prelude.{IfSome, ◌==◌};
 ghost use Rattle.std.specs.List.{list_any};
 ghost use Rattle.z_regs.specs.Prefix.{storage_size};
-ghost use Rattle.line_table.specs.declared.table.TheConstants.{LINES};
+ghost use Rattle.line_table.specs.Sizes.{storage_lines};
 ghost use Rattle.line_table.specs.Holders.{against};
 ghost use Rattle.tx_lines.specs.Owned.{holders_in};
 ghost use Rattle.tx_lines.specs.Needs.{need_at};
@@ -27,7 +27,7 @@ impl Works {
     /// Whether the CPU holds a line as it needs it.
     fn is_there(&self, cpu: u32, need: Need) -> bool
         requires cpu { cpu < length self.now.slots }
-        requires line { need.line < LINES }
+        requires line { need.line < storage_lines }
         ensures { result ≡ is_there need.mode (holders_in self.now.lines cpu need.line) }
     {
         self.lines.is_there(cpu, need)
@@ -37,7 +37,7 @@ impl Works {
     /// that neither its attempt nor this turn needs, whose lines are `needed`.
     fn take_line(&mut self, cpu: u32, need: Need, needed: &[u32])
         requires cpu { cpu < length self.old.slots }
-        requires line { need.line < LINES }
+        requires line { need.line < storage_lines }
         requires among { list_any (λ other. other == need.line) needed.now ≡ true }
         requires few { (rest : Seat) → IsFew cpu needed.now (kept_by rest self.old) }
         requires free { against (length self.old.slots) (holders_in self.old.lines) cpu need.line need.mode
@@ -55,7 +55,7 @@ impl Works {
     /// is there.
     pub fn get_line(&mut self, cpu: u32, need: Need, needed: &[u32]) -> Option<Refused>
         requires cpu { cpu < length self.old.slots }
-        requires line { need.line < LINES }
+        requires line { need.line < storage_lines }
         requires among { list_any (λ other. other == need.line) needed.now ≡ true }
         requires few { (rest : Seat) → IsFew cpu needed.now (kept_by rest self.old) }
         requires ready { (rest : Seat) → IsReady 16 cpu self.old (kept_by rest self.old) }
@@ -88,7 +88,7 @@ impl Works {
         requires in_storage { All (λ r. r.first + r.length ≤ storage_size) ranges.now }
         requires needed { map (need_at ranges.now) lines.now ≡ needs_of ranges.now }
         requires most { length lines.now ≤ MOST_NEEDS }
-        requires known { All (λ line. line < LINES) lines.now }
+        requires known { All (λ line. line < storage_lines) lines.now }
         requires few { (rest : Seat) → IsFew cpu lines.now (kept_by rest self.old) }
         requires ready { (rest : Seat) → IsReady 128 cpu self.old (kept_by rest self.old) }
         ensures kept { (rest : Seat) (m : Setting) → cpus_of m ≡ length self.old.slots

@@ -3,7 +3,7 @@ ghost use Rattle.std.specs.Prelude.{◌≡◌, ◌<◌, ◌++◌, ◌∷◌, [],
 ghost use Rattle.z_regs.specs.Cpu.{cpu_of};
 ghost use Rattle.tx_journal.specs.Content.{Content};
 ghost use Rattle.tx_meaning.specs.Idle as meaning;
-ghost use Rattle.tx_meaning.specs.declared.limits.TheConstants.{MOST_TURNS};
+ghost use Rattle.tx_meaning.specs.Limits.{turn_limit};
 ghost use Rattle.tx_keeping.specs.Kept.{kept_finished};
 ghost use Rattle.tx_keeping.specs.Turn.{k_idle};
 ghost use Rattle.tx_machine.specs.Steps.{k_counted, k_waited};
@@ -100,7 +100,7 @@ impl Works {
     /// A turn of the CPU is counted.
     pub(crate) fn count_turn(&mut self, cpu: u32)
         requires cpu { cpu < length self.old.slots }
-        requires few { (rest : Seat) → ((kept_by rest self.old).state.numbers cpu).turns < MOST_TURNS }
+        requires few { (rest : Seat) → ((kept_by rest self.old).state.numbers cpu).turns < turn_limit }
         ensures value { (rest : Seat) → kept_by rest self.new ≡ k_counted cpu (kept_by rest self.old) }
         ensures turn { (rest : Seat) → HasTurn (seats_of rest self.new.slots cpu) 128 }
         ensures books { KeepsBooks self.old self.new }

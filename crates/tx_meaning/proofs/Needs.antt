@@ -11,7 +11,7 @@ use Rattle.std.proofs.lemmas.List.Elements.{All-map}
 use borrow.Enum.Arm.{by_way}
 use Rattle.z_regs.specs.declared.ranges.Range.{Range}
 use Rattle.line_table.specs.declared.table.Mode.TheVariants.{Shared, Exclusive}
-use Rattle.tx_footprint.specs.declared.places.TheConstants.{LINE_SIZE}
+use Rattle.tx_footprint.specs.Sizes.{line_size}
 use Rattle.tx_footprint.specs.Places.{has_place, lies_in, fetches, stores}
 use Rattle.tx_footprint.proofs.Spans.{span_is, no_bytes}
 use Rattle.tx_meaning.specs.declared.asking.Need.{Need}
@@ -72,14 +72,14 @@ lines_between first last x =
 
 lines_by : (r : Range) (x : ℕ) (none : Bool) → nat_eq r.length 0 ≡ none
     → has x (if none then [] else range_with_len (first_line r) (last_line r + 1 - first_line r))
-    ≡ has_place LINE_SIZE r x
-lines_by r x true e = sym (no_bytes LINE_SIZE r x (eqb-true r.length 0 e))
+    ≡ has_place line_size r x
+lines_by r x true e = sym (no_bytes line_size r x (eqb-true r.length 0 e))
 lines_by r x false e =
     let off = eqb-false r.length 0 e in
     let some : 0 < r.length = omega arith in
-    lines_between (first_line r) (last_line r) x ∙ span_is LINE_SIZE r x (omega arith) some
+    lines_between (first_line r) (last_line r) x ∙ span_is line_size r x (omega arith) some
 
-lines_are : (r : Range) (x : ℕ) → has x (lines_of r) ≡ has_place LINE_SIZE r x
+lines_are : (r : Range) (x : ℕ) → has x (lines_of r) ≡ has_place line_size r x
 lines_are r x = lines_by r x (nat_eq r.length 0) refl
 
 up_to : (x last : ℕ) → nat_le x last ≡ nat_lt x (last + 1)
@@ -89,27 +89,27 @@ up_to x last =
     (λ h. let lt : x < last + 1 = ltb-true x (last + 1) h in le-leb x last (omega arith))
 
 has_line_by : (r : Range) (x : ℕ) (some : Bool) → nat_lt 0 r.length ≡ some
-    → (some && (nat_le (first_line r) x && nat_le x (last_line r))) ≡ has_place LINE_SIZE r x
+    → (some && (nat_le (first_line r) x && nat_le x (last_line r))) ≡ has_place line_size r x
 has_line_by r x true e =
     let some : 0 < r.length = ltb-true 0 r.length e in
-    ap (λ b. nat_le (first_line r) x && b) (up_to x (last_line r)) ∙ span_is LINE_SIZE r x (omega arith) some
+    ap (λ b. nat_le (first_line r) x && b) (up_to x (last_line r)) ∙ span_is line_size r x (omega arith) some
 has_line_by r x false e =
     let none = ltb-false 0 r.length e in
     let zero_bytes : r.length ≡ 0 = omega arith in
-    sym (no_bytes LINE_SIZE r x zero_bytes)
+    sym (no_bytes line_size r x zero_bytes)
 
-has_line_is : (r : Range) (x : ℕ) → has_line x r ≡ has_place LINE_SIZE r x
+has_line_is : (r : Range) (x : ℕ) → has_line x r ≡ has_place line_size r x
 has_line_is r x = has_line_by r x (nat_lt 0 r.length) refl
 
 -- ---- the lines of all ranges
 
 all_lines : (ranges : List Range) (x : ℕ)
-    → has x (flat_map lines_of ranges) ≡ list_any (λ r. has_place LINE_SIZE r x) ranges
+    → has x (flat_map lines_of ranges) ≡ list_any (λ r. has_place line_size r x) ranges
 all_lines [] x = refl
 all_lines (r ∷ rest) x =
     list_any-append (λ k. k == x) (lines_of r) (flat_map lines_of rest)
     ∙ ap (λ b. b || has x (flat_map lines_of rest)) (lines_are r x)
-    ∙ ap (λ b. has_place LINE_SIZE r x || b) (all_lines rest x)
+    ∙ ap (λ b. has_place line_size r x || b) (all_lines rest x)
 
 either_way : (store here f s : Bool)
     → (here || (f || s)) ≡ (((not store && here) || f) || ((store && here) || s))
@@ -120,18 +120,18 @@ either_way false true f s = refl
 either_way false false f s = refl
 
 fetched_or_stored : (ranges : List Range) (x : ℕ)
-    → list_any (λ r. has_place LINE_SIZE r x) ranges ≡ (fetches ranges x || stores ranges x)
+    → list_any (λ r. has_place line_size r x) ranges ≡ (fetches ranges x || stores ranges x)
 fetched_or_stored [] x = refl
 fetched_or_stored (r ∷ rest) x =
-    ap (λ b. has_place LINE_SIZE r x || b) (fetched_or_stored rest x)
-    ∙ either_way r.store (has_place LINE_SIZE r x) (fetches rest x) (stores rest x)
+    ap (λ b. has_place line_size r x || b) (fetched_or_stored rest x)
+    ∙ either_way r.store (has_place line_size r x) (fetches rest x) (stores rest x)
 
 stored_lines : (ranges : List Range) (x : ℕ)
     → list_any (λ r. r.store && has_line x r) ranges ≡ stores ranges x
 stored_lines [] x = refl
 stored_lines (r ∷ rest) x =
     ap (λ b. (r.store && b) || list_any (λ s. s.store && has_line x s) rest) (has_line_is r x)
-    ∙ ap (λ b. (r.store && has_place LINE_SIZE r x) || b) (stored_lines rest x)
+    ∙ ap (λ b. (r.store && has_place line_size r x) || b) (stored_lines rest x)
 
 -- ---- in rising order
 

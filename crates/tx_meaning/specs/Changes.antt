@@ -15,7 +15,7 @@ use Rattle.tx_journal.specs.declared.entries.Entry.TheVariants as entry
 use Rattle.tx_journal.specs.declared.events.Event.{Event}
 use Rattle.line_table.specs.declared.table.Mode.{Mode}
 use Rattle.line_table.specs.declared.table.Mode.TheVariants.{Shared, Exclusive}
-use Rattle.line_table.specs.declared.table.TheConstants.{LINES, MOST_HELD}
+use Rattle.line_table.specs.Sizes.{storage_lines, held_limit}
 use Rattle.line_table.specs.Holders.{Holders, holding, lines_held}
 use Rattle.tx_serial.specs.Flat.{at_put}
 use Rattle.tx_meaning.specs.declared.asking.Need.{Need}
@@ -72,7 +72,8 @@ lowest [] = None
 lowest (line ∷ rest) = Some line
 
 abbrev pub spare_line : Holders → ℕ → Sets → List Need → Option ℕ
-spare_line held i footprint needs = lowest (filter (is_spare held i footprint needs) (range_with_len 0 LINES))
+spare_line held i footprint needs =
+    lowest (filter (is_spare held i footprint needs) (range_with_len 0 storage_lines))
 
 abbrev pub giving_up : Holders → ℕ → Option ℕ → Holders
 giving_up held i None = held
@@ -84,7 +85,7 @@ with_room true held i footprint needs = held
 with_room false held i footprint needs = giving_up held i (spare_line held i footprint needs)
 
 abbrev pub has_room : Holders → ℕ → ℕ → Bool
-has_room held i line = is_some (held i line) || nat_lt (lines_held held i) MOST_HELD
+has_room held i line = is_some (held i line) || nat_lt (lines_held held i) held_limit
 
 unfoldable pub granting : ℕ → Sets → List Need → Need → Holders → Holders
 granting i footprint needs need held =

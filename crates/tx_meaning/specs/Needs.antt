@@ -5,7 +5,7 @@ use Rattle.std.specs.List.{list_any, flat_map, range_with_len}
 use Rattle.z_regs.specs.Absolute.{absolute_ranges}
 use Rattle.z_regs.specs.declared.ranges.Range.{Range}
 use Rattle.z_regs.specs.declared.waiting.Waiting.{Waiting}
-use Rattle.tx_footprint.specs.declared.places.TheConstants.{LINE_SIZE}
+use Rattle.tx_footprint.specs.Sizes.{line_size}
 use Rattle.line_table.specs.declared.table.Mode.{Mode}
 use Rattle.line_table.specs.declared.table.Mode.TheVariants.{Shared, Exclusive}
 use Rattle.tx_serial.specs.Flat.{Pending}
@@ -15,10 +15,10 @@ use Rattle.tx_serial.specs.Apply.{identification, old_psw, new_psw, interruption
 -- ---- the lines of ranges by absolute addresses
 
 abbrev pub first_line : Range → ℕ
-first_line r = r.first / LINE_SIZE
+first_line r = r.first / line_size
 
 abbrev pub last_line : Range → ℕ
-last_line r = (r.first + r.length - 1) / LINE_SIZE
+last_line r = (r.first + r.length - 1) / line_size
 
 abbrev pub has_line : ℕ → Range → Bool
 has_line line r = nat_lt 0 r.length && (nat_le (first_line r) line && nat_le line (last_line r))

@@ -24,7 +24,7 @@ ghost use Rattle.tx_footprint.specs.Places.{fetches, stores};
 ghost use Rattle.tx_ladder.specs.Parameters.{usual};
 ghost use Rattle.tx_meaning.specs.Changes.{is_needed};
 ghost use Rattle.tx_meaning.specs.Idle.{is_ready};
-ghost use Rattle.tx_meaning.specs.Limits.{Setting};
+ghost use Rattle.tx_meaning.specs.Limits.{Setting, turn_limit, tick_limit, external_limit};
 ghost use Rattle.tx_meaning.specs.Meaning.{meaning, is_external};
 ghost use Rattle.tx_meaning.specs.Needs.{needs_of};
 ghost use Rattle.tx_meaning.specs.Queues.{QueueMoves};
@@ -34,6 +34,7 @@ ghost use Rattle.tx_meaning.specs.State.{State, beginning, cpus_of, is_head};
 ghost use Rattle.tx_meaning.specs.Stretches.{bound};
 ghost use Rattle.tx_meaning.specs.Turn.{happen};
 ghost use Rattle.tx_meaning.specs.declared.asking.Need.{Need};
+ghost use Rattle.tx_meaning.specs.declared.limits.TheConstants.{MOST_TURNS, MOST_TICK, MOST_EXTERNALS};
 ghost use Rattle.z_regs.specs.declared.ranges.Range.{Range};
 
 /// An event lets CPUs join the stop queue at its tail, and then its head may leave or go to the tail. So
@@ -96,4 +97,11 @@ pub fn schedules_are_complete()
 /// With the usual numbers a constrained transaction needs at most 1,072 turns where nothing interrupts it.
 pub fn the_usual_bound()
     ensures { bound usual ≡ 1072 }
+{}
+
+/// The numbers of the code are those of the definitions.
+pub fn limits_are_the_defined_ones()
+    ensures turns { MOST_TURNS ≡ turn_limit }
+    ensures tick { MOST_TICK ≡ tick_limit }
+    ensures externals { MOST_EXTERNALS ≡ external_limit }
 {}

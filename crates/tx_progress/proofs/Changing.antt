@@ -14,7 +14,7 @@ use Rattle.z_effect.specs.Outcome.{Outcome, Did, Divides, Aborts}
 use Rattle.z_effect.specs.Outcome as outcome
 use Rattle.tx_control.specs.declared.begins.Begin.{Begin}
 use Rattle.tx_footprint.specs.Places.{stores, fetches}
-use Rattle.tx_footprint.specs.declared.places.TheConstants.{LINE_SIZE}
+use Rattle.tx_footprint.specs.Sizes.{line_size}
 use Rattle.store_cache.specs.Overlay.{nothing}
 use Rattle.tx_serial.specs.Fate.{Goes, fate}
 use Rattle.tx_serial.specs.Flat.{Storage, FlatState, laid_over}
@@ -40,20 +40,20 @@ use Rattle.tx_progress.proofs.Touching.{stores_in_lines, seen_in, laid_in}
 
 -- every byte that it has stored lies in a line of its footprint
 record StoresIn (q : Progress) : Type 0 where
-  pub overlay : (a byte : ℕ) → q.overlay a ≡ Some byte → q.footprint.stored (a / LINE_SIZE) ≡ true
-  pub lasting : (a byte : ℕ) → q.lasting a ≡ Some byte → q.footprint.stored (a / LINE_SIZE) ≡ true
+  pub overlay : (a byte : ℕ) → q.overlay a ≡ Some byte → q.footprint.stored (a / line_size) ≡ true
+  pub lasting : (a byte : ℕ) → q.lasting a ≡ Some byte → q.footprint.stored (a / line_size) ≡ true
 
 run_stores : (f : FlatState) (i k : ℕ) (q : Progress) → is_prefix (f.cpus i).prefix ≡ true
     → progress_of (run f i k) ≡ q → StoresIn q
 unfolding progress_of
 run_stores f i k q ok e = subst StoresIn e record {
   overlay = λ a byte h.
-      stored_places LINE_SIZE f i k (a / LINE_SIZE) ok
-      ∙ has_store nothing (run f i k).stores LINE_SIZE a byte h refl;
+      stored_places line_size f i k (a / line_size) ok
+      ∙ has_store nothing (run f i k).stores line_size a byte h refl;
   lasting = λ a byte h.
-      stored_places LINE_SIZE f i k (a / LINE_SIZE) ok
-      ∙ run_lasting (λ s. s.address / LINE_SIZE == a / LINE_SIZE) f i k
-      (has_store nothing (run f i k).lasting LINE_SIZE a byte h refl);
+      stored_places line_size f i k (a / line_size) ok
+      ∙ run_lasting (λ s. s.address / line_size == a / line_size) f i k
+      (has_store nothing (run f i k).lasting line_size a byte h refl);
 }
 
 -- ---- what is left
@@ -97,8 +97,8 @@ same_touches storage locals i ranges held =
       fetched = λ line h.
           or_left (q.footprint.fetched line) (fetches (absolute_ranges q.cpu.prefix ranges) line) h;
       lasting = seen_in q.lasting (stored_lines q ranges) storage (λ a byte h.
-          or_left (q.footprint.stored (a / LINE_SIZE)) (stores (absolute_ranges q.cpu.prefix ranges)
-          (a / LINE_SIZE)) (held.lasting a byte h));
+          or_left (q.footprint.stored (a / line_size)) (stores (absolute_ranges q.cpu.prefix ranges)
+          (a / line_size)) (held.lasting a byte h));
     }
 
 closed_touches : (storage : Storage) (locals : ℕ → Local) (i : ℕ) (instr : Instr) (ranges : List Range)

@@ -17,7 +17,7 @@ use Rattle.tx_control.specs.Nesting.{is_constrained}
 use Rattle.tx_control.specs.declared.begins.Begin.{Begin}
 use Rattle.tx_control.specs.declared.causes.Why.{Why}
 use Rattle.tx_control.specs.declared.causes.Why.TheVariants.{External, FetchConflict, StoreConflict, Starved}
-use Rattle.tx_control.specs.declared.codes.TheConstants.{FIXED_POINT_OVERFLOW}
+use Rattle.tx_control.specs.Codes.{fixed_point_overflow_code}
 use Rattle.tx_constraint.specs.Constraints.{Step}
 use Rattle.tx_journal.specs.declared.entries.Entry.TheVariants.{Abort}
 use Rattle.store_cache.specs.Overlay.{Store}
@@ -135,7 +135,7 @@ same_nest i general nest c now bytes given depth o =
 
 pub over_ending : (text : List ℕ) (p : Run) (i : Instr) (ranges : List Range) (c : Cpu) (stores : List Store)
     → ending text (overflowed (with_instruction i ranges c stores p))
-    ≡ Some (cause_in (nest_after i p.cpu.general p.nest) (exception FIXED_POINT_OVERFLOW (length_of i)))
+    ≡ Some (cause_in (nest_after i p.cpu.general p.nest) (exception fixed_point_overflow_code (length_of i)))
 unfolding ending
 over_ending text p i ranges c stores =
     ap (overflow_cause (nest_after i p.cpu.general p.nest)) (last_is p.steps (step_of i ranges p.cpu))
@@ -154,7 +154,7 @@ over_leaves : (text : List ℕ) (storage : Storage) (locals : ℕ → Local) (i 
     → IsFollowed (flat_from text storage locals) i (locals i) → is_live (locals i).attempt ≡ true
     → fate_by_progress text storage (locals i).attempt ≡ Goes instr ranges
     → outcome_by storage instr ranges (locals i).attempt ≡ outcome.Overflowed c bytes
-    → cause_in (next_of (locals i) instr ranges c bytes).nest (exception FIXED_POINT_OVERFLOW (length_of
+    → cause_in (next_of (locals i) instr ranges c bytes).nest (exception fixed_point_overflow_code (length_of
     instr))
     ≡ why
     → Leaves text storage locals i (Abort i (next_of (locals i) instr ranges c bytes).count why)
@@ -179,7 +179,7 @@ over_leaves text storage locals i instr ranges c bytes why is live h came cause 
     let some : nat_lt 0 (q.count + 1) ≡ true = grind (arith) in
     let ends : ending text over ≡ Some why =
     over_ending text p instr ranges c (operand_stores p.cpu.prefix ranges bytes)
-    ∙ ap (λ nest. Some (cause_in nest (exception FIXED_POINT_OVERFLOW (length_of instr))))
+    ∙ ap (λ nest. Some (cause_in nest (exception fixed_point_overflow_code (length_of instr))))
     (its_nest over next progress) ∙ ap Some cause in
     let fit : fits text (run f i (q.count + 1)) why ≡ true =
     ap (λ r. fits text r why) longer ∙ ending_fits text over why ends in
@@ -261,7 +261,7 @@ overflow_shows : (text : List ℕ) (storage : Storage) (locals : ℕ → Local) 
     → let next : Run = run (flat_from text storage locals) i (suc (locals i).attempt.count) in
     (next.mark ≡ Overflowed) × (ending text next ≡ Some
     (cause_in (next_of (locals i) instr ranges c bytes).nest
-    (exception FIXED_POINT_OVERFLOW (length_of instr))))
+    (exception fixed_point_overflow_code (length_of instr))))
 overflow_shows text storage locals i instr ranges c bytes is live h came =
     let f = flat_from text storage locals in
     let q = (locals i).attempt in
@@ -275,7 +275,7 @@ overflow_shows text storage locals i instr ranges c bytes is live h came =
     (followed_outcome f i (locals i) instr ranges is ∙ came) in (
       ap (λ r. r.mark) longer,
       ap (ending text) longer ∙ over_ending text p instr ranges c stores
-          ∙ ap (λ nest. Some (cause_in nest (exception FIXED_POINT_OVERFLOW (length_of instr))))
+          ∙ ap (λ nest. Some (cause_in nest (exception fixed_point_overflow_code (length_of instr))))
           (its_nest over next (over_progress p q instr ranges c bytes is.attempt)),
     )
 

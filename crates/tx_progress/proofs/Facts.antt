@@ -13,7 +13,7 @@ use Rattle.tx_control.specs.declared.begins.Begin.{Begin}
 use Rattle.tx_constraint.specs.Constraints.{Step}
 use Rattle.tx_constraint.specs.Kept.{Kept, kept}
 use Rattle.tx_constraint.proofs.Attempts.{few_steps, few_octowords}
-use Rattle.tx_footprint.specs.declared.places.TheConstants.{LINE_SIZE, BLOCK_SIZE}
+use Rattle.tx_footprint.specs.Sizes.{line_size, block_size}
 use Rattle.store_cache.specs.Overlay.{Overlay, Store, nothing, with_one}
 use Rattle.tx_serial.specs.Apply.{is_running}
 use Rattle.tx_serial.specs.Attempt.{Run, attempt_of}
@@ -173,31 +173,31 @@ prefix_now f i local is ok = ap (λ (c : Cpu). is_prefix c.prefix) is.cpu ∙ ok
 
 pub stored_line : (f : FlatState) (i a byte : ℕ) (local : Local) → IsFollowed f i local
     → is_prefix local.cpu.prefix ≡ true → local.attempt.overlay a ≡ Some byte
-    → local.attempt.footprint.stored (a / LINE_SIZE) ≡ true
+    → local.attempt.footprint.stored (a / line_size) ≡ true
 unfolding progress_of
 stored_line f i a byte local is ok h =
     let p = its_run f i local in
-    sym (ap (λ sets. sets.stored (a / LINE_SIZE)) (its_footprint f i local is))
-    ∙ stored_places LINE_SIZE f i local.attempt.count (a / LINE_SIZE) (prefix_now f i local is ok)
-    ∙ has_store nothing p.stores LINE_SIZE a byte (ap (λ (q : Progress). q.overlay a) is.attempt ∙ h) refl
+    sym (ap (λ sets. sets.stored (a / line_size)) (its_footprint f i local is))
+    ∙ stored_places line_size f i local.attempt.count (a / line_size) (prefix_now f i local is ok)
+    ∙ has_store nothing p.stores line_size a byte (ap (λ (q : Progress). q.overlay a) is.attempt ∙ h) refl
 
 pub stored_block : (f : FlatState) (i a byte : ℕ) (local : Local) → IsFollowed f i local
     → is_prefix local.cpu.prefix ≡ true → local.attempt.overlay a ≡ Some byte
-    → local.attempt.footprint.blocks (a / BLOCK_SIZE) ≡ true
+    → local.attempt.footprint.blocks (a / block_size) ≡ true
 unfolding progress_of
 stored_block f i a byte local is ok h =
     let p = its_run f i local in
-    sym (ap (λ sets. sets.blocks (a / BLOCK_SIZE)) (its_footprint f i local is))
-    ∙ stored_places BLOCK_SIZE f i local.attempt.count (a / BLOCK_SIZE) (prefix_now f i local is ok)
-    ∙ has_store nothing p.stores BLOCK_SIZE a byte (ap (λ (q : Progress). q.overlay a) is.attempt ∙ h) refl
+    sym (ap (λ sets. sets.blocks (a / block_size)) (its_footprint f i local is))
+    ∙ stored_places block_size f i local.attempt.count (a / block_size) (prefix_now f i local is ok)
+    ∙ has_store nothing p.stores block_size a byte (ap (λ (q : Progress). q.overlay a) is.attempt ∙ h) refl
 
 pub lasting_line : (f : FlatState) (i a byte : ℕ) (local : Local) → IsFollowed f i local
     → is_prefix local.cpu.prefix ≡ true → local.attempt.lasting a ≡ Some byte
-    → local.attempt.footprint.stored (a / LINE_SIZE) ≡ true
+    → local.attempt.footprint.stored (a / line_size) ≡ true
 unfolding progress_of
 lasting_line f i a byte local is ok h =
     let p = its_run f i local in
-    sym (ap (λ sets. sets.stored (a / LINE_SIZE)) (its_footprint f i local is))
-    ∙ stored_places LINE_SIZE f i local.attempt.count (a / LINE_SIZE) (prefix_now f i local is ok)
-    ∙ run_lasting (λ s. s.address / LINE_SIZE == a / LINE_SIZE) f i local.attempt.count
-    (has_store nothing p.lasting LINE_SIZE a byte (ap (λ (q : Progress). q.lasting a) is.attempt ∙ h) refl)
+    sym (ap (λ sets. sets.stored (a / line_size)) (its_footprint f i local is))
+    ∙ stored_places line_size f i local.attempt.count (a / line_size) (prefix_now f i local is ok)
+    ∙ run_lasting (λ s. s.address / line_size == a / line_size) f i local.attempt.count
+    (has_store nothing p.lasting line_size a byte (ap (λ (q : Progress). q.lasting a) is.attempt ∙ h) refl)

@@ -30,13 +30,13 @@ use Rattle.z_instr.proofs.SmallOperands.{sizes}
 use Rattle.z_touch.specs.Refusals.{range_of}
 use Rattle.z_touch.proofs.SmallRanges.{inside_ends}
 use Rattle.tx_control.specs.declared.begins.Begin as begins_of
-use Rattle.line_table.specs.declared.table.TheConstants.{LINES}
+use Rattle.line_table.specs.Sizes.{storage_lines}
 use Rattle.tx_constraint.specs.Constraints.{Step}
 use Rattle.tx_footprint.specs.Places.{has_place}
 use Rattle.tx_footprint.specs.Touched.{Sets, untouched, touching, line_count, block_count, fit_of}
 use Rattle.tx_footprint.specs.declared.footprint.Overflow.TheVariants.{Fetch, Store}
-use Rattle.tx_footprint.specs.declared.footprint.TheConstants.{MOST_LINES, MOST_BLOCKS}
-use Rattle.tx_footprint.specs.declared.places.TheConstants.{LINE_SIZE, BLOCKS}
+use Rattle.tx_footprint.specs.Sizes.{line_limit, block_limit}
+use Rattle.tx_footprint.specs.Sizes.{line_size, storage_blocks}
 use Rattle.tx_footprint.proofs.Marking.{or_false}
 use Rattle.tx_serial.specs.Alike as alike
 use Rattle.tx_serial.specs.Alike.{addresses_in}
@@ -91,16 +91,16 @@ fits_by false false h = (refl, refl)
 
 keeps_limits : (sets : Sets) → overflow_of (fit_of sets) ≡ None → KeepsLimits sets
 keeps_limits sets h =
-    let b = fits_by (nat_lt MOST_LINES (line_count sets)) (nat_lt MOST_BLOCKS (block_count sets)) h in
+    let b = fits_by (nat_lt line_limit (line_count sets)) (nat_lt block_limit (block_count sets)) h in
     record {
-      lines = ltb-false MOST_LINES (line_count sets) b.0;
-      blocks = ltb-false MOST_BLOCKS (block_count sets) b.1;
+      lines = ltb-false line_limit (line_count sets) b.0;
+      blocks = ltb-false block_limit (block_count sets) b.1;
     }
 
 untouched_keeps : KeepsLimits untouched
 untouched_keeps =
-    let lines = count_none LINES (λ line. false || false) (λ k h. refl) in
-    let blocks = count_none BLOCKS (λ block. false) (λ k h. refl) in
+    let lines = count_none storage_lines (λ line. false || false) (λ k h. refl) in
+    let blocks = count_none storage_blocks (λ block. false) (λ k h. refl) in
     record { lines = omega (arith, lines); blocks = omega (arith, blocks) }
 
 touching_none : (sets : Sets) → sets ≡ touching sets []
@@ -253,27 +253,27 @@ both t s (x ∷ xs) h all =
     both_by t s x (t x) refl (list_any t xs) h parts.0 (λ any. both t s xs any parts.1)
 
 low_line : (prefix : Option ℕ) (line a : ℕ) → is_prefix prefix ≡ true → a < storage_size
-    → (absolute_of prefix a / LINE_SIZE == line) ≡ true → line < LINES
+    → (absolute_of prefix a / line_size == line) ≡ true → line < storage_lines
 low_line prefix line a ok h e =
     let within : absolute_of prefix a < storage_size = absolute_within prefix a ok h in
-    let same : absolute_of prefix a / LINE_SIZE ≡ line = grind (arith, e) in
+    let same : absolute_of prefix a / line_size ≡ line = grind (arith, e) in
     omega (arith, within, same)
 
 run_lines : (f : FlatState) (i k line : ℕ) → is_prefix (f.cpus i).prefix ≡ true → (run f i k).mark ≢ Missing
-    → ((footprint (run f i k)).fetched line || (footprint (run f i k)).stored line) ≡ true → line < LINES
+    → ((footprint (run f i k)).fetched line || (footprint (run f i k)).stored line) ≡ true → line < storage_lines
 unfolding has_place
 run_lines f i k line ok exists h =
     let p = run f i k in
     let prefix = (f.cpus i).prefix in
-    let test = λ (b : ℕ). b / LINE_SIZE == line in
-    let touched = run_there test f i k ok exists ∙ either_way (λ r. has_place LINE_SIZE r line) p.touched ∙ h
+    let test = λ (b : ℕ). b / line_size == line in
+    let touched = run_there test f i k ok exists ∙ either_way (λ r. has_place line_size r line) p.touched ∙ h
     in
     let one = both (seen_test prefix test) low (alike.addresses_of p.steps) touched (run_low f i k exists) in
     low_line prefix line one.number ok (ltb-true one.number storage_size one.second) one.first
 
 pub footprint_lines : (f : FlatState) (i line : ℕ) (local : Local) → IsFollowed f i local
     → is_prefix local.cpu.prefix ≡ true
-    → (local.attempt.footprint.fetched line || local.attempt.footprint.stored line) ≡ true → line < LINES
+    → (local.attempt.footprint.fetched line || local.attempt.footprint.stored line) ≡ true → line < storage_lines
 footprint_lines f i line local is ok h =
     let n = local.attempt.count in
     run_lines f i n line (ap (λ (c : Cpu). is_prefix c.prefix) is.cpu ∙ ok)
@@ -282,21 +282,21 @@ footprint_lines f i line local is ok h =
 
 -- ---- stored bytes
 
-line_inside : (a : ℕ) → a / LINE_SIZE < LINES → a < storage_size
+line_inside : (a : ℕ) → a / line_size < storage_lines → a < storage_size
 line_inside a h = omega (arith, h)
 
 pub stored_inside : (f : FlatState) (i a byte : ℕ) (local : Local) → IsFollowed f i local
     → is_prefix local.cpu.prefix ≡ true → local.attempt.overlay a ≡ Some byte → a < storage_size
 stored_inside f i a byte local is ok h =
-    line_inside a (footprint_lines f i (a / LINE_SIZE) local is ok
-    (or_right (local.attempt.footprint.fetched (a / LINE_SIZE)) (local.attempt.footprint.stored (a /
-    LINE_SIZE))
+    line_inside a (footprint_lines f i (a / line_size) local is ok
+    (or_right (local.attempt.footprint.fetched (a / line_size)) (local.attempt.footprint.stored (a /
+    line_size))
     (stored_line f i a byte local is ok h)))
 
 pub lasting_inside : (f : FlatState) (i a byte : ℕ) (local : Local) → IsFollowed f i local
     → is_prefix local.cpu.prefix ≡ true → local.attempt.lasting a ≡ Some byte → a < storage_size
 lasting_inside f i a byte local is ok h =
-    line_inside a (footprint_lines f i (a / LINE_SIZE) local is ok
-    (or_right (local.attempt.footprint.fetched (a / LINE_SIZE)) (local.attempt.footprint.stored (a /
-    LINE_SIZE))
+    line_inside a (footprint_lines f i (a / line_size) local is ok
+    (or_right (local.attempt.footprint.fetched (a / line_size)) (local.attempt.footprint.stored (a /
+    line_size))
     (lasting_line f i a byte local is ok h)))

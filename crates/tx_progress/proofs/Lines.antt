@@ -21,7 +21,7 @@ use Rattle.z_touch.specs.Refusals.{range_of}
 use Rattle.z_touch.proofs.SmallRanges.{any-text_pages}
 use Rattle.tx_constraint.specs.Constraints.{Step}
 use Rattle.tx_footprint.specs.Places.{has_place}
-use Rattle.tx_footprint.specs.declared.places.TheConstants.{LINE_SIZE}
+use Rattle.tx_footprint.specs.Sizes.{line_size}
 use Rattle.tx_serial.specs.Flat.{FlatState}
 use Rattle.tx_serial.specs.Attempt.{Run, Missing, footprint}
 use Rattle.tx_serial.specs.Alike as alike
@@ -170,14 +170,14 @@ either_way test (r ∷ rs) =
 
 pub touched_lines : (f : FlatState) (i k a : ℕ) → is_prefix (f.cpus i).prefix ≡ true
     → (run f i k).mark ≢ Missing → list_any (nat_eq a) (touched_addresses (run f i k)) ≡ true
-    → ((footprint (run f i k)).fetched (absolute_of (f.cpus i).prefix a / LINE_SIZE)
-    || (footprint (run f i k)).stored (absolute_of (f.cpus i).prefix a / LINE_SIZE)) ≡ true
+    → ((footprint (run f i k)).fetched (absolute_of (f.cpus i).prefix a / line_size)
+    || (footprint (run f i k)).stored (absolute_of (f.cpus i).prefix a / line_size)) ≡ true
 unfolding has_place
 touched_lines f i k a ok exists h =
-    let line = absolute_of (f.cpus i).prefix a / LINE_SIZE in
-    let test = λ (b : ℕ). b / LINE_SIZE == line in
+    let line = absolute_of (f.cpus i).prefix a / line_size in
+    let test = λ (b : ℕ). b / line_size == line in
     let here : (line == line) ≡ true = grind (arith) in
-    sym (either_way (λ r. has_place LINE_SIZE r line) (run f i k).touched)
+    sym (either_way (λ r. has_place line_size r line) (run f i k).touched)
     ∙ sym (run_there test f i k ok exists)
     ∙ some_passes (seen_test (f.cpus i).prefix test) a (touched_addresses (run f i k)) h here
 

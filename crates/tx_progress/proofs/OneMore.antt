@@ -15,7 +15,7 @@ use Rattle.z_effect.specs.Outcome as outcome
 use Rattle.tx_constraint.specs.Constraints.{Step, with_step}
 use Rattle.tx_constraint.specs.Kept.{Kept, kept, added}
 use Rattle.tx_constraint.proofs.Attempts.{octowords_begun, kept_step}
-use Rattle.tx_footprint.specs.declared.places.TheConstants.{LINE_SIZE, BLOCK_SIZE}
+use Rattle.tx_footprint.specs.Sizes.{line_size, block_size}
 use Rattle.tx_footprint.specs.Places.{has_place}
 use Rattle.tx_footprint.specs.Touched.{Sets, touching, untouched}
 use Rattle.tx_footprint.proofs.Marking.{or_assoc}
@@ -36,9 +36,9 @@ use Rattle.tx_progress.proofs.SeenStores.{laying_more}
 pub touching_twice : (sets : Sets) (xs ys : List Range) → touching (touching sets xs) ys ≡ touching sets (xs
     ++ ys)
 touching_twice sets xs ys i = record {
-  fetched = λ line. in_turn (λ r. not r.store && has_place LINE_SIZE r line) (sets.fetched line) i;
-  stored = λ line. in_turn (λ r. r.store && has_place LINE_SIZE r line) (sets.stored line) i;
-  blocks = λ block. in_turn (λ r. r.store && has_place BLOCK_SIZE r block) (sets.blocks block) i;
+  fetched = λ line. in_turn (λ r. not r.store && has_place line_size r line) (sets.fetched line) i;
+  stored = λ line. in_turn (λ r. r.store && has_place line_size r line) (sets.stored line) i;
+  blocks = λ block. in_turn (λ r. r.store && has_place block_size r block) (sets.blocks block) i;
 }
   where
     in_turn : (test : Range → Bool) (was : Bool)

@@ -12,7 +12,7 @@ use Rattle.z_regs.specs.declared.ranges.Range.{Range}
 use Rattle.z_instr.specs.Operands.{from_up}
 use Rattle.store_cache.specs.Overlay.{Overlay, Store, overlay_of, nothing}
 use Rattle.tx_footprint.specs.Places.{has_place, stores}
-use Rattle.tx_footprint.specs.declared.places.TheConstants.{LINE_SIZE}
+use Rattle.tx_footprint.specs.Sizes.{line_size}
 use Rattle.tx_progress.specs.Local.{Local, block_stored, storage_with}
 use Rattle.tx_serial.specs.Flat.{Pending, Storage, stores_at, operand_stores, laid_over, with_bytes_at}
 use Rattle.tx_serial.specs.Stored.{has_store_in}
@@ -70,15 +70,15 @@ stored_pieces test (Some p) r s h = by (nat_le r.length (to_edge r.first)) h
         || false)) s ∙ g
 
 abbrev in_line : ℕ → ℕ → Bool
-in_line line a = a / LINE_SIZE == line
+in_line line a = a / line_size == line
 
 one_stored : (prefix : Option ℕ) (r : Range) (bytes : List ℕ) (line : ℕ) → is_prefix prefix ≡ true
     → r.length ≤ area_size → r.store ≡ true → length bytes ≤ r.length
-    → has_store_in LINE_SIZE (stores_at prefix r.first bytes) line ≡ true
+    → has_store_in line_size (stores_at prefix r.first bytes) line ≡ true
     → stores (absolute_range prefix r) line ≡ true
 unfolding has_place
 one_stored prefix r bytes line ok small s few h =
-    stored_pieces (λ q. has_place LINE_SIZE q line) prefix r s
+    stored_pieces (λ q. has_place line_size q line) prefix r s
     (sym (range_there (in_line line) prefix r ok small)
     ∙ more_up (seen_test prefix (in_line line)) (length bytes) r.length r.first few
     (sym (stored_at (in_line line) prefix bytes r.first) ∙ h))
@@ -90,11 +90,11 @@ either false y a b h f g = or_right a b (g h)
 
 pub stores_in_lines : (prefix : Option ℕ) (ranges : List Range) (bytes : List ℕ) (line : ℕ)
     → is_prefix prefix ≡ true → AreSmall ranges
-    → has_store_in LINE_SIZE (operand_stores prefix ranges bytes) line ≡ true
+    → has_store_in line_size (operand_stores prefix ranges bytes) line ≡ true
     → stores (absolute_ranges prefix ranges) line ≡ true
 stores_in_lines prefix [] bytes line ok small h = h
 stores_in_lines prefix (r ∷ rs) bytes line ok small h =
-    list_any-append (λ q. q.store && has_place LINE_SIZE q line) (absolute_range prefix r)
+    list_any-append (λ q. q.store && has_place line_size q line) (absolute_range prefix r)
     (absolute_ranges prefix rs)
     ∙ by r.store refl h (λ others g. stores_in_lines prefix rs others line ok small.1 g)
   where
@@ -102,15 +102,15 @@ stores_in_lines prefix (r ∷ rs) bytes line ok small h =
     few = let e = length-take r.length bytes in omega (arith, e)
 
     by : (b : Bool) → r.store ≡ b
-        → has_store_in LINE_SIZE (cond b
+        → has_store_in line_size (cond b
         (stores_at prefix r.first (take r.length bytes) ++ operand_stores prefix rs (drop r.length bytes))
         (operand_stores prefix rs bytes)) line ≡ true
-        → ((others : List ℕ) → has_store_in LINE_SIZE (operand_stores prefix rs others) line ≡ true
+        → ((others : List ℕ) → has_store_in line_size (operand_stores prefix rs others) line ≡ true
         → stores (absolute_ranges prefix rs) line ≡ true)
         → (stores (absolute_range prefix r) line || stores (absolute_ranges prefix rs) line) ≡ true
     by true s g more =
-        either (has_store_in LINE_SIZE (stores_at prefix r.first (take r.length bytes)) line)
-        (has_store_in LINE_SIZE (operand_stores prefix rs (drop r.length bytes)) line) _ _
+        either (has_store_in line_size (stores_at prefix r.first (take r.length bytes)) line)
+        (has_store_in line_size (operand_stores prefix rs (drop r.length bytes)) line) _ _
         (sym (list_any-append (λ x. in_line line x.address) (stores_at prefix r.first (take r.length bytes))
         (operand_stores prefix rs (drop r.length bytes))) ∙ g)
         (one_stored prefix r (take r.length bytes) line ok small.0 s few)
@@ -127,18 +127,18 @@ unseen (Some byte) d none = absurd (none byte refl)
 
 -- an overlay whose bytes lie in some lines changes those alone
 pub seen_in : (overlay : Overlay) (lines : ℕ → Bool) (storage : Storage)
-    → ((a byte : ℕ) → overlay a ≡ Some byte → lines (a / LINE_SIZE) ≡ true)
+    → ((a byte : ℕ) → overlay a ≡ Some byte → lines (a / line_size) ≡ true)
     → ChangesIn lines storage (seen_through overlay storage)
 seen_in overlay lines storage all a h =
     unseen (overlay a) (storage a) (λ byte e. true≢false (sym (all a byte e) ∙ h))
 
 pub laid_in : (stores : List Store) (lines : ℕ → Bool) (storage : Storage)
-    → ((line : ℕ) → has_store_in LINE_SIZE stores line ≡ true → lines line ≡ true)
+    → ((line : ℕ) → has_store_in line_size stores line ≡ true → lines line ≡ true)
     → ChangesIn lines storage (laid_over storage stores)
 laid_in stores lines storage all a h =
     ap (λ s. s a) (laid_is_seen stores storage)
     ∙ seen_in (overlay_of stores) lines storage
-    (λ b byte e. all (b / LINE_SIZE) (has_store nothing stores LINE_SIZE b byte e refl)) a h
+    (λ b byte e. all (b / line_size) (has_store nothing stores line_size b byte e refl)) a h
 
 -- bytes that go to a real address
 pub placed_in : (prefix : Option ℕ) (first : ℕ) (bytes : List ℕ) (storage : Storage) (r : Range)
@@ -148,7 +148,7 @@ pub placed_in : (prefix : Option ℕ) (first : ℕ) (bytes : List ℕ) (storage 
 placed_in prefix first bytes storage r ok at size small s =
     laid_in (stores_at prefix first bytes) (stores (absolute_range prefix r)) storage
     (λ line h. one_stored prefix r bytes line ok small s (omega (arith, size))
-    (ap (λ a. has_store_in LINE_SIZE (stores_at prefix a bytes) line) at ∙ h))
+    (ap (λ a. has_store_in line_size (stores_at prefix a bytes) line) at ∙ h))
 
 one_range : (prefix : Option ℕ) (r : Range) (line : ℕ)
     → stores (absolute_ranges prefix (r ∷ [])) line ≡ stores (absolute_range prefix r) line
@@ -160,7 +160,7 @@ pub placed_in_lines : (prefix : Option ℕ) (r : Range) (bytes : List ℕ) (stor
     storage)
 placed_in_lines prefix r bytes storage ok size small s a h =
     placed_in prefix r.first bytes storage r ok refl size small s a
-    (sym (one_range prefix r (a / LINE_SIZE)) ∙ h)
+    (sym (one_range prefix r (a / line_size)) ∙ h)
 
 pub block_in_lines : (storage : Storage) (locals : ℕ → Local) (i : ℕ) (b : Pending) (r : Range)
     → is_prefix (locals i).cpu.prefix ≡ true → (locals i).pending ≡ Some b → r.first ≡ b.address

@@ -16,7 +16,7 @@ use Rattle.z_effect.specs.TransactionEffect.{delay_of}
 use Rattle.tx_control.specs.declared.begins.Begin.{Begin}
 use Rattle.tx_control.specs.declared.causes.Why.{Why}
 use Rattle.tx_control.specs.declared.causes.Why.TheVariants.{Tabort}
-use Rattle.tx_control.specs.declared.codes.TheConstants.{FIXED_POINT_OVERFLOW, FIXED_POINT_DIVIDE}
+use Rattle.tx_control.specs.Codes.{fixed_point_overflow_code, fixed_point_divide_code}
 use Rattle.tx_control.specs.declared.exceptions.Exception.{Exception}
 use Rattle.store_cache.specs.Overlay.{Store}
 use Rattle.tx_serial.specs.Flat.{operand_stores, laid_over}
@@ -112,9 +112,9 @@ inside i ranges b (Did c bytes) =
 inside i ranges b (outcome.Overflowed c bytes) =
     let q = b.local.attempt in
     let next = advanced i ranges c (stores_of ranges bytes q) q in
-    ended (going_on next b) (cause_in next.nest (exception FIXED_POINT_OVERFLOW (length_of i)))
+    ended (going_on next b) (cause_in next.nest (exception fixed_point_overflow_code (length_of i)))
 inside i ranges b Divides =
-    ended b (cause_in b.local.attempt.nest (exception FIXED_POINT_DIVIDE (length_of i)))
+    ended b (cause_in b.local.attempt.nest (exception fixed_point_divide_code (length_of i)))
 inside i ranges b (Aborts code) = ended b (Tabort code)
 
 -- ---- the instruction

@@ -8,8 +8,8 @@ use Rattle.z_instr.specs.declared.instr.Instr.{Instr}
 use Rattle.tx_constraint.specs.Kept.{Kept}
 use Rattle.tx_footprint.specs.Places.{stores, fetches}
 use Rattle.tx_footprint.specs.Touched.{Sets, line_count, block_count}
-use Rattle.tx_footprint.specs.declared.footprint.TheConstants.{MOST_LINES, MOST_BLOCKS}
-use Rattle.tx_footprint.specs.declared.places.TheConstants.{LINE_SIZE}
+use Rattle.tx_footprint.specs.Sizes.{line_limit, block_limit}
+use Rattle.tx_footprint.specs.Sizes.{line_size}
 use Rattle.tx_journal.specs.declared.entries.Entry.{Entry}
 use Rattle.tx_serial.specs.Apply.{apply}
 use Rattle.tx_serial.specs.Flat.{FlatState, Storage, at_put}
@@ -38,7 +38,7 @@ pub record AreSameTo (i : ℕ) (touched : Sets) (f g : FlatState) : Type 0 where
   pub waiting : g.waiting i ≡ f.waiting i
   pub pages : g.text ≡ f.text
   pub text : SameText f.text f.storage g.storage
-  pub lines : (a : ℕ) → (touched.fetched (a / LINE_SIZE) || touched.stored (a / LINE_SIZE)) ≡ true
+  pub lines : (a : ℕ) → (touched.fetched (a / line_size) || touched.stored (a / line_size)) ≡ true
       → g.storage a ≡ f.storage a
 
 -- ---- flat states that differ in one CPU and in storage
@@ -95,14 +95,14 @@ pub record KeepsTo (c : Cpu) (q : Progress) : Type 0 where
 
 -- no more lines and no more stored blocks than a transaction may touch
 pub record KeepsLimits (touched : Sets) : Type 0 where
-  pub lines : line_count touched ≤ MOST_LINES
-  pub blocks : block_count touched ≤ MOST_BLOCKS
+  pub lines : line_count touched ≤ line_limit
+  pub blocks : block_count touched ≤ block_limit
 
 -- ---- what changes
 
 -- only bytes in some lines change
 abbrev pub ChangesIn : (ℕ → Bool) → Storage → Storage → Type 0
-ChangesIn lines storage after = (a : ℕ) → lines (a / LINE_SIZE) ≡ false → after a ≡ storage a
+ChangesIn lines storage after = (a : ℕ) → lines (a / line_size) ≡ false → after a ≡ storage a
 
 -- the lines that an attempt has stored into, with those of some operands
 abbrev pub stored_lines : Progress → List Range → ℕ → Bool

@@ -4,7 +4,7 @@ use Rattle.z_regs.specs.Absolute.{absolute_ranges}
 use Rattle.z_regs.specs.declared.ranges.Range.{Range}
 use Rattle.z_instr.specs.declared.instr.Instr.{Instr}
 use Rattle.z_effect.specs.Outcome.{Outcome}
-use Rattle.tx_control.specs.declared.codes.TheConstants.{TRANSACTION_CONSTRAINT}
+use Rattle.tx_control.specs.Codes.{transaction_constraint_code}
 use Rattle.tx_constraint.specs.Kept.{Kept, next_text_breach, next_operand_breach}
 use Rattle.tx_footprint.specs.Touched.{touching}
 use Rattle.z_touch.specs.Refusals.{refused, at_fetch}
@@ -33,7 +33,7 @@ at_hand storage q = record {
 
 abbrev pub breach_refusal : Instr → Option ℕ → Option Refusal
 breach_refusal i None = None
-breach_refusal i (Some number) = Some (Excepts (refused i TRANSACTION_CONSTRAINT))
+breach_refusal i (Some number) = Some (Excepts (refused i transaction_constraint_code))
 
 -- a constraint that a constrained attempt would break
 abbrev pub constraint_refusal : (Kept → Option ℕ) → Instr → Option Kept → Option Refusal

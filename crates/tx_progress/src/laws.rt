@@ -20,8 +20,8 @@ ghost use Rattle.tx_control.specs.declared.causes.Why.{Why};
 ghost use Rattle.tx_control.specs.declared.causes.Why.TheVariants.{External, FetchConflict, StoreConflict};
 ghost use Rattle.tx_control.specs.declared.causes.Why.TheVariants.{Starved};
 ghost use Rattle.tx_control.specs.declared.exceptions.Exception.{Exception};
-ghost use Rattle.line_table.specs.declared.table.TheConstants.{LINES};
-ghost use Rattle.tx_footprint.specs.declared.places.TheConstants.{LINE_SIZE, BLOCK_SIZE};
+ghost use Rattle.line_table.specs.Sizes.{storage_lines};
+ghost use Rattle.tx_footprint.specs.Sizes.{line_size, block_size};
 ghost use Rattle.tx_journal.specs.declared.entries.Entry.TheVariants.{Step, Commit, Abort, Tdb, Interrupt};
 ghost use Rattle.tx_serial.specs.Alike.{track_of, touched_addresses, AreAlike};
 ghost use Rattle.tx_serial.specs.Apply.{may_act};
@@ -70,8 +70,8 @@ pub fn progress_follows_the_run()
 pub fn others_stay_followed()
     ensures lines { (f : FlatState) (i k a : ℕ) → is_prefix (f.cpus i).prefix ≡ true
         → (run f i k).mark ≢ Missing → list_any (nat_eq a) (touched_addresses (run f i k)) ≡ true
-        → ((footprint (run f i k)).fetched (absolute_of (f.cpus i).prefix a / LINE_SIZE)
-        || (footprint (run f i k)).stored (absolute_of (f.cpus i).prefix a / LINE_SIZE)) ≡ true }
+        → ((footprint (run f i k)).fetched (absolute_of (f.cpus i).prefix a / line_size)
+        || (footprint (run f i k)).stored (absolute_of (f.cpus i).prefix a / line_size)) ≡ true }
     ensures touched { (f g : FlatState) (i : ℕ) (local : Local) → IsFollowed f i local
         → AreAlike i (touched_addresses (run f i local.attempt.count)) f g
         → g.pending i ≡ f.pending i → g.waiting i ≡ f.waiting i → IsFollowed g i local }
@@ -226,13 +226,13 @@ pub fn a_constrained_attempt_keeps_to_its_constraints()
 pub fn stored_bytes_lie_in_the_footprint()
     ensures line { (f : FlatState) (i a byte : ℕ) (local : Local) → IsFollowed f i local
         → is_prefix local.cpu.prefix ≡ true → local.attempt.overlay a ≡ Some byte
-        → local.attempt.footprint.stored (a / LINE_SIZE) ≡ true }
+        → local.attempt.footprint.stored (a / line_size) ≡ true }
     ensures block { (f : FlatState) (i a byte : ℕ) (local : Local) → IsFollowed f i local
         → is_prefix local.cpu.prefix ≡ true → local.attempt.overlay a ≡ Some byte
-        → local.attempt.footprint.blocks (a / BLOCK_SIZE) ≡ true }
+        → local.attempt.footprint.blocks (a / block_size) ≡ true }
     ensures lasting { (f : FlatState) (i a byte : ℕ) (local : Local) → IsFollowed f i local
         → is_prefix local.cpu.prefix ≡ true → local.attempt.lasting a ≡ Some byte
-        → local.attempt.footprint.stored (a / LINE_SIZE) ≡ true }
+        → local.attempt.footprint.stored (a / line_size) ≡ true }
 {}
 
 /// The footprint of an attempt keeps the limits, and its lines are lines of storage; so every byte that it
@@ -244,7 +244,7 @@ pub fn footprints_keep_the_limits()
     ensures lines { (f : FlatState) (i line : ℕ) (local : Local) → IsFollowed f i local
         → is_prefix local.cpu.prefix ≡ true
         → (local.attempt.footprint.fetched line || local.attempt.footprint.stored line) ≡ true
-        → line < LINES }
+        → line < storage_lines }
     ensures stored { (f : FlatState) (i a byte : ℕ) (local : Local) → IsFollowed f i local
         → is_prefix local.cpu.prefix ≡ true → local.attempt.overlay a ≡ Some byte → a < storage_size }
     ensures lasting { (f : FlatState) (i a byte : ℕ) (local : Local) → IsFollowed f i local

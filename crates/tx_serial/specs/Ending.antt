@@ -9,7 +9,7 @@ use Rattle.z_effect.specs.Outcome.{Outcome, Did, Divides, Aborts}
 use Rattle.z_effect.specs.Outcome as outcome
 use Rattle.tx_control.specs.Nesting.{is_constrained}
 use Rattle.tx_control.specs.declared.begins.Begin.{Begin}
-use Rattle.tx_control.specs.declared.codes.TheConstants.{FIXED_POINT_OVERFLOW, FIXED_POINT_DIVIDE}
+use Rattle.tx_control.specs.Codes.{fixed_point_overflow_code, fixed_point_divide_code}
 use Rattle.tx_control.specs.declared.exceptions.Exception.{Exception}
 use Rattle.tx_control.specs.declared.causes.Why.{Why}
 use Rattle.tx_control.specs.declared.causes.Why.TheVariants.{External, Program, FetchConflict}
@@ -25,13 +25,14 @@ use Rattle.tx_serial.specs.Run.{outcome_of}
 -- the overflow of the instruction that has completed
 abbrev pub overflow_cause : List Begin → Option Step → Option Why
 overflow_cause nest None = None
-overflow_cause nest (Some s) = Some (cause_in nest (exception FIXED_POINT_OVERFLOW (length_of s.instruction)))
+overflow_cause nest (Some s) =
+    Some (cause_in nest (exception fixed_point_overflow_code (length_of s.instruction)))
 
 -- a division that does not fit, or TABORT
 abbrev pub outcome_cause : List Begin → Instr → Outcome → Option Why
 outcome_cause nest i (Did c bytes) = None
 outcome_cause nest i (outcome.Overflowed c bytes) = None
-outcome_cause nest i Divides = Some (cause_in nest (exception FIXED_POINT_DIVIDE (length_of i)))
+outcome_cause nest i Divides = Some (cause_in nest (exception fixed_point_divide_code (length_of i)))
 outcome_cause nest i (Aborts code) = Some (Tabort code)
 
 abbrev pub fate_cause : Run → Fate → Option Why

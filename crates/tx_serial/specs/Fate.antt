@@ -16,7 +16,7 @@ use Rattle.z_touch.specs.Refusals.{range_of, refused, at_fetch}
 use Rattle.tx_control.specs.Filtering.{class, filters}
 use Rattle.tx_control.specs.Nesting.{effective_a, effective_pifc, is_constrained}
 use Rattle.tx_control.specs.declared.begins.Begin.{Begin}
-use Rattle.tx_control.specs.declared.codes.TheConstants.{TRANSACTION_CONSTRAINT}
+use Rattle.tx_control.specs.Codes.{transaction_constraint_code}
 use Rattle.tx_control.specs.declared.exceptions.Exception.{Exception}
 use Rattle.tx_control.specs.declared.causes.Why.{Why}
 use Rattle.tx_control.specs.declared.causes.Why.TheVariants.{Program, Filtered, Restricted, Depth}
@@ -103,7 +103,7 @@ broken_where true breach attempt i = broken (breach attempt)
   where
     broken : Option ℕ → Option Refusal
     broken None = None
-    broken (Some number) = Some (Excepts (refused i TRANSACTION_CONSTRAINT))
+    broken (Some number) = Some (Excepts (refused i transaction_constraint_code))
 
 abbrev pub broken : (Attempt → Option ℕ) → Run → Instr → Option Refusal
 broken breach p i =

@@ -17,7 +17,7 @@ ghost use Rattle.tx_serial.specs.Flat.{operand_stores};
 ghost use Rattle.tx_serial.specs.History.{replay_from, replay, start_of};
 ghost use Rattle.tx_serial.specs.Stored.{has_store_in};
 ghost use Rattle.tx_serial.specs.Text.{SameText, IsKept};
-ghost use Rattle.tx_footprint.specs.declared.places.TheConstants.{LINE_SIZE, BLOCK_SIZE};
+ghost use Rattle.tx_footprint.specs.Sizes.{line_size, block_size};
 ghost use Rattle.tx_journal.specs.Content.{Content};
 ghost use Rattle.tx_journal.specs.Image.{IsImage};
 ghost use Rattle.tx_serial.specs.Remains.{remains};
@@ -125,11 +125,11 @@ pub fn text_never_changes()
 /// the lines of the stores of NTSTG are among them.
 pub fn stored_places_are_those_of_stores()
     ensures lines { (f : FlatState) (i k line : ℕ) → is_prefix (f.cpus i).prefix ≡ true
-        → (footprint (run f i k)).stored line ≡ has_store_in LINE_SIZE (run f i k).stores line }
+        → (footprint (run f i k)).stored line ≡ has_store_in line_size (run f i k).stores line }
     ensures blocks { (f : FlatState) (i k block : ℕ) → is_prefix (f.cpus i).prefix ≡ true
-        → (footprint (run f i k)).blocks block ≡ has_store_in BLOCK_SIZE (run f i k).stores block }
+        → (footprint (run f i k)).blocks block ≡ has_store_in block_size (run f i k).stores block }
     ensures lasting { (f : FlatState) (i k line : ℕ) → is_prefix (f.cpus i).prefix ≡ true
-        → has_store_in LINE_SIZE (run f i k).lasting line ≡ true
+        → has_store_in line_size (run f i k).lasting line ≡ true
         → (footprint (run f i k)).stored line ≡ true }
 {}
 

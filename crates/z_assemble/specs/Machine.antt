@@ -17,7 +17,8 @@ use Rattle.z_regs.specs.Prefix.{is_prefix}
 use Rattle.tx_journal.specs.declared.events.Event.{Event}
 use Rattle.tx_journal.specs.declared.image.Show.{Show}
 use Rattle.tx_ladder.specs.Parameters.{Parameters}
-use Rattle.tx_ladder.specs.declared.parms.TheConstants.{REJECT, FIRM, LATE, STARVE, STOP, DELAY}
+use Rattle.tx_ladder.specs.Parameters.{reject_choice, firm_choice, late_choice, starve_choice, stop_choice}
+use Rattle.tx_ladder.specs.Parameters.{delay_choice}
 use Rattle.z_operands.specs.Code.{code_for}
 use Rattle.z_assemble.specs.Listing.{Task, heads_in, operands_in, operation_in, field_behind, is_below}
 use Rattle.z_assemble.specs.Listing.{is_doubleword, to_nat}
@@ -124,12 +125,12 @@ is_between least most (pos n) = nat_le least n && nat_le n most
 is_between least most (negsuc n) = false
 
 abbrev pub is_choice : Parameter → ℤ → Bool
-is_choice Reject v = is_between REJECT.least REJECT.most v
-is_choice Firm v = is_between FIRM.least FIRM.most v
-is_choice Late v = is_between LATE.least LATE.most v
-is_choice Starve v = is_between STARVE.least STARVE.most v
-is_choice Stop v = is_between STOP.least STOP.most v
-is_choice Delay v = is_between DELAY.least DELAY.most v
+is_choice Reject v = is_between reject_choice.least reject_choice.most v
+is_choice Firm v = is_between firm_choice.least firm_choice.most v
+is_choice Late v = is_between late_choice.least late_choice.most v
+is_choice Starve v = is_between starve_choice.least starve_choice.most v
+is_choice Stop v = is_between stop_choice.least stop_choice.most v
+is_choice Delay v = is_between delay_choice.least delay_choice.most v
 
 abbrev pub with_parameter : Parameter → ℕ → Parameters → Parameters
 with_parameter Reject n p = record p { reject = n }

@@ -1,7 +1,7 @@
 -- What an instruction leaves: its answer, the CPU and storage.
 use Rattle.std.specs.Prelude.{◌≡◌, ◌≤◌, ◌<◌, ◌⊎◌, ℕ, ◌+◌, true, false, cond, List, [], ◌∷◌, ◌++◌, length, take, drop, Result, Ok, Err}
 use Rattle.tx_control.specs.declared.exceptions.Exception.{Exception}
-use Rattle.tx_control.specs.declared.codes.TheConstants.{FIXED_POINT_OVERFLOW, FIXED_POINT_DIVIDE}
+use Rattle.tx_control.specs.Codes.{fixed_point_overflow_code, fixed_point_divide_code}
 use Rattle.z_instr.specs.declared.instr.Instr.{Instr}
 use Rattle.z_instr.specs.Operands.{Span, spans}
 use Rattle.z_regs.specs.Cpu.{Cpu}
@@ -53,8 +53,8 @@ pub data Ending : Type 0 where
 
 abbrev pub answer_of : ℕ → Outcome → Ending
 answer_of n (Did c bytes) = Done
-answer_of n (Overflowed c bytes) = Raises (exception FIXED_POINT_OVERFLOW n)
-answer_of n Divides = Raises (exception FIXED_POINT_DIVIDE n)
+answer_of n (Overflowed c bytes) = Raises (exception fixed_point_overflow_code n)
+answer_of n Divides = Raises (exception fixed_point_divide_code n)
 answer_of n (Aborts code) = AbortsWith code
 
 -- what the answer of a call says of that; no call that answers so stands for an abort

@@ -1,7 +1,7 @@
 -- What a program interruption outside transactions leaves of a CPU.
 use Rattle.std.specs.Prelude.{ℕ}
 use Rattle.tx_control.specs.declared.exceptions.Exception.{Exception}
-use Rattle.tx_control.specs.declared.codes.TheConstants.{FIXED_POINT_OVERFLOW, FIXED_POINT_DIVIDE}
+use Rattle.tx_control.specs.Codes.{fixed_point_overflow_code, fixed_point_divide_code}
 use Rattle.z_regs.specs.declared.image.RunState.TheVariants.{Interrupted}
 use Rattle.z_regs.specs.Cpu.{Cpu}
 use Rattle.z_effect.specs.Registers.{advanced}
@@ -22,6 +22,6 @@ interrupted_by e c = with_interruption e.code (advanced e.length c)
 -- not fit changes nothing; an abort can't come there
 abbrev pub cpu_outside : ℕ → Cpu → Outcome → Cpu
 cpu_outside n old (Did c bytes) = c
-cpu_outside n old (Overflowed c bytes) = with_interruption FIXED_POINT_OVERFLOW c
-cpu_outside n old Divides = interrupted_by (exception FIXED_POINT_DIVIDE n) old
+cpu_outside n old (Overflowed c bytes) = with_interruption fixed_point_overflow_code c
+cpu_outside n old Divides = interrupted_by (exception fixed_point_divide_code n) old
 cpu_outside n old (Aborts code) = old

@@ -6,7 +6,7 @@ use Rattle.tx_gen.specs.Programs.{listing_of}
 use Rattle.tx_journal.specs.Content.{Content}
 use Rattle.tx_journal.specs.Image.{IsImage}
 use Rattle.tx_meaning.specs.Meaning.{IsSetting, is_external}
-use Rattle.tx_meaning.specs.declared.limits.TheConstants.{MOST_EXTERNALS}
+use Rattle.tx_meaning.specs.Limits.{external_limit}
 use Rattle.tx_meaning.specs.Schedules.{planned, round}
 use Rattle.tx_report.specs.Report.{report_of, status_of, summary_of}
 use Rattle.z_assemble.specs.Whole.{Stands, FirstFault}
@@ -92,7 +92,7 @@ one_listing number s t xs ys r q = record {
 
 -- ---- one there is
 
-few_of : (image : Content) → IsImage image → externals_in image ≤ MOST_EXTERNALS
+few_of : (image : Content) → IsImage image → externals_in image ≤ external_limit
 few_of image is = omega (arith, count_by-le-length is_external image.schedule, is.few_events)
 
 module _ (image : Content) (turns tick : ℕ) (is : IsImage image) (limits : AreLimits turns tick) where

@@ -3,7 +3,7 @@ use Rattle.std.specs.Prelude.{ℕ, ◌≤◌, count_by}
 use Rattle.tx_journal.specs.Content.{Content}
 use Rattle.tx_meaning.specs.Limits.{Setting}
 use Rattle.tx_meaning.specs.Meaning.{is_external}
-use Rattle.tx_meaning.specs.declared.limits.TheConstants.{MOST_TURNS, MOST_TICK}
+use Rattle.tx_meaning.specs.Limits.{turn_limit, tick_limit}
 
 -- as many interruptions from outside may come as the listing's schedule has
 abbrev pub externals_in : Content → ℕ
@@ -19,4 +19,4 @@ abbrev pub usual_turns : ℕ
 usual_turns = 200000
 
 abbrev pub AreLimits : ℕ → ℕ → Type 0
-AreLimits turns tick = (1 ≤ turns) × (turns ≤ MOST_TURNS) × (tick ≤ MOST_TICK)
+AreLimits turns tick = (1 ≤ turns) × (turns ≤ turn_limit) × (tick ≤ tick_limit)

@@ -1,7 +1,7 @@
 //! Machines of listings that are run.
 ghost use Rattle.std.specs.Prelude.{◌≡◌, ◌≤◌, IfOk};
 ghost use Rattle.tx_machine.specs.Machine.{opened};
-ghost use Rattle.tx_meaning.specs.declared.limits.TheConstants.{MOST_EXTERNALS};
+ghost use Rattle.tx_meaning.specs.Limits.{external_limit};
 ghost use Rattle.ztx_answers.specs.Runs.{AreLimits, externals_in, running};
 
 use crate::answer::NoMemory;
@@ -14,7 +14,7 @@ use tx_meaning::Limits;
 /// How many interruptions from outside the schedule of an image has.
 fn externals_in(image: &Image) -> u32
     ensures value { result ≡ externals_in image.now }
-    ensures few { result ≤ MOST_EXTERNALS }
+    ensures few { result ≤ external_limit }
 {
     let _cpus = image.cpu_count();
     let externals = image

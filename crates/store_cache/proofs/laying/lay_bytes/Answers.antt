@@ -2,7 +2,7 @@ use Rattle.std.proofs.Common.{◌≡◌, ◌*◌, ◌/◌, ◌%◌, ◌+◌, Lis
 use Rattle.std.proofs.Common.{arith}
 use Rattle.std.proofs.lemmas.List.{length-set}
 use Rattle.slot_index.specs.Slots.{slot_in}
-use Rattle.store_cache.specs.declared.cache.TheConstants.{BLOCK_SIZE}
+use Rattle.store_cache.specs.Sizes.{block_size}
 use Rattle.store_cache.specs.Overlay.{Overlay, bytes_through}
 use Rattle.store_cache.specs.Entries.{items_of}
 use Rattle.store_cache.proofs.Overlays.{bytes_through-nothing, bytes_through-with_one}
@@ -14,7 +14,7 @@ loop-cell-init g c =
     let base = g.V.Bytes.bytes c.args.into.now in
     record {
       laid = sym (ap (λ (o : Overlay). bytes_through o base)
-          (none_below BLOCK_SIZE c.args.index.now.keys c.args.bytes.now c.args.marks.now)
+          (none_below block_size c.args.index.now.keys c.args.bytes.now c.args.marks.now)
           ∙ bytes_through-nothing base);
       size = c.requires.storage;
     }
@@ -24,14 +24,14 @@ loop-cell-preserved g c =
     let base = g.V.Bytes.bytes c.args.into.now in
     let keys = c.args.index.now.keys in
     let cell = c.in-Some.cell in
-    let address = c.key_at-block.result * BLOCK_SIZE + cell % BLOCK_SIZE in
-    let block : address / BLOCK_SIZE ≡ c.key_at-block.result = omega arith in
-    let found : slot_in keys (address / BLOCK_SIZE) ≡ Some (cell / BLOCK_SIZE) = ap (slot_in keys) block
+    let address = c.key_at-block.result * block_size + cell % block_size in
+    let block : address / block_size ≡ c.key_at-block.result = omega arith in
+    let found : slot_in keys (address / block_size) ≡ Some (cell / block_size) = ap (slot_in keys) block
     ∙ c.key_at-block.ensures.slot in
-    let before : Overlay = items_of BLOCK_SIZE keys c.args.bytes.now (take c.loop-cell.from c.args.marks.now)
+    let before : Overlay = items_of block_size keys c.args.bytes.now (take c.loop-cell.from c.args.marks.now)
     in
-    let step = one_below BLOCK_SIZE (omega arith) keys c.args.bytes.now c.args.marks.now c.loop-cell.from
-    (c.count-end.result * BLOCK_SIZE) cell address (cell / BLOCK_SIZE) c.in-Some.ensures.found found
+    let step = one_below block_size (omega arith) keys c.args.bytes.now c.args.marks.now c.loop-cell.from
+    (c.count-end.result * block_size) cell address (cell / block_size) c.in-Some.ensures.found found
     (omega arith) in
     record {
       laid =
@@ -49,6 +49,6 @@ returns g c =
     let base = g.V.Bytes.bytes c.args.into.now in
     c.loop-cell.invariant.laid
     ∙ ap (λ (o : Overlay). bytes_through o base)
-    (all_below BLOCK_SIZE (omega arith) c.args.index.now.keys c.args.bytes.now c.args.marks.now
-    c.loop-cell.from (c.count-end.result * BLOCK_SIZE)
-    (ap (λ n. n * BLOCK_SIZE) c.count-end.ensures.value) c.in_default.ensures.none)
+    (all_below block_size (omega arith) c.args.index.now.keys c.args.bytes.now c.args.marks.now
+    c.loop-cell.from (c.count-end.result * block_size)
+    (ap (λ n. n * block_size) c.count-end.ensures.value) c.in_default.ensures.none)

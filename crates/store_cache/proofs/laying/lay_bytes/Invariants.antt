@@ -1,7 +1,7 @@
 -- The marked bytes below the place are laid.
 use Rattle.std.proofs.Common.{◌≡◌, ◌-◌, take, length}
-use Rattle.z_regs.specs.declared.prefix.TheConstants.{STORAGE_SIZE}
-use Rattle.store_cache.specs.declared.cache.TheConstants.{BLOCK_SIZE}
+use Rattle.z_regs.specs.Prefix.{storage_size}
+use Rattle.store_cache.specs.Sizes.{block_size}
 use Rattle.store_cache.specs.Overlay.{bytes_through}
 use Rattle.store_cache.specs.Entries.{items_of}
 use Rattle.store_cache.proofs.laying.lay_bytes.Given as goal
@@ -10,8 +10,8 @@ abbrev pub invariant-loop-cell : goal.invariant-loop-cell
 invariant-loop-cell g l =
     record {
       laid : g.V.Bytes.bytes l.into ≡ bytes_through
-          (items_of BLOCK_SIZE l.index.keys l.bytes (take l.from l.marks)) (g.V.Bytes.bytes l.initial.into);
-      size : length (g.V.Bytes.bytes l.into) ≡ STORAGE_SIZE;
+          (items_of block_size l.index.keys l.bytes (take l.from l.marks)) (g.V.Bytes.bytes l.initial.into);
+      size : length (g.V.Bytes.bytes l.into) ≡ storage_size;
     }
 
 abbrev pub decreases-loop-cell : goal.decreases-loop-cell

@@ -1,7 +1,7 @@
 use Rattle.std.proofs.Common.{◌≡◌, ◌*◌, ◌/◌, ◌%◌, ◌+◌, List, ℕ, length, take, get_or, Some, ap, sym, ◌∙◌}
 use Rattle.std.proofs.Common.{arith}
 use Rattle.slot_index.specs.Slots.{slot_in}
-use Rattle.store_cache.specs.declared.cache.TheConstants.{DOUBLEWORDS}
+use Rattle.store_cache.specs.Sizes.{block_doublewords}
 use Rattle.store_cache.specs.Overlay.{Overlay, bytes_through, with_bytes}
 use Rattle.store_cache.specs.Stores.{lasting_bytes}
 use Rattle.store_cache.specs.Entries.{items_of}
@@ -16,7 +16,7 @@ loop-cell-init g c =
     record {
       laid = sym (
           ap (λ (o : Overlay). bytes_through (lasting_bytes o) base)
-          (none_below DOUBLEWORDS c.args.index.now.keys c.args.values.now c.args.marks.now)
+          (none_below block_doublewords c.args.index.now.keys c.args.values.now c.args.marks.now)
           ∙ ap (λ (o : Overlay). bytes_through o base) lasting_bytes-nothing
           ∙ bytes_through-nothing base);
       size = c.requires.storage;
@@ -28,17 +28,17 @@ loop-cell-preserved g c =
     let keys = c.args.index.now.keys in
     let cell = c.in-Some.cell in
     let value = get_or c.args.values.now cell 0 in
-    let doubleword = c.key_at-block.result * DOUBLEWORDS + cell % DOUBLEWORDS in
-    let block : doubleword / DOUBLEWORDS ≡ c.key_at-block.result = omega arith in
-    let found : slot_in keys (doubleword / DOUBLEWORDS) ≡ Some (cell / DOUBLEWORDS) = ap (slot_in keys) block
+    let doubleword = c.key_at-block.result * block_doublewords + cell % block_doublewords in
+    let block : doubleword / block_doublewords ≡ c.key_at-block.result = omega arith in
+    let found : slot_in keys (doubleword / block_doublewords) ≡ Some (cell / block_doublewords) = ap (slot_in keys) block
     ∙ c.key_at-block.ensures.slot in
-    let before : Overlay = items_of DOUBLEWORDS keys c.args.values.now
+    let before : Overlay = items_of block_doublewords keys c.args.values.now
     (take c.loop-cell.from c.args.marks.now) in
-    let step = one_below DOUBLEWORDS (omega arith) keys c.args.values.now c.args.marks.now c.loop-cell.from
-    (c.count-end.result * DOUBLEWORDS) cell doubleword (cell / DOUBLEWORDS) c.in-Some.ensures.found found
+    let step = one_below block_doublewords (omega arith) keys c.args.values.now c.args.marks.now c.loop-cell.from
+    (c.count-end.result * block_doublewords) cell doubleword (cell / block_doublewords) c.in-Some.ensures.found found
     (omega arith) in
     let laid : g.V.Bytes.bytes c.put_all.new.into ≡ bytes_through
-    (lasting_bytes (items_of DOUBLEWORDS keys c.args.values.now (take (cell + 1) c.args.marks.now))) base
+    (lasting_bytes (items_of block_doublewords keys c.args.values.now (take (cell + 1) c.args.marks.now))) base
     =
     c.put_all.ensures (lasting_bytes before) base c.loop-cell.invariant.laid
     ∙ ap (λ (bytes : List ℕ). bytes_through (with_bytes (lasting_bytes before) (doubleword * 8) bytes) base)
@@ -48,7 +48,7 @@ loop-cell-preserved g c =
     record {
       laid = laid;
       size = ap length laid ∙ length-bytes_through
-          (lasting_bytes (items_of DOUBLEWORDS keys c.args.values.now (take (cell + 1) c.args.marks.now)))
+          (lasting_bytes (items_of block_doublewords keys c.args.values.now (take (cell + 1) c.args.marks.now)))
           base ∙ c.requires.storage;
     }
 
@@ -57,6 +57,6 @@ returns g c =
     let base = g.V.Bytes.bytes c.args.into.now in
     c.loop-cell.invariant.laid
     ∙ ap (λ (o : Overlay). bytes_through (lasting_bytes o) base)
-    (all_below DOUBLEWORDS (omega arith) c.args.index.now.keys c.args.values.now c.args.marks.now
-    c.loop-cell.from (c.count-end.result * DOUBLEWORDS)
-    (ap (λ n. n * DOUBLEWORDS) c.count-end.ensures.value) c.in_default.ensures.none)
+    (all_below block_doublewords (omega arith) c.args.index.now.keys c.args.values.now c.args.marks.now
+    c.loop-cell.from (c.count-end.result * block_doublewords)
+    (ap (λ n. n * block_doublewords) c.count-end.ensures.value) c.in_default.ensures.none)

@@ -1,7 +1,7 @@
 -- The marked values below the place are laid.
 use Rattle.std.proofs.Common.{◌≡◌, ◌-◌, take, length}
-use Rattle.z_regs.specs.declared.prefix.TheConstants.{STORAGE_SIZE}
-use Rattle.store_cache.specs.declared.cache.TheConstants.{DOUBLEWORDS}
+use Rattle.z_regs.specs.Prefix.{storage_size}
+use Rattle.store_cache.specs.Sizes.{block_doublewords}
 use Rattle.store_cache.specs.Overlay.{bytes_through}
 use Rattle.store_cache.specs.Stores.{lasting_bytes}
 use Rattle.store_cache.specs.Entries.{items_of}
@@ -11,9 +11,9 @@ abbrev pub invariant-loop-cell : goal.invariant-loop-cell
 invariant-loop-cell g l =
     record {
       laid : g.V.Bytes.bytes l.into ≡ bytes_through
-          (lasting_bytes (items_of DOUBLEWORDS l.index.keys l.values (take l.from l.marks)))
+          (lasting_bytes (items_of block_doublewords l.index.keys l.values (take l.from l.marks)))
           (g.V.Bytes.bytes l.initial.into);
-      size : length (g.V.Bytes.bytes l.into) ≡ STORAGE_SIZE;
+      size : length (g.V.Bytes.bytes l.into) ≡ storage_size;
     }
 
 abbrev pub decreases-loop-cell : goal.decreases-loop-cell

@@ -6,7 +6,7 @@ use Rattle.z_regs.proofs.Exchange.{absolute_within}
 use Rattle.store_cache.specs.Overlay.{Overlay, with_one}
 use Rattle.store_cache.specs.Stores.{Stores, has_room, with_store}
 use Rattle.store_cache.specs.Entries.{stores_of}
-use Rattle.store_cache.specs.declared.cache.TheConstants.{BLOCK_SIZE}
+use Rattle.store_cache.specs.Sizes.{block_size}
 use Rattle.tx_progress.specs.Progress.{laying}
 use Rattle.tx_serial.specs.Flat.{stores_at}
 use Rattle.tx_cpu.specs.Gathered.{with_gathered}
@@ -22,7 +22,7 @@ store-requires-clause-room c =
     let here : c.args.first + k < storage_size = omega (arith, c.requires.end) in
     let within = absolute_within c.args.prefix (c.args.first + k) c.requires.prefix_in here in
     let inside : c.place_of.result < 1048576 = omega (arith, within, c.place_of.ensures) in
-    ap (λ (s : Stores). has_room s.overlay (c.place_of.result / BLOCK_SIZE)) c.loop-k.invariant.value
+    ap (λ (s : Stores). has_room s.overlay (c.place_of.result / block_size)) c.loop-k.invariant.value
     ∙ room-at (stores_of c.args.stores.now).overlay c.args.prefix c.args.first c.args.bytes.now k
     c.place_of.result c.requires.room (omega arith) c.place_of.ensures inside
 

@@ -3,7 +3,7 @@ use Rattle.std.specs.Prelude.{◌||◌, ◌&&◌, not}
 use Rattle.std.specs.List.{list_any}
 use Rattle.std.proofs.lemmas.List.Folds.{list_any-append}
 use Rattle.z_regs.specs.declared.ranges.Range.{Range}
-use Rattle.tx_footprint.specs.declared.places.TheConstants.{LINE_SIZE, BLOCK_SIZE}
+use Rattle.tx_footprint.specs.Sizes.{line_size, block_size}
 use Rattle.tx_footprint.specs.Places.{has_place}
 use Rattle.tx_footprint.proofs.Marking.{or_assoc}
 use Rattle.tx_footprint.proofs.laws.adds_in_turn.Goals as goal
@@ -19,8 +19,8 @@ pub returns : goal.returns
 returns c = λ sets first second i.
     record {
       fetched =
-          λ line. in_turn (λ r. not r.store && has_place LINE_SIZE r line) (sets.fetched line) first second i;
-      stored = λ line. in_turn (λ r. r.store && has_place LINE_SIZE r line) (sets.stored line) first second i;
-      blocks = λ block. in_turn (λ r. r.store && has_place BLOCK_SIZE r block) (sets.blocks block) first
+          λ line. in_turn (λ r. not r.store && has_place line_size r line) (sets.fetched line) first second i;
+      stored = λ line. in_turn (λ r. r.store && has_place line_size r line) (sets.stored line) first second i;
+      blocks = λ block. in_turn (λ r. r.store && has_place block_size r block) (sets.blocks block) first
           second i;
     }

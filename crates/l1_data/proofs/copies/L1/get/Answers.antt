@@ -1,6 +1,6 @@
 use Rattle.std.proofs.Common.{◌≡◌, ◌<◌, [], length, get_or, Some, is_some, sym, ap, ◌∙◌, arith}
 use Rattle.std.proofs.lemmas.List.{get_or_read}
-use Rattle.l1_data.specs.declared.copies.TheConstants.{LINE_SIZE, MOST_COPIES}
+use Rattle.l1_data.specs.Sizes.{line_size, copy_limit}
 use Rattle.l1_data.specs.Copies.{Copies, copies_of, byte_in}
 use Rattle.l1_data.proofs.Slotted.{copy_at, copies_of-kept, is_some-copy_at, byte_found}
 use Rattle.l1_data.proofs.copies.L1.get.Goals as goal
@@ -23,8 +23,8 @@ returns c =
     let slot = c.slot_of.result in
     let now : copies_of c.args.self.now ≡ copy_at lines copies = copies_of-kept c.args.self.now lines copies
     c.self.view_is in
-    let slot_in_room : slot < MOST_COPIES = omega (arith, c.slot_of.ensures.within, c.self.invariant.most) in
-    let size : length (get_or copies slot []) ≡ LINE_SIZE = c.self.invariant.sized slot slot_in_room in
+    let slot_in_room : slot < copy_limit = omega (arith, c.slot_of.ensures.within, c.self.invariant.most) in
+    let size : length (get_or copies slot []) ≡ line_size = c.self.invariant.sized slot slot_in_room in
     let copy : c.index.result.now ≡ get_or copies slot [] = get_or_read copies slot c.index.result.now
     (omega (arith, slot_in_room, c.self.invariant.room)) c.index.ensures [] in
     ap (λ bytes. Some (get_or bytes c.args.at 0)) copy

@@ -1,6 +1,6 @@
 use Rattle.std.proofs.Common.{◌≡◌, ◌<◌, ◌*◌, ◌+◌, ◌-◌, Bool, List, false, None, length, set}
 use Rattle.std.proofs.Common.{vec_len, ap, sym, ◌∙◌, arith}
-use Rattle.line_table.specs.declared.table.TheConstants.{LINES}
+use Rattle.line_table.specs.Sizes.{storage_lines}
 use Rattle.line_table.specs.Holders.{Holders, Holdings, holding, mode_in}
 use Rattle.line_table.specs.Rows.{modes_of}
 use Rattle.std.proofs.lemmas.List.{get_or_read, length-set}
@@ -13,14 +13,14 @@ use Rattle.line_table.proofs.table.LineTable.give_up.Goals as goal
 
 pub overflow_sub-index_mut : goal.overflow_sub-index_mut
 overflow_sub-index_mut c =
-    let size : length c.self.inside.held ≡ vec_len c.self.inside.counts * LINES =
+    let size : length c.self.inside.held ≡ vec_len c.self.inside.counts * storage_lines =
     omega (arith, c.self.invariant.held_size) in
     let now : mode_in c.args.self.now ≡ seen c.self.inside.held c.self.inside.exclusive =
     now_seen (vec_len c.self.inside.counts) c.self.inside.held c.self.inside.exclusive c.args.self.now size
     c.self.view_is in
     let cpus = ap (λ (v : Holdings). v.cpus) c.self.view_is in
     let cpu_in : c.args.cpu < length c.self.inside.counts.items = omega arith in
-    let place_in : c.args.cpu * LINES + c.args.line < length c.self.inside.held =
+    let place_in : c.args.cpu * storage_lines + c.args.line < length c.self.inside.held =
     omega (arith, c.self.invariant.held_size, c.requires.line) in
     let line_in : c.args.line < length c.self.inside.exclusive =
     omega (arith, c.self.invariant.exclusive_size, c.requires.line) in
@@ -33,14 +33,14 @@ overflow_sub-index_mut c =
 
 pub invariant_of-self : goal.invariant_of-self
 invariant_of-self c =
-    let size : length c.self.inside.held ≡ vec_len c.self.inside.counts * LINES =
+    let size : length c.self.inside.held ≡ vec_len c.self.inside.counts * storage_lines =
     omega (arith, c.self.invariant.held_size) in
     let now : mode_in c.args.self.now ≡ seen c.self.inside.held c.self.inside.exclusive =
     now_seen (vec_len c.self.inside.counts) c.self.inside.held c.self.inside.exclusive c.args.self.now size
     c.self.view_is in
     let cpus = ap (λ (v : Holdings). v.cpus) c.self.view_is in
     let cpu_in : c.args.cpu < length c.self.inside.counts.items = omega arith in
-    let place_in : c.args.cpu * LINES + c.args.line < length c.self.inside.held =
+    let place_in : c.args.cpu * storage_lines + c.args.line < length c.self.inside.held =
     omega (arith, c.self.invariant.held_size, c.requires.line) in
     let line_in : c.args.line < length c.self.inside.exclusive =
     omega (arith, c.self.invariant.exclusive_size, c.requires.line) in
@@ -58,14 +58,14 @@ invariant_of-self c =
 
 pub returns-clause-held : goal.returns-clause-held
 returns-clause-held c =
-    let size : length c.self.inside.held ≡ vec_len c.self.inside.counts * LINES =
+    let size : length c.self.inside.held ≡ vec_len c.self.inside.counts * storage_lines =
     omega (arith, c.self.invariant.held_size) in
     let now : mode_in c.args.self.now ≡ seen c.self.inside.held c.self.inside.exclusive =
     now_seen (vec_len c.self.inside.counts) c.self.inside.held c.self.inside.exclusive c.args.self.now size
     c.self.view_is in
     let cpus = ap (λ (v : Holdings). v.cpus) c.self.view_is in
     let cpu_in : c.args.cpu < length c.self.inside.counts.items = omega arith in
-    let place_in : c.args.cpu * LINES + c.args.line < length c.self.inside.held =
+    let place_in : c.args.cpu * storage_lines + c.args.line < length c.self.inside.held =
     omega (arith, c.self.invariant.held_size, c.requires.line) in
     let line_in : c.args.line < length c.self.inside.exclusive =
     omega (arith, c.self.invariant.exclusive_size, c.requires.line) in
@@ -81,10 +81,10 @@ returns-clause-held c =
           modes_of (vec_len c.self.inside.counts) held exclusive;
     }) in
     ap (λ held. table held c.remove-3.new.self) c.remove.ensures
-    ∙ ap (table (set c.self.inside.held (c.args.cpu * LINES + c.args.line) false)) c.remove-3.ensures
-    ∙ shown (vec_len c.self.inside.counts) (set c.self.inside.held (c.args.cpu * LINES + c.args.line) false)
+    ∙ ap (table (set c.self.inside.held (c.args.cpu * storage_lines + c.args.line) false)) c.remove-3.ensures
+    ∙ shown (vec_len c.self.inside.counts) (set c.self.inside.held (c.args.cpu * storage_lines + c.args.line) false)
     (set c.self.inside.exclusive c.args.line false)
-    (length-set c.self.inside.held (c.args.cpu * LINES + c.args.line) false ∙ size)
+    (length-set c.self.inside.held (c.args.cpu * storage_lines + c.args.line) false ∙ size)
     ∙ seen_written c.self.inside.held c.self.inside.exclusive c.args.cpu c.args.line false false place_in
     line_in c.requires.line share
     ∙ ap (λ (h : Holders). holding h c.args.cpu c.args.line None) (sym now)

@@ -1,5 +1,5 @@
 use Rattle.std.proofs.Common.{◌≡◌, ◌<◌, ◌*◌, length, vec_len, ap, sym, ◌∙◌, arith}
-use Rattle.line_table.specs.declared.table.TheConstants.{LINES}
+use Rattle.line_table.specs.Sizes.{storage_lines}
 use Rattle.line_table.specs.Holders.{lines_held, mode_in}
 use Rattle.std.proofs.lemmas.List.{get_or_read}
 use Rattle.line_table.proofs.Seen.{now_seen}
@@ -9,7 +9,7 @@ use Rattle.line_table.proofs.table.LineTable.held.Goals as goal
 
 pub returns-clause-value : goal.returns-clause-value
 returns-clause-value c =
-    let size : length c.self.inside.held ≡ vec_len c.self.inside.counts * LINES =
+    let size : length c.self.inside.held ≡ vec_len c.self.inside.counts * storage_lines =
     omega (arith, c.self.invariant.held_size) in
     let now : mode_in c.args.self.now ≡ seen c.self.inside.held c.self.inside.exclusive =
     now_seen (vec_len c.self.inside.counts) c.self.inside.held c.self.inside.exclusive c.args.self.now size

@@ -1,5 +1,5 @@
 use Rattle.std.proofs.Common.{◌≡◌, ◌≤◌, ◌*◌, ◌+◌, ◌-◌, ℕ, None, length, vec_len, sym, subst, arith}
-use Rattle.line_table.specs.declared.table.TheConstants.{LINES}
+use Rattle.line_table.specs.Sizes.{storage_lines}
 use Rattle.line_table.specs.Holders.{Holders, IsFirstHeld, mode_in}
 use Rattle.bit_set.specs.Bits.{IsNext, NoneMarked}
 use Rattle.line_table.proofs.Seen.{now_seen}
@@ -9,7 +9,7 @@ use Rattle.line_table.proofs.table.LineTable.next_holder.Goals as goal
 
 pub returns-in-Some-clause-found : goal.returns-in-Some-clause-found
 returns-in-Some-clause-found c =
-    let size : length c.self.inside.held ≡ vec_len c.self.inside.counts * LINES =
+    let size : length c.self.inside.held ≡ vec_len c.self.inside.counts * storage_lines =
     omega (arith, c.self.invariant.held_size) in
     let now : mode_in c.args.self.now ≡ seen c.self.inside.held c.self.inside.exclusive =
     now_seen (vec_len c.self.inside.counts) c.self.inside.held c.self.inside.exclusive c.args.self.now size
@@ -25,7 +25,7 @@ returns-in-Some-clause-found c =
 
 pub returns-in-None-clause-none : goal.returns-in-None-clause-none
 returns-in-None-clause-none c =
-    let size : length c.self.inside.held ≡ vec_len c.self.inside.counts * LINES =
+    let size : length c.self.inside.held ≡ vec_len c.self.inside.counts * storage_lines =
     omega (arith, c.self.invariant.held_size) in
     let now : mode_in c.args.self.now ≡ seen c.self.inside.held c.self.inside.exclusive =
     now_seen (vec_len c.self.inside.counts) c.self.inside.held c.self.inside.exclusive c.args.self.now size

@@ -1,5 +1,5 @@
 use Rattle.std.proofs.Common.{◌≡◌, ◌≤◌, ◌*◌, ◌-◌, ℕ, None, length, vec_len, sym, subst, arith}
-use Rattle.line_table.specs.declared.table.TheConstants.{LINES}
+use Rattle.line_table.specs.Sizes.{storage_lines}
 use Rattle.line_table.specs.Holders.{Holders, IsFirstHeld, mode_in}
 use Rattle.line_table.proofs.Seen.{now_seen}
 use Rattle.line_table.proofs.Seen.{seen}
@@ -8,19 +8,19 @@ use Rattle.line_table.proofs.table.LineTable.next_line.Goals as goal
 
 pub returns-in-Some-clause-found : goal.returns-in-Some-clause-found
 returns-in-Some-clause-found c =
-    let size : length c.self.inside.held ≡ vec_len c.self.inside.counts * LINES =
+    let size : length c.self.inside.held ≡ vec_len c.self.inside.counts * storage_lines =
     omega (arith, c.self.invariant.held_size) in
     let now : mode_in c.args.self.now ≡ seen c.self.inside.held c.self.inside.exclusive =
     now_seen (vec_len c.self.inside.counts) c.self.inside.held c.self.inside.exclusive c.args.self.now size
     c.self.view_is in
-    subst (λ (h : Holders). IsFirstHeld (h c.args.cpu) c.args.from (c.in-Some.place - c.args.cpu * LINES))
+    subst (λ (h : Holders). IsFirstHeld (h c.args.cpu) c.args.from (c.in-Some.place - c.args.cpu * storage_lines))
     (sym now)
     (first_line c.self.inside.held c.self.inside.exclusive c.args.cpu c.args.from c.in-Some.place
     c.in-Some.ensures.found)
 
 pub returns-in-None-clause-none : goal.returns-in-None-clause-none
 returns-in-None-clause-none c =
-    let size : length c.self.inside.held ≡ vec_len c.self.inside.counts * LINES =
+    let size : length c.self.inside.held ≡ vec_len c.self.inside.counts * storage_lines =
     omega (arith, c.self.invariant.held_size) in
     let now : mode_in c.args.self.now ≡ seen c.self.inside.held c.self.inside.exclusive =
     now_seen (vec_len c.self.inside.counts) c.self.inside.held c.self.inside.exclusive c.args.self.now size

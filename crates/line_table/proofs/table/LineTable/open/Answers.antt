@@ -1,6 +1,6 @@
 use Rattle.std.proofs.Common.{◌≡◌, ◌*◌, ◌/◌, ℕ, Bool, false, length, get_or, vec_len, ap, ◌∙◌, arith}
 use Rattle.bit_set.proofs.Marks.{clear_at}
-use Rattle.line_table.specs.declared.table.TheConstants.{LINES}
+use Rattle.line_table.specs.Sizes.{storage_lines}
 use Rattle.std.proofs.lemmas.List.{length-replicate}
 use Rattle.line_table.proofs.Seen.{shown}
 use Rattle.line_table.proofs.Calls.{zero_at, opened, nobody_seen}
@@ -11,11 +11,11 @@ invariant_of-result c =
     let counts = ap length (c.in_ok-counts.ensures.items_if_clones_equal (λ y e. e))
     ∙ length-replicate {A = ℕ} c.args.cpus 0 in
     let held = ap length c.in_ok-held.ensures
-    ∙ length-replicate {A = Bool} (64 * (LINES / 64 * c.args.cpus)) false in
+    ∙ length-replicate {A = Bool} (64 * (storage_lines / 64 * c.args.cpus)) false in
     let holders = ap length c.in_ok-holders.ensures
-    ∙ length-replicate {A = Bool} (64 * (LINES * c.div_ceil-words.result)) false in
+    ∙ length-replicate {A = Bool} (64 * (storage_lines * c.div_ceil-words.result)) false in
     let exclusive = ap length c.in_ok-exclusive.ensures
-    ∙ length-replicate {A = Bool} (64 * (LINES / 64)) false in
+    ∙ length-replicate {A = Bool} (64 * (storage_lines / 64)) false in
     opened (c.div_ceil-words.result * 64) c.in_ok-held.held c.in_ok-holders.holders
     c.in_ok-exclusive.exclusive c.in_ok-counts.counts.items
     (omega arith) (omega arith) (omega arith) (omega arith) (omega arith) (omega arith)
@@ -29,8 +29,8 @@ returns-clause-empty c =
     let counts = ap length (c.in_ok-counts.ensures.items_if_clones_equal (λ y e. e))
     ∙ length-replicate {A = ℕ} c.args.cpus 0 in
     let held = ap length c.in_ok-held.ensures
-    ∙ length-replicate {A = Bool} (64 * (LINES / 64 * c.args.cpus)) false in
-    let size : length c.in_ok-held.held ≡ vec_len c.in_ok-counts.counts * LINES = omega arith in
+    ∙ length-replicate {A = Bool} (64 * (storage_lines / 64 * c.args.cpus)) false in
+    let size : length c.in_ok-held.held ≡ vec_len c.in_ok-counts.counts * storage_lines = omega arith in
     shown (vec_len c.in_ok-counts.counts) c.in_ok-held.held c.in_ok-exclusive.exclusive size
     ∙ nobody_seen c.in_ok-held.held c.in_ok-exclusive.exclusive
     (λ k. ap (λ l. get_or l k false) c.in_ok-held.ensures ∙ clear_at _ k)

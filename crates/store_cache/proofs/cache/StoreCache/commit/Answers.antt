@@ -1,7 +1,7 @@
 use Rattle.std.proofs.Common.{◌≡◌, ℕ}
 use Rattle.std.proofs.Common.{List}
 use Rattle.std.proofs.Common.{sym, ap, ◌∙◌}
-use Rattle.store_cache.specs.declared.cache.TheConstants.{BLOCK_SIZE}
+use Rattle.store_cache.specs.Sizes.{block_size}
 use Rattle.store_cache.specs.Overlay.{bytes_through}
 use Rattle.store_cache.specs.Stores.{Stores}
 use Rattle.store_cache.specs.Entries.{items_of, stores_of}
@@ -16,6 +16,6 @@ returns-clause-bytes g c =
     c.self.inside.values.items c.self.inside.value_marks c.self.view_is in
     c.lay_bytes.ensures
     ∙ ap (λ (bytes : List ℕ). bytes_through
-    (items_of BLOCK_SIZE c.self.inside.index.keys bytes c.self.inside.marks)
+    (items_of block_size c.self.inside.index.keys bytes c.self.inside.marks)
     (g.V.Bytes.bytes c.args.into.now)) c.deref.ensures.value
     ∙ ap (λ (s : Stores). bytes_through s.overlay (g.V.Bytes.bytes c.args.into.now)) (sym now)

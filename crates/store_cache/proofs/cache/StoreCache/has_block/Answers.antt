@@ -1,7 +1,7 @@
 use Rattle.std.proofs.Common.{◌≡◌, ◌/◌, false}
 use Rattle.std.proofs.Common.{ℕ, Option, is_some, None, Some, refl, sym, ap, ◌∙◌, arith}
 use Rattle.slot_index.specs.Slots.{slot_in}
-use Rattle.store_cache.specs.declared.cache.TheConstants.{BLOCK_SIZE}
+use Rattle.store_cache.specs.Sizes.{block_size}
 use Rattle.store_cache.specs.Overlay.{has_block}
 use Rattle.store_cache.specs.Stores.{Stores}
 use Rattle.store_cache.specs.Entries.{stores_of}
@@ -29,10 +29,10 @@ returns-clause-bare c = λ none address e.
     c.self.inside.marks c.self.inside.values.items c.self.inside.value_marks =
     stores_of-now c.args.self.now c.self.inside.index.keys c.self.inside.bytes.items c.self.inside.marks
     c.self.inside.values.items c.self.inside.value_marks c.self.view_is in
-    let absent : slot_in c.self.inside.index.keys (address / BLOCK_SIZE) ≡ None =
+    let absent : slot_in c.self.inside.index.keys (address / block_size) ≡ None =
     ap (slot_in c.self.inside.index.keys) e
     ∙ nothing_there (slot_in c.self.inside.index.keys c.args.block)
     (ap is_some (sym c.slot_of.ensures.value) ∙ sym c.is_some.ensures ∙ none) in
     ap (λ (s : Stores). s.overlay address) now
-    ∙ items_of-none BLOCK_SIZE c.self.inside.index.keys c.self.inside.bytes.items c.self.inside.marks address
+    ∙ items_of-none block_size c.self.inside.index.keys c.self.inside.bytes.items c.self.inside.marks address
     absent

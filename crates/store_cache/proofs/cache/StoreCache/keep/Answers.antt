@@ -3,7 +3,7 @@ use Rattle.std.proofs.Common.{List, set, Some, is_some}
 use Rattle.std.proofs.Common.{refl, sym, ap, subst, ◌∙◌, arith}
 use Rattle.std.specs.Prelude.{IfSome}
 use Rattle.slot_index.specs.Slots.{slot_in}
-use Rattle.store_cache.specs.declared.cache.TheConstants.{BLOCK_SIZE, DOUBLEWORDS, MOST_BLOCKS}
+use Rattle.store_cache.specs.Sizes.{block_size, block_doublewords, block_limit}
 use Rattle.store_cache.specs.Overlay.{Overlay, with_one, has_block}
 use Rattle.store_cache.specs.Stores.{Stores}
 use Rattle.store_cache.specs.Entries.{items_of, stores_of, IsKept}
@@ -18,13 +18,13 @@ unwrap-slot-requires c =
     c.self.inside.marks c.self.inside.values.items c.self.inside.value_marks =
     stores_of-now c.args.self.now c.self.inside.index.keys c.self.inside.bytes.items c.self.inside.marks
     c.self.inside.values.items c.self.inside.value_marks c.self.view_is in
-    ap is_some c.slot_of.ensures.value ∙ sym (c.self.invariant.stored (c.args.doubleword / DOUBLEWORDS))
-    ∙ ap (λ (s : Stores). has_block s.overlay (c.args.doubleword / DOUBLEWORDS)) (sym now) ∙ c.requires
+    ap is_some c.slot_of.ensures.value ∙ sym (c.self.invariant.stored (c.args.doubleword / block_doublewords))
+    ∙ ap (λ (s : Stores). has_block s.overlay (c.args.doubleword / block_doublewords)) (sym now) ∙ c.requires
 
 pub invariant_of-self : goal.invariant_of-self
 invariant_of-self c =
-    let cell = c.unwrap-slot.result * DOUBLEWORDS + c.args.doubleword % DOUBLEWORDS in
-    let found : slot_in c.self.inside.index.keys (c.args.doubleword / DOUBLEWORDS) ≡ Some
+    let cell = c.unwrap-slot.result * block_doublewords + c.args.doubleword % block_doublewords in
+    let found : slot_in c.self.inside.index.keys (c.args.doubleword / block_doublewords) ≡ Some
     c.unwrap-slot.result = sym c.slot_of.ensures.value ∙ c.unwrap-slot.ensures in
     subst (λ (marks : List Bool). IsKept c.self.inside.index c.self.inside.bytes.items c.self.inside.marks
     (set c.self.inside.values.items cell c.args.value) marks) (sym c.insert.ensures)
@@ -38,10 +38,10 @@ returns c =
     c.self.inside.marks c.self.inside.values.items c.self.inside.value_marks =
     stores_of-now c.args.self.now c.self.inside.index.keys c.self.inside.bytes.items c.self.inside.marks
     c.self.inside.values.items c.self.inside.value_marks c.self.view_is in
-    let cell = c.unwrap-slot.result * DOUBLEWORDS + c.args.doubleword % DOUBLEWORDS in
-    let found : slot_in c.self.inside.index.keys (c.args.doubleword / DOUBLEWORDS) ≡ Some
+    let cell = c.unwrap-slot.result * block_doublewords + c.args.doubleword % block_doublewords in
+    let found : slot_in c.self.inside.index.keys (c.args.doubleword / block_doublewords) ≡ Some
     c.unwrap-slot.result = sym c.slot_of.ensures.value ∙ c.unwrap-slot.ensures in
-    let within : c.unwrap-slot.result < MOST_BLOCKS = omega (
+    let within : c.unwrap-slot.result < block_limit = omega (
       arith,
       subst (λ o. IfSome o (λ slot. slot < c.self.inside.index.most)) c.unwrap-slot.ensures
           c.slot_of.ensures.within,
@@ -53,7 +53,7 @@ returns c =
     (set c.self.inside.values.items cell c.args.value) marks) c.insert.ensures
     ∙ ap (λ (o : Overlay). record {
       overlay =
-          items_of BLOCK_SIZE c.self.inside.index.keys c.self.inside.bytes.items c.self.inside.marks;
+          items_of block_size c.self.inside.index.keys c.self.inside.bytes.items c.self.inside.marks;
       lasting =
           o;
     }) (value_shown c.self.inside.index c.self.inside.bytes.items c.self.inside.marks

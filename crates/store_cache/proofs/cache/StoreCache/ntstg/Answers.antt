@@ -1,7 +1,7 @@
 use Rattle.std.proofs.Common.{◌≡◌, ℕ, ◌+◌, ◌/◌, ◌<◌, List, length, get_or, take}
 use Rattle.std.proofs.Common.{sym, ap, ◌∙◌, arith}
 use Rattle.std.proofs.lemmas.List.{take_more, take_all, length-take-le}
-use Rattle.store_cache.specs.declared.cache.TheConstants.{BLOCK_SIZE, DOUBLEWORDS}
+use Rattle.store_cache.specs.Sizes.{block_size, block_doublewords}
 use Rattle.store_cache.specs.Overlay.{Overlay, with_one, with_bytes, has_block}
 use Rattle.store_cache.specs.Stores.{Stores, with_store, has_room}
 use Rattle.store_cache.specs.Entries.{stores_of}
@@ -18,10 +18,10 @@ pub store-requires-clause-room : goal.store-requires-clause-room
 store-requires-clause-room c =
     let overlay : Overlay = (stores_of c.args.self.now).overlay in
     let size : length c.write_u64.new.buf ≡ 8 = ap length c.write_u64.ensures in
-    let block : (c.args.address + c.loop-at.at) / BLOCK_SIZE ≡ c.args.address / BLOCK_SIZE = omega
+    let block : (c.args.address + c.loop-at.at) / block_size ≡ c.args.address / block_size = omega
     (arith, c.requires.boundary, size) in
     ap (λ n. has_room (stores_of c.loop-at.self).overlay n) block
-    ∙ ap (λ (s : Stores). has_room s.overlay (c.args.address / BLOCK_SIZE)) c.loop-at.invariant
+    ∙ ap (λ (s : Stores). has_room s.overlay (c.args.address / block_size)) c.loop-at.invariant
     ∙ room_stays overlay c.args.address c.loop-at.at c.write_u64.new.buf (omega arith) c.requires.room
 
 pub loop-at-preserved : goal.loop-at-preserved
@@ -49,11 +49,11 @@ keep-requires c =
     let overlay : Overlay = (stores_of c.args.self.now).overlay in
     let bytes : List ℕ = c.write_u64.new.buf in
     let size : length bytes ≡ 8 = ap length c.write_u64.ensures in
-    let block : c.args.address / 8 / DOUBLEWORDS ≡ c.args.address / BLOCK_SIZE = omega arith in
+    let block : c.args.address / 8 / block_doublewords ≡ c.args.address / block_size = omega arith in
     let all : take c.loop-at.at bytes ≡ bytes = take_all c.loop-at.at bytes (omega arith) in
     ap (λ n. has_block (stores_of c.loop-at.self).overlay n) block
-    ∙ ap (λ (s : Stores). has_block s.overlay (c.args.address / BLOCK_SIZE)) c.loop-at.invariant
-    ∙ ap (λ (bs : List ℕ). has_block (with_bytes overlay c.args.address bs) (c.args.address / BLOCK_SIZE)) all
+    ∙ ap (λ (s : Stores). has_block s.overlay (c.args.address / block_size)) c.loop-at.invariant
+    ∙ ap (λ (bs : List ℕ). has_block (with_bytes overlay c.args.address bs) (c.args.address / block_size)) all
     ∙ has_block-with_bytes overlay c.args.address bytes (omega (arith, size))
 
 pub returns : goal.returns

@@ -1,7 +1,7 @@
 use Rattle.std.proofs.Common.{◌≡◌, ◌+◌, ◌*◌, ◌/◌, ◌%◌, Bool, true}
 use Rattle.std.proofs.Common.{List, set}
 use Rattle.std.proofs.Common.{refl, sym, ap, subst, ◌∙◌, arith}
-use Rattle.store_cache.specs.declared.cache.TheConstants.{BLOCK_SIZE, DOUBLEWORDS}
+use Rattle.store_cache.specs.Sizes.{block_size, block_doublewords}
 use Rattle.store_cache.specs.Overlay.{Overlay, with_one}
 use Rattle.store_cache.specs.Stores.{Stores, with_store, has_room}
 use Rattle.store_cache.specs.Entries.{items_of, stores_of, IsKept}
@@ -15,12 +15,12 @@ slot_for-slot-requires-clause-room c new =
     c.self.inside.marks c.self.inside.values.items c.self.inside.value_marks =
     stores_of-now c.args.self.now c.self.inside.index.keys c.self.inside.bytes.items c.self.inside.marks
     c.self.inside.values.items c.self.inside.value_marks c.self.view_is in
-    let overlay : Overlay = items_of BLOCK_SIZE c.self.inside.index.keys c.self.inside.bytes.items
+    let overlay : Overlay = items_of block_size c.self.inside.index.keys c.self.inside.bytes.items
     c.self.inside.marks in
-    let room : has_room overlay (c.args.address / BLOCK_SIZE) ≡ true = ap (λ (s : Stores). has_room s.overlay
-    (c.args.address / BLOCK_SIZE)) (sym now) ∙ c.requires.room in
-    let left = room_left overlay (c.args.address / BLOCK_SIZE)
-    (c.self.invariant.stored (c.args.address / BLOCK_SIZE) ∙ new) room in
+    let room : has_room overlay (c.args.address / block_size) ≡ true = ap (λ (s : Stores). has_room s.overlay
+    (c.args.address / block_size)) (sym now) ∙ c.requires.room in
+    let left = room_left overlay (c.args.address / block_size)
+    (c.self.invariant.stored (c.args.address / block_size) ∙ new) room in
     omega (
       arith,
       left,
@@ -33,8 +33,8 @@ pub invariant_of-self : goal.invariant_of-self
 invariant_of-self c =
     let in_entry = entered c.self.inside.index c.slot_for-slot.new.index c.self.inside.bytes.items
     c.self.inside.marks c.self.inside.values.items c.self.inside.value_marks
-    (c.args.address / BLOCK_SIZE) c.self.invariant c.slot_for-slot.ensures.index in
-    let cell = c.slot_for-slot.result * BLOCK_SIZE + c.args.address % BLOCK_SIZE in
+    (c.args.address / block_size) c.self.invariant c.slot_for-slot.ensures.index in
+    let cell = c.slot_for-slot.result * block_size + c.args.address % block_size in
     subst (λ (marks : List Bool). IsKept c.slot_for-slot.new.index
     (set c.self.inside.bytes.items cell c.args.byte) marks c.self.inside.values.items
     c.self.inside.value_marks) (sym c.insert.ensures)
@@ -51,11 +51,11 @@ returns c =
     c.self.inside.values.items c.self.inside.value_marks c.self.view_is in
     let in_entry = entered c.self.inside.index c.slot_for-slot.new.index c.self.inside.bytes.items
     c.self.inside.marks c.self.inside.values.items c.self.inside.value_marks
-    (c.args.address / BLOCK_SIZE) c.self.invariant c.slot_for-slot.ensures.index in
-    let cell = c.slot_for-slot.result * BLOCK_SIZE + c.args.address % BLOCK_SIZE in
-    let bytes : items_of BLOCK_SIZE c.slot_for-slot.new.index.keys
+    (c.args.address / block_size) c.self.invariant c.slot_for-slot.ensures.index in
+    let cell = c.slot_for-slot.result * block_size + c.args.address % block_size in
+    let bytes : items_of block_size c.slot_for-slot.new.index.keys
     (set c.self.inside.bytes.items cell c.args.byte) (set c.self.inside.marks cell true) ≡ with_one
-    (items_of BLOCK_SIZE c.self.inside.index.keys c.self.inside.bytes.items c.self.inside.marks)
+    (items_of block_size c.self.inside.index.keys c.self.inside.bytes.items c.self.inside.marks)
     c.args.address c.args.byte =
     byte_shown c.self.inside.index c.slot_for-slot.new.index c.self.inside.bytes.items c.self.inside.marks
     c.self.inside.values.items c.self.inside.value_marks c.args.address c.slot_for-slot.result cell
@@ -69,12 +69,12 @@ returns c =
     ∙ ap (λ (o : Overlay). record {
       overlay = o;
       lasting =
-          items_of DOUBLEWORDS c.slot_for-slot.new.index.keys c.self.inside.values.items
+          items_of block_doublewords c.slot_for-slot.new.index.keys c.self.inside.values.items
           c.self.inside.value_marks;
     }) bytes
     ∙ ap (λ (o : Overlay). record {
       overlay =
-          with_one (items_of BLOCK_SIZE c.self.inside.index.keys c.self.inside.bytes.items c.self.inside.marks)
+          with_one (items_of block_size c.self.inside.index.keys c.self.inside.bytes.items c.self.inside.marks)
           c.args.address c.args.byte;
       lasting = o;
     }) in_entry.same_values

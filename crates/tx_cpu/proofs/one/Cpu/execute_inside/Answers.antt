@@ -9,7 +9,7 @@ use Rattle.z_instr.specs.Layout.{format_length}
 use Rattle.z_instr.specs.Roles.{is_end}
 use Rattle.z_instr.specs.Table.{Entry, entry_at}
 use Rattle.z_effect.specs.After.{exception}
-use Rattle.tx_control.specs.declared.codes.TheConstants.{FIXED_POINT_OVERFLOW, FIXED_POINT_DIVIDE}
+use Rattle.tx_control.specs.Codes.{fixed_point_overflow_code, fixed_point_divide_code}
 use Rattle.tx_serial.specs.Fate.{cause_in}
 use Rattle.tx_progress.specs.Trial.{outcome_by}
 use Rattle.tx_cpu.specs.Going.{MayGo}
@@ -78,7 +78,7 @@ returns-in-Exceeded-clause-value g c =
     let first : StoresFirst need =
     subst StoresFirst (sym c.requires.goes.operands_are) (operands-first i c.args.self.now.image) in
     let length = c.length_in-length.ensures ∙ ap (λ (e : Entry). format_length e.format) c.line.ensures.row in
-    let raised = c.exception-overflow.ensures ∙ ap (exception FIXED_POINT_OVERFLOW) length in
+    let raised = c.exception-overflow.ensures ∙ ap (exception fixed_point_overflow_code) length in
     rw (← c.self.view_is)
     (exceeded-is p i need
     (outcome_by (storage_of (g.V.Bytes.bytes c.args.base.now)) i need (progress p.attempt p.image))
@@ -95,7 +95,7 @@ returns-in-Suppressed-clause-value g c =
     let live : nat_lt 0 c.self.inside.attempt.count ≡ true =
     ap (λ (q : Parts). nat_lt 0 q.attempt.count) c.self.view_is ∙ c.requires.live in
     let length = c.length_in-length.ensures ∙ ap (λ (e : Entry). format_length e.format) c.line.ensures.row in
-    let raised = c.exception-divide.ensures ∙ ap (exception FIXED_POINT_DIVIDE) length in
+    let raised = c.exception-divide.ensures ∙ ap (exception fixed_point_divide_code) length in
     rw (← c.self.view_is)
     (suppressed-is p i need
     (outcome_by (storage_of (g.V.Bytes.bytes c.args.base.now)) i need (progress p.attempt p.image))

@@ -1,8 +1,8 @@
 use Rattle.std.proofs.Common.{◌≡◌, Ok, Err, refl, sym, arith}
 use Rattle.bit_set.proofs.Counts.{count_at_most}
-use Rattle.line_table.specs.declared.table.TheConstants.{LINES}
+use Rattle.line_table.specs.Sizes.{storage_lines}
 use Rattle.tx_footprint.specs.declared.footprint.Overflow.TheVariants.{Fetch, Store}
-use Rattle.tx_footprint.specs.declared.places.TheConstants.{BLOCKS}
+use Rattle.tx_footprint.specs.Sizes.{storage_blocks}
 use Rattle.tx_footprint.specs.declared.places.Kind.TheVariants.{Line, StoredBlock}
 use Rattle.tx_footprint.specs.Places.{marked_or_touched}
 use Rattle.tx_footprint.specs.Touched.{Sets, touching, sets_of}
@@ -36,7 +36,7 @@ overflow_add-self-inside-2 c =
       arith,
       c.self.invariant.most_lines,
       c.added.ensures,
-      count_at_most LINES
+      count_at_most storage_lines
           (marked_or_touched c.self.inside.touched Line c.args.touches.now),
     )
 
@@ -62,7 +62,7 @@ overflow_add-self-inside-3 c =
       arith,
       c.self.invariant.most_blocks,
       c.added-2.ensures,
-      count_at_most BLOCKS
+      count_at_most storage_blocks
           (marked_or_touched c.self.inside.blocks StoredBlock c.args.touches.now),
     )
 

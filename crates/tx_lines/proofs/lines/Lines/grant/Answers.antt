@@ -1,6 +1,6 @@
 -- With a line given up, nobody stands against the request who did not before, and there is room for one line.
 use Rattle.std.proofs.Common.{◌≡◌, ◌≤◌, ap, sym, subst, ◌∙◌, arith, true, is_some}
-use Rattle.line_table.specs.declared.table.TheConstants.{MOST_HELD}
+use Rattle.line_table.specs.Sizes.{held_limit}
 use Rattle.line_table.specs.Holders.{against, lines_held, mode_in}
 use Rattle.tx_lines.specs.Owned.{holders_in}
 use Rattle.tx_lines.proofs.Granting.{same_against, one_fewer}
@@ -21,8 +21,8 @@ grant-requires-in-Some-clause-room c none =
     let table = c.self.inside.table in
     let held : is_some (mode_in table c.args.cpu c.in-Some.line) ≡ true =
     ap (λ v. is_some (holders_in v c.args.cpu c.in-Some.line)) c.self.view_is ∙ (c.in-Some.ensures).held in
-    let most : lines_held (mode_in table) c.args.cpu ≤ MOST_HELD =
-    subst (λ v. lines_held (holders_in v) c.args.cpu ≤ MOST_HELD) (sym c.self.view_is)
+    let most : lines_held (mode_in table) c.args.cpu ≤ held_limit =
+    subst (λ v. lines_held (holders_in v) c.args.cpu ≤ held_limit) (sym c.self.view_is)
     (c.has_room.ensures.sound.within c.args.cpu) in
     let fewer = one_fewer (mode_in table) c.args.cpu c.in-Some.line ((c.in-Some.ensures).in_range) held in
     let same = ap (λ h. lines_held h c.args.cpu) c.give_up.ensures.held in

@@ -2,7 +2,7 @@
 -- may put.
 use Rattle.std.proofs.Common.{◌≡◌, map, List, ℕ, refl, sym, ap, subst, ◌∙◌, arith}
 use Rattle.std.specs.Prelude.{All, ◌<◌}
-use Rattle.line_table.specs.declared.table.TheConstants.{LINES}
+use Rattle.line_table.specs.Sizes.{storage_lines}
 use Rattle.tx_lines.specs.Needs.{need_at}
 use Rattle.tx_meaning.specs.declared.asking.Need.{Need}
 use Rattle.tx_meaning.specs.Needs.{needs_of}
@@ -13,7 +13,7 @@ use Rattle.tx_machine.proofs.works.Works.get_lines.Goals as goal
 
 pub get_each-requires-clause-known : goal.get_each-requires-clause-known
 get_each-requires-clause-known c =
-    subst (All (λ line. line < LINES)) (sym c.as_slice.ensures.value)
+    subst (All (λ line. line < storage_lines)) (sym c.as_slice.ensures.value)
     (needed_in_storage c.args.ranges.now c.lines_needed-lines.result.items c.requires.in_storage
     c.lines_needed-lines.ensures)
 

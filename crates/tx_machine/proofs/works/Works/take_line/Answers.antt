@@ -4,7 +4,7 @@ use Rattle.std.specs.Prelude.{◌==◌}
 use Rattle.std.specs.List.{list_any}
 use Rattle.std.proofs.lemmas.List.{get_or_read}
 use Rattle.bit_set.specs.Counts.{count_below}
-use Rattle.line_table.specs.declared.table.TheConstants.{LINES, MOST_HELD}
+use Rattle.line_table.specs.Sizes.{storage_lines, held_limit}
 use Rattle.tx_cpu.specs.Parts.{local_of}
 use Rattle.tx_footprint.specs.Touched.{Sets, sets_of}
 use Rattle.tx_keeping.specs.Kept.{kept_footprint}
@@ -28,8 +28,8 @@ grant-requires-clause-spare c full =
     ∙ ap (λ w. kept_footprint (kept_by rest w) c.args.cpu) c.self.view_is in
     one_is_spare (holders_in c.self.inside.lines) c.args.cpu c.args.need.line (sets_of c.footprint.result.now)
     c.args.needed.now full
-    (subst (λ (sets : Sets). count_below LINES (λ line. (sets.fetched line || sets.stored line)
-    || list_any (λ other. other == line) c.args.needed.now) ≤ MOST_HELD) (sym touched)
+    (subst (λ (sets : Sets). count_below storage_lines (λ line. (sets.fetched line || sets.stored line)
+    || list_any (λ other. other == line) c.args.needed.now) ≤ held_limit) (sym touched)
     (c.requires.few rest).few)
     c.requires.among c.requires.line
 
