@@ -5,7 +5,7 @@ use anyhow::{Context, Result};
 use std::alloc::Global;
 use std::fmt::Write;
 use tx_journal::{Entry, entry_text};
-use tx_machine::machine::{Counts, Machine};
+use tx_machine::{Counts, Machine};
 use z_regs::{CpuImage, RunState, STORAGE_SIZE};
 
 fn add_state(text: &mut String, image: &CpuImage) -> Result<()> {

@@ -17,11 +17,11 @@ use Rattle.tx_meaning.specs.Turn.{Turned, happen}
 use Rattle.tx_keeping.specs.Kept.{Kept, kept_beginning}
 use Rattle.tx_keeping.specs.Keeping.{keeping, keeping_from}
 use Rattle.tx_keeping.specs.Turn.{k_happen}
-use Rattle.tx_keeping.specs.Views.{AreKnown}
+use Rattle.tx_meaning.specs.Views.{AreKnown}
 use Rattle.tx_keeping.proofs.Moves.{IsGood}
 use Rattle.tx_keeping.proofs.Turning.{happen_ok}
 use Rattle.tx_keeping.proofs.Events.{begins_good, keeping_is, keeping_good}
-use Rattle.tx_bounds.specs.Heads.{head_turns, head_turns_after, head_turns_from}
+use Rattle.tx_meaning.specs.Heads.{head_turns, head_turns_after, head_turns_from}
 use Rattle.tx_bounds.proofs.OwnEvents.{extra}
 use Rattle.tx_bounds.proofs.Paid.{left_of}
 use Rattle.tx_bounds.proofs.Potential.{left_at, some_left}

@@ -6,7 +6,7 @@ use Rattle.tx_meaning.specs.Limits.{Setting}
 use Rattle.tx_meaning.specs.Meaning.{IsSetting, meaning}
 use Rattle.tx_meaning.specs.State.{State, is_live}
 use Rattle.tx_keeping.specs.Keeping.{keeping, IsTrue_to}
-use Rattle.tx_keeping.specs.Views.{AreKnown}
+use Rattle.tx_meaning.specs.Views.{AreKnown}
 use Rattle.tx_keeping.proofs.Truth.{true_to}
 use Rattle.tx_keeping.proofs.Events.{keeping_is, keeping_good}
 use Rattle.tx_bounds.proofs.Stopping.{Stopping, counted_same}

@@ -32,7 +32,8 @@ use Rattle.tx_progress.specs.Local.{Local, Beside}
 use Rattle.tx_progress.specs.Progress.{Progress, advanced, resting}
 use Rattle.tx_progress.specs.Progress as progress
 use Rattle.tx_progress.specs.Doing.{executed_where, inside, outside, closed_by, going_on, stores_of}
-use Rattle.tx_progress.specs.Doing.{told_of, opened, done_outside, delay_given}
+use Rattle.tx_progress.specs.Doing.{told_of, opened, done_outside}
+use Rattle.z_effect.specs.TransactionEffect.{delay_given}
 use Rattle.tx_progress.specs.Trial.{outcome_by}
 use Rattle.tx_progress.specs.declared.done.Done.{Done}
 use Rattle.tx_progress.specs.declared.done.Done.TheVariants as done

@@ -39,7 +39,7 @@ use Rattle.tx_keeping.specs.Kept.{Kept, kept_beginning, kept_flat, text_of, with
 use Rattle.tx_keeping.specs.Keeping.{keeping, keeping_from}
 use Rattle.tx_keeping.specs.Turn.{k_happen, k_turn, k_turn_where, k_idle, k_counted_turn, k_by_rules}
 use Rattle.tx_keeping.specs.Turn.{k_external}
-use Rattle.tx_keeping.specs.Views.{AreKnown}
+use Rattle.tx_meaning.specs.Views.{AreKnown}
 use Rattle.tx_keeping.proofs.Truth.{Truth, live_is, flat_is, attempt_is, nest_is, standing_is, cpu_is}
 use Rattle.tx_keeping.proofs.Moves.{IsGood, restated, one_number, same_numbers}
 use Rattle.tx_keeping.proofs.Turning.{happen_ok, idle_is}

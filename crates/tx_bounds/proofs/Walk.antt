@@ -40,7 +40,8 @@ use Rattle.tx_progress.specs.Trial.{at_hand, breach_refusal, constraint_refusal,
 use Rattle.tx_progress.specs.Trial.{place_refusal_by, overflow_refusal_by, tests_by, tried, fetched}
 use Rattle.tx_progress.specs.Trial.{fate_by_progress, outcome_by}
 use Rattle.tx_progress.specs.Local.{Beside}
-use Rattle.tx_progress.specs.Doing.{outside, delay_given}
+use Rattle.tx_progress.specs.Doing.{outside}
+use Rattle.z_effect.specs.TransactionEffect.{delay_given}
 use Rattle.tx_progress.specs.Doing.{Executed, executed, executed_where, inside, closed_by, told_of, stores_of}
 use Rattle.tx_progress.specs.declared.done.Done.{Done}
 use Rattle.tx_progress.specs.declared.done.Done.TheVariants as done

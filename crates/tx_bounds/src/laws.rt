@@ -3,7 +3,7 @@ ghost use Rattle.std.specs.Prelude.{◌≡◌, ◌≢◌, ◌↔◌, ℕ, ◌+�
 ghost use Rattle.std.specs.Prelude.{None};
 ghost use Rattle.std.specs.Prelude.{AllPairs};
 ghost use Rattle.tx_journal.specs.declared.events.Event.{Event};
-ghost use Rattle.tx_keeping.specs.Views.{AreKnown};
+ghost use Rattle.tx_meaning.specs.Views.{AreKnown};
 ghost use Rattle.tx_ladder.specs.Waiting.{waits_in};
 ghost use Rattle.tx_meaning.specs.Hits.{hits};
 ghost use Rattle.tx_meaning.specs.Limits.{Setting};
@@ -15,7 +15,7 @@ ghost use Rattle.tx_meaning.specs.Turn.{happen};
 ghost use Rattle.tx_constraint.specs.Kept.{Kept};
 ghost use Rattle.tx_ladder.specs.Parameters.{Parameters, usual};
 ghost use Rattle.tx_ladder.specs.Rungs.{delay_after};
-ghost use Rattle.tx_bounds.specs.Heads.{head_turns};
+ghost use Rattle.tx_meaning.specs.Heads.{head_turns};
 ghost use Rattle.tx_bounds.specs.Stretches.{IsUnderWay};
 ghost use Rattle.tx_serial.specs.Alike.{AgreeInText};
 ghost use Rattle.tx_serial.specs.Attempt.{at_rest};

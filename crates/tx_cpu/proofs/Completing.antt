@@ -18,7 +18,8 @@ use Rattle.tx_serial.specs.Flat.{Storage, laid_over, operand_stores}
 use Rattle.tx_serial.specs.Remains.{waiting_with}
 use Rattle.tx_progress.proofs.Rows.{any_row}
 use Rattle.tx_progress.specs.Progress.{resting}
-use Rattle.tx_progress.specs.Doing.{Executed, outside, done_outside, told_of, delay_given}
+use Rattle.tx_progress.specs.Doing.{Executed, outside, done_outside, told_of}
+use Rattle.z_effect.specs.TransactionEffect.{delay_given}
 use Rattle.tx_progress.specs.declared.done.Done.{Done}
 use Rattle.tx_cpu.specs.declared.performing.Ended.{Ended}
 use Rattle.tx_cpu.specs.declared.performing.Ended.TheVariants as ended

@@ -42,7 +42,8 @@ use Rattle.tx_footprint.specs.Touched.{touching}
 use Rattle.tx_constraint.specs.Kept.{next_text_breach, next_operand_breach}
 use Rattle.tx_progress.specs.Local.{Beside}
 use Rattle.tx_progress.specs.Doing.{executed, executed_where, inside, outside, closed_by, told_of}
-use Rattle.tx_progress.specs.Doing.{delay_given, stores_of}
+use Rattle.z_effect.specs.TransactionEffect.{delay_given}
+use Rattle.tx_progress.specs.Doing.{stores_of}
 use Rattle.tx_progress.specs.declared.done.Done.{Done}
 use Rattle.tx_progress.specs.declared.done.Done.TheVariants as done
 use Rattle.tx_control.specs.Codes.{fixed_point_overflow_code, fixed_point_divide_code}

@@ -28,10 +28,6 @@ HasRoom _ = Unit {0}
 abbrev pub levels_of : Progress → Option (ℕ × ℕ)
 levels_of q = if is_live q then Some (length q.nest, q.count) else None
 
-abbrev pub address_of : Option Pending → Option ℕ
-address_of None = None
-address_of (Some b) = Some b.address
-
 -- the same of a plan that ends the transaction
 abbrev pub HasPlanRoom : Plan → Type 0
 HasPlanRoom (plan.Go instr need) = Unit {0}

@@ -16,7 +16,8 @@ ghost use Rattle.z_regs.specs.Absolute.{IsAccessible};
 ghost use Rattle.std.specs.FinSet.{items};
 ghost use Rattle.tx_cpu.specs.Parts.{local_of, beside, storage_of};
 ghost use Rattle.tx_cpu.specs.Going.{MayGo};
-ghost use Rattle.tx_cpu.specs.Plans.{fate_of, levels_of, address_of, HasRoom, HasPlanRoom};
+ghost use Rattle.tx_cpu.specs.Plans.{fate_of, levels_of, HasRoom, HasPlanRoom};
+ghost use Rattle.tx_serial.specs.Flat.{address_of};
 ghost use Rattle.tx_cpu.specs.Plans.{IsPrepared, IsPlanPrepared, HasDoneRoom};
 ghost use Rattle.tx_cpu.specs.Same.{AreSameAttempts};
 

@@ -59,11 +59,6 @@ pub record IsSound (m : Parts) : Type 0 where
   pub kept : IsKept (state_of m)
   pub few : length m.slots ≤ 16
 
--- the address of a block
-abbrev pub address_of : Option Pending → Option ℕ
-address_of None = None
-address_of (Some b) = Some b.address
-
 -- the code of an interruption that waits on a CPU
 abbrev pub code_waiting : Cpu → Option Waiting → Option ℕ
 code_waiting c None = None

@@ -5,7 +5,8 @@ ghost use Rattle.z_regs.specs.Cpu.{cpu_of};
 ghost use Rattle.z_regs.specs.Prefix.{storage_size};
 ghost use Rattle.tx_serial.specs.Changes.{cpu_of_entry as cpu_in};
 ghost use Rattle.tx_serial.specs.History.{start_of};
-ghost use Rattle.tx_flat.specs.Machine.{state_of, slot_parts, fresh, address_of, code_waiting, Applies};
+ghost use Rattle.tx_flat.specs.Machine.{state_of, slot_parts, fresh, code_waiting, Applies};
+ghost use Rattle.tx_serial.specs.Flat.{address_of};
 
 use crate::dispatch::apply_to;
 use crate::interruption::code_of;
@@ -123,7 +124,8 @@ fn is_whole(storage: &Storage)
 
 impl Flat {
     ghost use Rattle.std.specs.Prelude.{◌≡◌, ◌<◌, IfOk, length};
-    ghost use Rattle.tx_flat.specs.Machine.{state_of, address_of, code_waiting, Applies};
+    ghost use Rattle.tx_flat.specs.Machine.{state_of, code_waiting, Applies};
+    ghost use Rattle.tx_serial.specs.Flat.{address_of};
 
     /// The machine as an image starts it. `NoMemory` comes for want of memory.
     pub fn open(alloc: Global, image: &Image) -> Result<Flat, NoMemory>

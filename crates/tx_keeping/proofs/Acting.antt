@@ -32,7 +32,8 @@ use Rattle.tx_progress.specs.Progress.{Progress}
 use Rattle.tx_progress.specs.Progress as progress
 use Rattle.tx_progress.proofs.Parts.{not_live}
 use Rattle.tx_progress.specs.Local.{Local, Beside, aborted}
-use Rattle.tx_progress.specs.Doing.{executed, executed_where, told_of, delay_given}
+use Rattle.tx_progress.specs.Doing.{executed, executed_where, told_of}
+use Rattle.z_effect.specs.TransactionEffect.{delay_given}
 use Rattle.tx_progress.specs.Trial.{fate_by_progress, outcome_by}
 use Rattle.tx_progress.specs.Reached.{IsFollowed, progress_of}
 use Rattle.tx_progress.specs.declared.done.Done.{Done}
@@ -52,7 +53,7 @@ use Rattle.tx_keeping.specs.Kept.{beside}
 use Rattle.tx_keeping.specs.Moves.{k_starting, k_continuing, k_committing, k_stepping}
 use Rattle.tx_keeping.specs.Turn.{KTurned, k_turned, k_ends_by, k_inside, k_outside, k_done, k_executing}
 use Rattle.tx_keeping.specs.Turn.{next_address}
-use Rattle.tx_keeping.specs.Views.{turned_of}
+use Rattle.tx_keeping.specs.Told.{turned_of}
 use Rattle.tx_keeping.proofs.Stores.{ChangesIn}
 use Rattle.tx_keeping.proofs.Needed.{Leaves, GoesOn, Commits, EndsBy, AttemptEnds, Inside, TouchesMore}
 use Rattle.tx_keeping.proofs.Needed.{kind_is, executed_inside, executed_begins, executed_outside}

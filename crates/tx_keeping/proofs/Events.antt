@@ -24,7 +24,8 @@ use Rattle.tx_meaning.specs.Turn.{Turned, happen}
 use Rattle.tx_keeping.specs.Kept.{Kept, kept_beginning, kept_flat, kept_footprint}
 use Rattle.tx_keeping.specs.Keeping.{keeping, keeping_from, IsHeld}
 use Rattle.tx_keeping.specs.Turn.{k_happen}
-use Rattle.tx_keeping.specs.Views.{AreKnown, turned_of, GoesOnWith, IsSameView, KeepsViews, HoldsTouched}
+use Rattle.tx_meaning.specs.Views.{AreKnown, GoesOnWith, IsSameView, KeepsViews, HoldsTouched}
+use Rattle.tx_keeping.specs.Told.{turned_of}
 use Rattle.tx_keeping.proofs.Truth.{TrueAt, Truth, attempt_is, footprint_is}
 use Rattle.bit_set.proofs.Counts.{count_none}
 use Rattle.std.proofs.Common.{arith}

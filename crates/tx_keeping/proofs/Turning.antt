@@ -72,7 +72,7 @@ use Rattle.tx_keeping.proofs.Needed.{taking_changes}
 use Rattle.tx_keeping.proofs.Needed.{stays_followed, StaysFollowed, Leaves}
 use Rattle.tx_keeping.proofs.Truth.{Truth, kept_is, live_is, flat_is, attempt_is, cpu_is, standing_is}
 use Rattle.tx_keeping.proofs.Truth.{same_text}
-use Rattle.tx_keeping.specs.Views.{turned_of}
+use Rattle.tx_keeping.specs.Told.{turned_of}
 use Rattle.tx_keeping.proofs.Holding.{Holds}
 use Rattle.tx_keeping.proofs.Moves.{IsGood, restated, SameNumbers, same_numbers, one_number}
 use Rattle.tx_keeping.proofs.Endings.{Ended, moved_ended, abort_ended, outside_fits}

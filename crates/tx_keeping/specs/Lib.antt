@@ -4,4 +4,4 @@ pub mod Moves
 pub mod Asking
 pub mod Turn
 pub mod Keeping
-pub mod Views
+pub mod Told

@@ -10,7 +10,8 @@ ghost use Rattle.tx_meaning.specs.State.{cpus_of};
 ghost use Rattle.tx_meaning.specs.Turn.{happen};
 ghost use Rattle.tx_keeping.specs.Keeping.{keeping, IsTrue_to, IsHeld};
 ghost use Rattle.tx_keeping.specs.Turn.{k_happen};
-ghost use Rattle.tx_keeping.specs.Views.{AreKnown, turned_of, GoesOnWith, KeepsViews, HoldsTouched};
+ghost use Rattle.tx_meaning.specs.Views.{AreKnown, GoesOnWith, KeepsViews, HoldsTouched};
+ghost use Rattle.tx_keeping.specs.Told.{turned_of};
 
 /// The machine that keeps says what the meaning of the events says: after all of them it has the same state, and
 /// with each event that comes then the same outcome and the same reject. What it keeps is true: storage and the

@@ -10,7 +10,7 @@ use Rattle.tx_journal.specs.declared.events.Event.TheVariants as event
 use Rattle.tx_meaning.specs.Limits.{Setting}
 use Rattle.tx_meaning.specs.Meaning.{is_external, meaning}
 use Rattle.tx_meaning.specs.Turn.{happen}
-use Rattle.tx_keeping.specs.Views.{turned_of}
+use Rattle.tx_keeping.specs.Told.{turned_of}
 use Rattle.tx_keeping.proofs.Events.{happens_alike}
 use Rattle.tx_meaning.specs.State.{cpus_of}
 use Rattle.tx_keeping.specs.Kept.{Kept}

@@ -17,9 +17,9 @@ use Rattle.tx_meaning.proofs.Heads.{head_unrejected}
 use Rattle.tx_meaning.proofs.Queues.{queue_moves}
 use Rattle.tx_keeping.specs.Kept.{Kept}
 use Rattle.tx_keeping.specs.Turn.{k_happen}
-use Rattle.tx_keeping.specs.Views.{GoesOnWith, KeepsViews, HoldsTouched}
+use Rattle.tx_meaning.specs.Views.{GoesOnWith, KeepsViews, HoldsTouched}
 use Rattle.tx_keeping.proofs.Events.{legal, grows_only, views_kept, touched_held}
-use Rattle.tx_bounds.specs.Heads.{head_turns}
+use Rattle.tx_meaning.specs.Heads.{head_turns}
 use Rattle.tx_bounds.proofs.Heads.{heads_in_all}
 use Rattle.tx_bounds.proofs.Meant.{stops}
 use Rattle.tx_bounds.proofs.Stretched.{ages_within}

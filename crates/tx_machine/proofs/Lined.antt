@@ -28,7 +28,7 @@ use Rattle.tx_meaning.specs.Limits.{Setting, RunLimits}
 use Rattle.z_regs.specs.Prefix.{storage_size}
 use Rattle.z_regs.specs.declared.waiting.Waiting.{Waiting}
 use Rattle.tx_serial.specs.Flat.{Pending}
-use Rattle.tx_cpu.specs.Plans.{address_of}
+use Rattle.tx_serial.specs.Flat.{address_of}
 use Rattle.tx_meaning.specs.Needs.{needs_of, operand_needs, block_needs, stored}
 use Rattle.tx_meaning.specs.Needs.{interruption_ranges}
 use Rattle.tx_meaning.specs.declared.outcome.Outcome.TheVariants.{Executed}

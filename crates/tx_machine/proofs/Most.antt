@@ -11,7 +11,8 @@ use Rattle.tx_meaning.specs.Room.{is_turn}
 use Rattle.tx_meaning.specs.State.{State, beginning}
 use Rattle.tx_meaning.specs.Turn.{happen}
 use Rattle.tx_meaning.proofs.Books.{few_turns, all_externals}
-use Rattle.tx_keeping.specs.Views.{AreKnown}
+use Rattle.tx_meaning.proofs.Room.{room}
+use Rattle.tx_meaning.specs.Views.{AreKnown}
 use Rattle.tx_machine.specs.Machine.{most_events}
 
 abbrev if_turn : Event → ℕ
@@ -59,3 +60,10 @@ at_most m events known externals =
     let turns = few_turns m events known in
     let outside = all_externals m events in
     omega (arith, kinds, turns, outside, externals)
+
+-- every entry of the history is owed to an event of its own
+pub entries_at_most : (m : Setting) (events : List Event) → AreKnown m events
+    → length (meaning m events).history ≤ length (meaning m events).events
+entries_at_most m events known =
+    let live = room m events known in
+    omega (arith, live)

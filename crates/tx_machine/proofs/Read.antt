@@ -17,7 +17,7 @@ use Rattle.std.specs.Prelude.{if◌then◌else◌}
 use Rattle.tx_control.specs.declared.begins.Begin.{Begin}
 use Rattle.tx_cpu.specs.Plans.{levels_of}
 use Rattle.tx_meaning.specs.State.{is_live}
-use Rattle.tx_machine.specs.Machine.{levels_at}
+use Rattle.tx_meaning.specs.Shown.{levels_at}
 use Rattle.tx_keeping.proofs.Truth.{flat_is, cpu_is, nest_is}
 use Rattle.tx_machine.specs.Works.{Works, kept_by}
 use Rattle.tx_machine.specs.Machine.{Stands, nobody}

@@ -15,7 +15,7 @@ use Rattle.tx_meaning.proofs.Books.{turn_booked, external_booked, idle_or_not}
 use Rattle.tx_keeping.specs.Kept.{Kept, kept_beginning}
 use Rattle.tx_keeping.specs.Keeping.{keeping, keeping_from}
 use Rattle.tx_keeping.specs.Turn.{k_happen, k_idle, k_turn, k_turn_where}
-use Rattle.tx_keeping.specs.Views.{AreKnown}
+use Rattle.tx_meaning.specs.Views.{AreKnown}
 use Rattle.tx_keeping.proofs.Events.{keeping_is, keeping_good, happens_alike, held_so}
 use Rattle.tx_keeping.proofs.Moves.{IsGood}
 use Rattle.tx_keeping.proofs.Room.{AllWithin}

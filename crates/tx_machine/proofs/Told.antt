@@ -20,7 +20,8 @@ use Rattle.tx_control.specs.declared.exceptions.Exception.{Exception}
 use Rattle.tx_progress.specs.Progress.{Progress, resting, is_live, advanced, begins_constrained}
 use Rattle.tx_progress.specs.Local.{Local, Beside, taken_by, block_stored, interruption_taken}
 use Rattle.tx_progress.specs.Doing.{executed, executed_where, inside, outside, opened, closed_by}
-use Rattle.tx_progress.specs.Doing.{told_of, delay_given, stopped, stores_of}
+use Rattle.tx_progress.specs.Doing.{told_of, stopped, stores_of}
+use Rattle.z_effect.specs.TransactionEffect.{delay_given}
 use Rattle.tx_progress.specs.Trial.{outcome_by}
 use Rattle.tx_progress.specs.declared.done.Done.{Done}
 use Rattle.tx_progress.specs.declared.done.Done.TheVariants as done

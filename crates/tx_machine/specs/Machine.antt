@@ -1,13 +1,10 @@
 -- What a machine is seen as, and what it stands for.
-use Rattle.std.specs.Prelude.{◌≡◌, ℕ, ◌<◌, ◌+◌, ◌*◌, Bool, false, ◌==◌, List, [], length}
-use Rattle.std.specs.Prelude.{Option, Some, None, if◌then◌else◌, count_by}
-use Rattle.std.specs.Prelude.{refl}
+use Rattle.std.specs.Prelude.{◌≡◌, ℕ, ◌<◌, ◌+◌, ◌*◌, List, [], length, Option, Some, None, count_by, refl}
 use Rattle.std.specs.Coded.{Coded, code_by, coded×, coded_ℕ, coded_list, coded_option}
 use Rattle.tx_journal.specs.contracts.events.Event as event
 use Rattle.tx_meaning.specs.contracts.asking.Reject as reject
 use Rattle.tx_journal.specs.Content.{Content, content_code}
 use Rattle.tx_journal.specs.declared.entries.Entry.{Entry}
-use Rattle.tx_journal.specs.declared.entries.Entry.TheVariants.{Step, Commit, Abort, Tdb, Interrupt}
 use Rattle.tx_journal.specs.declared.events.Event.{Event}
 use Rattle.tx_journal.specs.declared.events.Event.TheVariants.{Turn, External}
 use Rattle.tx_ladder.specs.Rungs.{fresh}
@@ -18,10 +15,11 @@ use Rattle.tx_meaning.specs.Meaning.{IsSetting, AreEvents, meaning, is_external}
 use Rattle.z_regs.specs.declared.image.RunState.{RunState}
 use Rattle.z_regs.specs.declared.waiting.Waiting.{Waiting}
 use Rattle.tx_serial.specs.Apply.{interruption_code}
-use Rattle.tx_meaning.specs.State.{is_live, attempt_of, State, cpus_of}
+use Rattle.tx_meaning.specs.State.{State, cpus_of}
+use Rattle.tx_meaning.specs.Shown.{commits_of, aborts_of}
 use Rattle.tx_meaning.specs.Turn.{Turned, happen}
 use Rattle.tx_keeping.specs.Keeping.{keeping}
-use Rattle.tx_machine.specs.declared.machine.Counts.{Counts}
+use Rattle.tx_meaning.specs.declared.counts.Counts.{Counts}
 use Rattle.tx_machine.specs.declared.slot.Tally.{Tally}
 use Rattle.tx_machine.specs.Works.{Seat, Works, kept_by}
 
@@ -69,10 +67,6 @@ after s e = record s { events = (event_of s e).state.events; reject = (event_of 
 
 -- ---- what is read of it
 
--- how many begins are open, and how many instructions are completed, of an attempt that is live
-abbrev pub levels_at : Setting → State → ℕ → Option (ℕ × ℕ)
-levels_at m s i = if is_live s i then Some (length (attempt_of m s i).nest, (s.numbers i).completed) else None
-
 -- the code of an interruption that waits on a CPU in this state
 abbrev pub code_awaited : RunState → Option Waiting → Option ℕ
 code_awaited state None = None
@@ -80,30 +74,7 @@ code_awaited state (Some w) = Some (interruption_code state)
 
 -- ---- counted in the history
 
-abbrev pub commits_of : ℕ → Entry → Bool
-commits_of i (Commit j n) = j == i
-commits_of i (Step j) = false
-commits_of i (Abort j n why) = false
-commits_of i (Tdb j) = false
-commits_of i (Interrupt j) = false
-
-abbrev pub aborts_of : ℕ → Entry → Bool
-aborts_of i (Abort j n why) = j == i
-aborts_of i (Step j) = false
-aborts_of i (Commit j n) = false
-aborts_of i (Tdb j) = false
-aborts_of i (Interrupt j) = false
-
-abbrev pub counts_at : State → ℕ → Counts
-counts_at s i = record {
-  turns = (s.numbers i).turns;
-  asked = (s.numbers i).asked;
-  rejected = (s.numbers i).rejected;
-  commits = count_by (commits_of i) s.history;
-  aborts = count_by (aborts_of i) s.history;
-}
-
--- the same by what is kept
+-- what is counted of a CPU, by what is kept of it
 abbrev pub counts_with : Tally → List Entry → ℕ → Counts
 counts_with t history i = record {
   turns = t.turns;

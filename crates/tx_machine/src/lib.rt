@@ -16,5 +16,6 @@ pub mod slot;
 pub mod turning;
 pub mod works;
 
-pub use machine::{Counts, Machine, NoMemory};
+pub use machine::{Machine, NoMemory};
 pub use slot::Tally;
+pub use tx_meaning::Counts;

@@ -13,17 +13,18 @@ ghost use Rattle.tx_meaning.specs.State as meant;
 ghost use Rattle.tx_meaning.specs.Turn.{happen};
 ghost use Rattle.tx_meaning.specs.Hits.{hits};
 ghost use Rattle.tx_meaning.specs.Queues.{QueueMoves};
-ghost use Rattle.tx_bounds.specs.Heads.{head_turns};
+ghost use Rattle.tx_meaning.specs.Heads.{head_turns};
 ghost use Rattle.tx_meaning.specs.State.{is_head};
 ghost use Rattle.tx_meaning.specs.Stretches.{stretch_of, left, bound, attempt_turns};
 ghost use Rattle.tx_meaning.specs.Stretches.{counted, is_counted_turn};
-ghost use Rattle.tx_keeping.specs.Views.{GoesOnWith, KeepsViews, HoldsTouched};
+ghost use Rattle.tx_meaning.specs.Views.{GoesOnWith, KeepsViews, HoldsTouched};
 ghost use Rattle.tx_serial.specs.History.{IsLegal};
-ghost use Rattle.tx_cpu.specs.Plans.{address_of};
+ghost use Rattle.tx_serial.specs.Flat.{address_of};
 ghost use Rattle.tx_serial.specs.Apply.{interruption_code};
 ghost use Rattle.tx_cpu.specs.Parts.{local_of};
 ghost use Rattle.tx_machine.specs.Machine.{IsLeft, Stands, setting_of, state_of, opened, event_of, after};
-ghost use Rattle.tx_machine.specs.Machine.{levels_at, code_awaited, counts_at, counts_with, commits_of, aborts_of};
+ghost use Rattle.tx_meaning.specs.Shown.{levels_at, counts_at, commits_of, aborts_of};
+ghost use Rattle.tx_machine.specs.Machine.{code_awaited, counts_with, most_events};
 ghost use Rattle.tx_machine.specs.Machine.{tally_at};
 
 use crate::slot::Tally;
@@ -33,7 +34,7 @@ use std::marker::Model;
 use std::sync::Arc;
 use tx_cpu::{Cpu, Program};
 use tx_journal::{Entry, Event, Image};
-use tx_meaning::{Limits, Outcome, Reject};
+use tx_meaning::{Counts, Limits, Outcome, Reject};
 use z_regs::{CpuImage, RunState};
 
 /// There was no memory.
@@ -44,21 +45,6 @@ impl From<AllocError> for NoMemory {
     fn from(_error: AllocError) -> NoMemory {
         NoMemory
     }
-}
-
-/// What is counted of one CPU.
-#[derive(Clone, Copy, Debug, PartialEq, Eq)]
-pub struct Counts {
-    /// Its counted turns.
-    pub turns: u32,
-    /// Its questions to holders of lines.
-    pub asked: u64,
-    /// Those of them that were answered by a reject.
-    pub rejected: u64,
-    /// Its transactions that have committed.
-    pub commits: u32,
-    /// Its attempts that were aborted.
-    pub aborts: u32,
 }
 
 /// CPUs that share one storage, after events. Contracts see a machine as its image, its limits, the recorded
@@ -244,10 +230,13 @@ impl Machine {
         )
     }
 
-    /// What is recorded, in order: every event but turns that were idle.
+    /// What is recorded, in order: every event but turns that were idle. There are at most as many as all CPUs
+    /// may have turns, with the external events added; and never fewer than entries in the history.
     pub fn events(&self) -> &[Event]
         ensures recorded { result.now ≡ self.now.events }
         ensures meant { result.now ≡ (state_of self.now).events }
+        ensures most { length result.now ≤ most_events (setting_of self.now) }
+        ensures entries { length (state_of self.now).history ≤ length result.now }
     {
         self.works.events.as_slice()
     }

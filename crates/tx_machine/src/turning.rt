@@ -2,7 +2,8 @@
 ghost use Rattle.std.specs.Prelude.{◌≡◌, ◌+◌, ◌<◌, ◌≤◌, ◌∷◌, [], IsTrue, ℕ, List, Option, true, false, is_some, length};
 ghost use Rattle.z_regs.specs.Absolute.{absolute_ranges};
 ghost use Rattle.z_regs.specs.Prefix.{is_prefix, storage_size};
-ghost use Rattle.tx_cpu.specs.Plans.{IsPrepared, HasPlanRoom, fate_of, address_of};
+ghost use Rattle.tx_cpu.specs.Plans.{IsPrepared, HasPlanRoom, fate_of};
+ghost use Rattle.tx_serial.specs.Flat.{address_of};
 ghost use Rattle.tx_progress.specs.Progress.{resting};
 ghost use Rattle.tx_progress.specs.Trial.{fate_by_progress};
 ghost use Rattle.tx_meaning.specs.Limits.{Setting, RunLimits};

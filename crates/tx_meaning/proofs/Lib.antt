@@ -4,6 +4,7 @@ pub mod Walk
 pub mod Queues
 pub mod Heads
 pub mod Books
+pub mod IdleTurns
 pub mod Room
 pub mod Needs
 pub mod Schedules

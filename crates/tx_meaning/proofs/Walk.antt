@@ -31,7 +31,7 @@ use Rattle.tx_serial.specs.Attempt.{Run, Mark, Open, Committed, Overflowed, Miss
 use Rattle.tx_serial.specs.Fate.{Fate, Goes, Ends, Stops, fate}
 use Rattle.tx_serial.specs.Run.{run}
 use Rattle.tx_serial.specs.Ending.{ending}
-use Rattle.tx_progress.specs.Doing.{delay_given}
+use Rattle.z_effect.specs.TransactionEffect.{delay_given}
 use Rattle.tx_meaning.specs.declared.outcome.Outcome.{Outcome}
 use Rattle.tx_meaning.specs.Limits.{Setting}
 use Rattle.tx_meaning.specs.Needs.{operand_needs, block_needs, interruption_needs}

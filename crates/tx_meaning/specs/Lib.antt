@@ -6,9 +6,13 @@ pub mod Needs
 pub mod Changes
 pub mod Asking
 pub mod Idle
+pub mod IdleOutcomes
 pub mod Turn
 pub mod Meaning
 pub mod Schedules
 pub mod Stretches
 pub mod Queues
 pub mod Room
+pub mod Heads
+pub mod Views
+pub mod Shown

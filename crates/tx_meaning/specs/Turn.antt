@@ -21,7 +21,7 @@ use Rattle.tx_serial.specs.Fate.{Fate, Goes, Ends, Stops, fate}
 use Rattle.tx_serial.specs.Run.{run}
 use Rattle.tx_serial.specs.Ending.{ending}
 use Rattle.tx_serial.specs.Remains.{aborted_bit}
-use Rattle.tx_progress.specs.Doing.{delay_given}
+use Rattle.z_effect.specs.TransactionEffect.{delay_given}
 use Rattle.tx_meaning.specs.declared.outcome.Outcome.{Outcome}
 use Rattle.tx_meaning.specs.declared.outcome.Outcome.TheVariants as outcome
 use Rattle.tx_meaning.specs.Limits.{RunLimits, Setting}

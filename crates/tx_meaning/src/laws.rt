@@ -15,7 +15,7 @@ ghost use Rattle.std.specs.Prelude.{
   ◌∷◌,
   All,
 };
-ghost use Rattle.std.specs.Prelude.{AllPairs, length, count_by, None};
+ghost use Rattle.std.specs.Prelude.{AllPairs, length, count_by, None, not};
 ghost use Rattle.tx_journal.specs.Image.{cpu_of_event};
 ghost use Rattle.tx_journal.specs.declared.events.Event.{Event};
 ghost use Rattle.tx_journal.specs.declared.events.Event.TheVariants.{Turn};
@@ -24,6 +24,7 @@ ghost use Rattle.tx_footprint.specs.Places.{fetches, stores};
 ghost use Rattle.tx_ladder.specs.Parameters.{usual};
 ghost use Rattle.tx_meaning.specs.Changes.{is_needed};
 ghost use Rattle.tx_meaning.specs.Idle.{is_ready};
+ghost use Rattle.tx_meaning.specs.IdleOutcomes.{is_idle_outcome};
 ghost use Rattle.tx_meaning.specs.Limits.{Setting, turn_limit, tick_limit, external_limit};
 ghost use Rattle.tx_meaning.specs.Meaning.{meaning, is_external};
 ghost use Rattle.tx_meaning.specs.Needs.{needs_of};
@@ -54,6 +55,12 @@ pub fn nobody_rejects_the_head()
 /// An idle turn changes nothing, and so is neither counted nor recorded.
 pub fn an_idle_turn_changes_nothing()
     ensures { (m : Setting) (s : State) (i : ℕ) → is_ready m s i ≡ false → (happen m (Turn i) s).state ≡ s }
+{}
+
+/// The outcome of a turn is an idle one exactly where its CPU is not ready.
+pub fn an_outcome_says_whether_the_cpu_was_ready()
+    ensures { (m : Setting) (s : State) (i : ℕ)
+        → is_idle_outcome (happen m (Turn i) s).outcome ≡ not (is_ready m s i) }
 {}
 
 /// The history and the live attempts together never have more entries than there are recorded events. These

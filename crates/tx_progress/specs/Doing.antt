@@ -1,18 +1,18 @@
 -- What an instruction that goes makes of a CPU and of storage.
-use Rattle.std.specs.Prelude.{ℕ, Bool, true, false, nat_lt, if◌then◌else◌, List, [], ◌∷◌, None, codes}
+use Rattle.std.specs.Prelude.{ℕ, Bool, true, false, nat_lt, if◌then◌else◌, List, [], ◌∷◌, None}
 use Rattle.z_regs.specs.Cpu.{Cpu}
 use Rattle.z_regs.specs.declared.image.RunState.{RunState}
 use Rattle.z_regs.specs.declared.image.RunState.TheVariants.{Running, Halted, Interrupted}
 use Rattle.z_regs.specs.declared.ranges.Range.{Range}
 use Rattle.z_instr.specs.declared.instr.Instr.{Instr}
 use Rattle.z_instr.specs.Table.{entry_at}
-use Rattle.z_instr.specs.Roles.{begins, is_named}
+use Rattle.z_instr.specs.Roles.{begins}
 use Rattle.z_effect.specs.After.{exception}
 use Rattle.z_effect.specs.One.{length_of}
 use Rattle.z_effect.specs.Outcome.{Outcome, Did, Divides, Aborts}
 use Rattle.z_effect.specs.Outcome as outcome
 use Rattle.z_effect.specs.Interrupted.{interrupted_by, cpu_outside}
-use Rattle.z_effect.specs.TransactionEffect.{delay_of}
+use Rattle.z_effect.specs.TransactionEffect.{delay_given}
 use Rattle.tx_control.specs.declared.begins.Begin.{Begin}
 use Rattle.tx_control.specs.declared.causes.Why.{Why}
 use Rattle.tx_control.specs.declared.causes.Why.TheVariants.{Tabort}
@@ -38,10 +38,6 @@ abbrev pub stores_of : List Range → List ℕ → Progress → List Store
 stores_of ranges bytes q = operand_stores q.cpu.prefix ranges bytes
 
 -- ---- outside transactions
-
--- how many turns the program waits after the instruction
-abbrev pub delay_given : Instr → Cpu → ℕ
-delay_given i c = if is_named (codes "PPA") (entry_at i.op.number) then delay_of i c else 0
 
 abbrev pub told_of : RunState → ℕ → Done
 told_of (Interrupted code) delay = done.Interrupted code

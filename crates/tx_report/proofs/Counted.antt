@@ -4,7 +4,7 @@ use Rattle.std.proofs.Common.{List, length, take, get_or, cond}
 use Rattle.std.proofs.lemmas.List.{length-take-le}
 use Rattle.std.proofs.lemmas.List.Sums.{sum_by_more, count_by-le-length}
 use Rattle.tx_journal.specs.declared.entries.Entry.{Entry}
-use Rattle.tx_machine.specs.Machine.{commits_of, aborts_of}
+use Rattle.tx_meaning.specs.Shown.{commits_of, aborts_of}
 use Rattle.tx_report.specs.declared.ends.Ends.{Ends}
 use Rattle.tx_report.specs.Ends.{ends_in, ends_with}
 

@@ -1,7 +1,7 @@
 -- How the transactions of a CPU have ended.
 use Rattle.std.specs.Prelude.{ℕ, ◌+◌, List, count_by, if◌then◌else◌}
 use Rattle.tx_journal.specs.declared.entries.Entry.{Entry}
-use Rattle.tx_machine.specs.Machine.{commits_of, aborts_of}
+use Rattle.tx_meaning.specs.Shown.{commits_of, aborts_of}
 use Rattle.tx_report.specs.declared.ends.Ends.{Ends}
 
 -- as a history has it

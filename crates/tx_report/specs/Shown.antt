@@ -5,12 +5,12 @@ use Rattle.report_text.specs.Shown.{Shown, ShownCpu}
 use Rattle.report_text.specs.declared.processors.Attempt.{Attempt}
 use Rattle.report_text.specs.declared.processors.Counts as told
 use Rattle.tx_serial.specs.Flat.{bytes_of}
-use Rattle.tx_cpu.specs.Plans.{address_of}
+use Rattle.tx_serial.specs.Flat.{address_of}
 use Rattle.tx_meaning.specs.Limits.{Setting}
 use Rattle.tx_meaning.specs.State.{State, flat_of, cpu_of, cpus_of}
 use Rattle.tx_meaning.specs.Idle.{is_finished}
-use Rattle.tx_machine.specs.declared.machine.Counts.{Counts}
-use Rattle.tx_machine.specs.Machine.{levels_at, counts_at}
+use Rattle.tx_meaning.specs.declared.counts.Counts.{Counts}
+use Rattle.tx_meaning.specs.Shown.{levels_at, counts_at}
 
 -- the live attempt, by its open begins and its completed instructions
 abbrev pub attempt_shown : Option (ℕ × ℕ) → Option Attempt

@@ -1,5 +1,6 @@
 -- The flat state: storage as one table of bytes, and all that is known of each CPU.
 use Rattle.std.specs.Prelude.{ℕ, suc, ◌==◌, cond, if◌then◌else◌, List, [], ◌∷◌, ◌++◌, map, take, drop, Option}
+use Rattle.std.specs.Prelude.{Some, None}
 use Rattle.std.specs.List.{flat_map, range_with_len}
 use Rattle.z_regs.specs.Cpu.{Cpu}
 use Rattle.z_regs.specs.Prefix.{storage_size, absolute_of}
@@ -32,6 +33,11 @@ bytes_of storage = bytes_below storage_size storage
 pub record Pending : Type 0 where
   pub address : ℕ
   pub bytes : List ℕ
+
+-- the address of a block, where there is one
+abbrev pub address_of : Option Pending → Option ℕ
+address_of None = None
+address_of (Some b) = Some b.address
 
 -- storage and its text pages, and for each CPU what it holds, the block that is pending for it, and the
 -- interruption that it has still to take. A CPU that is not there is halted, and has neither.

@@ -10,7 +10,7 @@ use Rattle.tx_meaning.specs.Schedules.{AreReadyTurns, IsReadyTurn, planned, plan
 use Rattle.tx_meaning.specs.State.{State, beginning, cpus_of}
 use Rattle.tx_meaning.specs.Turn.{happen}
 use Rattle.tx_meaning.proofs.Schedules.{drawn_leads, round_leads}
-use Rattle.tx_keeping.specs.Views.{AreKnown}
+use Rattle.tx_meaning.specs.Views.{AreKnown}
 
 module _ (m : Setting) where
   known_by : (s : State) (e : Event) → IsReadyTurn m s e → cpu_of_event e < cpus_of m

@@ -8,7 +8,7 @@ use Rattle.tx_meaning.specs.Limits.{Setting}
 use Rattle.tx_meaning.specs.Meaning.{IsSetting, meaning}
 use Rattle.tx_meaning.specs.State.{State, cpus_of}
 use Rattle.tx_meaning.proofs.Queues.{queue_moves}
-use Rattle.tx_keeping.specs.Views.{AreKnown, GoesOnWith}
+use Rattle.tx_meaning.specs.Views.{AreKnown, GoesOnWith}
 use Rattle.tx_keeping.proofs.Events.{legal, grows_only, views_kept, touched_held}
 use Rattle.tx_bounds.proofs.Meant.{stops}
 use Rattle.tx_bounds.proofs.Stretched.{ages_within}

@@ -11,8 +11,8 @@ use Rattle.tx_meaning.specs.Hits.{hits}
 use Rattle.tx_meaning.specs.Queues.{QueueMoves}
 use Rattle.tx_meaning.specs.Stretches.{stretch_of, left, bound, attempt_turns}
 use Rattle.tx_meaning.specs.Stretches.{counted, is_counted_turn}
-use Rattle.tx_bounds.specs.Heads.{head_turns}
-use Rattle.tx_keeping.specs.Views.{GoesOnWith, KeepsViews, HoldsTouched}
+use Rattle.tx_meaning.specs.Heads.{head_turns}
+use Rattle.tx_meaning.specs.Views.{GoesOnWith, KeepsViews, HoldsTouched}
 
 -- the state behind an event that comes after others
 abbrev pub behind : Setting → List Event → Event → State

@@ -1,7 +1,7 @@
 //! What holds of all answers. Each law is the contract of a function that does nothing.
 ghost use Rattle.std.specs.Prelude.{ℕ, List, Option};
 ghost use Rattle.tx_journal.specs.declared.events.Event.{Event};
-ghost use Rattle.tx_keeping.specs.Views.{AreKnown};
+ghost use Rattle.tx_meaning.specs.Views.{AreKnown};
 ghost use Rattle.tx_meaning.specs.Limits.{Setting};
 ghost use Rattle.tx_meaning.specs.Meaning.{IsSetting};
 ghost use Rattle.ztx_answers.specs.Due.{IsDueToList, IsDueToRun, IsSummary, IsGenerated};

@@ -5,7 +5,8 @@ use Rattle.tx_journal.specs.declared.entries.Entry.{Entry}
 use Rattle.std.proofs.lemmas.List.{get_or_default}
 use Rattle.tx_meaning.specs.Limits.{Setting}
 use Rattle.tx_meaning.specs.State.{State}
-use Rattle.tx_machine.specs.Machine.{counts_at, counts_with}
+use Rattle.tx_meaning.specs.Shown.{counts_at}
+use Rattle.tx_machine.specs.Machine.{counts_with}
 use Rattle.tx_machine.specs.Works.{Seat}
 use Rattle.tx_machine.specs.Machine.{Seen, state_of, nobody}
 use Rattle.tx_machine.specs.declared.machine.Machine.TheInside.{Inside}

@@ -7,8 +7,8 @@ use Rattle.tx_meaning.specs.Queues.{QueueMoves}
 use Rattle.tx_meaning.specs.State.{State, cpus_of, is_head}
 use Rattle.tx_meaning.specs.Stretches.{counted, is_counted_turn}
 use Rattle.tx_meaning.specs.Turn.{happen}
-use Rattle.tx_bounds.specs.Heads.{head_turns}
-use Rattle.tx_keeping.specs.Views.{GoesOnWith, KeepsViews}
+use Rattle.tx_meaning.specs.Heads.{head_turns}
+use Rattle.tx_meaning.specs.Views.{GoesOnWith, KeepsViews}
 use Rattle.tx_machine.specs.Machine.{Seen, Stands, setting_of, state_of, event_of}
 use Rattle.tx_machine.proofs.Laws.{is_legal, is_held, few_hits, few_turns_left, history_grows, views_stay}
 use Rattle.tx_machine.proofs.Laws.{queue_at_its_ends, few_turns_of_heads, unrejected_head}

@@ -1,8 +1,9 @@
--- What is kept is what the recorded events mean.
-use Rattle.std.proofs.Common.{sym, ap, ◌∙◌}
+-- What is kept is what the recorded events mean, and so there is no more of it than they can come to.
+use Rattle.std.proofs.Common.{◌≡◌, ◌≤◌, length, sym, ap, ◌∙◌, subst}
 use Rattle.tx_meaning.specs.State.{State}
-use Rattle.tx_machine.specs.Machine.{Seen, state_of}
+use Rattle.tx_machine.specs.Machine.{Seen, state_of, setting_of, most_events}
 use Rattle.tx_machine.specs.declared.machine.Machine.TheInside.{Inside}
+use Rattle.tx_machine.proofs.Most.{at_most, entries_at_most}
 use Rattle.tx_machine.proofs.Read.{reads_state}
 use Rattle.tx_machine.proofs.machine.Machine.events.Goals as goal
 
@@ -11,3 +12,16 @@ returns-clause-meant c =
     c.as_slice.ensures.value ∙ ap (λ (i : Inside). i.works.events) c.self-inside.view_is
     ∙ sym (ap (λ (t : State). t.events) (reads_state _ _ _ c.self.invariant))
     ∙ ap (λ (s : Seen). (state_of s).events) c.self.view_is
+
+pub returns-clause-most : goal.returns-clause-most
+returns-clause-most c =
+    let allowed = c.self.invariant.events in
+    subst (λ es. length es ≤ most_events (setting_of c.args.self.now)) (sym (returns-clause-meant c))
+    (subst (λ (s : Seen). length (state_of s).events ≤ most_events (setting_of s)) c.self.view_is
+    (at_most _ c.self.inside.works.events allowed.known allowed.externals))
+
+pub returns-clause-entries : goal.returns-clause-entries
+returns-clause-entries c =
+    subst (λ es. length (state_of c.args.self.now).history ≤ length es) (sym (returns-clause-meant c))
+    (subst (λ (s : Seen). length (state_of s).history ≤ length (state_of s).events) c.self.view_is
+    (entries_at_most _ c.self.inside.works.events c.self.invariant.events.known))

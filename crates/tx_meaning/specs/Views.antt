@@ -1,4 +1,4 @@
--- What is said of the machine over all events: what an event leaves of a live attempt, and what is kept of it.
+-- What is said of the machine over all events: what an event leaves of a live attempt, and what is held for it.
 use Rattle.std.specs.Prelude.{◌≡◌, ℕ, ◌/◌, ◌<◌, true, ◌||◌, List, ◌++◌, All, Some, is_some}
 use Rattle.line_table.specs.declared.table.Mode.TheVariants.{Exclusive}
 use Rattle.line_table.specs.Holders.{IsSound}
@@ -10,24 +10,18 @@ use Rattle.tx_serial.specs.Alike.{track_of}
 use Rattle.tx_serial.specs.Attempt.{Run, footprint}
 use Rattle.tx_meaning.specs.Limits.{Setting}
 use Rattle.tx_meaning.specs.State.{State, is_live, attempt_of, footprint_of, cpus_of}
-use Rattle.tx_meaning.specs.Turn.{Turned}
-use Rattle.tx_keeping.specs.Turn.{KTurned}
 
 -- the events are of CPUs that there are
 abbrev pub AreKnown : Setting → List Event → Type 0
 AreKnown m events = All (λ e. cpu_of_event e < cpus_of m) events
-
--- what is kept after an event, as the meaning tells it
-abbrev pub turned_of : KTurned → Turned
-turned_of q = record { state = q.kept.state; outcome = q.outcome; reject = q.reject }
 
 -- a history goes on with more entries
 pub record GoesOnWith (history after : List Entry) : Type 0 where
   pub more : List Entry
   pub is : history ++ more ≡ after
 
--- two runs show the same: the CPU, the stores, the open begins, all that they touched and all their steps, and
--- the same byte at each absolute address in a line that they touched
+-- two runs show the same: the CPU, the stores, the open begins, all that they touched and all their steps,
+-- and the same byte at each absolute address in a line that they touched
 pub record IsSameView (p q : Run) : Type 0 where
   pub shows : track_of q ≡ track_of p
   pub bytes : (a : ℕ) → ((footprint p).fetched (a / line_size) || (footprint p).stored (a / line_size)) ≡ true
@@ -39,8 +33,8 @@ KeepsViews m before after =
     (i : ℕ) → is_live before i ≡ true → (after.numbers i).completed ≡ (before.numbers i).completed
     → IsSameView (attempt_of m before i) (attempt_of m after i)
 
--- holders are sound, and hold what live attempts have touched, by their private runs: what is stored exclusively,
--- what is fetched at least shared
+-- holders are sound, and hold what live attempts have touched, by their private runs: what is stored
+-- exclusively, what is fetched at least shared
 pub record HoldsTouched (m : Setting) (s : State) : Type 0 where
   pub sound : IsSound s.held
   pub stored : (i line : ℕ) → (footprint_of m s i).stored line ≡ true → s.held i line ≡ Some Exclusive
