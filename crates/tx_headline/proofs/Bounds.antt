@@ -19,7 +19,7 @@ use Rattle.tx_meaning.specs.State.{State, is_first, is_head}
 use Rattle.tx_meaning.specs.Idle.{is_ready}
 use Rattle.tx_meaning.specs.Stretches.{stretch_of, left, bound, attempt_turns, is_counted_turn, is_end_by}
 use Rattle.tx_meaning.proofs.Queues.{only_the_head}
-use Rattle.tx_keeping.specs.Views.{AreKnown}
+use Rattle.tx_meaning.specs.Views.{AreKnown}
 use Rattle.tx_bounds.proofs.Potential.{some_left}
 use Rattle.tx_bounds.proofs.Stretched.{under_way, ages_within}
 use Rattle.tx_headline.specs.Since.{is_conflict, Opens, IsUninterrupted, CommitsAfter, entries_since}

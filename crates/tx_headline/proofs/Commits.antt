@@ -19,7 +19,7 @@ use Rattle.tx_meaning.specs.Stretches.{new_entries}
 use Rattle.tx_meaning.specs.Turn.{happen}
 use Rattle.tx_keeping.specs.Kept.{Kept}
 use Rattle.tx_keeping.specs.Keeping.{keeping}
-use Rattle.tx_keeping.specs.Views.{AreKnown}
+use Rattle.tx_meaning.specs.Views.{AreKnown}
 use Rattle.tx_keeping.proofs.Events.{keeping_is, grows_only}
 use Rattle.tx_bounds.proofs.Stopped.{between, some_stop}
 use Rattle.tx_bounds.proofs.Stretched.{held_over, some_starve, closes_at_an_end, ages_below}

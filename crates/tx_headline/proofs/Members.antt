@@ -23,7 +23,7 @@ use Rattle.tx_meaning.specs.Changes.{with_event, without_head, head_to_tail, wit
 use Rattle.tx_meaning.specs.Turn.{happen}
 use Rattle.tx_meaning.proofs.Walk.{Walk, conflict_on, rung_case, leaving_case, cause_case, in_a_turn}
 use Rattle.tx_meaning.proofs.Walk.{externally}
-use Rattle.tx_keeping.specs.Views.{AreKnown}
+use Rattle.tx_meaning.specs.Views.{AreKnown}
 use Rattle.tx_bounds.proofs.Stopping.{Once}
 use Rattle.tx_headline.specs.Queue.{others_before}
 use Rattle.tx_headline.proofs.Lists.{all_first}

@@ -21,7 +21,7 @@ use Rattle.tx_meaning.proofs.Books.{unready_stays}
 use Rattle.tx_keeping.specs.Kept.{Kept}
 use Rattle.tx_keeping.specs.Keeping.{keeping}
 use Rattle.tx_keeping.specs.Turn.{k_happen}
-use Rattle.tx_keeping.specs.Views.{AreKnown}
+use Rattle.tx_meaning.specs.Views.{AreKnown}
 use Rattle.tx_keeping.proofs.Events.{keeping_is, keeping_good}
 use Rattle.tx_bounds.proofs.Meant.{StopsAt, stops}
 use Rattle.tx_bounds.proofs.News.{Calm}

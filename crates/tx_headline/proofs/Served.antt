@@ -25,7 +25,7 @@ use Rattle.tx_meaning.specs.Stretches.{is_counted_turn}
 use Rattle.tx_meaning.specs.Turn.{turn, happen}
 use Rattle.tx_meaning.proofs.Books.{unready_stays, turn_booked, idle_or_not, idle_stays}
 use Rattle.tx_meaning.proofs.Queues.{only_the_head}
-use Rattle.tx_keeping.specs.Views.{AreKnown}
+use Rattle.tx_meaning.specs.Views.{AreKnown}
 use Rattle.tx_keeping.proofs.Events.{grows_only}
 use Rattle.tx_bounds.proofs.Stretched.{under_way}
 use Rattle.tx_bounds.proofs.Heads.{queue_is_open}

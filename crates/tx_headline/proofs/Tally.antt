@@ -19,7 +19,7 @@ use Rattle.tx_progress.specs.Local.{Beside}
 use Rattle.tx_meaning.specs.Limits.{Setting}
 use Rattle.tx_meaning.specs.State.{Numbers, State, is_live}
 use Rattle.tx_meaning.specs.Changes.{with_numbers, with_event, counting_turn}
-use Rattle.tx_meaning.specs.Stretches.{is_end_of}
+use Rattle.tx_meaning.specs.Stretches.{is_end_by, is_end_of}
 use Rattle.tx_meaning.proofs.Walk.{at_put_kept, conflict_on}
 use Rattle.tx_keeping.specs.Kept.{Kept, with_state, with_beside}
 use Rattle.tx_keeping.specs.Moves.{k_asking, k_rejecting, k_rejected, k_aborting, k_starting, k_committing}
@@ -164,7 +164,7 @@ module _ (m : Setting) (i c : ℕ) (before : List Entry) where
       let off = ne_eqb j c (λ e. ne (sym e)) in
       let there = aborted_elsewhere m true c k.state 0 j ne j w at k ne in
       tally_plain k (k_aborting j w at k) (abort_of j w k) (abort_history j at w k)
-      (ap (λ b. b && _) off) (ap (λ b. b && is_conflict w) off) there.standing.aborts n
+      (ap (λ b. b && is_end_by w) off) (ap (λ b. b && is_conflict w) off) there.standing.aborts n
 
   -- of the CPU, by a conflict
   conflict_tally : (at : ℕ) (w : Why) (k : Kept) → is_end_of c (abort_of c w k) ≡ false

@@ -8,7 +8,7 @@ ghost use Rattle.tx_headline.specs.Queue.{QueueChanges, others_before};
 ghost use Rattle.tx_headline.specs.Since.{is_conflict, is_program_abort_of, entries_since, turns_after};
 ghost use Rattle.tx_headline.specs.Since.{all_turns_after, IsUninterrupted, Opens, CommitsAfter};
 ghost use Rattle.tx_journal.specs.declared.events.Event.{Event};
-ghost use Rattle.tx_keeping.specs.Views.{AreKnown};
+ghost use Rattle.tx_meaning.specs.Views.{AreKnown};
 ghost use Rattle.tx_ladder.specs.Parameters.{usual};
 ghost use Rattle.tx_ladder.specs.Waiting.{waits_in};
 ghost use Rattle.tx_meaning.specs.Limits.{Setting};
