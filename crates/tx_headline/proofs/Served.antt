@@ -265,7 +265,7 @@ module _ (m : Setting) (s : IsSetting m) (i : ℕ) where
     nearer = let x = one.nearer in let y = more.nearer in omega (arith, x, y);
   }
 
-  pub all_events : (events rest : List Event) → AreKnown m (events ++ rest) → Quiet events rest
+  all_events : (events rest : List Event) → AreKnown m (events ++ rest) → Quiet events rest
       → waits_in (meaning m events).queue i ≡ true → Outcome events rest
   all_events events [] known quiet waits =
       inl (subst (λ x. Waits (meaning m events) (meaning m x)) (sym (append-nil events))
