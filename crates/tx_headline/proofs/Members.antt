@@ -46,9 +46,10 @@ waits_later xs ys j h = list_any-append (λ k. k == j) xs ys ∙ or_right (waits
 pub once_first : (xs ys : List ℕ) → Once (xs ++ ys) → Once xs
 unfolding Once
 once_first [] ys once = tt
-once_first (x ∷ xs) ys once =
-    ((or_parts (waits_in xs x) (waits_in ys x) (sym (list_any-append (λ k. k == x) xs ys) ∙ once.0)).0,
-      once_first xs ys once.1)
+once_first (x ∷ xs) ys once = (
+  (or_parts (waits_in xs x) (waits_in ys x) (sym (list_any-append (λ k. k == x) xs ys) ∙ once.0)).0,
+  once_first xs ys once.1,
+)
 
 -- who is in the later part is not in the first
 pub parts_apart : (xs ys : List ℕ) (j : ℕ) → Once (xs ++ ys) → waits_in ys j ≡ true → waits_in xs j ≡ false

@@ -56,9 +56,13 @@ head_before [] joined i rest e off =
     let is : waits_in joined i ≡ true =
     ap (λ l. waits_in l i) e ∙ or_left (i == i) (waits_in rest i) (eq-eqb i i refl) in
     absurd (true≢false (sym is ∙ off))
-head_before (x ∷ before) joined i rest e off =
-    (before, (ap (λ y. y ∷ before) (same_head x i (before ++ joined) rest e),
-      same_rest x i (before ++ joined) rest e))
+head_before (x ∷ before) joined i rest e off = (
+  before,
+  (
+    ap (λ y. y ∷ before) (same_head x i (before ++ joined) rest e),
+    same_rest x i (before ++ joined) rest e,
+  ),
+)
 
 -- those that joined behind such a head did not wait before
 fresh_by : (i j : ℕ) (before joined : List ℕ) → Once (before ++ joined) → waits_in joined i ≡ false
