@@ -1,6 +1,6 @@
 //! The machine, as programs use it.
 ghost use Rattle.std.specs.Prelude.{◌≡◌, ℕ, ◌+◌, ◌*◌, ◌^◌, ◌<◌, ◌≤◌, IfOk, None, true, length, slice_get};
-ghost use Rattle.std.specs.Prelude.{count_by, ◌⊎◌, []};
+ghost use Rattle.std.specs.Prelude.{All, count_by, ◌⊎◌, []};
 ghost use Rattle.std.specs.Arc.{arc_value};
 ghost use Rattle.z_regs.specs.Cpu.{cpu_of};
 ghost use Rattle.z_regs.specs.Prefix.{storage_size};
@@ -29,6 +29,7 @@ ghost use Rattle.tx_machine.specs.Machine.{IsLeft, Stands, setting_of, state_of,
 ghost use Rattle.tx_meaning.specs.Shown.{levels_at, counts_at, commits_of, aborts_of};
 ghost use Rattle.tx_machine.specs.Machine.{code_awaited, counts_with, most_events};
 ghost use Rattle.tx_machine.specs.Machine.{tally_at};
+ghost use Rattle.tx_machine.specs.Wanted.{wanted};
 
 use crate::slot::Tally;
 use crate::works::Works;
@@ -38,7 +39,7 @@ use std::sync::Arc;
 use tx_cpu::{Cpu, Program};
 use tx_journal::{Entry, Event, Image};
 use tx_meaning::{Counts, Limits, Outcome, Reject};
-use z_regs::{CpuImage, RunState};
+use z_regs::{CpuImage, RunState, Touches};
 
 /// There was no memory.
 #[derive(Clone, Copy, Debug, PartialEq, Eq)]
@@ -370,6 +371,19 @@ impl Machine {
             result ≡ code_awaited (meant.cpu_of m s cpu).state ((meant.flat_of m s).waiting cpu) }
     {
         code_awaited(&self.works.slots[cpu as usize].cpu)
+    }
+
+    /// The bytes that the next turn of the CPU has to fetch or store, by absolute addresses: those of the block
+    /// that is pending, else those of the interruption that waits, else those that its next instruction touches;
+    /// none where that does not go. There are at most four ranges, each of at most 256 bytes of storage. A turn
+    /// that is idle, a tick and a turn of waiting ask for none of them.
+    pub fn wanted(&self, cpu: u32) -> Touches
+        requires { cpu < length self.now.image.cpus }
+        ensures value { result ≡ wanted (setting_of self.now) (state_of self.now) cpu }
+        ensures small { All (λ r. r.length ≤ 256) result }
+        ensures in_storage { All (λ r. r.first + r.length ≤ storage_size) result }
+    {
+        self.works.wanted(cpu, &self.program)
     }
 
     /// What is counted of the CPU; its commits and its aborts as the history has them.
