@@ -1,0 +1,8 @@
+-- What decks are, how they are written and read, and the listing of a deck.
+pub mod Ebcdic
+pub mod Columns
+pub mod Reading
+pub mod Said
+pub mod Writing
+pub mod Listing
+pub mod Words
