@@ -3,6 +3,8 @@ pub mod Ebcdic
 pub mod Columns
 pub mod Reading
 pub mod Said
+pub mod Loading
+pub mod Ways
 pub mod Writing
 pub mod Listing
 pub mod Words

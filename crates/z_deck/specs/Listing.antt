@@ -26,7 +26,7 @@ abbrev pub data_line : List ℕ → List ℕ
 data_line bytes = line (codes " DC X'" ++ (encode_lower bytes ++ codes "'"))
 
 -- the lines that place a block which is not all zero
-abbrev pub block_lines : List ℕ → ℕ → List ℕ
+unfoldable pub block_lines : List ℕ → ℕ → List ℕ
 block_lines storage i =
     if is_zero (block_at storage i) then []
     else org_line (block_address i) ++ data_line (block_at storage i)

@@ -1,7 +1,7 @@
 -- What a deck says, and the first fault of bytes that are none.
 use Rattle.std.specs.Prelude.{◌≡◌, ℕ, ◌+◌, ◌-◌, ◌<◌, ◌≤◌, Bool, true, false, not, ◌&&◌, ◌||◌, ◌⊎◌, List, []}
 use Rattle.std.specs.Prelude.{◌∷◌, ◌++◌, length, take, drop, All, slice_index, Option, Some, None, is_none}
-use Rattle.std.specs.Prelude.{unwrap_or, nat_lt, nat_le, ◌==◌, if◌then◌else◌}
+use Rattle.std.specs.Prelude.{replicate, unwrap_or, nat_lt, nat_le, ◌==◌, if◌then◌else◌}
 use Rattle.std.specs.List.{concat}
 use Rattle.std.specs.Str.{bytes_eq}
 use Rattle.z_deck.specs.Columns.{at, number_at, type_of, no_entry, card_size, most_text, text_field}
@@ -83,6 +83,10 @@ pub record IsEnd (origin : ℕ) (card : List ℕ) : Type 0 where
   pub size : length card ≡ card_size
   pub type : type_of card ≡ Some End
   pub within : (entry : ℕ) → entry_of origin card ≡ Some entry → entry < 1048576
+
+-- So many zeros. It stays closed: a list of a million elements is never to be computed.
+unfoldable pub zeros : ℕ → List ℕ
+zeros n = replicate n 0
 
 -- Storage holds what the cards put there, and zeros elsewhere.
 pub record Holds (origin : ℕ) (cards : List (List ℕ)) (storage : List ℕ) : Type 0 where

@@ -1,7 +1,7 @@
 -- What is taken from one card.
-use Rattle.std.specs.Prelude.{◌≡◌, ℕ, List, length, Option, Some, None, Result, Ok, Err}
+use Rattle.std.specs.Prelude.{◌≡◌, ℕ, ◌<◌, ◌⊎◌, List, Option, Some, None, Result, Ok, Err}
 use Rattle.z_deck.specs.Columns.{type_of}
-use Rattle.z_deck.specs.Reading.{IsText, IsEnd, FirstFault, address_of, bytes_of, entry_of}
+use Rattle.z_deck.specs.Reading.{IsText, IsEnd, FirstFault, count_of, address_of, bytes_of, entry_of}
 use Rattle.z_deck.specs.declared.card.Card.{Card}
 use Rattle.z_deck.specs.declared.card.Card.TheVariants as cards
 use Rattle.z_deck.specs.declared.card.CardType.TheVariants.{Section}
@@ -12,9 +12,10 @@ use Rattle.z_deck.specs.Words.{number_of}
 
 -- the card says this
 abbrev pub Says : ℕ → List ℕ → Card → Type 0
-Says origin card cards.Section = type_of card ≡ Some Section
+Says origin card cards.Nothing =
+    (type_of card ≡ Some Section) ⊎ (IsText origin card × (count_of card ≡ 0))
 Says origin card (cards.Text first bytes) =
-    IsText origin card × (first ≡ address_of origin card) × (bytes.now ≡ bytes_of card)
+    IsText origin card × (0 < count_of card) × (first ≡ address_of origin card) × (bytes.now ≡ bytes_of card)
 Says origin card (cards.End entry) = IsEnd origin card × (entry ≡ entry_of origin card)
 
 -- what the card says, where it has no fault, and else its fault

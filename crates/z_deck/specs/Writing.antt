@@ -31,7 +31,7 @@ abbrev pub section : Field
 section = field section_field (big_bytes 2 1)
 
 -- the section: all of storage, with the name ZTX
-abbrev pub section_card : List ℕ
+unfoldable pub section_card : List ℕ
 section_card = card_with
     (field mark_field mark
     ∷ field type_field (name_of Section)
@@ -44,7 +44,7 @@ section_card = card_with
     ∷ [])
 
 -- bytes of storage from an address on
-abbrev pub text_card : ℕ → List ℕ → List ℕ
+unfoldable pub text_card : ℕ → List ℕ → List ℕ
 text_card address bytes = card_with
     (field mark_field mark
     ∷ field type_field (name_of Text)
@@ -54,8 +54,18 @@ text_card address bytes = card_with
     ∷ field text_field bytes
     ∷ [])
 
+-- its columns up to 16, which say from where on how many bytes stand behind them
+unfoldable pub text_head : ℕ → ℕ → List ℕ
+text_head address count = take 16 (card_with
+    (field mark_field mark
+    ∷ field type_field (name_of Text)
+    ∷ field address_field (big_bytes 3 address)
+    ∷ field count_field (big_bytes 2 count)
+    ∷ section
+    ∷ []))
+
 -- the end, with an entry
-abbrev pub end_card : ℕ → List ℕ
+unfoldable pub end_card : ℕ → List ℕ
 end_card entry = card_with
     (field mark_field mark
     ∷ field type_field (name_of End)
@@ -77,7 +87,7 @@ abbrev pub piece_at : List ℕ → ℕ → List ℕ
 piece_at storage i = take 56 (drop (piece_address i) storage)
 
 -- the card of a piece that is not all zero
-abbrev pub cards_of_piece : List ℕ → ℕ → List (List ℕ)
+unfoldable pub cards_of_piece : List ℕ → ℕ → List (List ℕ)
 cards_of_piece storage i =
     if is_zero (piece_at storage i) then [] else text_card (piece_address i) (piece_at storage i) ∷ []
 

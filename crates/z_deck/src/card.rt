@@ -1,5 +1,5 @@
 //! One card: its type, and what its columns say.
-ghost use Rattle.std.specs.Prelude.{◌≡◌, ◌≤◌, length};
+ghost use Rattle.std.specs.Prelude.{◌≡◌, ◌≤◌, false, Some, length};
 ghost use Rattle.z_deck.specs.Columns.{type_named, type_of};
 ghost use Rattle.z_deck.specs.Reading.{fault_of, address_of};
 ghost use Rattle.z_deck.specs.Said.{IsReading};
@@ -37,8 +37,8 @@ pub enum CardType {
 /// What a reader takes from a card.
 #[derive(Clone, Copy, Debug)]
 pub enum Card<'a> {
-    /// Nothing.
-    Section,
+    /// Nothing: the card is a section, or a text without bytes.
+    Nothing,
     /// Bytes of storage, and the address of the first one.
     Text(usize, &'a [u8]),
     /// The end of the deck, and the entry, where it has one.
@@ -85,15 +85,18 @@ fn address_of(card: &[u8], origin: u32) -> u32
 fn read_text(card: &[u8], origin: u32) -> Result<Card<'_>, Kind>
     requires size { length card.now ≡ 80 }
     requires origin { origin ≤ 1040384 }
-    requires typed { type_of card.now ≡ Some Text }
+    requires typed { type_of card.now ≡ Some CardType.Text }
     ensures { IsReading origin card.now (fault_of origin false card.now) result }
 {
     let count = usize::from(BigEndian::read_u16(&card[10..12]));
     if count > MOST_TEXT {
         return Err(Kind::BadCount);
     }
+    if count == 0 {
+        return Ok(Card::Nothing);
+    }
     let first = address_of(card, origin) as usize;
-    if count > 0 && (first < FIRST || first + count > SIZE) {
+    if first < FIRST || first + count > SIZE {
         return Err(Kind::OutOfRange);
     }
     Ok(Card::Text(first, &card[16..16 + count]))
@@ -103,7 +106,7 @@ fn read_text(card: &[u8], origin: u32) -> Result<Card<'_>, Kind>
 fn read_end(card: &[u8], origin: u32) -> Result<Card<'_>, Kind>
     requires size { length card.now ≡ 80 }
     requires origin { origin ≤ 1040384 }
-    requires typed { type_of card.now ≡ Some End }
+    requires typed { type_of card.now ≡ Some CardType.End }
     ensures { IsReading origin card.now (fault_of origin false card.now) result }
 {
     if &card[5..8] == b"\x40\x40\x40".as_slice() {
@@ -127,7 +130,7 @@ pub(crate) fn read_card(card: &[u8], origin: u32, ended: bool) -> Result<Card<'_
     }
     match type_of(card) {
         None => Err(Kind::NotACard),
-        Some(CardType::Section) => Ok(Card::Section),
+        Some(CardType::Section) => Ok(Card::Nothing),
         Some(CardType::Text) => read_text(card, origin),
         Some(CardType::End) => read_end(card, origin),
         Some(CardType::Relocation) => Err(Kind::RelocationCard),

@@ -4,6 +4,7 @@
 mod card;
 mod deck;
 mod fault;
+pub mod laws;
 mod listing;
 mod reading;
 mod writing;

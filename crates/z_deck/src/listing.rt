@@ -2,9 +2,10 @@
 ghost use Rattle.std.specs.Prelude.{◌≡◌, ◌≤◌, ◌<◌, ◌++◌, length, unwrap_or, IfOk, OnOk};
 ghost use Rattle.std.specs.Fmt.{decimal};
 ghost use Rattle.hex.specs.Hex.{encode_lower};
-ghost use Rattle.z_deck.specs.Listing.{cpu_line, org_line, data_line, block_lines, placing_lines, listing_of};
+ghost use Rattle.z_deck.specs.Listing.{cpu_line, org_line, data_line, block_at, block_lines};
+ghost use Rattle.z_deck.specs.Listing.{placing_lines, listing_of};
 
-use crate::card::{FIRST, SIZE};
+use crate::card::FIRST;
 use crate::deck::Deck;
 use crate::writing::is_zero;
 use std::alloc::{AllocError, Global};
@@ -56,18 +57,29 @@ fn add_data(text: &mut Vec<u8>, block: &[u8]) -> Result<(), AllocError>
     text.extend_from_slice(b"'\n")
 }
 
+/// A block of storage.
+fn block_at(storage: &[u8], i: usize) -> &[u8]
+    requires size { length storage.now ≡ 1048576 }
+    requires there { i < 32512 }
+    ensures is { result.now ≡ block_at storage.now i }
+    ensures len { length result.now ≡ 32 }
+{
+    let (_, rest) = storage.split_at(FIRST + BLOCK * i);
+    let (block, _) = rest.split_at(BLOCK);
+    block
+}
+
 /// Adds the lines of a block, if it is not all zero.
 fn add_block(text: &mut Vec<u8>, storage: &[u8], i: usize) -> Result<(), AllocError>
     requires size { length storage.now ≡ 1048576 }
     requires there { i < 32512 }
     ensures { OnOk result (text.new.items ≡ text.old.items ++ block_lines storage.now i) }
 {
-    let first = FIRST + BLOCK * i;
-    let block = &storage[first..first + BLOCK];
+    let block = block_at(storage, i);
     if is_zero(block) {
         return Ok(());
     }
-    add_org(text, first as u32)?;
+    add_org(text, (FIRST + BLOCK * i) as u32)?;
     add_data(text, block)
 }
 

@@ -2,5 +2,6 @@
 pub mod Serial
 pub mod Runs
 pub mod Due
+pub mod Decks
 pub mod One
 pub mod Requests
