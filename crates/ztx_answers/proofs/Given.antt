@@ -9,7 +9,8 @@ use Rattle.ztx_answers.specs.declared.answer.Answer.{Answer}
 use Rattle.ztx_answers.specs.Due.{IsRefusal, IsDueToList, IsDueToRun}
 use Rattle.std.specs.Prelude.{Option}
 
-both : {X E : Type 0} {P Q R : X → Type 0} → (r : Result X E) → ((x : X) → P x → Q x → R x) → IfOk r P
+-- two facts of what is there give a third
+pub both : {X E : Type 0} {P Q R : X → Type 0} → (r : Result X E) → ((x : X) → P x → Q x → R x) → IfOk r P
     → IfOk r Q → IfOk r R
 both (Ok x) joins p q = joins x p q
 both (Err e) joins p q = tt
@@ -23,7 +24,7 @@ listed_ok input image r stands = both r
 module _ {E : Type 0} (input : List ℕ) (fault : ListingFault) (r : Result Answer E)
     (first : FirstFault input fault) (s : IfOk r (λ a. a.status ≡ 5))
     (t : IfOk r (λ a. a.text.items ≡ fault_line fault)) where
-  refusal_of : (a : Answer) → a.status ≡ 5 → a.text.items ≡ fault_line fault
+  pub refusal_of : (a : Answer) → a.status ≡ 5 → a.text.items ≡ fault_line fault
       → IsRefusal input a.status a.text.items
   refusal_of a s t = record { fault = fault; first = first; status_is = s; text_is = t }
 

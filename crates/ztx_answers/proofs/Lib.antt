@@ -6,3 +6,5 @@ pub mod Answered
 pub mod Ran
 pub mod Given
 pub mod Asked
+pub mod Decked
+pub mod DecksGiven

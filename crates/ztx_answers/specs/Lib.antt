@@ -3,5 +3,6 @@ pub mod Replayed
 pub mod Serial
 pub mod Runs
 pub mod Due
+pub mod Decks
 pub mod One
 pub mod Requests

@@ -3,6 +3,7 @@
 #![tactic(auto)]
 
 mod answer;
+mod decks;
 mod generated;
 pub mod laws;
 mod listed;
@@ -10,5 +11,6 @@ mod machine;
 mod requests;
 
 pub use answer::{Answer, NoMemory};
+pub use decks::{read_deck_of, refuse_long_deck, write_deck_of};
 pub use generated::{generate, summary};
 pub use requests::{Request, answer_to, most_bytes, refuse_long};

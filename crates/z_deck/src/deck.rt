@@ -1,0 +1,14 @@
+//! What a deck says.
+ghost use Rattle.std.specs.Prelude.{◌≡◌, ℕ, ◌<◌, Some, length, slice_index};
+
+/// What a deck says when it is loaded.
+#[derive(Drop)]
+pub struct Deck {
+    /// All of storage, from address 0 on: 1,048,576 bytes, of which the first 8,192 are zero.
+    pub storage: Vec<u8>,
+    /// The address where the program enters, if the deck has one, below 1,048,576.
+    pub entry: Option<u32>,
+    ghost size: { length storage.items ≡ 1048576 },
+    ghost low: { (address : ℕ) → address < 8192 → slice_index storage.items address ≡ 0 },
+    ghost within: { (address : ℕ) → entry ≡ Some address → address < 1048576 },
+}
