@@ -1,5 +1,5 @@
 -- What is due to a request: one answer for every input, and for one that is too long a fault.
-use Rattle.std.proofs.Common.{◌≡◌, ℕ, ◌<◌, List, length, IfOk, Result, Ok, Err, inl, refl}
+use Rattle.std.proofs.Common.{◌≡◌, ℕ, ◌<◌, List, length, IfOk, Result, Ok, Err, inl, refl, subst, sym}
 use Rattle.std.proofs.lemmas.Bool.{lt-ltb}
 use Rattle.z_assemble.specs.Whole.{FirstFault}
 use Rattle.z_assemble.specs.Words.{fault_line}
@@ -10,16 +10,24 @@ use Rattle.ztx_answers.specs.Due.{IsDueToList, IsDueToRun, IsRefusal, long_fault
 use Rattle.ztx_answers.specs.One.{IsOnly, IsSome}
 use Rattle.ztx_answers.specs.Requests.{IsAllowed, IsDue, most_of}
 use Rattle.ztx_answers.proofs.Answered.{listed, one_list, reported, one_report}
+use Rattle.z_deck.specs.Reading.{FirstFault as CardFault}
+use Rattle.z_deck.specs.declared.fault.Kind.TheVariants as kinds
+use Rattle.ztx_answers.specs.Decks.{IsDeckRefusal, IsDueToDeck, long_deck_line}
+use Rattle.ztx_answers.proofs.Decked.{one_read, one_written, read, written}
 
 -- something is due
 pub some_due : (r : Request) (input : List ℕ) → IsAllowed r → IsSome (IsDue r input)
 some_due request.List input allowed = listed input
 some_due (request.Run turns tick seed) input allowed = reported turns tick seed input allowed
+some_due request.Deck input allowed = written input
+some_due (request.ReadDeck origin) input allowed = read origin input
 
 -- only one thing is
 pub one_due : (r : Request) (input : List ℕ) → IsOnly (IsDue r input)
 one_due request.List input = one_list input
 one_due (request.Run turns tick seed) input = one_report turns tick seed input
+one_due request.Deck input = one_written input
+one_due (request.ReadDeck origin) input = one_read origin input
 
 -- a text with too many bytes for a listing has that fault first
 pub long_listing : (input : List ℕ) (status : ℕ) (text : List ℕ) → 16777216 < length input → status ≡ 5
@@ -42,8 +50,38 @@ module _ {E : Type 0} (r : Result Answer E) (s : IfOk r (λ a. a.status ≡ 5))
       fits input a.status a.text.items (long_listing input a.status a.text.items long s t)
   long_ok (Err e) Due fits s t = tt
 
-  pub long_due : (q : Request)
+  pub long_due : (q : Request) → ((origin : ℕ) → q ≡ request.ReadDeck origin → ⊥)
       → IfOk r (λ a. (input : List ℕ) → most_of q < length input → IsDue q input a.status a.text.items)
-  long_due request.List = long_ok r IsDueToList (λ input status text refused. inl refused) s t
-  long_due (request.Run turns tick seed) =
+  long_due request.List no_deck =
+      long_ok r IsDueToList (λ input status text refused. inl refused) s t
+  long_due (request.Run turns tick seed) no_deck =
       long_ok r (IsDueToRun turns tick seed) (λ input status text refused. inl refused) s t
+  long_due request.Deck no_deck =
+      long_ok r IsDueToDeck (λ input status text refused. inl refused) s t
+  long_due (request.ReadDeck origin) no_deck = absurd (no_deck origin refl)
+
+-- bytes that are too many for a deck have that fault first
+long_deck : (origin : ℕ) (input : List ℕ) (status : ℕ) (text : List ℕ) → 16777216 < length input
+    → status ≡ 5 → text ≡ long_deck_line → IsDeckRefusal origin input status text
+long_deck origin input status text long status_is text_is = record {
+  number = 209716;
+  kind = kinds.ShortCard;
+  first = CardFault.too_long long refl refl;
+  status_is = status_is;
+  text_is = text_is;
+}
+
+-- so its line is due to them, where a deck is to be read
+module _ {E : Type 0} (origin : ℕ) where
+  deck_ok : (r : Result Answer E) → IfOk r (λ a. a.status ≡ 5)
+      → IfOk r (λ a. a.text.items ≡ long_deck_line)
+      → IfOk r (λ a. (input : List ℕ) → 16777216 < length input
+      → IsDue (request.ReadDeck origin) input a.status a.text.items)
+  deck_ok (Ok a) s t = λ input long. inl (long_deck origin input a.status a.text.items long s t)
+  deck_ok (Err e) s t = tt
+
+  pub long_deck_due : (r : Result Answer E) → IfOk r (λ a. a.status ≡ 5)
+      → IfOk r (λ a. a.text.items ≡ long_deck_line) → (q : Request) → q ≡ request.ReadDeck origin
+      → IfOk r (λ a. (input : List ℕ) → most_of q < length input → IsDue q input a.status a.text.items)
+  long_deck_due r s t q is = subst (λ (q : Request). IfOk r (λ a. (input : List ℕ) → most_of q < length input
+      → IsDue q input a.status a.text.items)) (sym is) (deck_ok r s t)

@@ -1,7 +1,8 @@
 -- What is asked of the bytes of an input, and what is due then.
-use Rattle.std.specs.Prelude.{ℕ, List}
+use Rattle.std.specs.Prelude.{ℕ, ◌≤◌, List}
 use Rattle.ztx_answers.specs.declared.requests.Request.{Request}
 use Rattle.ztx_answers.specs.declared.requests.Request.TheVariants as request
+use Rattle.ztx_answers.specs.Decks.{IsDueToDeck, IsDueToReadDeck}
 use Rattle.ztx_answers.specs.Due.{IsDueToList, IsDueToRun}
 use Rattle.ztx_answers.specs.Runs.{AreLimits}
 
@@ -9,13 +10,19 @@ use Rattle.ztx_answers.specs.Runs.{AreLimits}
 abbrev pub most_of : Request → ℕ
 most_of request.List = 16777216
 most_of (request.Run turns tick seed) = 16777216
+most_of request.Deck = 16777216
+most_of (request.ReadDeck origin) = 16777216
 
 -- the numbers of the request are in their ranges
 abbrev pub IsAllowed : Request → Type 0
 IsAllowed request.List = Unit {0}
 IsAllowed (request.Run turns tick seed) = AreLimits turns tick
+IsAllowed request.Deck = Unit {0}
+IsAllowed (request.ReadDeck origin) = origin ≤ 1040384
 
 -- what is due to the request and an input: a status with a text
 abbrev pub IsDue : Request → List ℕ → ℕ → List ℕ → Type 0
 IsDue request.List input = IsDueToList input
 IsDue (request.Run turns tick seed) input = IsDueToRun turns tick seed input
+IsDue request.Deck input = IsDueToDeck input
+IsDue (request.ReadDeck origin) input = IsDueToReadDeck origin input

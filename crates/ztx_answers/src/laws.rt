@@ -4,7 +4,6 @@ ghost use Rattle.tx_journal.specs.declared.events.Event.{Event};
 ghost use Rattle.tx_meaning.specs.Views.{AreKnown};
 ghost use Rattle.tx_meaning.specs.Limits.{Setting};
 ghost use Rattle.tx_meaning.specs.Meaning.{IsSetting};
-ghost use Rattle.ztx_answers.specs.Decks.{IsDueToDeck, IsDueToReadDeck};
 ghost use Rattle.ztx_answers.specs.Due.{IsSummary, IsGenerated};
 ghost use Rattle.ztx_answers.specs.One.{IsSome, IsOnly};
 ghost use Rattle.ztx_answers.specs.Requests.{IsAllowed, IsDue};
@@ -24,12 +23,4 @@ pub fn one_answer_is_due()
     ensures summed { (number : ℕ) → IsSome (IsSummary number) }
     ensures one_summary { (number : ℕ) → IsOnly (IsSummary number) }
     ensures one_listing { (number : ℕ) → IsOnly (IsGenerated number) }
-{}
-
-/// For every listing there is a deck or a fault, for every deck a listing or a fault, and only one.
-pub fn one_deck_is_due()
-    ensures written { (input : List ℕ) → IsSome (IsDueToDeck input) }
-    ensures one_written { (input : List ℕ) → IsOnly (IsDueToDeck input) }
-    ensures read { (origin : ℕ) (input : List ℕ) → IsSome (IsDueToReadDeck origin input) }
-    ensures one_read { (origin : ℕ) (input : List ℕ) → IsOnly (IsDueToReadDeck origin input) }
 {}

@@ -11,6 +11,5 @@ mod machine;
 mod requests;
 
 pub use answer::{Answer, NoMemory};
-pub use decks::{read_deck_of, refuse_long_deck, write_deck_of};
 pub use generated::{generate, summary};
 pub use requests::{Request, answer_to, most_bytes, refuse_long};

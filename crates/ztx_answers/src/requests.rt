@@ -4,6 +4,7 @@ ghost use Rattle.ztx_answers.specs.Due.{IsStatus};
 ghost use Rattle.ztx_answers.specs.Requests.{IsAllowed, IsDue, most_of};
 
 use crate::answer::{Answer, NoMemory};
+use crate::decks::{read_deck_of, refuse_long_deck, write_deck_of};
 use crate::listed::{list, refuse_long_listing, run};
 use std::alloc::Global;
 use z_assemble::MOST_BYTES;
@@ -21,6 +22,12 @@ pub enum Request {
         tick: u32,
         seed: Option<u64>,
     },
+    /// The object deck of a listing.
+    Deck,
+    /// The listing of an object deck, whose addresses count from the origin.
+    ReadDeck {
+        origin: u32,
+    },
 }
 
 /// How many bytes an input of the request may have.
@@ -28,7 +35,8 @@ pub fn most_bytes(request: Request) -> usize
     ensures { result ≡ most_of request }
 {
     match request {
-        Request::List | Request::Run { .. } => MOST_BYTES,
+        Request::List | Request::Run { .. } | Request::Deck | Request::ReadDeck { .. } =>
+            MOST_BYTES,
     }
 }
 
@@ -42,6 +50,8 @@ pub fn answer_to(alloc: Global, request: Request, input: &[u8]) -> Result<Answer
     match request {
         Request::List => list(alloc, input),
         Request::Run { turns, tick, seed } => run(alloc, input, turns, tick, seed),
+        Request::Deck => write_deck_of(alloc, input),
+        Request::ReadDeck { origin } => read_deck_of(alloc, origin, input),
     }
 }
 
@@ -52,6 +62,7 @@ pub fn refuse_long(alloc: Global, request: Request) -> Result<Answer, NoMemory>
     ensures status { IfOk result (λ answer. answer.status ≡ 5) }
 {
     match request {
-        Request::List | Request::Run { .. } => refuse_long_listing(alloc),
+        Request::ReadDeck { .. } => refuse_long_deck(alloc),
+        _ => refuse_long_listing(alloc),
     }
 }

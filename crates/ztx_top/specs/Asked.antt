@@ -20,7 +20,8 @@ errand_of (Some (command.Generate number)) = errand.Generate number
 errand_of (Some (command.Summary number)) = errand.Summary number
 errand_of (Some command.Check) = errand.Nothing
 errand_of (Some (command.Heat turns tick seed)) = errand.Nothing
-errand_of (Some (command.Deck read origin)) = errand.Nothing
+errand_of (Some (command.Deck true origin)) = errand.Input (request.ReadDeck origin)
+errand_of (Some (command.Deck false origin)) = errand.Input request.Deck
 errand_of (Some (command.Step turns tick seed)) = errand.Nothing
 
 -- what the words ask for

@@ -34,6 +34,10 @@ pub fn errand_of(command: Option<Command>) -> Errand
         }),
         Some(Command::Generate { number }) => Errand::Generate(number),
         Some(Command::Summary { number }) => Errand::Summary(number),
+        Some(Command::Deck { read: false, .. }) => Errand::Input(Request::Deck),
+        Some(Command::Deck { read: true, origin }) => Errand::Input(Request::ReadDeck {
+            origin: origin as u32,
+        }),
         _ => Errand::Nothing,
     }
 }

@@ -72,7 +72,7 @@ struct Case {
     text: &'static str,
 }
 
-const CASES: [Case; 12] = [
+const CASES: [Case; 13] = [
     Case {
         words: "list",
         input: " CPU START\nSTART LGHI 1,5\n SVC 0\n",
@@ -144,6 +144,12 @@ const CASES: [Case; 12] = [
         input: CONFLICT,
         status: 0,
         text: "SUMMARY 0\nCPUS 4\nSTATUS 0\nTURNS 11690\nCOMMITS 274\nABORTS 394\nSUM 274\n",
+    },
+    Case {
+        words: "deck --read",
+        input: "",
+        status: 5,
+        text: "ztx: card 1: no END\n",
     },
 ];
 

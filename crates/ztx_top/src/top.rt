@@ -62,12 +62,7 @@ fn tell_summary<K: Sink>(alloc: Global, number: u64, sink: &mut K) -> u8
 }
 
 /// Does what the words ask for.
-fn answer<S: Source, K: Sink>(
-    alloc: Global,
-    errand: Errand,
-    source: &mut S,
-    sink: &mut K,
-) -> u8
+fn answer<S: Source, K: Sink>(alloc: Global, errand: Errand, source: &mut S, sink: &mut K) -> u8
     requires { IsReady errand }
     ensures statuses { result ≤ 6 }
     ensures whole { IsWhole result
