@@ -3,6 +3,7 @@ use Rattle.std.proofs.Common.{◌≡◌, refl, ℕ, true, false, List, [], ◌�
 use Rattle.std.specs.FinSet.{empty}
 use Rattle.z_regs.specs.Cpu.{started}
 use Rattle.z_regs.specs.Absolute.{absolute_range}
+use Rattle.z_regs.specs.declared.image.RunState.TheVariants.{Halted, Interrupted}
 use Rattle.z_regs.specs.declared.ranges.Range.{Range}
 use Rattle.interrogate.specs.declared.kinds.Answer.{Answer}
 use Rattle.interrogate.specs.declared.kinds.Answer.TheVariants.{Yields, Rejects}
@@ -21,13 +22,15 @@ use Rattle.tx_meaning.specs.declared.outcome.Outcome.{Outcome}
 use Rattle.tx_meaning.specs.declared.outcome.Outcome.TheVariants as outcome
 use Rattle.tx_meaning.specs.Limits.{RunLimits, Setting}
 use Rattle.tx_meaning.specs.State.{State, beginning, zeros}
+use Rattle.tx_footprint.specs.Touched.{untouched}
 use Rattle.tx_meaning.specs.Changes.{aborting, committing, rejecting_one, rejected_once, head_to_tail}
+use Rattle.tx_meaning.specs.Changes.{spare_line}
 use Rattle.tx_meaning.specs.Hits.{hits_by}
 use Rattle.tx_meaning.specs.Asking.{asker_of, by_answer}
-use Rattle.tx_meaning.specs.Idle.{kept_back, idle_by}
+use Rattle.tx_meaning.specs.Idle.{kept_back, idle_by, finished_by}
 use Rattle.tx_meaning.specs.Turn.{Turned, counted_turn, external}
 use Rattle.tx_meaning.specs.declared.asking.Need.{Need}
-use Rattle.tx_meaning.specs.Needs.{needs_of, with_number, operand_needs}
+use Rattle.tx_meaning.specs.Needs.{needs_of, with_number, operand_needs, interruption_needs}
 use Rattle.tx_meaning.specs.Stretches.{bound}
 
 -- ---- the bound of a constrained transaction's turns
@@ -78,6 +81,28 @@ prefixed_lines : operand_needs (Some 0xa000) (stored 0x8c 4 ∷ fetched 0xa000 8
     ≡ shared 0 ∷ exclusive 160 ∷ []
 unfolding needs_of with_number absolute_range
 prefixed_lines = refl
+
+-- an interruption that aborted nothing needs the lines of its identification, the old and the new program
+-- status word: 0 and 1 of the area
+interruption_lines : interruption_needs (Some 0xa000) (record { length = 6; block = None })
+    ≡ exclusive 160 ∷ exclusive 161 ∷ []
+unfolding needs_of with_number absolute_range
+interruption_lines = refl
+
+-- with a block also the line at 1800 in hexadecimal
+interruption_and_block : interruption_needs (Some 0xa000) (record { length = 6; block = Some [] })
+    ≡ exclusive 160 ∷ exclusive 161 ∷ exclusive 184 ∷ []
+unfolding needs_of with_number absolute_range
+interruption_and_block = refl
+
+-- ---- the line that is given up
+
+-- the lowest that is held, line 0 among them, and neither touched nor needed
+lowest_line_is_spare : spare_line (λ cpu line. Some Shared) 0 untouched [] ≡ Some 0
+lowest_line_is_spare = refl
+
+needed_lines_stay : spare_line (λ cpu line. Some Shared) 0 untouched (shared 0 ∷ []) ≡ Some 1
+needed_lines_stay = refl
 
 -- ---- behind a conflict
 
@@ -209,6 +234,22 @@ conflicts_counted = refl
 others_not_counted : hits_by External 3 ∷ hits_by FetchOverflow 3 ∷ hits_by (Program invalid) 3 ∷ []
     ≡ 3 ∷ 3 ∷ 0 ∷ []
 others_not_counted = refl
+
+-- a CPU that has halted is finished when its block is stored, one that is interrupted where it has no prefix
+-- to take the interruption by
+halted_with_a_block : finished_by (Some record { address = 0x9000; bytes = [] })
+    (record (started 0) { state = Halted }) ≡ false
+halted_with_a_block = refl
+
+halted_without_a_block : finished_by None (record (started 0) { state = Halted }) ≡ true
+halted_without_a_block = refl
+
+interrupted_without_a_prefix : finished_by None (record (started 0) { state = Interrupted 9 }) ≡ true
+interrupted_without_a_prefix = refl
+
+interrupted_with_a_prefix : finished_by None
+    (record (started 0) { state = Interrupted 9; prefix = Some 0xa000 }) ≡ false
+interrupted_with_a_prefix = refl
 
 -- the head of the queue asks as such, and no other CPU does
 head_asks : (asker_of ticking (waiting_for 1 0) 1).head ∷ (asker_of ticking (waiting_for 1 0) 2).head ∷ []

@@ -1,9 +1,11 @@
 -- Turns that are idle.
 use Rattle.std.specs.Prelude.{ℕ, Bool, true, false, ◌&&◌, nat_le, is_none, if◌then◌else◌, List, [], ◌∷◌}
 use Rattle.std.specs.Prelude.{Option, Some, None}
+use Rattle.z_regs.specs.Cpu.{Cpu}
 use Rattle.z_regs.specs.declared.image.RunState.{RunState}
 use Rattle.z_regs.specs.declared.image.RunState.TheVariants.{Running, Halted, Interrupted}
 use Rattle.tx_ladder.specs.Waiting.{waits_in}
+use Rattle.tx_serial.specs.Flat.{Pending}
 use Rattle.tx_meaning.specs.declared.outcome.Outcome.{Outcome}
 use Rattle.tx_meaning.specs.declared.outcome.Outcome.TheVariants as outcome
 use Rattle.tx_meaning.specs.Limits.{RunLimits, Setting}
@@ -16,9 +18,11 @@ has_ended Halted prefix = true
 has_ended (Interrupted code) prefix = is_none prefix
 
 -- the program is at its end, and no block is left to be stored
+abbrev pub finished_by : Option Pending → Cpu → Bool
+finished_by block c = is_none block && has_ended c.state c.prefix
+
 abbrev pub is_finished : Setting → State → ℕ → Bool
-is_finished m s i =
-    is_none ((flat_of m s).pending i) && has_ended (cpu_of m s i).state (cpu_of m s i).prefix
+is_finished m s i = finished_by ((flat_of m s).pending i) (cpu_of m s i)
 
 -- all turns of the CPU are counted
 abbrev pub is_spent : RunLimits → Numbers → Bool

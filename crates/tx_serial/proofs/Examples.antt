@@ -45,12 +45,12 @@ use Rattle.tx_serial.specs.History.{no_cpu, replay_from}
 -- ---- states
 
 -- bytes at an address, over storage
-abbrev placed : ℕ → List ℕ → Storage → Storage
+abbrev pub placed : ℕ → List ℕ → Storage → Storage
 placed first bytes storage a =
     if nat_le first a && nat_lt a (first + length bytes) then get_or bytes (a - first) 0 else storage a
 
 -- one CPU, at its program
-abbrev on : Cpu → List ℕ → FlatState
+abbrev pub on : Cpu → List ℕ → FlatState
 on c program = record {
   storage = placed 0x4000 program (λ a. 0);
   text = 4 ∷ [];
@@ -59,26 +59,26 @@ on c program = record {
   waiting = λ i. None;
 }
 
-abbrev plain : Cpu
+abbrev pub plain : Cpu
 plain = started 0x4000
 
-abbrev with_registers : List ℕ → Cpu → Cpu
+abbrev pub with_registers : List ℕ → Cpu → Cpu
 with_registers values c = record c { general = values ++ drop (length values) c.general }
 
-abbrev after : FlatState → List Entry → Option FlatState
+abbrev pub after : FlatState → List Entry → Option FlatState
 after f history = replay_from history (Some f)
 
-abbrev exception : ℕ → ℕ → Exception
+abbrev pub exception : ℕ → ℕ → Exception
 exception code length = record { code = code; fetch = false; length = length }
 
 -- ---- what is seen of a state
 
 -- the first registers, the address, the condition code and the state of CPU 0
-abbrev cpu_seen : ℕ → Option FlatState → List ℕ × ℕ × ℕ × RunState
+abbrev pub cpu_seen : ℕ → Option FlatState → List ℕ × ℕ × ℕ × RunState
 cpu_seen n None = ([], 0, 0, Halted)
 cpu_seen n (Some f) = let c = f.cpus 0 in (take n c.general, c.address, c.condition, c.state)
 
-abbrev both : {A B : Type 0} → A → B → A × B
+abbrev pub both : {A B : Type 0} → A → B → A × B
 both a b = (a, b)
 
 -- bytes of storage
@@ -87,11 +87,11 @@ bytes_at a n None = []
 bytes_at a n (Some f) = map f.storage (range_with_len a n)
 
 -- bytes of the pending block of CPU 0
-abbrev pending_bytes : ℕ → ℕ → Option Pending → List ℕ
+abbrev pub pending_bytes : ℕ → ℕ → Option Pending → List ℕ
 pending_bytes a n None = []
 pending_bytes a n (Some b) = b.address ∷ slice_range b.bytes a (a + n)
 
-abbrev pending_at : ℕ → ℕ → Option FlatState → List ℕ
+abbrev pub pending_at : ℕ → ℕ → Option FlatState → List ℕ
 pending_at a n None = []
 pending_at a n (Some f) = pending_bytes a n (f.pending 0)
 
@@ -100,7 +100,7 @@ abbrev waits : Option FlatState → Bool
 waits None = false
 waits (Some f) = is_some (f.waiting 0)
 
-abbrev fitting : FlatState → List Entry → Bool
+abbrev pub fitting : FlatState → List Entry → Bool
 fitting f history = is_some (after f history)
 
 -- ---- one instruction outside transactions
@@ -375,7 +375,7 @@ overflowing =
     0xE5 ∷ 0x60 ∷ 0x00 ∷ 0x00 ∷ 0x00 ∷ 0x01 ∷
     0xB9 ∷ 0x08 ∷ 0x00 ∷ 0x12 ∷ []
 
-abbrev full : Cpu
+abbrev pub full : Cpu
 full = record (with_registers (0 ∷ 0x7fffffffffffffff ∷ 1 ∷ []) plain) { mask = 8 }
 
 overflow_has_completed : cpu_seen 3 (after (on full overflowing) (Abort 0 2 (Filtered (exception 8 4)) ∷ []))

@@ -15,7 +15,8 @@ use Rattle.z_instr.specs.Operands.{from_up, where_wrong, specification, addressi
 use Rattle.z_instr.specs.Access.{accessible_pages, text_pages, lies_in, byte_unfetched, first_some, unfetched}
 use Rattle.z_effect.specs.Outcome.{Outcome, Did, Divides, Aborts}
 use Rattle.z_effect.specs.Outcome as outcome
-use Rattle.z_effect.specs.One.{one}
+use Rattle.z_effect.specs.Kinds.{kind_at}
+use Rattle.z_effect.specs.One.{one, length_of}
 use Rattle.tx_control.specs.declared.causes.Why.{Why}
 use Rattle.tx_constraint.specs.Constraints.{Step}
 use Rattle.tx_serial.specs.Flat.{Storage, FlatState, laid_over, bytes_seen, operand_bytes}
@@ -30,8 +31,9 @@ use Rattle.tx_control.specs.declared.causes.Why.TheVariants.{Restricted, Filtere
 use Rattle.tx_serial.specs.Ending.{ending, ending_of, fate_cause, outcome_cause, comes_from_outside}
 use Rattle.tx_serial.specs.Ending.{has_operands, is_open, is_cause, fits}
 use Rattle.tx_serial.specs.Alike.{Track, track_of, addresses_in, addresses_of, touched_addresses}
-use Rattle.tx_serial.specs.Alike.{addresses_asked, next_addresses, AgreeAt, AgreeInText, AreAlike}
+use Rattle.tx_serial.specs.Alike.{AgreeAt, AgreeInText, AreAlike}
 use Rattle.tx_serial.proofs.Copies.{laid_alike, run_copy, run_prefix}
+use Rattle.tx_serial.proofs.FreeCauses.{cause_by_kind}
 
 -- ---- bytes
 
@@ -368,21 +370,21 @@ run_alike f g i (suc k) exists alike =
 
 -- ---- endings
 
-cause_alike : (o : Fate) (p : Run) (c : Storage) → AgreeAt p.cpu.prefix (addresses_asked o) p.copy c
-    → fate_cause (with_copy c p) o ≡ fate_cause p o
-cause_alike (Goes i ranges) p c agree = ap (outcome_cause p.nest i) (outcome_alike i ranges p c agree)
-cause_alike (Ends why) p c agree = refl
-cause_alike (Stops x) p c agree = refl
+cause_alike : (o : Fate) (p : Run) (c : Storage) → fate_cause (with_copy c p) o ≡ fate_cause p o
+cause_alike (Goes i ranges) p c =
+    cause_by_kind p.nest i (kind_at i.op.number) (length_of i) i p.cpu (length p.nest)
+    (operand_bytes p.cpu.prefix c ranges) (operand_bytes p.cpu.prefix p.copy ranges)
+cause_alike (Ends why) p c = refl
+cause_alike (Stops x) p c = refl
 
 ending_by : (m : Mark) (text : List ℕ) (p : Run) (c : Storage)
     → AgreeInText p.cpu.prefix text p.copy c
-    → AgreeAt p.cpu.prefix (next_addresses text p) p.copy c
     → ending_of m text (with_copy c p) ≡ ending_of m text p
-ending_by Open text p c in_text agree =
-    ap (fate_cause (with_copy c p)) (fate_alike text p c in_text) ∙ cause_alike (fate text p) p c agree
-ending_by Committed text p c in_text agree = refl
-ending_by Overflowed text p c in_text agree = refl
-ending_by Missing text p c in_text agree = refl
+ending_by Open text p c in_text =
+    ap (fate_cause (with_copy c p)) (fate_alike text p c in_text) ∙ cause_alike (fate text p) p c
+ending_by Committed text p c in_text = refl
+ending_by Overflowed text p c in_text = refl
+ending_by Missing text p c in_text = refl
 
 outside_alike : (why : Why) (text : List ℕ) (p : Run) (c : Storage)
     → AgreeInText p.cpu.prefix text p.copy c
@@ -402,7 +404,7 @@ outside_alike (Tabort code) text p c in_text = refl
 
 -- the endings of two runs that show the same
 pub ending_alike : (f g : FlatState) (i k : ℕ) → track_of (run g i k) ≡ track_of (run f i k)
-    → AreAlike i (next_addresses f.text (run f i k)) f g
+    → AreAlike i (touched_addresses (run f i k)) f g
     → ending g.text (run g i k) ≡ ending f.text (run f i k)
 unfolding ending
 ending_alike f g i k same alike =
@@ -411,10 +413,9 @@ ending_alike f g i k same alike =
     ap (λ t. ending_of q.mark t q) alike.pages
     ∙ ap (λ z. ending_of z.mark f.text z) (with_its_copy p q same)
     ∙ ending_by p.mark f.text p q.copy (copies_in_text f g i k same alike.text)
-    (copies_at f g i k (next_addresses f.text p) same alike.touched)
 
 outside_both : (f g : FlatState) (i k : ℕ) (why : Why) → track_of (run g i k) ≡ track_of (run f i k)
-    → AreAlike i (next_addresses f.text (run f i k)) f g
+    → AreAlike i (touched_addresses (run f i k)) f g
     → comes_from_outside g.text (run g i k) why ≡ comes_from_outside f.text (run f i k) why
 outside_both f g i k why same alike =
     let p = run f i k in
@@ -424,7 +425,7 @@ outside_both f g i k why same alike =
     ∙ outside_alike why f.text p q.copy (copies_in_text f g i k same alike.text)
 
 pub fits_alike : (f g : FlatState) (i k : ℕ) (why : Why) → track_of (run g i k) ≡ track_of (run f i k)
-    → AreAlike i (next_addresses f.text (run f i k)) f g
+    → AreAlike i (touched_addresses (run f i k)) f g
     → fits g.text (run g i k) why ≡ fits f.text (run f i k) why
 unfolding fits
 fits_alike f g i k why same alike =

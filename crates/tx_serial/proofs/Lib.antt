@@ -1,6 +1,8 @@
 -- Worked values, copies and stores, runs on states that agree, what entries change, and causes.
-mod Examples
+pub mod Examples
+mod Neighbours
 pub mod Copies
+mod FreeCauses
 pub mod Frame
 pub mod Entries
 pub mod SameCauses

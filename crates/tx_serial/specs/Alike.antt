@@ -1,6 +1,6 @@
 -- Runs of one CPU on two flat states: what they show, and where the states have to agree for them to be the
 -- same.
-use Rattle.std.specs.Prelude.{◌≡◌, ℕ, nat_eq, true, List, [], Option}
+use Rattle.std.specs.Prelude.{◌≡◌, ℕ, nat_eq, true, List, Option}
 use Rattle.std.specs.List.{list_any, flat_map}
 use Rattle.z_regs.specs.Cpu.{Cpu}
 use Rattle.z_regs.specs.Prefix.{absolute_of}
@@ -12,7 +12,6 @@ use Rattle.tx_constraint.specs.Constraints.{Step}
 use Rattle.store_cache.specs.Overlay.{Store}
 use Rattle.tx_serial.specs.Flat.{Storage, FlatState}
 use Rattle.tx_serial.specs.Attempt.{Run, Mark}
-use Rattle.tx_serial.specs.Fate.{Fate, Goes, Ends, Stops, fate}
 
 -- all of a run but its copy of storage
 pub record Track : Type 0 where
@@ -45,15 +44,6 @@ addresses_of steps = flat_map (λ s. addresses_in s.ranges) steps
 
 abbrev pub touched_addresses : Run → List ℕ
 touched_addresses p = addresses_of p.steps
-
--- what the next instruction touches, where it goes
-abbrev pub addresses_asked : Fate → List ℕ
-addresses_asked (Goes i ranges) = addresses_in ranges
-addresses_asked (Ends why) = []
-addresses_asked (Stops e) = []
-
-abbrev pub next_addresses : List ℕ → Run → List ℕ
-next_addresses text p = addresses_asked (fate text p)
 
 -- ---- states that agree
 
