@@ -7,7 +7,9 @@ mod generated;
 pub mod laws;
 mod listed;
 mod machine;
+mod raced;
 
 pub use answer::{Answer, NoMemory};
 pub use generated::{generate, summary};
 pub use listed::{list, refuse_long, run};
+pub use raced::{NoRace, prepare_race, refuse_long_race, report_race};
