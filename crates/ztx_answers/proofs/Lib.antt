@@ -5,3 +5,4 @@ pub mod Answered
 pub mod Ran
 pub mod Given
 pub mod Raced
+pub mod Asked

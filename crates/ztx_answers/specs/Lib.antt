@@ -4,3 +4,4 @@ pub mod Runs
 pub mod Due
 pub mod One
 pub mod Races
+pub mod Requests
