@@ -11,6 +11,3 @@ mod laws;
 pub use holder::answer;
 pub use kinds::{Answer, Asker};
 pub use laws::{every_conflict_ends, only_rejects_are_counted, who_is_never_rejected};
-
-#[cfg(test)]
-mod tests;

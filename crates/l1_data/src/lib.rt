@@ -6,6 +6,3 @@ mod copies;
 pub mod laws;
 
 pub use copies::{L1, LINE_SIZE, LINES, MOST_COPIES, NoMemory};
-
-#[cfg(test)]
-mod tests;

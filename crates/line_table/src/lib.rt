@@ -8,6 +8,3 @@ mod table;
 
 pub use laws::{against_lists_the_others, holds_a_line_outside};
 pub use table::{LINES, LineTable, MOST_HELD, Mode, NoMemory};
-
-#[cfg(test)]
-mod tests;

@@ -7,8 +7,6 @@ mod laws;
 mod lines;
 mod processors;
 mod storage;
-#[cfg(test)]
-mod tests;
 mod totals;
 mod whole;
 

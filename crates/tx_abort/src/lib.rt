@@ -15,6 +15,3 @@ pub use causes::{code_of, condition_of};
 pub use fields::BLOCK_SIZE;
 pub use laws::{each_byte_has_one_field, registers_come_back_in_pairs};
 pub use registers::restore;
-
-#[cfg(test)]
-mod tests;

@@ -15,6 +15,3 @@ pub use laws::{
     octowords_are_counted_once, pages_are_those_of_the_bytes, the_list_decides,
     units_hold_all_bytes,
 };
-
-#[cfg(test)]
-mod tests;

@@ -13,6 +13,3 @@ pub use begins::Begin;
 pub use causes::Why;
 pub use exceptions::{Exception, class_of, is_filtered};
 pub use nesting::{MOST_LEVELS, Nest};
-
-#[cfg(test)]
-mod tests;

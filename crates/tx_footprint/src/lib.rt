@@ -14,6 +14,3 @@ mod places;
 pub use footprint::{BLOCKS, Footprint, MOST_BLOCKS, MOST_LINES, NoMemory, Overflow};
 pub use laws::{adds_in_turn, counts_a_line_once, has_the_places_of_its_addresses};
 pub use places::{BLOCK_SIZE, LINE_SIZE};
-
-#[cfg(test)]
-mod tests;

@@ -5,6 +5,3 @@ mod draws;
 mod programs;
 
 pub use programs::{NoMemory, counters, generate};
-
-#[cfg(test)]
-mod tests;

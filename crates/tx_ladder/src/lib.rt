@@ -9,8 +9,6 @@ mod ladder;
 pub mod laws;
 mod parms;
 mod queue;
-#[cfg(test)]
-mod tests;
 
 pub use ladder::{DELAY_BASE, Ladder, Next};
 pub use parms::{

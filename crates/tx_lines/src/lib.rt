@@ -8,6 +8,3 @@ pub mod needs;
 
 pub use lines::{Lines, NoMemory};
 pub use needs::{MOST_NEEDS, lines_needed, need_for};
-
-#[cfg(test)]
-mod tests;

@@ -5,8 +5,6 @@ mod bytes;
 mod counters;
 mod ends;
 mod processors;
-#[cfg(test)]
-mod tests;
 mod whole;
 
 pub use whole::{NoMemory, report, status, summary};

@@ -6,6 +6,3 @@ mod choosing;
 mod running;
 
 pub use running::{run_drawn, run_given, run_planned, run_round};
-
-#[cfg(test)]
-mod tests;

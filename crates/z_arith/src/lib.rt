@@ -61,6 +61,3 @@ pub enum Shift {
     /// All bits go left, and those that leave come in from the right.
     Rotate,
 }
-
-#[cfg(test)]
-mod tests;

@@ -9,6 +9,3 @@ mod spell;
 
 pub use encoding::{Code, encode};
 pub use reading::{NoReading, decode, length_of};
-
-#[cfg(test)]
-mod tests;

@@ -19,6 +19,3 @@ pub use steps::{
     target,
 };
 pub use transactions::{delay, interrupt, opened, transact};
-
-#[cfg(test)]
-mod tests;

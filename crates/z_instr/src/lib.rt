@@ -15,5 +15,3 @@ pub mod operand;
 pub mod roles;
 pub mod row;
 pub mod table;
-#[cfg(test)]
-mod tests;

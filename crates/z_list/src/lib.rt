@@ -11,6 +11,3 @@ pub use laws::{each_instruction_has_a_line, operands_tell_instructions, texts_te
 pub use lines::listing;
 pub use parts::{Operand, OperandList, operands};
 pub use spelling::instruction_text;
-
-#[cfg(test)]
-mod tests;

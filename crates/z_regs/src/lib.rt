@@ -22,6 +22,3 @@ pub use ranges::{Range, Touches};
 pub use real::RealView;
 pub use storage::{NoMemory, Storage};
 pub use waiting::Waiting;
-
-#[cfg(test)]
-mod tests;

@@ -15,6 +15,3 @@ pub use expressions::{expression, expression_end};
 pub use labels::Labels;
 pub use line::tokens;
 pub use token::{ExprFault, NoMemory, TextFault, Token, TokenKind};
-
-#[cfg(test)]
-mod tests;

@@ -11,6 +11,3 @@ mod pages;
 pub use access::{accessible, ranges, touches};
 pub use demands::specified;
 pub use fetch::fetchable;
-
-#[cfg(test)]
-mod tests;

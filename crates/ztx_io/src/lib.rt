@@ -72,6 +72,3 @@ pub trait Sink {
         ensures count { faults self.old ≤ faults self.new }
         ensures fault { result ≡ Write.Failed → Rose (faults self.old) (faults self.new) };
 }
-
-#[cfg(test)]
-mod tests;

@@ -1,0 +1,160 @@
+//! Attempts of a CPU that is alone with storage: what it sees and touches, and which are the same.
+ghost use Rattle.std.specs.Prelude.{◌<◌, ◌^◌, ◌+◌, IsTrue};
+ghost use Rattle.tx_cpu.specs.Parts.{local_of};
+
+use std::alloc::Global;
+use std::sync::Arc;
+use std::test::Fail;
+use tx_control::Why;
+use tx_cpu::{Cpu, Plan, Program};
+use tx_journal::Image;
+use z_assemble::assemble;
+use z_regs::{Bytes, Storage};
+
+/// A CPU that is alone with storage.
+#[derive(Drop)]
+struct Alone {
+    cpu: Cpu,
+    base: Storage,
+}
+
+/// Whether an attempt of the CPU may count one instruction more.
+fn may_count(cpu: &Cpu) -> bool
+    ensures { IsTrue result → (local_of cpu.now).attempt.count + 1 < 2 ^ 32 }
+{
+    match cpu.live() {
+        None => true,
+        Some((_, count)) => count < 1_000_000,
+    }
+}
+
+impl Alone {
+    /// The first CPU of an image, with its storage.
+    fn open(alloc: Global, image: &Image) -> Result<Alone, Fail> {
+        let _count = image.cpu_count();
+        let start = image.cpus.first().ok_or("no CPU")?;
+        Ok(Alone {
+            cpu: Cpu::open(alloc, *start)?,
+            base: Storage::open(alloc, image.storage.as_slice())?,
+        })
+    }
+
+    /// Executes the next instruction, where it goes.
+    fn step(&mut self, program: &Program) {
+        let _size = self.base.as_slice();
+        if let Plan::Go { instr, need } = self.cpu.prepare(program) {
+            if may_count(&self.cpu) {
+                let _done = self.cpu.execute(&instr, &need, &mut self.base);
+            }
+        }
+    }
+
+    /// Aborts the attempt by an interruption from outside, where there is one.
+    fn interrupt(&mut self) {
+        let at = self.cpu.image().address;
+        let _size = self.base.as_slice();
+        if self.cpu.live().is_some() {
+            let _count = self.cpu.abort(Why::External, at, &mut self.base);
+        }
+    }
+
+    /// Bytes that the CPU sees over storage, one of storage, and what the attempt has touched: how many lines
+    /// and blocks, whether line 145 as stored, and whether line 146 as fetched.
+    fn seen_and_touched(&self) -> [u32; 8] {
+        let _size = self.base.as_slice();
+        let footprint = self.cpu.footprint();
+        [
+            u32::from(self.cpu.seen(0x90FC, &self.base)),
+            u32::from(self.cpu.seen(0x9103, &self.base)),
+            u32::from(self.cpu.seen(0x9104, &self.base)),
+            u32::from(self.base.get(0x90FC)),
+            footprint.lines(),
+            footprint.blocks(),
+            u32::from(footprint.stored(145)),
+            u32::from(footprint.fetched(146)),
+        ]
+    }
+}
+
+/// The CPU of a program after some instructions.
+fn after(alloc: Global, listing: &str, count: u32) -> Result<Alone, Fail> {
+    let image = assemble(alloc, listing.as_bytes())?;
+    let program = Program::open(alloc, Arc::new(alloc, image)?)?;
+    let mut alone = Alone::open(alloc, program.image())?;
+    for _ in 0..count {
+        alone.step(&program);
+    }
+    Ok(alone)
+}
+
+/// A transaction stores eight bytes over two lines, and loads them again.
+const STORES: &str =
+    " CPU X'4000'\n TBEGIN 0,0\n STG 1,X'90FC'\n LG 2,X'90FC'\n LG 3,X'9200'\n SVC 0\n \
+    REG 0,1,X'0102030405060708'\n END\n";
+
+#[test]
+fn what_an_attempt_sees_and_touches(rt: HostRuntime) -> Result<(), Fail> {
+    let mut alone = after(rt.alloc(), STORES, 4)?;
+    let inside = alone.seen_and_touched();
+    alone.interrupt();
+    let behind = alone.seen_and_touched();
+    assert_eq!(rt; inside, [1, 8, 0, 0, 3, 2, 1, 1]);
+    assert_eq!(rt; behind, [0; 8]);
+    Ok(())
+}
+
+/// Constrained loads from two octowords of one line.
+const LOADS: &str = " CPU X'4000'\n TBEGINC 0,0\n LG 1,X'9000'\n LG 2,X'9020'\n TEND\n END\n";
+
+/// The same in the other order.
+const LOADS_BACKWARDS: &str =
+    " CPU X'4000'\n TBEGINC 0,0\n LG 1,X'9020'\n LG 2,X'9000'\n TEND\n END\n";
+
+/// Constrained loads from other octowords of that line.
+const OTHER_LOADS: &str = " CPU X'4000'\n TBEGINC 0,0\n LG 1,X'9000'\n LG 2,X'9040'\n TEND\n END\n";
+
+/// The same loads as the first behind a TBEGINC at another address.
+const LATER_LOADS: &str =
+    " CPU X'4000'\n LGHI 3,1\n TBEGINC 0,0\n LG 1,X'9000'\n LG 2,X'9020'\n TEND\n END\n";
+
+/// The loads in a transaction without constraints, and other ones in another.
+const FREE_LOADS: &str = " CPU X'4000'\n TBEGIN 0,0\n LG 1,X'9000'\n LG 2,X'9020'\n TEND\n END\n";
+
+const OTHER_FREE_LOADS: &str =
+    " CPU X'4000'\n TBEGIN 0,0\n LG 1,X'9000'\n LG 2,X'9040'\n TEND\n END\n";
+
+/// Stores where the others load.
+const FREE_STORES: &str =
+    " CPU X'4000'\n TBEGIN 0,0\n STG 1,X'9000'\n STG 2,X'9020'\n TEND\n END\n";
+
+/// Two programs, each with a number of instructions, and whether their CPUs have the same attempt then.
+static ATTEMPTS: [(&str, u32, &str, u32, bool); 12] = [
+    (LOADS, 0, FREE_STORES, 0, true),
+    (LOADS, 3, LOADS, 3, true),
+    (LOADS, 3, LOADS_BACKWARDS, 3, true),
+    (LOADS, 2, LOADS, 3, false),
+    (LOADS, 0, LOADS, 1, false),
+    (LOADS, 3, OTHER_LOADS, 3, false),
+    (LOADS, 3, LATER_LOADS, 4, false),
+    (LOADS, 3, FREE_LOADS, 3, false),
+    (FREE_LOADS, 3, OTHER_FREE_LOADS, 3, true),
+    (FREE_LOADS, 1, FREE_LOADS, 2, false),
+    (FREE_LOADS, 3, FREE_STORES, 3, false),
+    (LOADS, 4, FREE_STORES, 4, true),
+];
+
+/// Whether both programs have the same attempt after their instructions.
+fn are_same(alloc: Global, one: &str, count: u32, other: &str, more: u32) -> Result<bool, Fail> {
+    let first = after(alloc, one, count)?;
+    let second = after(alloc, other, more)?;
+    Ok(first.cpu.same_attempt(&second.cpu))
+}
+
+#[test]
+fn attempts_that_are_the_same(rt: HostRuntime) -> Result<(), Fail> {
+    for (one, count, other, more, same) in &ATTEMPTS {
+        let answer = are_same(rt.alloc(), one, *count, other, *more)?;
+        assert_eq!(rt; answer, *same, "{one}");
+    }
+    Ok(())
+}

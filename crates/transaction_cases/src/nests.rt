@@ -1,0 +1,194 @@
+//! Values of the architecture and of worked nests.
+ghost use Rattle.std.specs.Prelude.{◌≡◌, ◌↔◌, IsTrue};
+
+use tx_control::{Begin, Exception, Nest, Why, abort_codes, class_of, codes, is_filtered};
+
+/// An exception that an instruction of four bytes meets.
+fn exception(code: u16, fetch: bool) -> Exception {
+    Exception {
+        code,
+        fetch,
+        length: 4,
+    }
+}
+
+#[test]
+fn classes_of_the_architecture(rt: HostRuntime) {
+    // the interruption code, the class, and the class at the fetch
+    let kinds = [
+        (0x0001, 1, 1),
+        (0x0004, 2, 1),
+        (0x0005, 2, 1),
+        (0x0006, 2, 1),
+        (0x0008, 3, 3),
+        (0x0009, 3, 3),
+        (0x0013, 2, 2),
+        (0x0018, 1, 1),
+        (0x0007, 1, 1),
+    ];
+    for (code, class, at_fetch) in kinds {
+        assert_eq!(rt; class_of(exception(code, false)), class);
+        assert_eq!(rt; class_of(exception(code, true)), at_fetch);
+    }
+    assert!(rt;
+        codes::OPERATION == 0x0001 && codes::PROTECTION == 0x0004 && codes::ADDRESSING == 0x0005
+    );
+    assert!(rt; codes::SPECIFICATION == 0x0006 && codes::FIXED_POINT_OVERFLOW == 0x0008);
+    assert!(rt; codes::FIXED_POINT_DIVIDE == 0x0009 && codes::SPECIAL_OPERATION == 0x0013);
+    assert!(rt; codes::TRANSACTION_CONSTRAINT == 0x0018);
+}
+
+#[test]
+fn classes_that_controls_filter(rt: HostRuntime) {
+    // the control, and whether it filters classes 1, 2 and 3
+    for (control, filtered) in [
+        (0, [false, false, false]),
+        (1, [false, false, true]),
+        (2, [false, true, true]),
+        (3, [false, false, false]),
+    ] {
+        assert_eq!(rt; is_filtered(1, control), filtered[0]);
+        assert_eq!(rt; is_filtered(2, control), filtered[1]);
+        assert_eq!(rt; is_filtered(3, control), filtered[2]);
+    }
+}
+
+#[test]
+fn bits_of_a_begin(rt: HostRuntime) {
+    // the I field, and of a begin of either kind the mask, A, F and the filtering control
+    for (field, mask, a, f, pifc) in [
+        (0x0008, 0x00, true, false, 0),
+        (0xFFF7, 0xFF, false, true, 3),
+        (0x0004, 0x00, false, true, 0),
+        (0xFFFB, 0xFF, true, false, 3),
+        (0x8001, 0x80, false, false, 1),
+        (0x0102, 0x01, false, false, 2),
+        (0xFEFC, 0xFE, true, true, 0),
+    ] {
+        let block = Some(0x8000);
+        let plain = Begin {
+            mask,
+            a,
+            f,
+            pifc,
+            block,
+            constrained: false,
+        };
+        assert_eq!(rt; Begin::of(field, block, false), plain);
+        let constrained = Begin {
+            mask,
+            a,
+            f: false,
+            pifc: 0,
+            block: None,
+            constrained: true,
+        };
+        assert_eq!(rt; Begin::of(field, None, true), constrained);
+    }
+}
+
+/// A begin with these controls.
+fn controlled(a: bool, f: bool, pifc: u8) -> Begin {
+    Begin {
+        mask: 0x01,
+        a,
+        f,
+        pifc,
+        block: Some(0xA000),
+        constrained: false,
+    }
+}
+
+#[test]
+fn the_strictest_level_decides(rt: HostRuntime) {
+    // the controls of an outer and an inner begin, and what both leave in force
+    for (outer, inner, both) in [
+        ((true, true, 1), (false, true, 2), (false, true, 2)),
+        ((false, true, 2), (true, true, 1), (false, true, 2)),
+        ((true, true, 0), (true, false, 0), (true, false, 0)),
+        ((true, false, 1), (true, true, 0), (true, false, 1)),
+        ((true, true, 2), (true, true, 2), (true, true, 2)),
+    ] {
+        let mut nest = Nest::none();
+        assert!(rt; nest.effective_a() && nest.effective_f() && nest.effective_pifc() == 0);
+        nest.enter(controlled(outer.0, outer.1, outer.2));
+        let mut before = Nest::none();
+        before.copy_from(&nest);
+        nest.enter(controlled(inner.0, inner.1, inner.2));
+        assert!(rt; nest.effective_a() == both.0 && nest.effective_f() == both.1);
+        assert_eq!(rt; nest.effective_pifc(), both.2);
+        assert!(rt; !nest.same(&before));
+        nest.leave();
+        assert!(rt; nest.effective_a() == outer.0 && nest.effective_f() == outer.1);
+        assert_eq!(rt; nest.effective_pifc(), outer.2);
+        assert!(rt; nest.same(&before));
+    }
+}
+
+#[test]
+fn the_outermost_begin_decides(rt: HostRuntime) {
+    let mut nest = Nest::none();
+    nest.enter(Begin {
+        mask: 0xC0,
+        a: true,
+        f: false,
+        pifc: 0,
+        block: None,
+        constrained: true,
+    });
+    for _ in 0..20 {
+        if nest.depth() < 16 {
+            nest.enter(controlled(true, true, 0));
+        }
+    }
+    assert_eq!(rt; nest.depth(), 16);
+    assert_eq!(rt; nest.mask(), 0xC0);
+    assert_eq!(rt; nest.block(), None);
+    assert!(rt; nest.constrained());
+}
+
+#[test]
+fn codes_of_causes(rt: HostRuntime) {
+    let met = exception(codes::SPECIFICATION, false);
+    for (why, code) in [
+        (Why::External, 2),
+        (Why::Program(met), 4),
+        (Why::FetchOverflow, 7),
+        (Why::StoreOverflow, 8),
+        (Why::FetchConflict(144), 9),
+        (Why::StoreConflict(144), 10),
+        (Why::Restricted, 11),
+        (Why::Filtered(met), 12),
+        (Why::Depth, 13),
+        (Why::Starved, 255),
+        (Why::Tabort(257), 257),
+    ] {
+        assert_eq!(rt; why.code(), code);
+    }
+    assert!(rt; abort_codes::STARVED == 255);
+}
+
+/// `==` of exceptions says that they are the same.
+fn is_same_exception(one: Exception, other: Exception) -> bool
+    ensures { IsTrue result ↔ (one ≡ other) }
+{
+    one == other
+}
+
+/// `==` of causes says that they are the same.
+fn is_same_cause(one: Why, other: Why) -> bool
+    ensures { IsTrue result ↔ (one ≡ other) }
+{
+    one == other
+}
+
+#[test]
+fn causes_are_compared(rt: HostRuntime) {
+    let met = exception(codes::ADDRESSING, false);
+    assert!(rt;
+        is_same_exception(met, met) && !is_same_exception(met, exception(codes::ADDRESSING, true))
+    );
+    assert!(rt; is_same_cause(Why::Program(met), Why::Program(met)));
+    assert!(rt; !is_same_cause(Why::Program(met), Why::Filtered(met)));
+    assert!(rt; !is_same_cause(Why::FetchConflict(1), Why::FetchConflict(2)));
+}
