@@ -84,7 +84,11 @@ fn cut<L: Ledger>(rest: &mut ledger::Share<L>) -> Share<L>
 }
 
 /// All of a ledger with nothing in it, as shares of one part each.
-fn shares_of<L: Ledger>(alloc: Global, whole: ledger::Share<L>, count: u32) -> Result<Vec<Share<L>>, NoMemory>
+fn shares_of<L: Ledger>(
+    alloc: Global,
+    whole: ledger::Share<L>,
+    count: u32,
+) -> Result<Vec<Share<L>>, NoMemory>
     requires parts { whole.parts ≡ count }
     requires nothing { whole.amount ≡ 0 }
     ensures count { IfOk result (λ shares. vec_len shares ≡ count) }

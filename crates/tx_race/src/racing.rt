@@ -48,7 +48,11 @@ fn race_on<L: Ledger + Send + Sync, R: Threads + Wait + Sync, G: Gate>(
     let jobs = jobs_of(alloc, shares)?;
     let board = Mutex::new(board);
     let shared = &board;
-    let Ok(done) = thread::map_vec(rt, jobs, &|job: Job<L>| work(rt, shared, gate, job, lockings)) else {
+    let Ok(done) = thread::map_vec(
+        rt,
+        jobs,
+        &|job: Job<L>| work(rt, shared, gate, job, lockings),
+    ) else {
         return Err(NoMemory);
     };
     let mut board = board.into_inner();

@@ -1,6 +1,6 @@
 //! Races of listings: that threads overlap, that each CPU gets its turns, and that a second machine which is
 //! given the recorded events comes to the same.
-ghost use Rattle.std.specs.Prelude.{◌≡◌, [], IfOk};
+ghost use Rattle.std.specs.Prelude.{◌≡◌, ◌≤◌, [], IfOk};
 
 use crate::{Gate, OpenGate, Raced, race};
 use std::alloc::Global;
@@ -9,7 +9,7 @@ use std::sync::atomic::{AtomicBool, Ordering};
 use std::sync::{Arc, Wait};
 use std::test::Fail;
 use std::thread::Threads;
-use tx_journal::{Entry, Event};
+use tx_journal::{Entry, Event, Image};
 use tx_machine::Machine;
 use tx_meaning::Limits;
 use z_assemble::assemble;
@@ -79,20 +79,29 @@ fn counter(alloc: Global, cpus: u32, times: u32) -> Result<String, Fail> {
     Ok(text)
 }
 
-/// A machine from which nothing has happened, on which so many CPUs count, so many times each.
+/// A machine of an image, from which nothing has happened, with so many turns for each CPU.
+fn machine_on(alloc: Global, image: Arc<Image>, turns: u32) -> Result<Machine, Fail>
+    requires { (1 ≤ turns) × (turns ≤ 200000) }
+    ensures unused { IfOk result (λ machine. machine.events ≡ []) }
+    ensures externals { IfOk result (λ machine. machine.limits.externals ≡ 0) }
+{
+    let limits = Limits {
+        turns,
+        tick: 0,
+        externals: 0,
+    };
+    let machine = Machine::open(alloc, image, limits);
+    Ok(machine.ok().ok_or("no memory")?)
+}
+
+/// A machine on which so many CPUs are to count, so many times each.
 fn machine_for(alloc: Global, cpus: u32, times: u32) -> Result<Machine, Fail>
     ensures unused { IfOk result (λ machine. machine.events ≡ []) }
     ensures externals { IfOk result (λ machine. machine.limits.externals ≡ 0) }
 {
     let listing = counter(alloc, cpus, times)?;
     let image = assemble(alloc, listing.as_bytes())?;
-    let limits = Limits {
-        turns: 200_000,
-        tick: 0,
-        externals: 0,
-    };
-    let machine = Machine::open(alloc, Arc::new(alloc, image)?, limits);
-    Ok(machine.ok().ok_or("no memory")?)
+    machine_on(alloc, Arc::new(alloc, image)?, 200_000)
 }
 
 /// How often the CPU has committed.
@@ -113,7 +122,12 @@ fn count_in(machine: &Machine) -> u64 {
 }
 
 /// A race of so many CPUs that count so many times each.
-fn counted<R: Threads + Wait + Sync>(rt: &R, alloc: Global, cpus: u32, times: u32) -> Result<Raced, Fail> {
+fn counted<R: Threads + Wait + Sync>(
+    rt: &R,
+    alloc: Global,
+    cpus: u32,
+    times: u32,
+) -> Result<Raced, Fail> {
     let machine = machine_for(alloc, cpus, times)?;
     Ok(race(rt, alloc, machine, &OpenGate).ok().ok_or("no memory")?)
 }
@@ -157,21 +171,23 @@ fn four_count_and_the_events_give_the_same_again(rt: HostRuntime) -> Result<(), 
 fn sixteen_count(rt: HostRuntime) -> Result<(), Fail> {
     let raced = counted(&rt, rt.alloc(), 16, 20)?;
     assert_eq!(rt; count_in(&raced.machine), 320);
-    assert_eq!(rt; raced.worked + raced.finished, raced.machine.events().len() as u64);
+    assert_eq!(rt;
+        raced.worked + raced.finished,
+        raced.machine.events().len() as u64
+    );
     assert!(rt; raced.worked > 0);
     assert_eq!(rt; raced.homed, 0);
     Ok(())
 }
 
 /// A race on the image of a machine, with few turns.
-fn small_race<R: Threads + Wait + Sync>(rt: &R, alloc: Global, given: &Machine) -> Result<Raced, Fail> {
-    let limits = Limits {
-        turns: 400,
-        tick: 0,
-        externals: 0,
-    };
+fn small_race<R: Threads + Wait + Sync>(
+    rt: &R,
+    alloc: Global,
+    given: &Machine,
+) -> Result<Raced, Fail> {
     let image = given.shared_image().ok().ok_or("no memory")?;
-    let machine = Machine::open(alloc, image, limits).ok().ok_or("no memory")?;
+    let machine = machine_on(alloc, image, 400)?;
     Ok(race(rt, alloc, machine, &OpenGate).ok().ok_or("no memory")?)
 }
 
