@@ -26,6 +26,13 @@ fn main(rt: HostRuntime) -> ExitCode {
     };
     let mut source = ReaderSource::new(rt.reader());
     let mut sink = WriterSink::new(io::writer(&rt));
-    let status = ztx_top(&rt, rt.alloc(), words.as_slice(), &mut source, &mut sink, &OpenGate);
+    let status = ztx_top(
+        &rt,
+        rt.alloc(),
+        words.as_slice(),
+        &mut source,
+        &mut sink,
+        &OpenGate,
+    );
     ExitCode::from(status)
 }

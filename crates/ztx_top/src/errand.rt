@@ -13,10 +13,7 @@ pub enum Errand {
     Input(Request),
     /// The report of a race on the listing that the source has: each CPU has at most `turns` counted turns, and
     /// a tick comes with each turn whose number is a multiple of `tick`, where that is not 0.
-    Race {
-        turns: u32,
-        tick: u32,
-    },
+    Race { turns: u32, tick: u32 },
     /// The generator's listing for a number.
     Generate(u64),
     /// The short summary of that listing's run.

@@ -214,7 +214,14 @@ fn commands_are_answered(rt: HostRuntime) -> Result<(), Fail> {
         let mut source = source_of(alloc, case.input, 0)?;
         let mut sink = sink_of(alloc, 0)?;
         let words = words_of(alloc, case.words)?;
-        let status = ztx_top(&rt, alloc, words.as_slice(), &mut source, &mut sink, &OpenGate);
+        let status = ztx_top(
+            &rt,
+            alloc,
+            words.as_slice(),
+            &mut source,
+            &mut sink,
+            &OpenGate,
+        );
         assert_eq!(rt; status, case.status, "{}", case.words);
         assert_eq!(rt; sink.taken(), case.text.as_bytes(), "{}", case.words);
     }
@@ -228,7 +235,14 @@ fn each_read_fails_in_turn(rt: HostRuntime) -> Result<(), Fail> {
     for call in 1..=READS {
         let mut source = source_of(alloc, CONFLICT, call)?;
         let mut sink = sink_of(alloc, 0)?;
-        let status = ztx_top(&rt, alloc, words.as_slice(), &mut source, &mut sink, &OpenGate);
+        let status = ztx_top(
+            &rt,
+            alloc,
+            words.as_slice(),
+            &mut source,
+            &mut sink,
+            &OpenGate,
+        );
         assert_eq!(rt; status, 2, "call {call}");
         assert!(rt; sink.taken().is_empty(), "call {call}");
     }
@@ -242,7 +256,14 @@ fn each_write_fails_in_turn(rt: HostRuntime) -> Result<(), Fail> {
     for call in 1..=WRITES {
         let mut source = source_of(alloc, CONFLICT, 0)?;
         let mut sink = sink_of(alloc, call)?;
-        let status = ztx_top(&rt, alloc, words.as_slice(), &mut source, &mut sink, &OpenGate);
+        let status = ztx_top(
+            &rt,
+            alloc,
+            words.as_slice(),
+            &mut source,
+            &mut sink,
+            &OpenGate,
+        );
         let taken = (16 * (call - 1)) as usize;
         assert_eq!(rt; status, 3, "call {call}");
         assert_eq!(rt;
@@ -261,7 +282,14 @@ fn faults_of_texts_that_are_refused(rt: HostRuntime) -> Result<(), Fail> {
         let words = words_of(alloc, line)?;
         let mut source = source_of(alloc, "", 0)?;
         let mut sink = sink_of(alloc, 1)?;
-        let status = ztx_top(&rt, alloc, words.as_slice(), &mut source, &mut sink, &OpenGate);
+        let status = ztx_top(
+            &rt,
+            alloc,
+            words.as_slice(),
+            &mut source,
+            &mut sink,
+            &OpenGate,
+        );
         assert_eq!(rt; status, 3, "{line}");
         assert!(rt; sink.taken().is_empty(), "{line}");
     }
@@ -274,7 +302,14 @@ fn a_source_and_a_sink_that_never_fail(rt: HostRuntime) -> Result<(), Fail> {
     let words = words_of(alloc, "run")?;
     let mut source = SureSource::new(CONFLICT.as_bytes().to_vec(alloc)?, 7);
     let mut sink = SureSink::new(alloc, 5);
-    let status = sure_top(&rt, alloc, words.as_slice(), &mut source, &mut sink, &OpenGate);
+    let status = sure_top(
+        &rt,
+        alloc,
+        words.as_slice(),
+        &mut source,
+        &mut sink,
+        &OpenGate,
+    );
     assert_eq!(rt; status, 0);
     assert_eq!(rt; sink.taken(), REPORT.as_bytes());
     Ok(())
