@@ -5,4 +5,5 @@ pub mod Plans
 pub mod Answered
 pub mod Ran
 pub mod Given
+pub mod Raced
 pub mod Asked

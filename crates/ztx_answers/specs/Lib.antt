@@ -4,4 +4,5 @@ pub mod Serial
 pub mod Runs
 pub mod Due
 pub mod One
+pub mod Races
 pub mod Requests

@@ -16,7 +16,7 @@ use z_assemble::{AssembleFault, ListingFault, assemble, fault_line};
 use z_list::listing;
 
 /// The line of a fault.
-fn refuse(alloc: Global, fault: ListingFault) -> Result<Answer, NoMemory>
+pub fn refuse(alloc: Global, fault: ListingFault) -> Result<Answer, NoMemory>
     ensures status { IfOk result (λ answer. answer.status ≡ 5) }
     ensures text { IfOk result (λ answer. answer.text.items ≡ fault_line fault) }
 {
