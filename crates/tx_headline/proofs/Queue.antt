@@ -1,9 +1,8 @@
 -- Why the stop queue changes in an event that comes after others.
-use Rattle.std.proofs.Common.{◌≡◌, ◌≢◌, ℕ, ◌+◌, ◌-◌, ◌<◌, ◌≤◌, Bool, true, false, List, [], ◌∷◌, ◌++◌}
-use Rattle.std.proofs.Common.{refl, sym, ap, ◌∙◌, subst, arith, inl, inr, append-nil}
-use Rattle.std.specs.Prelude.{◌⊎◌, ◌==◌, ◌||◌, ◌&&◌, if◌then◌else◌}
-use Rattle.std.proofs.lemmas.Bool.{true≢false, cases_Bool, eq-eqb, ne_eqb, or_left, eqb-true}
-use Rattle.std.proofs.lemmas.List.Elements.{All-head}
+use Rattle.std.proofs.Common.{◌≡◌, ◌≢◌, ℕ, ◌-◌, ◌<◌, ◌≤◌, true, false, List, [], ◌∷◌, ◌++◌}
+use Rattle.std.proofs.Common.{refl, sym, ap, ◌∙◌, subst, arith, append-nil}
+use Rattle.std.specs.Prelude.{◌==◌, ◌||◌, ◌&&◌, if◌then◌else◌}
+use Rattle.std.proofs.lemmas.Bool.{true≢false, cases_Bool, eq-eqb, ne_eqb, or_left}
 use borrow.Enum.Arm.{by_way}
 use Rattle.tx_ladder.specs.Waiting.{waits_in}
 use Rattle.tx_journal.specs.Image.{cpu_of_event}
@@ -12,10 +11,10 @@ use Rattle.tx_journal.specs.declared.events.Event.TheVariants as event
 use Rattle.tx_meaning.specs.Hits.{hits}
 use Rattle.tx_meaning.specs.Limits.{Setting}
 use Rattle.tx_meaning.specs.Meaning.{IsSetting, meaning}
-use Rattle.tx_meaning.specs.State.{Numbers, State, is_first, is_live, cpus_of}
+use Rattle.tx_meaning.specs.State.{State, is_first, is_live, cpus_of}
 use Rattle.tx_meaning.specs.Idle.{is_ready}
 use Rattle.tx_meaning.specs.Stretches.{ends_transaction, is_interrupted_by, is_counted_turn, counted}
-use Rattle.tx_meaning.specs.Stretches.{stretch_of, attempt_turns, left_by}
+use Rattle.tx_meaning.specs.Stretches.{stretch_of, attempt_turns}
 use Rattle.tx_meaning.specs.Turn.{turn, happen}
 use Rattle.tx_meaning.proofs.Books.{unready_stays}
 use Rattle.tx_keeping.specs.Kept.{Kept}
@@ -24,7 +23,6 @@ use Rattle.tx_keeping.specs.Turn.{k_happen}
 use Rattle.tx_meaning.specs.Views.{AreKnown}
 use Rattle.tx_keeping.proofs.Events.{keeping_is, keeping_good}
 use Rattle.tx_bounds.proofs.Meant.{StopsAt, stops}
-use Rattle.tx_bounds.proofs.News.{Calm}
 use Rattle.tx_bounds.proofs.OwnTurns.{After}
 use Rattle.tx_bounds.proofs.OwnEvents.{extra}
 use Rattle.tx_bounds.proofs.Paid.{left_of}
