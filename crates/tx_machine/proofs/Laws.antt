@@ -24,6 +24,8 @@ use Rattle.tx_bounds.proofs.Heads.{heads_in_all}
 use Rattle.tx_bounds.proofs.Meant.{stops}
 use Rattle.tx_bounds.proofs.Stretched.{ages_within}
 use Rattle.tx_ladder.specs.Waiting.{waits_in}
+use Rattle.tx_opacity.specs.Opacity.{SeesOneRun}
+use Rattle.tx_opacity.proofs.Opaque.{opaque}
 use Rattle.tx_headline.specs.Queue.{QueueChanges, others_before}
 use Rattle.tx_headline.proofs.Bounds.{turns_left, ages_short}
 use Rattle.tx_headline.proofs.Queue.{queue_changes, before_most}
@@ -92,6 +94,9 @@ module _ (m : Setting) (w : Works) (remaining : ℕ) (s : Stands m w remaining) 
 
   pub views_stay : KeepsViews m (meaning m w.events) (happen m e (meaning m w.events)).state
   views_stay = views_kept m s.setting w.events e s.events.known within
+
+  pub one_run : SeesOneRun m (meaning m w.events) (happen m e (meaning m w.events)).state
+  one_run = opaque m s.setting w.events e s.events.known within
 
   pub few_turns_of_heads : (i : ℕ) → head_turns m w.events i
       + counted (is_counted_turn m (meaning m w.events) e i) ≤ 34

@@ -13,6 +13,7 @@ use Rattle.tx_keeping.proofs.Events.{legal, grows_only, views_kept, touched_held
 use Rattle.tx_bounds.proofs.Meant.{stops}
 use Rattle.tx_bounds.proofs.Stretched.{ages_within}
 use Rattle.tx_bounds.proofs.Heads.{heads_in_all}
+use Rattle.tx_opacity.proofs.Opaque.{opaque}
 use Rattle.tx_headline.proofs.Bounds.{turns_left, ages_short, turns_of_head}
 use Rattle.tx_headline.proofs.Lists.{all_first, all_later}
 use Rattle.tx_headline.proofs.Queue.{queue_changes, before_most}
@@ -49,6 +50,7 @@ module _ (m : Setting) (s : IsSetting m) where
         grows = subst (GrowsFrom before) (meaning_more m before e)
             (grows_only m s before (e ∷ []) known (All-cons P e [] within (All-nil P)));
         views = views_kept m s before e known within;
+        opaque = opaque m s before e known within;
         queue = queue_moves m e (meaning m before);
         reasons = queue_changes m s before e (All-push P before e known within);
         behind_few = λ i waits. before_most m s before known i waits;

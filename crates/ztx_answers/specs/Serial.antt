@@ -9,6 +9,7 @@ use Rattle.tx_meaning.specs.State.{State, is_head, cpus_of}
 use Rattle.tx_meaning.specs.Turn.{happen}
 use Rattle.tx_meaning.specs.Hits.{hits}
 use Rattle.tx_ladder.specs.Waiting.{waits_in}
+use Rattle.tx_opacity.specs.Opacity.{SeesOneRun}
 use Rattle.tx_headline.specs.Queue.{QueueChanges, others_before}
 use Rattle.tx_meaning.specs.Queues.{QueueMoves}
 use Rattle.tx_meaning.specs.Stretches.{stretch_of, left, bound, attempt_turns}
@@ -41,6 +42,7 @@ pub record IsBounded (m : Setting) (events : List Event) : Type 0 where
 pub record IsOrderly (m : Setting) (before : List Event) (e : Event) : Type 0 where
   pub grows : GoesOnWith (meaning m before).history (behind m before e).history
   pub views : KeepsViews m (meaning m before) (behind m before e)
+  pub opaque : SeesOneRun m (meaning m before) (behind m before e)
   pub queue : QueueMoves (meaning m before).queue (behind m before e).queue
   pub reasons : QueueChanges m (meaning m before) e
   pub behind_few : (i : ℕ) → waits_in (meaning m before).queue i ≡ true

@@ -12,7 +12,8 @@ use Rattle.tx_meaning.specs.Heads.{head_turns}
 use Rattle.tx_meaning.specs.Views.{GoesOnWith, KeepsViews}
 use Rattle.tx_machine.specs.Machine.{Seen, Stands, setting_of, state_of, event_of}
 use Rattle.tx_machine.proofs.Laws.{is_legal, is_held, few_hits, few_turns_left, history_grows, views_stay}
-use Rattle.tx_machine.proofs.Laws.{queue_at_its_ends, few_turns_of_heads, unrejected_head}
+use Rattle.tx_opacity.specs.Opacity.{SeesOneRun}
+use Rattle.tx_machine.proofs.Laws.{one_run, queue_at_its_ends, few_turns_of_heads, unrejected_head}
 use Rattle.tx_machine.proofs.Laws.{some_turns_left, short_ages, few_before, queue_with_reasons}
 use Rattle.tx_headline.specs.Queue.{QueueChanges}
 use Rattle.tx_headline.proofs.Bounds.{turns_of_head}
@@ -46,6 +47,12 @@ returns-clause-views c =
     subst (λ (s : Seen). KeepsViews (setting_of s) (state_of s) (meaning (setting c) c.advance.new.works.events))
     c.self.view_is (subst (KeepsViews (setting c) (meaning (setting c) c.self.inside.works.events)) (means c)
     (views_stay (setting c) c.self.inside.works _ c.self.invariant c.args.e (known c)))
+
+pub returns-clause-opaque : goal.returns-clause-opaque
+returns-clause-opaque c =
+    subst (λ (s : Seen). SeesOneRun (setting_of s) (state_of s) (meaning (setting c) c.advance.new.works.events))
+    c.self.view_is (subst (SeesOneRun (setting c) (meaning (setting c) c.self.inside.works.events)) (means c)
+    (one_run (setting c) c.self.inside.works _ c.self.invariant c.args.e (known c)))
 
 pub returns-clause-held : goal.returns-clause-held
 returns-clause-held c = is_held (setting c) c.advance.new.works _ (stands c)
