@@ -5,6 +5,7 @@ pub mod Started
 pub mod Ages
 pub mod Recorded
 pub mod QueueWalk
+pub mod After
 pub mod Tally
 pub mod Outside
 pub mod Commits

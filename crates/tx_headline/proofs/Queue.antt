@@ -21,7 +21,7 @@ use Rattle.tx_keeping.specs.Kept.{Kept}
 use Rattle.tx_keeping.specs.Keeping.{keeping}
 use Rattle.tx_keeping.specs.Turn.{k_happen}
 use Rattle.tx_meaning.specs.Views.{AreKnown}
-use Rattle.tx_keeping.proofs.Events.{keeping_is, keeping_good}
+use Rattle.tx_keeping.proofs.Events.{keeping_is}
 use Rattle.tx_bounds.proofs.Meant.{StopsAt, stops}
 use Rattle.tx_bounds.proofs.OwnTurns.{After}
 use Rattle.tx_bounds.proofs.OwnEvents.{extra}
@@ -29,10 +29,10 @@ use Rattle.tx_bounds.proofs.Paid.{left_of}
 use Rattle.tx_bounds.proofs.Potential.{left_at}
 use Rattle.tx_bounds.proofs.Stopped.{between, some_stop}
 use Rattle.tx_bounds.proofs.Stopping.{Once}
-use Rattle.tx_bounds.proofs.Stretched.{after_event, held_over, some_starve, cost_of, most_of}
+use Rattle.tx_bounds.proofs.Stretched.{cost_of, most_of}
 use Rattle.tx_bounds.proofs.Heads.{queue_is_open}
 use Rattle.tx_headline.specs.Queue.{Joins, HeadGoes, Stays, Leaves, GoesLast, QueueChanges, others_before}
-use Rattle.tx_headline.proofs.Commits.{known_first}
+use Rattle.tx_headline.proofs.After.{known_first, kept_before, kept_behind, left_behind}
 use Rattle.tx_headline.proofs.Members.{first_waits, waits_first, waits_later, once_first, parts_apart}
 use Rattle.tx_headline.proofs.Members.{few_once, before_few, members_known}
 use Rattle.tx_headline.proofs.QueueWalk.{Moved, Goes, turn_moves, external_moves}
@@ -91,11 +91,10 @@ module _ (m : Setting) (s : IsSetting m) (events : List Event) (e : Event)
   first_known = known_first m events (e ∷ []) known
 
   here : a ≡ k.state
-  here = keeping_is m s events first_known
+  here = kept_before m s events e known
 
   there : t ≡ u.state
-  there = sym (meant_more m events e) ∙ keeping_is m s (events ++ e ∷ []) known
-      ∙ ap (λ (x : Kept). x.state) (kept_more m events e)
+  there = kept_behind m s events e known
 
   stops_first : StopsAt m a
   stops_first = stops m events s first_known
@@ -108,12 +107,8 @@ module _ (m : Setting) (s : IsSetting m) (events : List Event) (e : Event)
       subst (λ (x : State). (y : ℕ) → waits_in x.queue y ≡ true → y < cpus_of m) (meant_more m events e)
       (members_known m (events ++ e ∷ []) known)
 
-  -- what the event leaves of a CPU
   after : (c : ℕ) → After m c (stretch_of m events c).is_open (cost_of m k e c) (most_of m k e c) k.state u
-  after c =
-      let over = held_over m s c (some_starve m s) events first_known in
-      after_event m s c (stretch_of m events c).is_open (some_starve m s) e k
-      (keeping_good m s events first_known).truth (between m events (some_stop m s)) over.holds over.calm
+  after c = left_behind m s events e known c
 
   full_then : (c : ℕ) → waits_in t.queue c ≡ true → (u.standings c).aborts ≡ m.image.parms.stop
   full_then c waits =

@@ -30,7 +30,7 @@ use Rattle.tx_bounds.proofs.Heads.{queue_is_open}
 use Rattle.tx_headline.specs.Queue.{HeadGoes, Stays, Leaves, GoesLast, others_before}
 use Rattle.tx_headline.specs.Since.{IsUninterrupted, entries_since, all_turns_after}
 use Rattle.tx_headline.proofs.Lists.{dropped}
-use Rattle.tx_headline.proofs.Commits.{known_first, known_later, known_moved}
+use Rattle.tx_headline.proofs.After.{known_first, known_later, known_moved}
 use Rattle.tx_headline.proofs.Members.{waits_first}
 use Rattle.tx_headline.proofs.Outside.{later_uninterrupted, not_interrupted}
 use Rattle.tx_headline.proofs.Queue.{advances, queue_changes, same_head, same_rest}
