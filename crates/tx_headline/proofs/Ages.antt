@@ -106,7 +106,8 @@ module _ (m : Setting) (s : State) where
 
 -- where a stretch was not open and is, it was opened by a start
 opened_by : (busy ended started : Bool) (longer : Stretch) → busy ≡ false
-    → (if busy then (if ended then closed else longer) else (if started then opened else closed)).is_open ≡ true
+    → (if busy then (if ended then closed else longer) else (if started then opened else closed)).is_open
+    ≡ true
     → ((if busy then (if ended then closed else longer) else (if started then opened else closed)) ≡ opened)
     × (started ≡ true)
 opened_by true ended started longer shut is = let n : true ≡ false = shut in cc
@@ -115,7 +116,8 @@ opened_by false ended false longer shut is = let n : false ≡ true = is in cc
 
 -- where it was open and is, it was made longer
 longer_by : (busy ended started : Bool) (longer : Stretch) → busy ≡ true
-    → (if busy then (if ended then closed else longer) else (if started then opened else closed)).is_open ≡ true
+    → (if busy then (if ended then closed else longer) else (if started then opened else closed)).is_open
+    ≡ true
     → (if busy then (if ended then closed else longer) else (if started then opened else closed)) ≡ longer
 longer_by true false started longer was is = refl
 longer_by true true started longer was is = let n : false ≡ true = is in cc

@@ -1,6 +1,7 @@
 -- A constrained transaction that nothing interrupts commits within its bound.
 use Rattle.std.proofs.Common.{◌≡◌, ℕ, ◌+◌, ◌≤◌, true, false, List, [], ◌∷◌, ◌++◌}
-use Rattle.std.proofs.Common.{length, drop, refl, sym, ap, ◌∙◌, subst, arith, inl, inr, append_assoc, append-nil, None}
+use Rattle.std.proofs.Common.{length, drop, refl, sym, ap, ◌∙◌, subst, arith, inl, inr, append_assoc}
+use Rattle.std.proofs.Common.{append-nil, None}
 use Rattle.std.specs.Prelude.{◌⊎◌, ◌&&◌, is_none, count_by}
 use Rattle.std.specs.List.{list_any}
 use Rattle.std.proofs.lemmas.Bool.{true≢false, cases_Bool, or_parts, eqb-true, eq-eqb}
@@ -40,8 +41,8 @@ module _ (m : Setting) (s : IsSetting m) (c : ℕ) (before : List Entry) (start 
   abbrev stop : ℕ
   stop = m.image.parms.stop
 
-  -- The transaction goes on: its counted turns since the start are its age, nothing from outside has come to it,
-  -- and no entry has ended it.
+  -- The transaction goes on: its counted turns since the start are its age, nothing from outside has come to
+  -- it, and no entry has ended it.
   pub record Since (events : List Event) : Type 0 where
     pub open_now : (stretch_of m events c).is_open ≡ true
     pub aged : (stretch_of m events c).age + start ≡ turns_after m events c
@@ -99,7 +100,8 @@ module _ (m : Setting) (s : IsSetting m) (c : ℕ) (before : List Entry) (start 
         let next = stretched_more m events e c in
         let longer = is_longer m (meaning m events) e c stretch is so.open_now in
         let turns = going_on m (meaning m events) e c stretch is so.open_now in
-        let after : turns_after m (events ++ e ∷ []) c ≡ ((happen m e (meaning m events)).state.numbers c).turns =
+        let after : turns_after m (events ++ e ∷ []) c
+        ≡ ((happen m e (meaning m events)).state.numbers c).turns =
         ap (λ (x : State). (x.numbers c).turns) (meant_more m events e) in
         let age : (stretch_of m (events ++ e ∷ []) c).age ≡ now.age = ap (λ (x : Stretch). x.age) next in
         let none : now.externals ≡ stretch.externals + counted (is_interrupted_by m (meaning m events) e c) =
@@ -136,7 +138,8 @@ module _ (m : Setting) (s : IsSetting m) (c : ℕ) (before : List Entry) (start 
         its_turn : (x : Event) → x ≡ event.Turn c → k_idle m k c ≡ None → is_counted_turn m k.state x c ≡ true
         its_turn x turn ready =
             ap (λ (y : Event). is_counted_turn m k.state y c) turn
-            ∙ (λ y. eq-eqb c c refl y && is_none (idle_is m s c k (keeping_good m s events first_known).truth y))
+            ∙ (λ y.
+            eq-eqb c c refl y && is_none (idle_is m s c k (keeping_good m s events first_known).truth y))
             ∙ ap is_none ready
 
     next_event : Since events → Since (events ++ e ∷ [])
@@ -228,7 +231,8 @@ module _ (m : Setting) (s : IsSetting m) (c : ℕ) (first since : List Event) (e
         calm = ap (λ (x : Stretch). x.externals) (next ∙ by.0);
         tally = record {
           entries = [];
-          is = ap (λ (x : State). x.history) (sym (keeping_is m s begun begun_known)) ∙ sym (append-nil history);
+          is = ap (λ (x : State). x.history) (sym (keeping_is m s begun begun_known))
+              ∙ sym (append-nil history);
           none = refl;
           few = omega arith;
           only = refl;
@@ -238,7 +242,8 @@ module _ (m : Setting) (s : IsSetting m) (c : ℕ) (first since : List Event) (e
   commits_so : (last : Entry) (entries later : List Entry)
       → entries_since m begun since ≡ entries ++ last ∷ later → is_end_of c last ≡ true
       → list_any (is_program_abort_of c) (entries_since m begun since) ≡ false
-      → list_any (is_end_of c) entries ≡ false → count_by (is_conflict_abort_of c) entries ≤ m.image.parms.stop
+      → list_any (is_end_of c) entries ≡ false
+      → count_by (is_conflict_abort_of c) entries ≤ m.image.parms.stop
       → list_any (is_other_abort_of c) entries ≡ false
       → CommitsAfter m.image.parms.stop c (entries_since m begun since)
   commits_so last entries later is ends quiet none few only =
@@ -270,7 +275,8 @@ module _ (m : Setting) (s : IsSetting m) (c : ℕ) (first since : List Event) (e
       absurd (omega (arith, young, aged, enough)))
       (λ over.
       let ended = over.ended in
-      let whole : (meaning m (begun ++ since)).history ≡ history ++ (ended.entries ++ ended.last ∷ over.later) =
+      let whole : (meaning m (begun ++ since)).history
+      ≡ history ++ (ended.entries ++ ended.last ∷ over.later) =
       sym over.is ∙ ap (λ h. h ++ over.later) ended.is
       ∙ regrouped history ended.entries ended.last over.later in
       let entries : entries_since m begun since ≡ ended.entries ++ ended.last ∷ over.later =

@@ -1,4 +1,5 @@
--- One event more, what turns and ages count, what has been recorded, and how the stop queue moves.
+-- One event more, turns and ages, what is recorded, the aborts and the commit of a constrained transaction, and
+-- the stop queue.
 pub mod Lists
 pub mod Runs
 pub mod Started
@@ -13,3 +14,4 @@ pub mod Members
 pub mod Queue
 pub mod Served
 pub mod Bounds
+mod Examples

@@ -113,7 +113,8 @@ module _ (m : Setting) where
 
   joined : (q : List ℕ) (j : ℕ) → j < cpus_of m → AreCpus q → AreCpus (q ++ j ∷ [])
   joined q j here all x h =
-      by_way (or_cases (waits_in q x) (waits_in (j ∷ []) x) (sym (list_any-append (λ k. k == x) q (j ∷ [])) ∙ h))
+      by_way
+      (or_cases (waits_in q x) (waits_in (j ∷ []) x) (sym (list_any-append (λ k. k == x) q (j ∷ [])) ∙ h))
       (λ was. all x was)
       (λ last.
       by_way (or_cases (j == x) false last) (λ e. subst (λ y. y < cpus_of m) (eqb-true j x e) here)

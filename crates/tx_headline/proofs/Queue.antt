@@ -160,7 +160,8 @@ module _ (m : Setting) (s : IsSetting m) (events : List Event) (e : Event)
       absurd (true≢false (sym (same ∙ ended) ∙ not_ended c later)))
       (λ goes.
       let paid = goes.paid in
-      let one : cost_of m k e c ≡ 1 = ap (λ (x : State). counted (is_counted_turn m x e c)) (sym here) ∙ ap counted turn in
+      let one : cost_of m k e c ≡ 1 =
+      ap (λ (x : State). counted (is_counted_turn m x e c)) (sym here) ∙ ap counted turn in
       let none : extra (is_interrupted_by m k.state e c) (attempt_turns m.image.parms) ≡ 0 =
       ap (λ (x : State). extra (is_interrupted_by m x e c) (attempt_turns m.image.parms)) (sym here)
       ∙ ap (λ b. extra b (attempt_turns m.image.parms)) apart in
@@ -193,7 +194,8 @@ module _ (m : Setting) (s : IsSetting m) (events : List Event) (e : Event)
       (parts_apart a.queue joined j (subst Once is stops_then.counted.once) in_it)
 
   -- where the head of before is gone, or has gone last
-  moved_joins : (i : ℕ) (joined rest later : List ℕ) → a.queue ++ joined ≡ i ∷ rest → waits_in joined i ≡ false
+  moved_joins : (i : ℕ) (joined rest later : List ℕ) → a.queue ++ joined ≡ i ∷ rest
+      → waits_in joined i ≡ false
       → t.queue ≡ rest ++ later → (j : ℕ) → waits_in joined j ≡ true → Joins m a t j
   moved_joins i joined rest later e off is j in_it =
       let parts = head_before a.queue joined i rest e off in
@@ -262,7 +264,8 @@ turn_state m i s = refl
 pub queue_changes : (m : Setting) → IsSetting m → (events : List Event) (e : Event)
     → AreKnown m (events ++ e ∷ []) → QueueChanges m (meaning m events) e
 queue_changes m s events (event.External i) known =
-    changed m s events (event.External i) known i refl (λ no. absurd (let n : event.External i ≡ event.Turn i = no in cc))
+    changed m s events (event.External i) known i refl
+    (λ no. absurd (let n : event.External i ≡ event.Turn i = no in cc))
     (external_moves m i (meaning m events))
 queue_changes m s events (event.Turn i) known =
     let a = meaning m events in

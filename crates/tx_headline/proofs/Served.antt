@@ -1,6 +1,6 @@
 -- Where nothing comes from outside, every CPU in the stop queue comes to the end of its transaction.
-use Rattle.std.proofs.Common.{◌≡◌, ◌≢◌, ℕ, suc, ◌+◌, ◌*◌, ◌-◌, ◌<◌, ◌≤◌, Bool, true, false, cond, List, [], ◌∷◌}
-use Rattle.std.proofs.Common.{◌++◌, length, drop, refl, sym, ap, ◌∙◌, subst, arith, inl, inr}
+use Rattle.std.proofs.Common.{◌≡◌, ◌≢◌, ℕ, suc, ◌+◌, ◌*◌, ◌-◌, ◌<◌, ◌≤◌, Bool, true, false, cond, List, []}
+use Rattle.std.proofs.Common.{◌∷◌, ◌++◌, length, drop, refl, sym, ap, ◌∙◌, subst, arith, inl, inr}
 use Rattle.std.proofs.Common.{append_assoc, append-nil}
 use Rattle.std.specs.Prelude.{◌⊎◌, ◌==◌, ◌&&◌, ◌||◌, if◌then◌else◌, is_none, count_by}
 use Rattle.std.specs.List.{list_any}
@@ -216,11 +216,13 @@ module _ (m : Setting) (s : IsSetting m) (i : ℕ) where
           let first = same_head j head (rest ++ joined) later whole in
           by_way (cases_eq j i)
           (λ own. inr (ap (ends_transaction a t) (sym own ∙ first) ∙ ended))
-          (λ other. inl (leaves_nearer joined (now ∙ sym (same_rest j head (rest ++ joined) later whole)) other))
+          (λ other.
+          inl (leaves_nearer joined (now ∙ sym (same_rest j head (rest ++ joined) later whole)) other))
       head_result joined (GoesLast head later queue now off interrupted) =
           let whole : j ∷ (rest ++ joined) ≡ head ∷ later = ap (λ q. q ++ joined) (sym is) ∙ queue in
           let first = same_head j head (rest ++ joined) later whole in
-          absurd (true≢false (sym interrupted ∙ ap (is_interrupted_by m a (event.Turn j)) (sym first) ∙ apart))
+          absurd (true≢false (sym interrupted
+          ∙ ap (is_interrupted_by m a (event.Turn j)) (sym first) ∙ apart))
 
     -- while the queue is not empty, only its head is ready
     at_queue : (q : List ℕ) → a.queue ≡ q → is_ready m a j ≡ true → waits_in a.queue i ≡ true → Result

@@ -44,7 +44,8 @@ pub record Plain (c : ℕ) (before : List Entry) (k : Kept) : Type 0 where
   pub is : k.state.history ≡ before ++ entries
   pub none : list_any (is_end_of c) entries ≡ false
 
--- none of the entries since ends a transaction of the CPU, and its aborts among them are conflicts, and counted
+-- none of the entries since ends a transaction of the CPU, and its aborts among them are conflicts, which are
+-- counted
 pub record Tally (c : ℕ) (before : List Entry) (k : Kept) : Type 0 where
   pub entries : List Entry
   pub is : k.state.history ≡ before ++ entries
@@ -171,8 +172,8 @@ module _ (m : Setting) (i c : ℕ) (before : List Entry) (first : Kept) where
         let sum : count_by (is_conflict_abort_of c) (n.entries ++ e ∷ [])
         ≡ count_by (is_conflict_abort_of c) n.entries + cond (is_conflict_abort_of c e) 1 0 =
         sum_by_push (λ x. cond (is_conflict_abort_of c x) 1 0) n.entries e in
-        let one : cond (is_conflict_abort_of c e) 1 0 ≡ cond {A = ℕ} counts 1 0 = ap (λ b. cond b 1 0) conflict
-        in
+        let one : cond (is_conflict_abort_of c e) 1 0 ≡ cond {A = ℕ} counts 1 0 =
+        ap (λ b. cond b 1 0) conflict in
         omega (arith, few, sum, one, aborts);
     only = none_more (is_other_abort_of c) n.entries e other ∙ n.only;
   }
@@ -370,7 +371,8 @@ module _ (m : Setting) (i c : ℕ) (before : List Entry) (first : Kept) where
   other_interrupt : (live : Bool) (k : Kept) → c ≢ i → Counts k → Counts (k_interrupting live i k).kept
   other_interrupt true k other n =
       let t = k_aborting i External (next_address k i) k in
-      tally_same t (k_interrupting true i k).kept refl refl (other_tally i (next_address k i) External k other n)
+      tally_same t (k_interrupting true i k).kept refl refl
+      (other_tally i (next_address k i) External k other n)
   other_interrupt false k other n = tally_same k (k_interrupting false i k).kept refl refl n
 
   others_interrupt : (k : Kept) → c ≢ i → Counts k → Counts (k_external i k).kept
