@@ -1,7 +1,7 @@
 -- The age of a stretch is the number of counted turns of its CPU in it.
-use Rattle.std.proofs.Common.{◌≡◌, ◌≢◌, ℕ, ◌+◌, ◌≤◌, Bool, true, false, Some, None, refl, sym, ap, subst}
+use Rattle.std.proofs.Common.{◌≡◌, ◌≢◌, ℕ, ◌+◌, Bool, true, false, refl, sym, ap, subst}
 use Rattle.std.proofs.Common.{◌∙◌, arith}
-use Rattle.std.specs.Prelude.{◌==◌, ◌&&◌, nat_lt, if◌then◌else◌, is_none}
+use Rattle.std.specs.Prelude.{◌&&◌, nat_lt, if◌then◌else◌, is_none}
 use Rattle.std.proofs.lemmas.Bool.{cases_eq, eq-eqb, ne_eqb, and_parts, ltb-true}
 use borrow.Enum.Arm.{by_way}
 use Rattle.tx_journal.specs.declared.events.Event.{Event}
@@ -106,7 +106,8 @@ module _ (m : Setting) (s : State) where
 
 -- where a stretch was not open and is, it was opened by a start
 opened_by : (busy ended started : Bool) (longer : Stretch) → busy ≡ false
-    → (if busy then (if ended then closed else longer) else (if started then opened else closed)).is_open ≡ true
+    → (if busy then (if ended then closed else longer) else (if started then opened else closed)).is_open
+    ≡ true
     → ((if busy then (if ended then closed else longer) else (if started then opened else closed)) ≡ opened)
     × (started ≡ true)
 opened_by true ended started longer shut is = let n : true ≡ false = shut in cc
@@ -115,7 +116,8 @@ opened_by false ended false longer shut is = let n : false ≡ true = is in cc
 
 -- where it was open and is, it was made longer
 longer_by : (busy ended started : Bool) (longer : Stretch) → busy ≡ true
-    → (if busy then (if ended then closed else longer) else (if started then opened else closed)).is_open ≡ true
+    → (if busy then (if ended then closed else longer) else (if started then opened else closed)).is_open
+    ≡ true
     → (if busy then (if ended then closed else longer) else (if started then opened else closed)) ≡ longer
 longer_by true false started longer was is = refl
 longer_by true true started longer was is = let n : false ≡ true = is in cc

@@ -1,57 +1,48 @@
 -- A constrained transaction that nothing interrupts commits within its bound.
-use Rattle.std.proofs.Common.{◌≡◌, ℕ, ◌+◌, ◌<◌, ◌≤◌, Bool, true, false, List, [], ◌∷◌, ◌++◌}
-use Rattle.std.proofs.Common.{length, drop, refl, sym, ap, ◌∙◌, subst, arith, inl, inr, append_assoc, append-nil}
-use Rattle.std.specs.Prelude.{◌⊎◌, count_by}
+use Rattle.std.proofs.Common.{◌≡◌, ℕ, ◌+◌, ◌≤◌, true, false, List, [], ◌∷◌, ◌++◌}
+use Rattle.std.proofs.Common.{length, drop, refl, sym, ap, ◌∙◌, subst, arith, inl, inr, append_assoc}
+use Rattle.std.proofs.Common.{append-nil, None}
+use Rattle.std.specs.Prelude.{◌⊎◌, ◌&&◌, is_none, count_by}
 use Rattle.std.specs.List.{list_any}
-use Rattle.std.proofs.lemmas.Bool.{true≢false, cases_Bool, or_parts, eqb-true}
+use Rattle.std.proofs.lemmas.Bool.{true≢false, cases_Bool, or_parts, eqb-true, eq-eqb}
 use Rattle.std.proofs.lemmas.List.Folds.{list_any-append}
 use borrow.Enum.Arm.{by_way}
-use Rattle.tx_journal.specs.Image.{cpu_of_event}
 use Rattle.tx_journal.specs.declared.entries.Entry.{Entry}
 use Rattle.tx_journal.specs.declared.entries.Entry.TheVariants.{Step, Commit, Abort, Tdb, Interrupt}
 use Rattle.tx_journal.specs.declared.events.Event.{Event}
+use Rattle.tx_journal.specs.declared.events.Event.TheVariants as event
 use Rattle.tx_meaning.specs.Limits.{Setting}
 use Rattle.tx_meaning.specs.Meaning.{IsSetting, meaning}
-use Rattle.tx_meaning.specs.State.{State, cpus_of}
-use Rattle.tx_meaning.specs.Stretches.{Stretch, stretch_of, stretch_after, counted}
+use Rattle.tx_meaning.specs.State.{State}
+use Rattle.tx_meaning.specs.Stretches.{Stretch, stretch_of, stretch_after, counted, attempt_turns}
+use Rattle.tx_meaning.specs.Stretches.{is_counted_turn}
 use Rattle.tx_meaning.specs.Stretches.{is_interrupted_by, ends_transaction, is_end_of, bound}
 use Rattle.tx_meaning.specs.Stretches.{new_entries}
 use Rattle.tx_meaning.specs.Turn.{happen}
 use Rattle.tx_keeping.specs.Kept.{Kept}
 use Rattle.tx_keeping.specs.Keeping.{keeping}
+use Rattle.tx_keeping.specs.Turn.{k_happen, k_idle}
 use Rattle.tx_meaning.specs.Views.{AreKnown}
-use Rattle.tx_keeping.proofs.Events.{keeping_is, grows_only}
+use Rattle.tx_keeping.proofs.Events.{keeping_is, keeping_good, grows_only}
+use Rattle.tx_keeping.proofs.Turning.{idle_is}
 use Rattle.tx_bounds.proofs.Stopped.{between, some_stop}
-use Rattle.tx_bounds.proofs.Stretched.{held_over, some_starve, closes_at_an_end, ages_below}
+use Rattle.tx_bounds.proofs.OwnEvents.{extra}
+use Rattle.tx_bounds.proofs.Stretched.{cost_of, held_over, some_starve, closes_at_an_end, ages_below}
 use Rattle.tx_headline.specs.Since.{Opens, IsUninterrupted, CommitsAfter, entries_since, turns_after}
-use Rattle.tx_headline.specs.Since.{is_conflict_abort_of, is_program_abort_of}
-use Rattle.tx_headline.proofs.Lists.{dropped, behind_part, any_behind, all_first, all_later}
+use Rattle.tx_headline.specs.Since.{is_conflict_abort_of, is_other_abort_of, is_program_abort_of}
+use Rattle.tx_headline.proofs.Lists.{dropped, behind_part, any_behind}
 use Rattle.tx_headline.proofs.Runs.{meant_more, kept_more, stretched_more}
 use Rattle.tx_headline.proofs.Ages.{is_opened, is_longer, going_on}
 use Rattle.tx_headline.proofs.Outside.{later_uninterrupted, not_interrupted}
-use Rattle.tx_headline.proofs.Tally.{Tally, Ended, event_tally}
-
-module _ (m : Setting) where
-  abbrev IsKnown : Event → Type 0
-  IsKnown e = cpu_of_event e < cpus_of m
-
-  pub known_first : (events rest : List Event) → AreKnown m (events ++ rest) → AreKnown m events
-  known_first events rest known = all_first IsKnown events rest known
-
-  pub known_later : (events rest : List Event) → AreKnown m (events ++ rest) → AreKnown m rest
-  known_later events rest known = all_later IsKnown events rest known
-
-  -- the same events, with one of them moved to the first part
-  pub known_moved : (events : List Event) (e : Event) (rest : List Event) → AreKnown m (events ++ e ∷ rest)
-      → AreKnown m ((events ++ e ∷ []) ++ rest)
-  known_moved events e rest known = subst (AreKnown m) (sym (append_assoc events (e ∷ []) rest)) known
+use Rattle.tx_headline.proofs.Tally.{Plain, plain_of, Tally, Ended, Spends, event_tally}
+use Rattle.tx_headline.proofs.After.{known_first, known_later, known_moved, kept_before, left_behind}
 
 module _ (m : Setting) (s : IsSetting m) (c : ℕ) (before : List Entry) (start : ℕ) where
   abbrev stop : ℕ
   stop = m.image.parms.stop
 
-  -- The transaction goes on: its counted turns since the start are its age, nothing from outside has come to it,
-  -- and no entry has ended it.
+  -- The transaction goes on: its counted turns since the start are its age, nothing from outside has come to
+  -- it, and no entry has ended it.
   pub record Since (events : List Event) : Type 0 where
     pub open_now : (stretch_of m events c).is_open ≡ true
     pub aged : (stretch_of m events c).age + start ≡ turns_after m events c
@@ -67,7 +58,7 @@ module _ (m : Setting) (s : IsSetting m) (c : ℕ) (before : List Entry) (start 
 
   -- ---- one event
 
-  no_end_in : (k t : Kept) → Tally c before k → Tally c before t → ends_transaction k.state t.state c ≡ true
+  no_end_in : (k t : Kept) → Plain c before k → Plain c before t → ends_transaction k.state t.state c ≡ true
       → ⊥
   no_end_in k t n u is =
       let part : new_entries k.state t.state ≡ drop (length n.entries) u.entries =
@@ -100,7 +91,7 @@ module _ (m : Setting) (s : IsSetting m) (c : ℕ) (before : List Entry) (start 
         let same : ends_transaction (meaning m events) (happen m e (meaning m events)).state c
         ≡ ends_transaction k.state t.state c =
         (λ x. ends_transaction (keeping_is m s events first_known x) (there x) c) in
-        absurd (no_end_in k t so.tally u (sym same ∙ ended)))
+        absurd (no_end_in k t (plain_of so.tally) (plain_of u) (sym same ∙ ended)))
 
     goes_on : Since events → Tally c before t → Since (events ++ e ∷ [])
     goes_on so u =
@@ -109,7 +100,8 @@ module _ (m : Setting) (s : IsSetting m) (c : ℕ) (before : List Entry) (start 
         let next = stretched_more m events e c in
         let longer = is_longer m (meaning m events) e c stretch is so.open_now in
         let turns = going_on m (meaning m events) e c stretch is so.open_now in
-        let after : turns_after m (events ++ e ∷ []) c ≡ ((happen m e (meaning m events)).state.numbers c).turns =
+        let after : turns_after m (events ++ e ∷ []) c
+        ≡ ((happen m e (meaning m events)).state.numbers c).turns =
         ap (λ (x : State). (x.numbers c).turns) (meant_more m events e) in
         let age : (stretch_of m (events ++ e ∷ []) c).age ≡ now.age = ap (λ (x : Stretch). x.age) next in
         let none : now.externals ≡ stretch.externals + counted (is_interrupted_by m (meaning m events) e c) =
@@ -126,18 +118,47 @@ module _ (m : Setting) (s : IsSetting m) (c : ℕ) (before : List Entry) (start 
           tally = u;
         }
 
+    -- a counted turn that nothing interrupts leaves less to the transaction
+    spends_not : Since events → Spends m c before e k → ⊥
+    spends_not so p =
+        let busy = so.open_now in
+        let after = left_behind m s events e known c in
+        by_way (after.ends busy)
+        (λ ended. no_end_in k (k_happen m e k).kept (plain_of so.tally) p.plain ended)
+        (λ goes.
+        let paid = goes.paid in
+        let here = kept_before m s events e known in
+        let none : extra (is_interrupted_by m k.state e c) (attempt_turns m.image.parms) ≡ 0 =
+        ap (λ (x : State). extra (is_interrupted_by m x e c) (attempt_turns m.image.parms)) (sym here)
+        ∙ ap (λ b. extra b (attempt_turns m.image.parms)) apart in
+        let one : cost_of m k e c ≡ 1 = ap counted (its_turn e p.turn p.ready) in
+        let less = p.less in
+        absurd (omega (arith, paid, none, one, less)))
+      where
+        its_turn : (x : Event) → x ≡ event.Turn c → k_idle m k c ≡ None → is_counted_turn m k.state x c ≡ true
+        its_turn x turn ready =
+            ap (λ (y : Event). is_counted_turn m k.state y c) turn
+            ∙ (λ y.
+            eq-eqb c c refl y && is_none (idle_is m s c k (keeping_good m s events first_known).truth y))
+            ∙ ap is_none ready
+
     next_event : Since events → Since (events ++ e ∷ [])
         ⊎ Ended stop c before (meaning m (events ++ e ∷ [])).history
     next_event so =
         let over = held_over m s c (some_starve m s) events first_known in
         let low = (between m events (some_stop m s)).is.counted.few c in
         let more = kept_more m events e in
-        by_way (event_tally m c before e k so.tally (over.holds.amid so.open_now).kind low)
+        let off : is_interrupted_by m k.state e c ≡ false =
+        ap (λ (x : State). is_interrupted_by m x e c) (sym (kept_before m s events e known)) ∙ apart in
+        by_way (event_tally m c before e k so.tally (over.holds.amid so.open_now).kind low off)
         (λ u. inl (goes_on so (subst (Tally c before) (sym more) u)))
+        (λ rest.
+        by_way rest
         (λ ended.
         inr (subst (Ended stop c before)
         (ap (λ (x : Kept). x.state.history) (sym more)
         ∙ ap (λ (x : State). x.history) (sym (keeping_is m s (events ++ e ∷ []) known))) ended))
+        (λ spends. absurd (spends_not so spends)))
 
   -- ---- all events
 
@@ -210,18 +231,22 @@ module _ (m : Setting) (s : IsSetting m) (c : ℕ) (first since : List Event) (e
         calm = ap (λ (x : Stretch). x.externals) (next ∙ by.0);
         tally = record {
           entries = [];
-          is = ap (λ (x : State). x.history) (sym (keeping_is m s begun begun_known)) ∙ sym (append-nil history);
+          is = ap (λ (x : State). x.history) (sym (keeping_is m s begun begun_known))
+              ∙ sym (append-nil history);
           none = refl;
           few = omega arith;
+          only = refl;
         };
       }
 
   commits_so : (last : Entry) (entries later : List Entry)
       → entries_since m begun since ≡ entries ++ last ∷ later → is_end_of c last ≡ true
       → list_any (is_program_abort_of c) (entries_since m begun since) ≡ false
-      → list_any (is_end_of c) entries ≡ false → count_by (is_conflict_abort_of c) entries ≤ m.image.parms.stop
+      → list_any (is_end_of c) entries ≡ false
+      → count_by (is_conflict_abort_of c) entries ≤ m.image.parms.stop
+      → list_any (is_other_abort_of c) entries ≡ false
       → CommitsAfter m.image.parms.stop c (entries_since m begun since)
-  commits_so last entries later is ends quiet none few =
+  commits_so last entries later is ends quiet none few only =
       let all = ap (list_any (is_program_abort_of c)) (sym is) ∙ quiet in
       let parts = or_parts (list_any (is_program_abort_of c) entries)
       (list_any (is_program_abort_of c) (last ∷ later))
@@ -235,6 +260,7 @@ module _ (m : Setting) (s : IsSetting m) (c : ℕ) (first since : List Event) (e
         is = is ∙ ap (λ x. entries ++ x ∷ later) commit.1;
         first = none;
         few = few;
+        no_other = only;
       }
 
   -- after as many counted turns as the bound it has committed
@@ -249,9 +275,11 @@ module _ (m : Setting) (s : IsSetting m) (c : ℕ) (first since : List Event) (e
       absurd (omega (arith, young, aged, enough)))
       (λ over.
       let ended = over.ended in
-      let whole : (meaning m (begun ++ since)).history ≡ history ++ (ended.entries ++ ended.last ∷ over.later) =
+      let whole : (meaning m (begun ++ since)).history
+      ≡ history ++ (ended.entries ++ ended.last ∷ over.later) =
       sym over.is ∙ ap (λ h. h ++ over.later) ended.is
       ∙ regrouped history ended.entries ended.last over.later in
       let entries : entries_since m begun since ≡ ended.entries ++ ended.last ∷ over.later =
       ap (drop (length history)) whole ∙ dropped history (ended.entries ++ ended.last ∷ over.later) in
-      commits_so ended.last ended.entries over.later entries ended.ends quiet ended.none ended.few)
+      commits_so ended.last ended.entries over.later entries ended.ends quiet ended.none ended.few
+      ended.only)

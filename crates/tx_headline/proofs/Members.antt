@@ -1,8 +1,8 @@
 -- The CPUs in the stop queue are CPUs of the machine, and so they are few.
-use Rattle.std.proofs.Common.{◌≡◌, ◌≢◌, ℕ, zero, suc, ◌+◌, ◌<◌, ◌≤◌, Bool, true, false, List, [], ◌∷◌, ◌++◌}
-use Rattle.std.proofs.Common.{length, refl, sym, ap, ◌∙◌, subst, arith, inl, inr}
-use Rattle.std.specs.Prelude.{◌⊎◌, ◌==◌, ◌||◌, if◌then◌else◌}
-use Rattle.std.proofs.lemmas.Bool.{cases_eq, eq-eqb, ne_eqb, eqb-true, eqb-false, or_cases, or_left, or_right}
+use Rattle.std.proofs.Common.{◌≡◌, ℕ, suc, ◌<◌, ◌≤◌, Bool, true, false, List, [], ◌∷◌, ◌++◌}
+use Rattle.std.proofs.Common.{length, refl, sym, ap, ◌∙◌, subst, arith}
+use Rattle.std.specs.Prelude.{◌==◌, ◌||◌, if◌then◌else◌}
+use Rattle.std.proofs.lemmas.Bool.{cases_eq, eq-eqb, ne_eqb, eqb-true, or_cases, or_left, or_right}
 use Rattle.std.proofs.lemmas.Bool.{or_parts, true≢false}
 use Rattle.std.proofs.lemmas.List.Elements.{All-head, All-tail}
 use Rattle.std.proofs.lemmas.List.Folds.{list_any-append}
@@ -26,7 +26,6 @@ use Rattle.tx_meaning.proofs.Walk.{externally}
 use Rattle.tx_meaning.specs.Views.{AreKnown}
 use Rattle.tx_bounds.proofs.Stopping.{Once}
 use Rattle.tx_headline.specs.Queue.{others_before}
-use Rattle.tx_headline.proofs.Lists.{all_first}
 
 -- ---- lists without repetition
 
@@ -114,7 +113,8 @@ module _ (m : Setting) where
 
   joined : (q : List ℕ) (j : ℕ) → j < cpus_of m → AreCpus q → AreCpus (q ++ j ∷ [])
   joined q j here all x h =
-      by_way (or_cases (waits_in q x) (waits_in (j ∷ []) x) (sym (list_any-append (λ k. k == x) q (j ∷ [])) ∙ h))
+      by_way
+      (or_cases (waits_in q x) (waits_in (j ∷ []) x) (sym (list_any-append (λ k. k == x) q (j ∷ [])) ∙ h))
       (λ was. all x was)
       (λ last.
       by_way (or_cases (j == x) false last) (λ e. subst (λ y. y < cpus_of m) (eqb-true j x e) here)

@@ -1,7 +1,7 @@
 -- Events that bring nothing from outside to a CPU.
-use Rattle.std.proofs.Common.{◌≡◌, ℕ, ◌+◌, ◌<◌, ◌≤◌, Bool, true, false, List, [], ◌∷◌, ◌++◌}
+use Rattle.std.proofs.Common.{◌≡◌, ℕ, ◌+◌, ◌≤◌, Bool, true, false, List, [], ◌∷◌, ◌++◌}
 use Rattle.std.proofs.Common.{refl, sym, ap, ◌∙◌, subst, arith, append_assoc, append-nil}
-use Rattle.std.specs.Prelude.{◌==◌, ◌&&◌, ◌||◌}
+use Rattle.std.specs.Prelude.{◌==◌, ◌&&◌}
 use Rattle.std.specs.List.{list_any}
 use Rattle.std.proofs.lemmas.Bool.{or_parts}
 use Rattle.tx_journal.specs.declared.events.Event.{Event}
@@ -11,7 +11,7 @@ use Rattle.tx_meaning.specs.Meaning.{meaning}
 use Rattle.tx_meaning.specs.State.{State}
 use Rattle.tx_meaning.specs.Idle.{is_ready}
 use Rattle.tx_meaning.specs.Stretches.{counted, is_counted_turn, is_interrupted_by}
-use Rattle.tx_meaning.specs.Turn.{happen, is_tick}
+use Rattle.tx_meaning.specs.Turn.{is_tick}
 use Rattle.tx_headline.specs.Since.{IsUninterrupted, is_external_of, turns_after}
 use Rattle.tx_headline.proofs.Runs.{meant_more}
 use Rattle.tx_headline.proofs.Ages.{turns_more}

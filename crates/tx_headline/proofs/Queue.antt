@@ -1,9 +1,8 @@
 -- Why the stop queue changes in an event that comes after others.
-use Rattle.std.proofs.Common.{◌≡◌, ◌≢◌, ℕ, ◌+◌, ◌-◌, ◌<◌, ◌≤◌, Bool, true, false, List, [], ◌∷◌, ◌++◌}
-use Rattle.std.proofs.Common.{refl, sym, ap, ◌∙◌, subst, arith, inl, inr, append-nil}
-use Rattle.std.specs.Prelude.{◌⊎◌, ◌==◌, ◌||◌, ◌&&◌, if◌then◌else◌}
-use Rattle.std.proofs.lemmas.Bool.{true≢false, cases_Bool, eq-eqb, ne_eqb, or_left, eqb-true}
-use Rattle.std.proofs.lemmas.List.Elements.{All-head}
+use Rattle.std.proofs.Common.{◌≡◌, ◌≢◌, ℕ, ◌-◌, ◌<◌, ◌≤◌, true, false, List, [], ◌∷◌, ◌++◌}
+use Rattle.std.proofs.Common.{refl, sym, ap, ◌∙◌, subst, arith, append-nil}
+use Rattle.std.specs.Prelude.{◌==◌, ◌||◌, ◌&&◌, if◌then◌else◌}
+use Rattle.std.proofs.lemmas.Bool.{true≢false, cases_Bool, eq-eqb, ne_eqb, or_left}
 use borrow.Enum.Arm.{by_way}
 use Rattle.tx_ladder.specs.Waiting.{waits_in}
 use Rattle.tx_journal.specs.Image.{cpu_of_event}
@@ -12,29 +11,28 @@ use Rattle.tx_journal.specs.declared.events.Event.TheVariants as event
 use Rattle.tx_meaning.specs.Hits.{hits}
 use Rattle.tx_meaning.specs.Limits.{Setting}
 use Rattle.tx_meaning.specs.Meaning.{IsSetting, meaning}
-use Rattle.tx_meaning.specs.State.{Numbers, State, is_first, is_live, cpus_of}
+use Rattle.tx_meaning.specs.State.{State, is_first, is_live, cpus_of}
 use Rattle.tx_meaning.specs.Idle.{is_ready}
 use Rattle.tx_meaning.specs.Stretches.{ends_transaction, is_interrupted_by, is_counted_turn, counted}
-use Rattle.tx_meaning.specs.Stretches.{stretch_of, attempt_turns, left_by}
+use Rattle.tx_meaning.specs.Stretches.{stretch_of, attempt_turns}
 use Rattle.tx_meaning.specs.Turn.{turn, happen}
 use Rattle.tx_meaning.proofs.Books.{unready_stays}
 use Rattle.tx_keeping.specs.Kept.{Kept}
 use Rattle.tx_keeping.specs.Keeping.{keeping}
 use Rattle.tx_keeping.specs.Turn.{k_happen}
 use Rattle.tx_meaning.specs.Views.{AreKnown}
-use Rattle.tx_keeping.proofs.Events.{keeping_is, keeping_good}
+use Rattle.tx_keeping.proofs.Events.{keeping_is}
 use Rattle.tx_bounds.proofs.Meant.{StopsAt, stops}
-use Rattle.tx_bounds.proofs.News.{Calm}
 use Rattle.tx_bounds.proofs.OwnTurns.{After}
 use Rattle.tx_bounds.proofs.OwnEvents.{extra}
 use Rattle.tx_bounds.proofs.Paid.{left_of}
 use Rattle.tx_bounds.proofs.Potential.{left_at}
 use Rattle.tx_bounds.proofs.Stopped.{between, some_stop}
 use Rattle.tx_bounds.proofs.Stopping.{Once}
-use Rattle.tx_bounds.proofs.Stretched.{after_event, held_over, some_starve, cost_of, most_of}
+use Rattle.tx_bounds.proofs.Stretched.{cost_of, most_of}
 use Rattle.tx_bounds.proofs.Heads.{queue_is_open}
 use Rattle.tx_headline.specs.Queue.{Joins, HeadGoes, Stays, Leaves, GoesLast, QueueChanges, others_before}
-use Rattle.tx_headline.proofs.Commits.{known_first}
+use Rattle.tx_headline.proofs.After.{known_first, kept_before, kept_behind, left_behind}
 use Rattle.tx_headline.proofs.Members.{first_waits, waits_first, waits_later, once_first, parts_apart}
 use Rattle.tx_headline.proofs.Members.{few_once, before_few, members_known}
 use Rattle.tx_headline.proofs.QueueWalk.{Moved, Goes, turn_moves, external_moves}
@@ -93,11 +91,10 @@ module _ (m : Setting) (s : IsSetting m) (events : List Event) (e : Event)
   first_known = known_first m events (e ∷ []) known
 
   here : a ≡ k.state
-  here = keeping_is m s events first_known
+  here = kept_before m s events e known
 
   there : t ≡ u.state
-  there = sym (meant_more m events e) ∙ keeping_is m s (events ++ e ∷ []) known
-      ∙ ap (λ (x : Kept). x.state) (kept_more m events e)
+  there = kept_behind m s events e known
 
   stops_first : StopsAt m a
   stops_first = stops m events s first_known
@@ -110,12 +107,8 @@ module _ (m : Setting) (s : IsSetting m) (events : List Event) (e : Event)
       subst (λ (x : State). (y : ℕ) → waits_in x.queue y ≡ true → y < cpus_of m) (meant_more m events e)
       (members_known m (events ++ e ∷ []) known)
 
-  -- what the event leaves of a CPU
   after : (c : ℕ) → After m c (stretch_of m events c).is_open (cost_of m k e c) (most_of m k e c) k.state u
-  after c =
-      let over = held_over m s c (some_starve m s) events first_known in
-      after_event m s c (stretch_of m events c).is_open (some_starve m s) e k
-      (keeping_good m s events first_known).truth (between m events (some_stop m s)) over.holds over.calm
+  after c = left_behind m s events e known c
 
   full_then : (c : ℕ) → waits_in t.queue c ≡ true → (u.standings c).aborts ≡ m.image.parms.stop
   full_then c waits =
@@ -167,7 +160,8 @@ module _ (m : Setting) (s : IsSetting m) (events : List Event) (e : Event)
       absurd (true≢false (sym (same ∙ ended) ∙ not_ended c later)))
       (λ goes.
       let paid = goes.paid in
-      let one : cost_of m k e c ≡ 1 = ap (λ (x : State). counted (is_counted_turn m x e c)) (sym here) ∙ ap counted turn in
+      let one : cost_of m k e c ≡ 1 =
+      ap (λ (x : State). counted (is_counted_turn m x e c)) (sym here) ∙ ap counted turn in
       let none : extra (is_interrupted_by m k.state e c) (attempt_turns m.image.parms) ≡ 0 =
       ap (λ (x : State). extra (is_interrupted_by m x e c) (attempt_turns m.image.parms)) (sym here)
       ∙ ap (λ b. extra b (attempt_turns m.image.parms)) apart in
@@ -200,7 +194,8 @@ module _ (m : Setting) (s : IsSetting m) (events : List Event) (e : Event)
       (parts_apart a.queue joined j (subst Once is stops_then.counted.once) in_it)
 
   -- where the head of before is gone, or has gone last
-  moved_joins : (i : ℕ) (joined rest later : List ℕ) → a.queue ++ joined ≡ i ∷ rest → waits_in joined i ≡ false
+  moved_joins : (i : ℕ) (joined rest later : List ℕ) → a.queue ++ joined ≡ i ∷ rest
+      → waits_in joined i ≡ false
       → t.queue ≡ rest ++ later → (j : ℕ) → waits_in joined j ≡ true → Joins m a t j
   moved_joins i joined rest later e off is j in_it =
       let parts = head_before a.queue joined i rest e off in
@@ -269,7 +264,8 @@ turn_state m i s = refl
 pub queue_changes : (m : Setting) → IsSetting m → (events : List Event) (e : Event)
     → AreKnown m (events ++ e ∷ []) → QueueChanges m (meaning m events) e
 queue_changes m s events (event.External i) known =
-    changed m s events (event.External i) known i refl (λ no. absurd (let n : event.External i ≡ event.Turn i = no in cc))
+    changed m s events (event.External i) known i refl
+    (λ no. absurd (let n : event.External i ≡ event.Turn i = no in cc))
     (external_moves m i (meaning m events))
 queue_changes m s events (event.Turn i) known =
     let a = meaning m events in

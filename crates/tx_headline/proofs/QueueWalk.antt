@@ -1,8 +1,8 @@
 -- What an event makes of the stop queue, and by what: a walk through the event.
-use Rattle.std.proofs.Common.{◌≡◌, ◌≢◌, ℕ, ◌+◌, ◌<◌, ◌≤◌, Bool, true, false, List, [], ◌∷◌, ◌++◌, length}
-use Rattle.std.proofs.Common.{Option, Some, None, refl, sym, ap, ◌∙◌, subst, arith}
+use Rattle.std.proofs.Common.{◌≡◌, ◌≢◌, ℕ, ◌+◌, ◌≤◌, Bool, true, false, List, [], ◌∷◌, ◌++◌, length}
+use Rattle.std.proofs.Common.{refl, sym, ap, ◌∙◌, subst, arith}
 use Rattle.std.proofs.Common.{append_assoc, append-nil}
-use Rattle.std.specs.Prelude.{◌==◌, ◌||◌, ◌&&◌, if◌then◌else◌, drop}
+use Rattle.std.specs.Prelude.{◌==◌, if◌then◌else◌, drop}
 use Rattle.std.specs.List.{list_any}
 use Rattle.std.proofs.lemmas.Bool.{eq-eqb, eqb-true, and_from}
 use Rattle.tx_control.specs.declared.causes.Why.{Why}
@@ -15,15 +15,14 @@ use Rattle.tx_journal.specs.declared.entries.Entry.{Entry}
 use Rattle.tx_journal.specs.declared.entries.Entry.TheVariants as entry
 use Rattle.tx_journal.specs.declared.events.Event.TheVariants as event
 use Rattle.tx_meaning.specs.Limits.{Setting}
-use Rattle.tx_meaning.specs.State.{Numbers, State, is_live, standing_of}
-use Rattle.tx_meaning.specs.Changes.{with_numbers, with_entry, with_event, counting_turn, rejecting_one}
-use Rattle.tx_meaning.specs.Changes.{without_head, head_to_tail, without_attempt, aborting, on_rung, leaving}
+use Rattle.tx_meaning.specs.State.{Numbers, State, standing_of}
+use Rattle.tx_meaning.specs.Changes.{with_numbers, with_event, counting_turn, rejecting_one}
+use Rattle.tx_meaning.specs.Changes.{without_head, head_to_tail, without_attempt, aborting, on_rung}
 use Rattle.tx_meaning.specs.Changes.{committing}
-use Rattle.tx_meaning.specs.Idle.{idle}
 use Rattle.tx_meaning.specs.Stretches.{is_end_of, ends_transaction}
 use Rattle.tx_meaning.specs.Turn.{turn, happen, to_tail}
 use Rattle.tx_meaning.proofs.Walk.{Walk, at_put_kept, at_put_case, conflict_on, cause_case, rung_case}
-use Rattle.tx_meaning.proofs.Walk.{leaving_case, in_a_turn, externally}
+use Rattle.tx_meaning.proofs.Walk.{in_a_turn, externally}
 use Rattle.tx_bounds.proofs.News.{aborted_history}
 use Rattle.tx_bounds.proofs.OtherTurns.{aborted_number}
 use Rattle.tx_bounds.proofs.OwnTurns.{ends_last}

@@ -1,10 +1,10 @@
 -- Where nothing comes from outside, every CPU in the stop queue comes to the end of its transaction.
-use Rattle.std.proofs.Common.{◌≡◌, ◌≢◌, ℕ, suc, ◌+◌, ◌*◌, ◌-◌, ◌<◌, ◌≤◌, Bool, true, false, cond, List, [], ◌∷◌}
-use Rattle.std.proofs.Common.{◌++◌, length, drop, None, refl, sym, ap, ◌∙◌, subst, arith, inl, inr}
+use Rattle.std.proofs.Common.{◌≡◌, ◌≢◌, ℕ, suc, ◌+◌, ◌*◌, ◌-◌, ◌<◌, ◌≤◌, Bool, true, false, cond, List, []}
+use Rattle.std.proofs.Common.{◌∷◌, ◌++◌, length, drop, refl, sym, ap, ◌∙◌, subst, arith, inl, inr}
 use Rattle.std.proofs.Common.{append_assoc, append-nil}
 use Rattle.std.specs.Prelude.{◌⊎◌, ◌==◌, ◌&&◌, ◌||◌, if◌then◌else◌, is_none, count_by}
 use Rattle.std.specs.List.{list_any}
-use Rattle.std.proofs.lemmas.Bool.{true≢false, cases_Bool, cases_eq, eq-eqb, ne_eqb, or_left, or_right, or_parts}
+use Rattle.std.proofs.lemmas.Bool.{true≢false, cases_Bool, cases_eq, eq-eqb, ne_eqb, or_left, or_right}
 use Rattle.std.proofs.lemmas.Bool.{ltb-false}
 use Rattle.std.proofs.lemmas.List.Folds.{list_any-append}
 use Rattle.std.proofs.lemmas.List.Sums.{sum_by_push}
@@ -12,7 +12,6 @@ use Rattle.std.proofs.lemmas.List.Elements.{All-head}
 use borrow.Enum.Arm.{by_way}
 use Rattle.tx_ladder.specs.Waiting.{waits_in}
 use Rattle.tx_journal.specs.Image.{cpu_of_event}
-use Rattle.tx_journal.specs.declared.entries.Entry.{Entry}
 use Rattle.tx_journal.specs.declared.events.Event.{Event}
 use Rattle.tx_journal.specs.declared.events.Event.TheVariants as event
 use Rattle.tx_meaning.specs.Limits.{Setting}
@@ -21,18 +20,17 @@ use Rattle.tx_meaning.specs.Room.{is_turn}
 use Rattle.tx_meaning.specs.State.{Numbers, State, is_live, cpus_of}
 use Rattle.tx_meaning.specs.Idle.{idle, is_ready}
 use Rattle.tx_meaning.specs.Stretches.{ends_transaction, new_entries, is_end_of, is_interrupted_by}
-use Rattle.tx_meaning.specs.Stretches.{is_counted_turn}
 use Rattle.tx_meaning.specs.Turn.{turn, happen}
-use Rattle.tx_meaning.proofs.Books.{unready_stays, turn_booked, idle_or_not, idle_stays}
+use Rattle.tx_meaning.proofs.Books.{unready_stays, turn_booked, idle_or_not}
 use Rattle.tx_meaning.proofs.Queues.{only_the_head}
 use Rattle.tx_meaning.specs.Views.{AreKnown}
 use Rattle.tx_keeping.proofs.Events.{grows_only}
 use Rattle.tx_bounds.proofs.Stretched.{under_way}
 use Rattle.tx_bounds.proofs.Heads.{queue_is_open}
-use Rattle.tx_headline.specs.Queue.{HeadGoes, Stays, Leaves, GoesLast, QueueChanges, others_before}
+use Rattle.tx_headline.specs.Queue.{HeadGoes, Stays, Leaves, GoesLast, others_before}
 use Rattle.tx_headline.specs.Since.{IsUninterrupted, entries_since, all_turns_after}
 use Rattle.tx_headline.proofs.Lists.{dropped}
-use Rattle.tx_headline.proofs.Commits.{known_first, known_later, known_moved}
+use Rattle.tx_headline.proofs.After.{known_first, known_later, known_moved}
 use Rattle.tx_headline.proofs.Members.{waits_first}
 use Rattle.tx_headline.proofs.Outside.{later_uninterrupted, not_interrupted}
 use Rattle.tx_headline.proofs.Queue.{advances, queue_changes, same_head, same_rest}
@@ -218,11 +216,13 @@ module _ (m : Setting) (s : IsSetting m) (i : ℕ) where
           let first = same_head j head (rest ++ joined) later whole in
           by_way (cases_eq j i)
           (λ own. inr (ap (ends_transaction a t) (sym own ∙ first) ∙ ended))
-          (λ other. inl (leaves_nearer joined (now ∙ sym (same_rest j head (rest ++ joined) later whole)) other))
+          (λ other.
+          inl (leaves_nearer joined (now ∙ sym (same_rest j head (rest ++ joined) later whole)) other))
       head_result joined (GoesLast head later queue now off interrupted) =
           let whole : j ∷ (rest ++ joined) ≡ head ∷ later = ap (λ q. q ++ joined) (sym is) ∙ queue in
           let first = same_head j head (rest ++ joined) later whole in
-          absurd (true≢false (sym interrupted ∙ ap (is_interrupted_by m a (event.Turn j)) (sym first) ∙ apart))
+          absurd (true≢false (sym interrupted
+          ∙ ap (is_interrupted_by m a (event.Turn j)) (sym first) ∙ apart))
 
     -- while the queue is not empty, only its head is ready
     at_queue : (q : List ℕ) → a.queue ≡ q → is_ready m a j ≡ true → waits_in a.queue i ≡ true → Result

@@ -1,5 +1,5 @@
 -- Why the stop queue changes, and who stands before whom in it.
-use Rattle.std.specs.Prelude.{◌≡◌, ℕ, suc, ◌<◌, Bool, true, false, ◌==◌, if◌then◌else◌, List, [], ◌∷◌, ◌++◌}
+use Rattle.std.specs.Prelude.{◌≡◌, ℕ, suc, ◌<◌, true, false, ◌==◌, if◌then◌else◌, List, [], ◌∷◌, ◌++◌}
 use Rattle.tx_journal.specs.declared.events.Event.{Event}
 use Rattle.tx_ladder.specs.Waiting.{waits_in}
 use Rattle.tx_meaning.specs.Hits.{hits}

@@ -1,5 +1,5 @@
 -- What has happened since some events: entries of the history, counted turns, and what came from outside.
-use Rattle.std.specs.Prelude.{◌≡◌, ℕ, ◌<◌, ◌≤◌, Bool, true, false, ◌&&◌, ◌==◌, List, [], ◌∷◌, ◌++◌, count_by}
+use Rattle.std.specs.Prelude.{◌≡◌, ℕ, ◌<◌, ◌≤◌, Bool, true, false, ◌&&◌, not, ◌==◌, List, [], ◌∷◌, ◌++◌, count_by}
 use Rattle.std.specs.List.{list_any}
 use Rattle.tx_control.specs.declared.causes.Why.{Why}
 use Rattle.tx_control.specs.declared.causes.Why.TheVariants.{External, Program, FetchConflict}
@@ -38,6 +38,14 @@ is_conflict_abort_of i (Step j) = false
 is_conflict_abort_of i (Commit j n) = false
 is_conflict_abort_of i (Tdb j) = false
 is_conflict_abort_of i (Interrupt j) = false
+
+-- any other abort of the CPU
+abbrev pub is_other_abort_of : ℕ → Entry → Bool
+is_other_abort_of i (Abort j n why) = j == i && not (is_conflict why)
+is_other_abort_of i (Step j) = false
+is_other_abort_of i (Commit j n) = false
+is_other_abort_of i (Tdb j) = false
+is_other_abort_of i (Interrupt j) = false
 
 -- an abort of the CPU by a program interruption
 abbrev pub is_program_abort_of : ℕ → Entry → Bool
@@ -80,8 +88,8 @@ pub record Opens (m : Setting) (before : List Event) (e : Event) (i : ℕ) : Typ
   pub shut : (stretch_of m before i).is_open ≡ false
   pub open_now : (stretch_of m (before ++ e ∷ []) i).is_open ≡ true
 
--- among the entries is a commit of the CPU. No transaction of the CPU ends before it, and at most so many entries
--- before it are conflict aborts of the CPU
+-- Among the entries is a commit of the CPU. No transaction of the CPU ends before it. Of the entries before it at
+-- most so many are conflict aborts of the CPU, and none is another abort of the CPU.
 pub record CommitsAfter (most i : ℕ) (entries : List Entry) : Type 0 where
   pub before : List Entry
   pub completed : ℕ
@@ -89,3 +97,4 @@ pub record CommitsAfter (most i : ℕ) (entries : List Entry) : Type 0 where
   pub is : entries ≡ before ++ Commit i completed ∷ later
   pub first : list_any (is_end_of i) before ≡ false
   pub few : count_by (is_conflict_abort_of i) before ≤ most
+  pub no_other : list_any (is_other_abort_of i) before ≡ false

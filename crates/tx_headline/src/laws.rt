@@ -50,9 +50,9 @@ pub fn recorded_events_mean_the_same()
 /// An event opens a constrained transaction of a CPU, and others follow. If since then no interruption from
 /// outside has come to the CPU, by an event or by a tick, and no program interruption of it is among the entries
 /// written since, and if the CPU has had as many counted turns as the bound, the one that opened the transaction
-/// among them, then a commit of the CPU is among those entries. No transaction of the CPU ends before it, and of
-/// the entries before it at most as many are conflict aborts of the CPU as lead to the stop queue. With the usual
-/// numbers these are 1,072 turns and eight conflict aborts.
+/// among them, then a commit of the CPU is among those entries. No transaction of the CPU ends before it. Of the
+/// entries before it at most as many are conflict aborts of the CPU as lead to the stop queue, and none is
+/// another abort of it. With the usual numbers these are 1,072 turns and eight aborts.
 pub fn an_uninterrupted_constrained_transaction_commits()
     ensures commits { (m : Setting) (before since : List Event) (e : Event) (i : ℕ) → IsSetting m
         → AreKnown m ((before ++ e ∷ []) ++ since) → Opens m before e i

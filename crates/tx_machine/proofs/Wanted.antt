@@ -16,14 +16,16 @@ pub block-wanted : (p : Option Pending) (w : Option Waiting) (f : Fate) (a : ℕ
 block-wanted None w f a e = absurd (cc)
 block-wanted (Some b) w f a e = let same : a ≡ b.address = cc in ap (λ n. stored n 256 ∷ []) same
 
--- an interruption that waits
-pub taken-wanted : (p : Option Pending) (w : Option Waiting) (f : Fate) (block : Bool) → None ≡ address_of p
-    → Some block ≡ block_awaited w → (ranges : List Range)
-    → ((bytes : Option (List ℕ)) → is_some bytes ≡ block → ranges ≡ interruption_ranges bytes)
-    → ranges ≡ real_ranges p w f
-taken-wanted (Some b) w f block none e ranges told = absurd (cc)
-taken-wanted None None f block none e ranges told = absurd (cc)
-taken-wanted None (Some w) f block none e ranges told = told w.block (let same : is_some w.block ≡ block = cc in same)
+-- an interruption that waits, by places that are those of any block or of none
+pub taken-places : (prefix : Option ℕ) (block : Bool) (p : Option Pending) (w : Option Waiting) (f : Fate)
+    (places : List Range) → None ≡ address_of p → Some block ≡ block_awaited w
+    → ((bytes : Option (List ℕ)) → is_some bytes ≡ block
+    → places ≡ absolute_ranges prefix (interruption_ranges bytes))
+    → places ≡ absolute_ranges prefix (real_ranges p w f)
+taken-places prefix block (Some b) w f places none e told = absurd (cc)
+taken-places prefix block None None f places none e told = absurd (cc)
+taken-places prefix block None (Some w) f places none e told =
+    told w.block (let same : is_some w.block ≡ block = cc in same)
 
 -- the next instruction
 pub next-wanted : (p : Option Pending) (w : Option Waiting) (f : Fate) → None ≡ address_of p

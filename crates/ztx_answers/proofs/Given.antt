@@ -9,7 +9,7 @@ use Rattle.ztx_answers.specs.declared.answer.Answer.{Answer}
 use Rattle.ztx_answers.specs.Due.{IsRefusal, IsDueToList, IsDueToRun}
 use Rattle.std.specs.Prelude.{Option}
 
--- two facts of what is there give a third
+-- what is said of a value by two facts
 pub both : {X E : Type 0} {P Q R : X → Type 0} → (r : Result X E) → ((x : X) → P x → Q x → R x) → IfOk r P
     → IfOk r Q → IfOk r R
 both (Ok x) joins p q = joins x p q

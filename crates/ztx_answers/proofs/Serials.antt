@@ -17,6 +17,9 @@ use Rattle.tx_opacity.proofs.Opaque.{opaque}
 use Rattle.tx_headline.proofs.Bounds.{turns_left, ages_short, turns_of_head}
 use Rattle.tx_headline.proofs.Lists.{all_first, all_later}
 use Rattle.tx_headline.proofs.Queue.{queue_changes, before_most}
+use Rattle.tx_headline.proofs.After.{known_first}
+use Rattle.tx_headline.proofs.Commits.{commits}
+use Rattle.tx_headline.proofs.Served.{served}
 use Rattle.tx_machine.proofs.Laws.{unrejected_head}
 use Rattle.tx_machine.proofs.Most.{meaning_more}
 use Rattle.ztx_answers.proofs.Replays.{replayed}
@@ -70,4 +73,10 @@ module _ (m : Setting) (s : IsSetting m) where
         let first = all_first P before (e ∷ rest) all in
         let within = All-head P e rest (all_later P before (e ∷ rest) all) in
         (serial (before ++ e ∷ []) (All-push P before e first within), orderly before e first within);
+    commits = λ before since rest e is i opens quiet none enough.
+        commits m s i before since e
+        (known_first m ((before ++ e ∷ []) ++ since) rest (subst (AreKnown m) is known)) opens quiet enough none;
+    serves = λ before since rest is i quiet waits enough.
+        served m s i before since (known_first m (before ++ since) rest (subst (AreKnown m) is known)) quiet waits
+        enough;
   }

@@ -5,4 +5,5 @@ pub mod Runs
 pub mod Due
 pub mod Decks
 pub mod One
+pub mod Races
 pub mod Requests

@@ -1,5 +1,7 @@
 -- What holds of a run of the machine, behind each of its events.
-use Rattle.std.specs.Prelude.{◌≡◌, ℕ, ◌+◌, ◌*◌, ◌<◌, ◌≤◌, ◌⊎◌, true, List, [], ◌∷◌, ◌++◌, None}
+use Rattle.std.specs.Prelude.{◌≡◌, ℕ, ◌+◌, ◌*◌, ◌<◌, ◌≤◌, ◌⊎◌, true, false, List, [], ◌∷◌, ◌++◌}
+use Rattle.std.specs.Prelude.{None}
+use Rattle.std.specs.List.{list_any}
 use Rattle.tx_journal.specs.Image.{cpu_of_event}
 use Rattle.tx_journal.specs.declared.events.Event.{Event}
 use Rattle.tx_serial.specs.History.{IsLegal}
@@ -11,9 +13,11 @@ use Rattle.tx_meaning.specs.Hits.{hits}
 use Rattle.tx_ladder.specs.Waiting.{waits_in}
 use Rattle.tx_opacity.specs.Opacity.{SeesOneRun}
 use Rattle.tx_headline.specs.Queue.{QueueChanges, others_before}
+use Rattle.tx_headline.specs.Since.{Opens, IsUninterrupted, CommitsAfter, is_program_abort_of}
+use Rattle.tx_headline.specs.Since.{entries_since, turns_after, all_turns_after}
 use Rattle.tx_meaning.specs.Queues.{QueueMoves}
 use Rattle.tx_meaning.specs.Stretches.{stretch_of, left, bound, attempt_turns}
-use Rattle.tx_meaning.specs.Stretches.{counted, is_counted_turn}
+use Rattle.tx_meaning.specs.Stretches.{counted, is_counted_turn, is_end_of}
 use Rattle.tx_meaning.specs.Heads.{head_turns}
 use Rattle.ztx_answers.specs.Replayed.{IsReplayed}
 use Rattle.tx_meaning.specs.Views.{GoesOnWith, KeepsViews, HoldsTouched}
@@ -37,9 +41,9 @@ pub record IsBounded (m : Setting) (events : List Event) : Type 0 where
       < bound m.image.parms + attempt_turns m.image.parms * (stretch_of m events i).externals
 
 -- An event comes: the history only grows, no live attempt sees a mixed state, but one private run at every
--- moment, and the stop queue changes at its ends alone, for the reasons that there are. Fewer CPUs stand before one that waits than the machine has,
--- and while any waits only the head has turns. The head is never rejected, and as the head it has at most 34
--- turns, unless it is interrupted from outside.
+-- moment, and the stop queue changes at its ends alone, for the reasons that there are. Fewer CPUs stand before
+-- one that waits than the machine has, and while any waits only the head has turns. The head is never rejected,
+-- and as the head it has at most 34 turns, unless it is interrupted from outside.
 pub record IsOrderly (m : Setting) (before : List Event) (e : Event) : Type 0 where
   pub grows : GoesOnWith (meaning m before).history (behind m before e).history
   pub views : KeepsViews m (meaning m before) (behind m before e)
@@ -63,8 +67,32 @@ pub record IsSerial (m : Setting) (events : List Event) : Type 0 where
   pub held : HoldsTouched m (meaning m events)
   pub bounded : IsBounded m events
 
--- the same behind each event of a run, and each event is orderly
+-- Where an event has opened a constrained transaction of a CPU, no interruption from outside has come to the CPU
+-- since then and no program interruption of it has been written, and it has had as many counted turns as the
+-- bound, it has committed, with no more aborts than lead to the stop queue, all of them by conflicts.
+abbrev pub CommitsInTime : Setting → List Event → Event → List Event → Type 0
+CommitsInTime m before e since =
+    (i : ℕ) → Opens m before e i → IsUninterrupted m (before ++ e ∷ []) since i
+    → list_any (is_program_abort_of i) (entries_since m (before ++ e ∷ []) since) ≡ false
+    → turns_after m before i + bound m.image.parms ≤ turns_after m ((before ++ e ∷ []) ++ since) i
+    → CommitsAfter m.image.parms.stop i (entries_since m (before ++ e ∷ []) since)
+
+-- Where no interruption from outside has come to any CPU, one in the stop queue has ended its transaction once
+-- there were 34 counted turns of the whole machine for itself and for each CPU that stood before it.
+abbrev pub ServesAll : Setting → List Event → List Event → Type 0
+ServesAll m before since =
+    (i : ℕ) → ((j : ℕ) → j < cpus_of m → IsUninterrupted m before since j)
+    → waits_in (meaning m before).queue i ≡ true
+    → all_turns_after m before + 34 * (others_before i (meaning m before).queue + 1)
+    ≤ all_turns_after m (before ++ since)
+    → list_any (is_end_of i) (entries_since m before since) ≡ true
+
+-- The same behind each event of a run, and each event is orderly. Constrained transactions commit in time, and
+-- the stop queue serves all.
 pub record IsSerialRun (m : Setting) (events : List Event) : Type 0 where
   pub whole : IsSerial m events
   pub each : (before rest : List Event) (e : Event) → events ≡ before ++ e ∷ rest
       → IsSerial m (before ++ e ∷ []) × IsOrderly m before e
+  pub commits : (before since rest : List Event) (e : Event) → events ≡ ((before ++ e ∷ []) ++ since) ++ rest
+      → CommitsInTime m before e since
+  pub serves : (before since rest : List Event) → events ≡ (before ++ since) ++ rest → ServesAll m before since

@@ -8,8 +8,10 @@ mod generated;
 pub mod laws;
 mod listed;
 mod machine;
+mod raced;
 mod requests;
 
 pub use answer::{Answer, NoMemory};
 pub use generated::{generate, summary};
+pub use raced::{NoRace, prepare_race, refuse_long_race, report_race};
 pub use requests::{Request, answer_to, most_bytes, refuse_long};

@@ -5,6 +5,7 @@ use std::env::FillError;
 use std::io;
 use std::process::ExitCode;
 use std::rt::Env;
+use tx_race::OpenGate;
 use ztx_io::{ReaderSource, WriterSink};
 use ztx_top::ztx_top;
 
@@ -47,6 +48,13 @@ fn main(rt: HostRuntime) -> ExitCode {
     };
     let mut source = ReaderSource::new(rt.reader());
     let mut sink = WriterSink::new(io::writer(&rt));
-    let status = ztx_top(rt.alloc(), words.as_slice(), &mut source, &mut sink);
+    let status = ztx_top(
+        &rt,
+        rt.alloc(),
+        words.as_slice(),
+        &mut source,
+        &mut sink,
+        &OpenGate,
+    );
     ExitCode::from(status)
 }

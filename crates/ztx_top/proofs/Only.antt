@@ -1,5 +1,5 @@
 -- Over a source and a sink that never fail there is one answer.
-use Rattle.std.proofs.Common.{◌≡◌, ◌≢◌, ℕ, zero, suc, ◌⊎◌, List, [], Option, Some, sym, subst, inl, inr}
+use Rattle.std.proofs.Common.{◌≡◌, ◌≢◌, ℕ, zero, suc, ◌⊎◌, true, false, List, [], Option, Some, sym, subst, inl, inr}
 use Rattle.std.proofs.Common.{refl, arith, ◌∙◌}
 use Rattle.std.specs.Io.KnownBytes.{Appends}
 use Rattle.std.proofs.KnownBytes.{Appends-nil, Appends-kept}
@@ -11,7 +11,7 @@ use Rattle.ztx_io.specs.Writes.{AppendsPrefix}
 use Rattle.ztx_top.specs.declared.errand.Errand.{Errand}
 use Rattle.ztx_top.specs.declared.errand.Errand.TheVariants as errand
 use Rattle.ztx_top.specs.Answers.{Due, IsWhole, Wrote, WasCut, Tells}
-use Rattle.ztx_top.specs.Asked.{IsBadWords, due}
+use Rattle.ztx_top.specs.Asked.{IsBadWords, due, is_settled}
 
 -- a count that is always 0 does not rise
 pub no_rise : Rose 0 0 → ⊥
@@ -26,11 +26,12 @@ one_refusal s t xs ys r q = record {
   texts = r.text_is ∙ sym q.text_is;
 }
 
-pub one_due : (asked : Errand) (input : List ℕ) → IsOnly (due asked input)
-one_due (errand.Input asked) input = one_request asked input
-one_due (errand.Generate number) input = one_listing number
-one_due (errand.Summary number) input = one_summary number
-one_due errand.Nothing input = one_refusal
+pub one_due : (asked : Errand) (input : List ℕ) → is_settled asked ≡ true → IsOnly (due asked input)
+one_due (errand.Input asked) input settled = one_request asked input
+one_due (errand.Race turns tick) input settled = let n : false ≡ true = settled in absurd (cc)
+one_due (errand.Generate number) input settled = one_listing number
+one_due (errand.Summary number) input settled = one_summary number
+one_due errand.Nothing input settled = one_refusal
 
 -- ---- and it is told
 

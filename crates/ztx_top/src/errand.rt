@@ -11,6 +11,9 @@ use ztx_words::Command;
 pub enum Errand {
     /// What is due to the bytes of the source.
     Input(Request),
+    /// The report of a race on the listing that the source has: each CPU has at most `turns` counted turns, and
+    /// a tick comes with each turn whose number is a multiple of `tick`, where that is not 0.
+    Race { turns: u32, tick: u32 },
     /// The generator's listing for a number.
     Generate(u64),
     /// The short summary of that listing's run.
@@ -32,6 +35,10 @@ pub fn errand_of(command: Option<Command>) -> Errand
             tick: tick as u32,
             seed,
         }),
+        Some(Command::Race { turns, tick }) => Errand::Race {
+            turns: turns as u32,
+            tick: tick as u32,
+        },
         Some(Command::Generate { number }) => Errand::Generate(number),
         Some(Command::Summary { number }) => Errand::Summary(number),
         Some(Command::Deck { read: false, .. }) => Errand::Input(Request::Deck),

@@ -4,6 +4,7 @@
 mod errand;
 mod input;
 mod output;
+mod race;
 mod sure;
 mod top;
 

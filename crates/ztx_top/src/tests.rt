@@ -2,6 +2,7 @@
 use crate::{sure_top, ztx_top};
 use std::alloc::{AllocError, Global};
 use std::test::Fail;
+use tx_race::OpenGate;
 use ztx_io::{MemorySink, MemorySource, SureSink, SureSource};
 
 /// A transaction that stores, and one on another CPU that loads from the same line.
@@ -59,6 +60,31 @@ SCHEDULE 18
 END
 ";
 
+/// One CPU, whose race can have one end alone.
+const ALONE: &str = " CPU START\nSTART LGHI 1,5\n SVC 0\n";
+
+/// What an independent model says of its race.
+const ALONE_REPORT: &str = "ZTX REPORT
+STATUS 0
+CPU 0 HALTED
+PSW 0000000000004006 CC 0 MASK 0
+GR 00 0000000000000000 0000000000000005 0000000000000000 0000000000000000
+GR 04 0000000000000000 0000000000000000 0000000000000000 0000000000000000
+GR 08 0000000000000000 0000000000000000 0000000000000000 0000000000000000
+GR 12 0000000000000000 0000000000000000 0000000000000000 0000000000000000
+AR 00 00000000 00000000 00000000 00000000 00000000 00000000 00000000 00000000
+AR 08 00000000 00000000 00000000 00000000 00000000 00000000 00000000 00000000
+TX NONE
+PENDING NONE
+COUNTS TURNS 2 ASKED 0 REJECTED 0 COMMITS 0 ABORTS 0
+HISTORY 2
+S 0
+S 0
+SCHEDULE 2
+ SCHED 0,0
+END
+";
+
 /// The calls that a reading of the listing takes, and a writing of the report, in pieces of 16 bytes.
 const READS: u64 = 13;
 
@@ -72,7 +98,7 @@ struct Case {
     text: &'static str,
 }
 
-const CASES: [Case; 13] = [
+const CASES: [Case; 15] = [
     Case {
         words: "list",
         input: " CPU START\nSTART LGHI 1,5\n SVC 0\n",
@@ -116,8 +142,20 @@ const CASES: [Case; 13] = [
         text: "ztx: bad words\n",
     },
     Case {
+        words: "race --turns 20",
+        input: ALONE,
+        status: 0,
+        text: ALONE_REPORT,
+    },
+    Case {
         words: "race",
-        input: CONFLICT,
+        input: " CP",
+        status: 5,
+        text: "ztx: line 1: unknown mnemonic\n",
+    },
+    Case {
+        words: "race --seed 1",
+        input: ALONE,
         status: 4,
         text: "ztx: bad words\n",
     },
@@ -182,7 +220,14 @@ fn commands_are_answered(rt: HostRuntime) -> Result<(), Fail> {
         let mut source = source_of(alloc, case.input, 0)?;
         let mut sink = sink_of(alloc, 0)?;
         let words = words_of(alloc, case.words)?;
-        let status = ztx_top(alloc, words.as_slice(), &mut source, &mut sink);
+        let status = ztx_top(
+            &rt,
+            alloc,
+            words.as_slice(),
+            &mut source,
+            &mut sink,
+            &OpenGate,
+        );
         assert_eq!(rt; status, case.status, "{}", case.words);
         assert_eq!(rt; sink.taken(), case.text.as_bytes(), "{}", case.words);
     }
@@ -196,7 +241,14 @@ fn each_read_fails_in_turn(rt: HostRuntime) -> Result<(), Fail> {
     for call in 1..=READS {
         let mut source = source_of(alloc, CONFLICT, call)?;
         let mut sink = sink_of(alloc, 0)?;
-        let status = ztx_top(alloc, words.as_slice(), &mut source, &mut sink);
+        let status = ztx_top(
+            &rt,
+            alloc,
+            words.as_slice(),
+            &mut source,
+            &mut sink,
+            &OpenGate,
+        );
         assert_eq!(rt; status, 2, "call {call}");
         assert!(rt; sink.taken().is_empty(), "call {call}");
     }
@@ -210,7 +262,14 @@ fn each_write_fails_in_turn(rt: HostRuntime) -> Result<(), Fail> {
     for call in 1..=WRITES {
         let mut source = source_of(alloc, CONFLICT, 0)?;
         let mut sink = sink_of(alloc, call)?;
-        let status = ztx_top(alloc, words.as_slice(), &mut source, &mut sink);
+        let status = ztx_top(
+            &rt,
+            alloc,
+            words.as_slice(),
+            &mut source,
+            &mut sink,
+            &OpenGate,
+        );
         let taken = (16 * (call - 1)) as usize;
         assert_eq!(rt; status, 3, "call {call}");
         assert_eq!(rt;
@@ -229,7 +288,14 @@ fn faults_of_texts_that_are_refused(rt: HostRuntime) -> Result<(), Fail> {
         let words = words_of(alloc, line)?;
         let mut source = source_of(alloc, "", 0)?;
         let mut sink = sink_of(alloc, 1)?;
-        let status = ztx_top(alloc, words.as_slice(), &mut source, &mut sink);
+        let status = ztx_top(
+            &rt,
+            alloc,
+            words.as_slice(),
+            &mut source,
+            &mut sink,
+            &OpenGate,
+        );
         assert_eq!(rt; status, 3, "{line}");
         assert!(rt; sink.taken().is_empty(), "{line}");
     }
@@ -242,7 +308,14 @@ fn a_source_and_a_sink_that_never_fail(rt: HostRuntime) -> Result<(), Fail> {
     let words = words_of(alloc, "run")?;
     let mut source = SureSource::new(CONFLICT.as_bytes().to_vec(alloc)?, 7);
     let mut sink = SureSink::new(alloc, 5);
-    let status = sure_top(alloc, words.as_slice(), &mut source, &mut sink);
+    let status = sure_top(
+        &rt,
+        alloc,
+        words.as_slice(),
+        &mut source,
+        &mut sink,
+        &OpenGate,
+    );
     assert_eq!(rt; status, 0);
     assert_eq!(rt; sink.taken(), REPORT.as_bytes());
     Ok(())

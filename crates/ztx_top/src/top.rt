@@ -9,7 +9,11 @@ ghost use Rattle.ztx_top.specs.Asked.{IsBadWords, IsReady, asked, due, reads};
 use crate::errand::{Errand, errand_of};
 use crate::input::answer_input;
 use crate::output::tell;
+use crate::race::race_input;
 use std::alloc::Global;
+use std::sync::Wait;
+use std::thread::Threads;
+use tx_race::Gate;
 use ztx_answers::{generate, summary};
 use ztx_io::{Sink, Source};
 use ztx_words::read_words;
@@ -62,7 +66,14 @@ fn tell_summary<K: Sink>(alloc: Global, number: u64, sink: &mut K) -> u8
 }
 
 /// Does what the words ask for.
-fn answer<S: Source, K: Sink>(alloc: Global, errand: Errand, source: &mut S, sink: &mut K) -> u8
+fn answer<R: Threads + Wait + Sync, S: Source, K: Sink, G: Gate>(
+    rt: &R,
+    alloc: Global,
+    errand: Errand,
+    source: &mut S,
+    sink: &mut K,
+    gate: &G,
+) -> u8
     requires { IsReady errand }
     ensures statuses { result ≤ 6 }
     ensures whole { IsWhole result
@@ -79,6 +90,7 @@ fn answer<S: Source, K: Sink>(alloc: Global, errand: Errand, source: &mut S, sin
 {
     match errand {
         Errand::Input(request) => answer_input(alloc, request, source, sink),
+        Errand::Race { turns, tick } => race_input(rt, alloc, turns, tick, source, sink, gate),
         Errand::Generate(number) => tell_generated(alloc, number, sink),
         Errand::Summary(number) => tell_summary(alloc, number, sink),
         Errand::Nothing => tell_bad_words(sink),
@@ -88,25 +100,29 @@ fn answer<S: Source, K: Sink>(alloc: Global, errand: Errand, source: &mut S, sin
 /// Answers the words and the bytes of the source, and gives the exit status.
 ///
 /// The words are those of the command line, without the program's name: `list`, `run` with `--turns`,
-/// `--tick` and `--seed`, `generate` and `summary` with a number. Everything is written to the sink.
+/// `--tick` and `--seed`, `race` with the first two, `generate` and `summary` with a number. Everything is
+/// written to the sink. `race` makes its threads and waits for them by `rt`; its workers pass the gate.
 ///
 /// | Status | Comes | Written |
 /// |---|---|---|
-/// | 0 | the command is done; in `run` and `summary` every CPU is finished | the whole text |
+/// | 0 | the command is done; in `run`, `race` and `summary` every CPU is finished | the whole text |
 /// | 1 | for want of memory | a beginning of what is due, perhaps nothing |
 /// | 2 | only where the source's count of faults rose | nothing |
 /// | 3 | only where the sink's count of faults rose | a beginning of what is due |
-/// | 4 | the words are no command line, or ask for a race, which is not built | `ztx: bad words` |
-/// | 5 | `list` or `run`, and the input is no listing | the line of its first fault |
-/// | 6 | `run` or `summary`, and some CPU is not finished | the whole text |
+/// | 4 | the words are no command line, or ask for what is not built | `ztx: bad words` |
+/// | 5 | `list`, `run` or `race`, and the input is no listing | the line of its first fault |
+/// | 6 | `run`, `race` or `summary`, and some CPU is not finished | the whole text |
 ///
-/// The words are looked at first, then `list` and `run` read the source to its end, and writing comes last;
-/// the first that fails gives the status, so 0, 4, 5 and 6 come where the writing succeeded.
-pub fn ztx_top<S: Source, K: Sink>(
+/// The words are looked at first, then `list`, `run` and `race` read the source to its end, and writing comes
+/// last; the first that fails gives the status, so 0, 4, 5 and 6 come where the writing succeeded. Two races of
+/// one listing may give two reports; each is that of the events that it prints.
+pub fn ztx_top<R: Threads + Wait + Sync, S: Source, K: Sink, G: Gate>(
+    rt: &R,
     alloc: Global,
     words: &[String],
     source: &mut S,
     sink: &mut K,
+    gate: &G,
 ) -> u8
     ensures statuses { result ≤ 6 }
 
@@ -132,7 +148,7 @@ pub fn ztx_top<S: Source, K: Sink>(
         → Keeps (S.left source.old) (S.left source.new) }
 {
     match read_words(alloc, words) {
-        Ok(command) => answer(alloc, errand_of(command), source, sink),
+        Ok(command) => answer(rt, alloc, errand_of(command), source, sink, gate),
         Err(_) => 1,
     }
 }

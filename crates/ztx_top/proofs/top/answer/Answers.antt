@@ -16,6 +16,18 @@ returns-in-Input-clause-cut g c = λ is.
     (g.K.Sink.held c.args.sink.now) (g.K.Sink.held c.answer_input.new.sink))
     (sym c.in-Input.is) (c.answer_input.ensures.cut is)
 
+pub returns-in-Race-clause-whole : goal.returns-in-Race-clause-whole
+returns-in-Race-clause-whole g c = λ is.
+    subst (λ (a : Errand). Wrote (due a) (g.S.Source.left c.args.source.now) c.race_input.result
+    (g.K.Sink.held c.args.sink.now) (g.K.Sink.held c.race_input.new.sink))
+    (sym c.in-Race.is) (c.race_input.ensures.whole is)
+
+pub returns-in-Race-clause-cut : goal.returns-in-Race-clause-cut
+returns-in-Race-clause-cut g c = λ is.
+    subst (λ (a : Errand). WasCut (due a) (g.S.Source.left c.args.source.now)
+    (g.K.Sink.held c.args.sink.now) (g.K.Sink.held c.race_input.new.sink))
+    (sym c.in-Race.is) (c.race_input.ensures.cut is)
+
 pub returns-in-Generate-clause-whole : goal.returns-in-Generate-clause-whole
 returns-in-Generate-clause-whole g c = λ is.
     subst (λ (a : Errand). Wrote (due a) (g.S.Source.left c.args.source.now) c.tell_generated.result

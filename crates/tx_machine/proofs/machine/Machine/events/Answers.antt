@@ -1,5 +1,5 @@
 -- What is kept is what the recorded events mean, and so there is no more of it than they can come to.
-use Rattle.std.proofs.Common.{◌≡◌, ◌<◌, ◌≤◌, length, sym, ap, ◌∙◌, subst}
+use Rattle.std.proofs.Common.{◌<◌, ◌≤◌, length, sym, ap, ◌∙◌, subst}
 use Rattle.std.specs.Prelude.{All}
 use Rattle.tx_journal.specs.Image.{cpu_of_event}
 use Rattle.tx_meaning.specs.State.{State}

@@ -3,7 +3,6 @@ use Rattle.std.proofs.Common.{ℕ, sym, ap, subst, ◌∙◌, Option}
 use Rattle.std.specs.Prelude.{All}
 use Rattle.z_regs.specs.Absolute.{absolute_ranges, IsAccessible}
 use Rattle.tx_serial.specs.Fate.{Fate}
-use Rattle.tx_meaning.specs.Limits.{Setting}
 use Rattle.tx_machine.specs.Wanted.{operands_of}
 use Rattle.tx_machine.specs.Works.{kept_by}
 use Rattle.tx_machine.proofs.Seats.{no_seat}

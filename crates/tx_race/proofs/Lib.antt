@@ -1,0 +1,3 @@
+-- How many events a turn records.
+pub mod Recorded
+pub mod Settings

@@ -1,0 +1,105 @@
+//! A race: workers for all CPUs, and then the rest of the round.
+ghost use Rattle.std.specs.Prelude.{◌≡◌, ◌+◌, ◌≤◌, [], length, IfOk};
+ghost use Rattle.tx_race.specs.Shares.{IsOfSameRun, HasTurnsAlone, shares_for};
+ghost use Rattle.tx_schedule.specs.Ran.{HasNoneReady};
+
+use crate::board::{Blank, Board, Raced};
+use crate::finish::{finish_round, is_of_run, run_again};
+use crate::gate::Gate;
+use crate::turns::cpu_count;
+use crate::workers::{Job, jobs_of, work};
+use std::alloc::Global;
+use std::marker::Brand;
+use std::sync::ledger::Ledger;
+use std::sync::{Mutex, Wait, ledger};
+use std::thread;
+use std::thread::Threads;
+use tx_machine::{Machine, NoMemory};
+use tx_meaning::Limits;
+
+/// The most lockings of a worker.
+fn lockings_of(limits: Limits) -> u64 {
+    4 * u64::from(limits.turns) + 1000
+}
+
+/// The race on one ledger.
+fn race_on<L: Ledger + Send + Sync, R: Threads + Wait + Sync, G: Gate>(
+    rt: &R,
+    alloc: Global,
+    machine: Machine,
+    blank: ledger::Blank,
+    gate: &G,
+) -> Result<Raced, NoMemory>
+    requires name { blank.name ≡ L.name }
+    requires parts { blank.parts ≡ L.parts }
+    requires all { L.parts ≡ shares_for machine.image }
+    requires unused { machine.events ≡ [] }
+    ensures same { IfOk result (λ r. IsOfSameRun machine r.machine) }
+    ensures none { IfOk result (λ r. HasNoneReady r.machine) }
+    ensures counted { IfOk result (λ r. r.worked + r.finished ≡ length r.machine.events) }
+    ensures homed { IfOk result (λ r. r.homed ≤ length r.machine.events) }
+{
+    let image = machine.shared_image()?;
+    let limits = machine.limits();
+    let lockings = lockings_of(limits);
+    let (board, shares) = Board::open(alloc, machine, Blank::<L>::new(blank))?;
+    let mut shares = shares;
+    let mut last = shares.pop().unwrap();
+    let jobs = jobs_of(alloc, shares)?;
+    let board = Mutex::new(board);
+    let shared = &board;
+    let Ok(done) = thread::map_vec(
+        rt,
+        jobs,
+        &|job: Job<L>| work(rt, shared, gate, job, lockings),
+    ) else {
+        return Err(NoMemory);
+    };
+    let mut board = board.into_inner();
+    if !is_of_run(board.machine(), &image, limits) {
+        return run_again(alloc, image, limits);
+    }
+    finish_round(&mut board, &mut last);
+    let mut shares = done;
+    if shares.push(last).is_err() {
+        return Err(NoMemory);
+    }
+    Ok(board.close(shares))
+}
+
+/// Where no event may come from outside, none has come.
+fn has_turns_alone(raced: &Raced)
+    requires { raced.now.machine.limits.externals ≡ 0 }
+    ensures { HasTurnsAlone raced.now.machine }
+{
+    let _left = raced.machine.externals_left();
+}
+
+/// Lets the CPUs of a machine race until none is ready. Each CPU's turns are made by a worker, under one lock, in
+/// a thread of its own; where none can be made, the thread that calls does its work. A worker passes the gate
+/// between two lockings, and ends when its CPU is finished or spent, or after a number of lockings that the
+/// limits bound. Behind them the thread that calls gives the rest of the turns in the round.
+///
+/// The machine that comes back has the same image and the same limits, as many recorded events as the workers and
+/// the thread that called have made, and turns alone among them; no CPU of it is ready. Where the workers left a
+/// machine of another image or other limits, the thread that called has made the run again alone, and `worked` is
+/// 0. The error is want of memory; all threads have ended then, too.
+pub fn race<R: Threads + Wait + Sync, G: Gate>(
+    rt: &R,
+    alloc: Global,
+    machine: Machine,
+    gate: &G,
+) -> Result<Raced, NoMemory>
+    requires unused { machine.events ≡ [] }
+    requires externals { machine.limits.externals ≡ 0 }
+    ensures same { IfOk result (λ r. IsOfSameRun machine r.machine) }
+    ensures turns { IfOk result (λ r. HasTurnsAlone r.machine) }
+    ensures none { IfOk result (λ r. HasNoneReady r.machine) }
+    ensures counted { IfOk result (λ r. r.worked + r.finished ≡ length r.machine.events) }
+    ensures homed { IfOk result (λ r. r.homed ≤ length r.machine.events) }
+{
+    let blank = ledger::Blank::new(u64::from(cpu_count(&machine)) + 1);
+    let raced = race_on::<Brand, R, G>(rt, alloc, machine, blank, gate)?;
+    has_turns_alone(&raced);
+    Ok(raced)
+}

@@ -1,0 +1,25 @@
+use Rattle.std.proofs.Common.{subst}
+use Rattle.z_assemble.specs.Whole.{FirstFault, HasFault}
+use Rattle.ztx_answers.proofs.Raced.{may_race_ok, unused_ok, externals_ok, refused_by}
+use Rattle.ztx_answers.proofs.raced.prepare_race.Goals as goal
+
+pub returns-in-Ok-clause-machine : goal.returns-in-Ok-clause-machine
+returns-in-Ok-clause-machine c =
+    may_race_ok c.in-Ok.image c.args.turns c.args.tick c.open_for_race.result c.open_for_race.ensures.machine
+    c.args.input.now c.in-Ok.ensures.image
+
+pub returns-in-Ok-clause-unused : goal.returns-in-Ok-clause-unused
+returns-in-Ok-clause-unused c =
+    unused_ok c.in-Ok.image c.args.turns c.args.tick c.open_for_race.result c.open_for_race.ensures.machine
+
+pub returns-in-Ok-clause-externals : goal.returns-in-Ok-clause-externals
+returns-in-Ok-clause-externals c =
+    externals_ok c.in-Ok.image c.args.turns c.args.tick c.open_for_race.result c.open_for_race.ensures.machine
+
+pub returns-in-Err-Listing-in-Ok-clause-refused : goal.returns-in-Err-Listing-in-Ok-clause-refused
+returns-in-Err-Listing-in-Ok-clause-refused c =
+    let first : FirstFault c.args.input.now c.in-Err-Listing.fault =
+    subst (HasFault c.args.input.now) c.in-Err-Listing.field-0-is c.in-Err-Listing.ensures.fault in
+    let answer = c.in-Err-Listing-in-Ok.answer in
+    refused_by c.args.input.now c.in-Err-Listing.fault answer.status answer.text.items first
+    c.in-Err-Listing-in-Ok.ensures.status c.in-Err-Listing-in-Ok.ensures.text
