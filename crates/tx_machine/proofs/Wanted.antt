@@ -5,7 +5,7 @@ use Rattle.z_regs.specs.declared.ranges.Range.{Range}
 use Rattle.z_regs.specs.declared.waiting.Waiting.{Waiting}
 use Rattle.tx_serial.specs.Fate.{Fate}
 use Rattle.tx_serial.specs.Flat.{Pending}
-use Rattle.tx_cpu.specs.Plans.{address_of}
+use Rattle.tx_serial.specs.Flat.{address_of}
 use Rattle.tx_meaning.specs.Needs.{stored, interruption_ranges}
 use Rattle.tx_machine.specs.InTurn.{block_awaited}
 use Rattle.tx_machine.specs.Wanted.{real_ranges, operands_of}

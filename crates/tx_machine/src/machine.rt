@@ -246,11 +246,13 @@ impl Machine {
         )
     }
 
-    /// What is recorded, in order: every event but turns that were idle. There are at most as many as all CPUs
-    /// may have turns, with the external events added; and never fewer than entries in the history.
+    /// What is recorded, in order: every event but turns that were idle, each of a CPU that there is. There are
+    /// at most as many as all CPUs may have turns, with the external events added; and never fewer than entries
+    /// in the history.
     pub fn events(&self) -> &[Event]
         ensures recorded { result.now ≡ self.now.events }
         ensures meant { result.now ≡ (state_of self.now).events }
+        ensures known { All (λ e. cpu_of_event e < length self.now.image.cpus) result.now }
         ensures most { length result.now ≤ most_events (setting_of self.now) }
         ensures entries { length (state_of self.now).history ≤ length result.now }
     {

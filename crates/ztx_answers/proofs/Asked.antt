@@ -38,9 +38,9 @@ module _ {E : Type 0} (r : Result Answer E) (s : IfOk r (λ a. a.status ≡ 5))
       → ((input : List ℕ) (status : ℕ) (text : List ℕ) → IsRefusal input status text → Due input status text)
       → IfOk r (λ a. a.status ≡ 5) → IfOk r (λ a. a.text.items ≡ fault_line long_fault)
       → IfOk r (λ a. (input : List ℕ) → 16777216 < length input → Due input a.status a.text.items)
-  long_ok (Ok a) Due as s t = λ input long.
-      as input a.status a.text.items (long_listing input a.status a.text.items long s t)
-  long_ok (Err e) Due as s t = tt
+  long_ok (Ok a) Due fits s t = λ input long.
+      fits input a.status a.text.items (long_listing input a.status a.text.items long s t)
+  long_ok (Err e) Due fits s t = tt
 
   pub long_due : (q : Request)
       → IfOk r (λ a. (input : List ℕ) → most_of q < length input → IsDue q input a.status a.text.items)

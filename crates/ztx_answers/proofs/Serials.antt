@@ -19,6 +19,7 @@ use Rattle.tx_headline.proofs.Lists.{all_first, all_later}
 use Rattle.tx_headline.proofs.Queue.{queue_changes, before_most}
 use Rattle.tx_machine.proofs.Laws.{unrejected_head}
 use Rattle.tx_machine.proofs.Most.{meaning_more}
+use Rattle.ztx_answers.proofs.Replays.{replayed}
 use Rattle.ztx_answers.specs.Serial.{IsSerial, IsSerialRun, IsOrderly, IsBounded}
 
 -- ---- runs
@@ -35,6 +36,7 @@ module _ (m : Setting) (s : IsSetting m) where
   serial : (events : List Event) → AreKnown m events → IsSerial m events
   serial events known = record {
     legal = legal m s events known;
+    shown = replayed m (meaning m events) (legal m s events known);
     held = touched_held m s events known;
     bounded = bounded events known;
   }

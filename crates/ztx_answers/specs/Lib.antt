@@ -1,4 +1,5 @@
 -- What is due for each command: a status and a text; and what holds of the events that a report tells.
+pub mod Replayed
 pub mod Serial
 pub mod Runs
 pub mod Due

@@ -15,6 +15,7 @@ use Rattle.tx_meaning.specs.Queues.{QueueMoves}
 use Rattle.tx_meaning.specs.Stretches.{stretch_of, left, bound, attempt_turns}
 use Rattle.tx_meaning.specs.Stretches.{counted, is_counted_turn}
 use Rattle.tx_meaning.specs.Heads.{head_turns}
+use Rattle.ztx_answers.specs.Replayed.{IsReplayed}
 use Rattle.tx_meaning.specs.Views.{GoesOnWith, KeepsViews, HoldsTouched}
 
 -- the state behind an event that comes after others
@@ -35,8 +36,8 @@ pub record IsBounded (m : Setting) (events : List Event) : Type 0 where
       → (stretch_of m events i).age
       < bound m.image.parms + attempt_turns m.image.parms * (stretch_of m events i).externals
 
--- An event comes: the history only grows, no live attempt sees a mixed state, and the stop queue changes at
--- its ends alone, for the reasons that there are. Fewer CPUs stand before one that waits than the machine has,
+-- An event comes: the history only grows, no live attempt sees a mixed state, but one private run at every
+-- moment, and the stop queue changes at its ends alone, for the reasons that there are. Fewer CPUs stand before one that waits than the machine has,
 -- and while any waits only the head has turns. The head is never rejected, and as the head it has at most 34
 -- turns, unless it is interrupted from outside.
 pub record IsOrderly (m : Setting) (before : List Event) (e : Event) : Type 0 where
@@ -53,10 +54,12 @@ pub record IsOrderly (m : Setting) (before : List Event) (e : Event) : Type 0 wh
       → (happen m e (meaning m before)).reject ≡ None
   pub heads : (i : ℕ) → head_turns m before i + counted (is_counted_turn m (meaning m before) e i) ≤ 34
 
--- The history of the events is one serial history: each entry fits on flat storage in its place. What live
--- attempts have touched is held, and the retry ladder keeps its bounds.
+-- The history of the events is one serial history: each entry fits on flat storage in its place, and what is
+-- shown is what a replay of it leaves. What live attempts have touched is held, and the retry ladder keeps its
+-- bounds.
 pub record IsSerial (m : Setting) (events : List Event) : Type 0 where
   pub legal : IsLegal m.image (meaning m events).history
+  pub shown : IsReplayed m (meaning m events)
   pub held : HoldsTouched m (meaning m events)
   pub bounded : IsBounded m events
 
