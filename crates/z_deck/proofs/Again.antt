@@ -2,7 +2,8 @@
 use Rattle.std.proofs.Common.{◌≡◌, ◌≢◌, ℕ, zero, suc, ◌+◌, ◌-◌, ◌*◌, ◌/◌, ◌%◌, ◌^◌, ◌<◌, ◌≤◌, Bool, true, false}
 use Rattle.std.proofs.Common.{◌&&◌, ◌⊎◌, inl, inr, List, [], ◌∷◌, ◌++◌, length, take, drop, replicate, Option, Some}
 use Rattle.std.proofs.Common.{None, refl, sym, ap, ap₂, subst, ◌∙◌, arith, All, slice_index, length-append}
-use Rattle.std.proofs.Common.{length-drop, lt-ltb, le-ltb, le-leb, lt-leb, min, append_assoc, add-zero}
+use Rattle.std.proofs.Common.{length-drop, lt-ltb, le-ltb, le-leb, min, append_assoc, add-zero}
+use Rattle.std.proofs.lemmas.Bool.{lt-leb}
 use Rattle.std.specs.Prelude.{unwrap_or, nat_lt, nat_le, ◌==◌, if◌then◌else◌}
 use Rattle.std.specs.List.{concat, list_all}
 use Rattle.std.specs.Str.{bytes_eq}
@@ -74,8 +75,8 @@ text_size address bytes few =
       head_size address (length bytes),
       length-append (text_head address (length bytes)) (bytes ++ drop (length bytes) (replicate 64 64)),
       length-append bytes (drop (length bytes) (replicate 64 64)),
-      length-drop (length bytes) (replicate 64 64),
-      length-replicate 64 64,
+      length-drop {A = ℕ} (length bytes) (replicate 64 64),
+      length-replicate {A = ℕ} 64 64,
     )
 
 text_count : (address : ℕ) (bytes : List ℕ) → length bytes ≤ 56 → count_of (text_card address bytes) ≡ length bytes
@@ -218,9 +219,9 @@ module _ (storage : List ℕ) (size : length storage ≡ 1048576) where
 
       bare : (address : ℕ) → covers (8192 + 56 * n) (piece_at storage n) address ≡ false
           → from_pieces (suc n) address ≡ from_pieces n address
-      bare address no = step address ∙ ap (λ b. over (if b
+      bare address apart = step address ∙ ap (λ b. over (if b
           then Some (slice_index (piece_at storage n) (address - (8192 + 56 * n))) else None)
-          (from_pieces n address)) no
+          (from_pieces n address)) apart
 
       inside : (address : ℕ) → 8192 + 56 * n ≤ address → address < 8192 + 56 * suc n → (c : Bool)
           → nat_lt address (8192 + 56 * n + length (piece_at storage n)) ≡ c
@@ -259,11 +260,11 @@ module _ (storage : List ℕ) (size : length storage ≡ 1048576) where
 
   all_written : (n : ℕ) → n ≤ 18579 → IsWritten n
   all_written zero few = none_written
-  all_written (suc n) few = by (is_zero (piece_at storage n)) refl
+  all_written (suc n) few = by (all_written n (omega arith)) (is_zero (piece_at storage n)) refl
     where
-      by : (b : Bool) → is_zero (piece_at storage n) ≡ b → IsWritten (suc n)
-      by true is = zero_written n is (all_written n (omega arith))
-      by false is = some_written n (omega arith) is (all_written n (omega arith))
+      by : IsWritten n → (b : Bool) → is_zero (piece_at storage n) ≡ b → IsWritten (suc n)
+      by w true is = zero_written n is w
+      by w false is = some_written n (omega arith) is w
 
   -- ---- the cards
 

@@ -3,7 +3,11 @@ use Rattle.std.proofs.Common.{◌≡◌, ℕ, ◌+◌, ◌-◌, ◌<◌, ◌≤�
 use Rattle.std.proofs.Common.{take, drop, Option, Some, None, refl, sym, ap, ap₂, subst, ◌∙◌, arith, lt-ltb, le-ltb}
 use Rattle.std.specs.Prelude.{nat_lt, if◌then◌else◌}
 use Rattle.std.specs.Str.{bytes_eq}
-use Rattle.z_deck.specs.Columns.{type_of, at, address_field, no_entry}
+use Rattle.std.proofs.Common.{slice_index}
+use Rattle.std.proofs.lemmas.Bool.{ltb-true, ltb-false}
+use Rattle.std.proofs.lemmas.List.{get_or-take, get_or-drop, get_or_past, length-take}
+use Rattle.byteorder.specs.Numbers.{big_from-lt}
+use Rattle.z_deck.specs.Columns.{type_of, at, number_at, address_field, no_entry}
 use Rattle.z_deck.specs.Reading.{fault_of, IsText, IsEnd, IsAccessible, count_of, address_of, bytes_of, entry_of}
 use Rattle.z_deck.specs.Reading.{is_above}
 use Rattle.z_deck.specs.declared.card.CardType.TheVariants.{Section, Text, End}
@@ -14,6 +18,27 @@ use Rattle.z_deck.proofs.Faults.{high_outside}
 
 no_range : (first size : ℕ) → size ≡ 0 → IsAccessible first size
 no_range first size none some = absurd (omega arith)
+
+-- ---- numbers in columns
+
+part_low : (card : List ℕ) → ((i : ℕ) → slice_index card i < 256) → (n k i : ℕ)
+    → slice_index (take n (drop k card)) i < 256
+part_low card low n k i = by (nat_lt i n) refl
+  where
+    by : (b : Bool) → nat_lt i n ≡ b → slice_index (take n (drop k card)) i < 256
+    by true is =
+        let same : slice_index (take n (drop k card)) i ≡ slice_index card (k + i) =
+        get_or-take n (drop k card) i 0 (ltb-true i n is) ∙ get_or-drop k card i 0 in
+        subst (λ x. x < 256) (sym same) (low (k + i))
+    by false is =
+        let past : n ≤ i = ltb-false i n is in
+        let none : slice_index (take n (drop k card)) i ≡ 0 =
+        get_or_past (take n (drop k card)) i 0 (omega (arith, length-take n (drop k card))) in
+        subst (λ x. x < 256) (sym none) (omega arith)
+
+-- an address has 24 bits
+pub address_low : (card : List ℕ) → ((i : ℕ) → slice_index card i < 256) → number_at address_field card < 16777216
+address_low card low = big_from-lt 0 3 (take 3 (drop 5 card)) (part_low card low 3 5)
 
 module _ (origin : ℕ) (card : List ℕ) (whole : length card ≡ 80) where
   module _ (typed : type_of card ≡ Some Text) (count : ℕ) (counts : count ≡ count_of card) where
@@ -85,7 +110,7 @@ module _ (origin : ℕ) (card : List ℕ) (whole : length card ≡ 80) where
         record {
           size = whole;
           type = typed;
-          within = λ entry is. let no = none_there blanks in cc;
+          within = λ entry is. let none = none_there blanks in cc;
         },
         sym (none_there blanks),
       ),

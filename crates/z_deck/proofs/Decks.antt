@@ -26,10 +26,10 @@ use Rattle.z_deck.proofs.Loaded.{section_loaded, empty_loaded, text_loaded, end_
 
 pub short_fault : (origin : ℕ) (ended : Bool) (card : List ℕ) → length card ≢ 80
     → fault_of origin ended card ≡ Some kinds.ShortCard
-short_fault origin ended card no =
+short_fault origin ended card other =
     fault_is origin ended card
     ∙ ap (λ b. fault_by b ended (type_of card) (many_on card) (within_on origin card) (above_on origin card))
-    (ne_eqb (length card) 80 no)
+    (ne_eqb (length card) 80 other)
 
 module _ (origin : ℕ) (cards : List (List ℕ)) (card storage : List ℕ) (whole : length card ≡ 80)
     (end : Option (Option ℕ)) (seen : Bool) (saw : seen ≡ is_some end)

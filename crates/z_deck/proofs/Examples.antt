@@ -41,17 +41,20 @@ blanks = refl
 pub section_is : section_card
     ≡ (2 ∷ 0xC5 ∷ 0xE2 ∷ 0xC4 ∷ []) ++ (replicate 6 0x40 ++ ((0 ∷ 16 ∷ 0x40 ∷ 0x40 ∷ 0 ∷ 1 ∷ 0xE9 ∷ 0xE3 ∷ 0xE7
     ∷ []) ++ (replicate 5 0x40 ++ ((0 ∷ 0 ∷ 0 ∷ 0 ∷ 0x40 ∷ 16 ∷ 0 ∷ 0 ∷ []) ++ replicate 48 0x40))))
+unfolding section_card
 section_is = refl
 
 -- a card of three bytes for hex 3ff0
 pub text_is : text_card 0x3ff0 (0xa7 ∷ 0x19 ∷ 5 ∷ [])
     ≡ (2 ∷ 0xE3 ∷ 0xE7 ∷ 0xE3 ∷ 0x40 ∷ 0 ∷ 0x3f ∷ 0xf0 ∷ 0x40 ∷ 0x40 ∷ 0 ∷ 3 ∷ 0x40 ∷ 0x40 ∷ 0 ∷ 1 ∷ 0xa7 ∷ 0x19
     ∷ 5 ∷ []) ++ replicate 61 0x40
+unfolding text_card
 text_is = refl
 
 -- the end, with hex 4000 as the entry
 pub end_is : end_card 0x4000
     ≡ (2 ∷ 0xC5 ∷ 0xD5 ∷ 0xC4 ∷ 0x40 ∷ 0 ∷ 0x40 ∷ 0 ∷ []) ++ (replicate 6 0x40 ++ (0 ∷ 1 ∷ replicate 64 0x40))
+unfolding end_card
 end_is = refl
 
 -- ---- what they say
@@ -60,27 +63,29 @@ abbrev some_text : List ℕ
 some_text = text_card 0x3ff0 (0xa7 ∷ 0x19 ∷ 5 ∷ [])
 
 pub type_is : type_of some_text ≡ Some Text
-unfolding type_named
+unfolding type_named text_card
 type_is = refl
 
 pub bytes_are : bytes_of some_text ≡ 0xa7 ∷ 0x19 ∷ 5 ∷ []
+unfolding text_card
 bytes_are = refl
 
 pub address_is : address_of 16 some_text ≡ 0x4000
+unfolding text_card
 address_is = refl
 
 -- the second of its bytes, and none behind the third
 pub second_byte : byte_on 0 some_text 0x3ff1 ≡ Some 0x19
-unfolding byte_on type_named
+unfolding byte_on type_named text_card
 second_byte = refl
 
 pub fourth_byte : byte_on 0 some_text 0x3ff3 ≡ None
-unfolding byte_on type_named
+unfolding byte_on type_named text_card
 fourth_byte = refl
 
 -- a later card over an earlier one
 pub later_byte : byte_from 0 (some_text ∷ text_card 0x3ff1 (7 ∷ []) ∷ section_card ∷ []) 0x3ff1 ≡ Some 7
-unfolding byte_on type_named
+unfolding byte_on type_named section_card text_card
 later_byte = refl
 
 -- blanks are no entry, and an address is counted from the origin on
@@ -88,6 +93,7 @@ pub no_entry_there : entry_of 5 (2 ∷ 0xC5 ∷ 0xD5 ∷ 0xC4 ∷ replicate 76 0
 no_entry_there = refl
 
 pub entry_there : entry_of 5 (end_card 0x4000) ≡ Some 0x4005
+unfolding end_card
 entry_there = refl
 
 -- ---- faults, each with what stands beside it

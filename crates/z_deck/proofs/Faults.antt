@@ -1,7 +1,8 @@
 -- The fault of a card of 80 bytes, by its type.
 use Rattle.std.proofs.Common.{◌≡◌, ℕ, ◌+◌, ◌<◌, ◌≤◌, Bool, true, false, not, ◌&&◌, ◌||◌, ◌⊎◌, inl, inr}
 use Rattle.std.proofs.Common.{List, [], ◌∷◌, length, Option, Some, None, is_none, refl, sym, ap, ap₂, ◌∙◌}
-use Rattle.std.proofs.Common.{arith, lt-ltb, le-ltb, le-leb, lt-leb, eq-eqb}
+use Rattle.std.proofs.Common.{arith, lt-ltb, le-ltb, le-leb, eq-eqb}
+use Rattle.std.proofs.lemmas.Bool.{lt-leb}
 use Rattle.std.specs.Prelude.{nat_lt, nat_le, ◌==◌}
 use Rattle.std.proofs.lemmas.Bool.{and_parts, leb-true}
 use Rattle.z_deck.specs.Columns.{type_of}
@@ -81,11 +82,11 @@ module _ (origin : ℕ) (card : List ℕ) (whole : length card ≡ 80) where
 
   pub outside : type_of card ≡ Some Text → count_of card ≤ 56 → within_on origin card ≡ false
       → fault_of origin false card ≡ Some kinds.OutOfRange
-  outside typed few no = few_then typed few false no
+  outside typed few apart = few_then typed few false apart
 
   pub inside : type_of card ≡ Some Text → count_of card ≤ 56 → within_on origin card ≡ true
       → fault_of origin false card ≡ None
-  inside typed few yes = few_then typed few true yes
+  inside typed few within = few_then typed few true within
 
   pub ending : type_of card ≡ Some End → (above : Bool) → above_on origin card ≡ above
       → fault_of origin false card ≡ fault_by true false (Some End) false true above
@@ -114,7 +115,7 @@ low_outside first size some low =
 
 pub high_outside : (first size : ℕ) → 0 < size → 1048576 < first + size → is_accessible first size ≡ false
 high_outside first size some high =
-    ap₂ (λ b c. not b || (nat_le 8192 first && c)) (lt-ltb 0 size some) (lt-leb 1048576 (first + size) high)
+    ap₂ (λ b c. not b || (nat_le 8192 first && c)) (lt-ltb 0 size some) (lt-leb (first + size) 1048576 high)
     ∙ and_false (nat_le 8192 first)
   where
     and_false : (b : Bool) → (b && false) ≡ false
@@ -122,8 +123,8 @@ high_outside first size some high =
     and_false false = refl
 
 pub accessible : (first size : ℕ) → is_accessible first size ≡ true → IsAccessible first size
-accessible first size yes some =
+accessible first size within some =
     let both : (nat_le 8192 first && nat_le (first + size) 1048576) ≡ true =
-    ap (λ b. not b || (nat_le 8192 first && nat_le (first + size) 1048576)) (sym (lt-ltb 0 size some)) ∙ yes in
+    ap (λ b. not b || (nat_le 8192 first && nat_le (first + size) 1048576)) (sym (lt-ltb 0 size some)) ∙ within in
     let parts = and_parts (nat_le 8192 first) (nat_le (first + size) 1048576) both in
     (leb-true 8192 first parts.0, leb-true (first + size) 1048576 parts.1)

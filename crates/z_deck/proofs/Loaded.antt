@@ -2,7 +2,8 @@
 use Rattle.std.proofs.Common.{◌≡◌, ℕ, zero, suc, ◌+◌, ◌-◌, ◌*◌, ◌<◌, ◌≤◌, Bool, true, false, not, ◌&&◌, ◌||◌}
 use Rattle.std.proofs.Common.{◌⊎◌, inl, inr, List, [], ◌∷◌, ◌++◌, length, take, drop, Option, Some, None}
 use Rattle.std.proofs.Common.{is_some, refl, sym, ap, ap₂, subst, ◌∙◌, arith, All, slice_index, get_or}
-use Rattle.std.proofs.Common.{lt-ltb, le-ltb, le-leb, lt-leb, length-append, length-drop}
+use Rattle.std.proofs.Common.{lt-ltb, le-ltb, le-leb, length-append, length-drop}
+use Rattle.std.proofs.lemmas.Bool.{lt-leb}
 use Rattle.std.specs.Prelude.{nat_lt, nat_le, unwrap_or, if◌then◌else◌}
 use Rattle.std.specs.List.{concat}
 use Rattle.std.proofs.lemmas.Bool.{leb-true, leb-false, ltb-true, ltb-false}
@@ -134,10 +135,10 @@ nothing_loaded origin storage size is = record {
 pub no_byte : (origin : ℕ) (card : List ℕ) (t : CardType) → type_of card ≡ Some t → is_text (Some t) ≡ false
     → (address : ℕ) → byte_on origin card address ≡ None
 unfolding byte_on
-no_byte origin card t typed no address =
+no_byte origin card t typed other address =
     ap (λ b. if b && covers (address_of origin card) (bytes_of card) address
     then Some (slice_index (bytes_of card) (address - address_of origin card)) else None)
-    (ap is_text typed ∙ no)
+    (ap is_text typed ∙ other)
 
 empty_covers : (first address : ℕ) (bytes : List ℕ) → length bytes ≡ 0 → covers first bytes address ≡ false
 empty_covers first address bytes none = by (nat_le first address) (nat_lt address (first + length bytes)) refl refl
@@ -149,7 +150,7 @@ empty_covers first address bytes none = by (nat_le first address) (nat_lt addres
     by false c e k = refl
 
 -- the bytes that a text puts
-text_bytes : (origin : ℕ) (card : List ℕ) (address : ℕ) → type_of card ≡ Some Text
+pub text_bytes : (origin : ℕ) (card : List ℕ) (address : ℕ) → type_of card ≡ Some Text
     → byte_on origin card address
     ≡ (if covers (address_of origin card) (bytes_of card) address
     then Some (slice_index (bytes_of card) (address - address_of origin card)) else None)
@@ -205,14 +206,14 @@ module _ (origin : ℕ) (cards : List (List ℕ)) (card storage : List ℕ) (who
     not_ended l = sym l.ended ∙ ap is_some still_open
 
     -- a part that puts these bytes
-    part_loaded : (after : List ℕ) → Loaded origin cards storage end → IsPart origin card
-        → is_end (type_of card) ≡ false → Holds origin more after
-        → ((address : ℕ) → address < 8192 → slice_index after address ≡ 0) → Loaded origin more after end
-    part_loaded after l part no holds low = record {
+    part_loaded : (later : List ℕ) → Loaded origin cards storage end → IsPart origin card
+        → is_end (type_of card) ≡ false → Holds origin more later
+        → ((address : ℕ) → address < 8192 → slice_index later address ≡ 0) → Loaded origin more later end
+    part_loaded later l part goes_on holds low = record {
       passed = passed_on l;
       holds = holds;
       low = low;
-      ended = ap is_some still_open ∙ sym (ends_more cards card ∙ ap₂ (λ b c. b || c) (not_ended l) no);
+      ended = ap is_some still_open ∙ sym (ends_more cards card ∙ ap₂ (λ b c. b || c) (not_ended l) goes_on);
       has = subst (HasEnd origin more) (sym still_open) (part_more (parts_so l) part);
     }
 

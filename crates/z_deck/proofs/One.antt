@@ -55,10 +55,10 @@ low_entry (Some x) low entry is =
 
 -- ---- one more card
 
-record More (origin : ℕ) (cards : List (List ℕ)) : Type 0 where
-  storage : List ℕ
-  end : Option (Option ℕ)
-  loaded : Loaded origin cards storage end
+pub record More (origin : ℕ) (cards : List (List ℕ)) : Type 0 where
+  pub storage : List ℕ
+  pub end : Option (Option ℕ)
+  pub loaded : Loaded origin cards storage end
 
 module _ (origin : ℕ) (cards : List (List ℕ)) (card storage : List ℕ) (end : Option (Option ℕ))
     (l : Loaded origin cards storage end) (fair : fault_of origin (is_some end) card ≡ None) where
@@ -115,9 +115,9 @@ module _ (origin : ℕ) (cards : List (List ℕ)) (card storage : List ℕ) (end
   card_more = by (type_of card) refl
     where
       by : (t : Option CardType) → type_of card ≡ t → More origin (cards ++ card ∷ [])
-      by None is = let no = typed_fault None is in cc
-      by (Some Relocation) is = let no = typed_fault (Some Relocation) is in cc
-      by (Some Symbol) is = let no = typed_fault (Some Symbol) is in cc
+      by None is = let never = typed_fault None is in cc
+      by (Some Relocation) is = let never = typed_fault (Some Relocation) is in cc
+      by (Some Symbol) is = let never = typed_fault (Some Symbol) is in cc
       by (Some Section) is = record {
         storage = storage;
         end = end;
@@ -366,11 +366,10 @@ module _ (origin : ℕ) where
   never_both bytes storage entry number kind d (at_card few before rest is passed some fault n) =
       clash false before (all bytes storage entry d) rest kind passed (deck_pass bytes storage entry d)
       (sym is ∙ deck_bytes bytes storage entry d) some fault
-  never_both bytes storage entry number kind d (no_end few cards is passed no n k) =
+  never_both bytes storage entry number kind d (no_end few cards is passed unended n k) =
       let same = same_cards false cards (all bytes storage entry d) passed (deck_pass bytes storage entry d)
       (sym is ∙ deck_bytes bytes storage entry d) in
-      let yes = deck_ends bytes storage entry d in
-      let here : ends cards ≡ true = ap ends same ∙ yes in cc
+      let here : ends cards ≡ true = ap ends same ∙ deck_ends bytes storage entry d in cc
 
   -- ---- decks and faults of the same bytes
 
@@ -423,18 +422,18 @@ module _ (origin : ℕ) where
   one_fault bytes number other kind another (too_long h n k) (too_long i m l) = (n ∙ sym m, k ∙ sym l)
   one_fault bytes number other kind another (too_long h n k) (at_card few before rest is p s f m) =
       absurd (omega arith)
-  one_fault bytes number other kind another (too_long h n k) (no_end few cards is p no m l) = absurd (omega arith)
+  one_fault bytes number other kind another (too_long h n k) (no_end few cards is p unended m l) = absurd (omega arith)
   one_fault bytes number other kind another (at_card few before rest is p s f n) (too_long i m l) =
       absurd (omega arith)
-  one_fault bytes number other kind another (no_end few cards is p no n k) (too_long i m l) = absurd (omega arith)
+  one_fault bytes number other kind another (no_end few cards is p unended n k) (too_long i m l) = absurd (omega arith)
   one_fault bytes number other kind another (at_card few before rest is p s f n) (at_card few2 before2 rest2 is2 p2 s2
       f2 n2) =
       let same = same_place false before before2 rest rest2 kind another p p2 (sym is ∙ is2) s s2 f f2 in
       (n ∙ ap (λ x. x + 1) same.0 ∙ sym n2, same.1)
   one_fault bytes number other kind another (at_card few before rest is p s f n) (no_end few2 cards is2 p2 no2 n2 k2) =
       absurd (clash false before cards rest kind p p2 (sym is ∙ is2) s f)
-  one_fault bytes number other kind another (no_end few cards is p no n k) (at_card few2 before2 rest2 is2 p2 s2 f2
+  one_fault bytes number other kind another (no_end few cards is p unended n k) (at_card few2 before2 rest2 is2 p2 s2 f2
       n2) = absurd (clash false before2 cards rest2 another p2 p (sym is2 ∙ is) s2 f2)
-  one_fault bytes number other kind another (no_end few cards is p no n k) (no_end few2 cards2 is2 p2 no2 n2 k2) =
+  one_fault bytes number other kind another (no_end few cards is p unended n k) (no_end few2 cards2 is2 p2 no2 n2 k2) =
       let same = same_cards false cards cards2 p p2 (sym is ∙ is2) in
       (n ∙ ap (λ (cs : List (List ℕ)). length cs + 1) same ∙ sym n2, k ∙ sym k2)

@@ -1,10 +1,10 @@
 -- What the writers add, piece by piece.
 use Rattle.std.proofs.Common.{◌≡◌, ℕ, zero, suc, ◌+◌, ◌-◌, ◌*◌, ◌<◌, ◌≤◌, Bool, true, false, List, [], ◌∷◌, ◌++◌}
 use Rattle.std.proofs.Common.{length, map, take, drop, replicate, refl, sym, ap, ap₂, ◌∙◌, arith, append_assoc}
-use Rattle.std.proofs.Common.{All, min, subst}
-use Rattle.std.specs.Prelude.{if◌then◌else◌, slice_index_or, nat_le}
+use Rattle.std.proofs.Common.{All, min, subst, length-drop}
+use Rattle.std.specs.Prelude.{if◌then◌else◌, slice_index_or, nat_le, Result, Ok, Err, is_ok, OnOk}
 use Rattle.std.specs.List.{concat}
-use Rattle.std.proofs.lemmas.List.{append-nil, drop-drop, take_all}
+use Rattle.std.proofs.lemmas.List.{append-nil, drop-drop, take_all, length-replicate}
 use Rattle.std.proofs.lemmas.Bool.{leb-true, leb-false}
 use Rattle.std.proofs.lemmas.List.Elements.{All-head}
 use Rattle.std.proofs.lemmas.List.Folds.{concat-append}
@@ -32,6 +32,27 @@ text_joined deck bytes address =
     append_assoc (deck ++ text_head address (length bytes)) bytes (drop (length bytes) (replicate 64 64))
     ∙ append_assoc deck (text_head address (length bytes)) (bytes ++ drop (length bytes) (replicate 64 64))
     ∙ ap (λ (t : List ℕ). deck ++ t) (sym (text_parts address bytes))
+
+pub text_added : (deck first second third bytes : List ℕ) (address : ℕ)
+    → first ≡ deck ++ text_head address (length bytes) → second ≡ first ++ bytes
+    → third ≡ second ++ take (64 - length bytes) (drop (length bytes) (replicate 64 64))
+    → third ≡ deck ++ text_card address bytes
+text_added deck first second third bytes address e f g =
+    let all : take (64 - length bytes) (drop (length bytes) (replicate 64 64))
+    ≡ drop (length bytes) (replicate 64 64) =
+    take_all (64 - length bytes) (drop (length bytes) (replicate 64 64)) (omega (
+      arith,
+      length-drop {A = ℕ} (length bytes) (replicate 64 64),
+      length-replicate {A = ℕ} 64 64,
+    )) in
+    g ∙ ap (λ (t : List ℕ). second ++ t) all
+    ∙ ap (λ (t : List ℕ). t ++ drop (length bytes) (replicate 64 64)) (f ∙ ap (λ (t : List ℕ). t ++ bytes) e)
+    ∙ text_joined deck bytes address
+
+-- what is so where there is a value holds on it
+pub on_ok_if : {T E X : Type 0} (r : Result T E) (x a b : X) → x ≡ (if is_ok r then a else b) → OnOk r (x ≡ a)
+on_ok_if (Ok t) x a b e = e
+on_ok_if (Err t) x a b e = tt
 
 -- ---- pieces
 

@@ -51,7 +51,6 @@ fn add_head(deck: &mut Vec<u8>, address: u32, count: u16) -> Result<(), AllocErr
 }
 
 /// Adds the card of bytes of storage from an address on.
-#[tactic(auto, using(crate::proofs::Written::text_joined))]
 fn add_text(deck: &mut Vec<u8>, address: u32, bytes: &[u8]) -> Result<(), AllocError>
     requires { length bytes.now ≤ 56 }
     ensures { OnOk result (deck.new.items ≡ deck.old.items ++ text_card address bytes.now) }
