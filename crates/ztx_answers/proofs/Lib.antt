@@ -5,7 +5,7 @@ pub mod Plans
 pub mod Answered
 pub mod Ran
 pub mod Given
-pub mod Raced
+pub mod RaceReports
 pub mod Asked
 pub mod Decked
 pub mod DecksGiven

@@ -1,6 +1,6 @@
 use Rattle.std.proofs.Common.{subst}
 use Rattle.z_assemble.specs.Whole.{FirstFault, HasFault}
-use Rattle.ztx_answers.proofs.Raced.{may_race_ok, unused_ok, externals_ok, refused_by}
+use Rattle.ztx_answers.proofs.RaceReports.{may_race_ok, unused_ok, externals_ok, refused_by}
 use Rattle.ztx_answers.proofs.raced.prepare_race.Goals as goal
 
 pub returns-in-Ok-clause-machine : goal.returns-in-Ok-clause-machine

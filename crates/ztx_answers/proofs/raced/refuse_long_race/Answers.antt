@@ -1,4 +1,4 @@
-use Rattle.ztx_answers.proofs.Raced.{long_race_ok}
+use Rattle.ztx_answers.proofs.RaceReports.{long_race_ok}
 use Rattle.ztx_answers.proofs.raced.refuse_long_race.Goals as goal
 
 pub returns-clause-due : goal.returns-clause-due

@@ -1,7 +1,7 @@
 use Rattle.std.proofs.Common.{◌<◌, ◌∙◌, length, sym, subst, inr}
 use Rattle.std.specs.Prelude.{All}
 use Rattle.tx_journal.specs.Image.{cpu_of_event}
-use Rattle.ztx_answers.proofs.Raced.{raced_due}
+use Rattle.ztx_answers.proofs.RaceReports.{raced_due}
 use Rattle.ztx_answers.proofs.Ran.{is_status}
 use Rattle.ztx_answers.proofs.raced.report_race.Goals as goal
 
