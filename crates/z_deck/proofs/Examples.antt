@@ -107,4 +107,3 @@ short_first = refl
 pub behind_first : fault_of 0 true (replicate 80 0) ≡ Some kinds.AfterEnd
 unfolding fault_of
 behind_first = refl
-

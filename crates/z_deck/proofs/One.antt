@@ -212,9 +212,10 @@ one_holds bytes origin = by (nat_lt 16777216 (length bytes)) refl
 
 -- the front of two equal texts
 front_same : (x y s t : List ℕ) → length x ≡ 80 → length y ≡ 80 → x ++ s ≡ y ++ t → (x ≡ y) × (s ≡ t)
-front_same x y s t whole also same =
-    (sym (take_at x s 80 whole) ∙ ap (take 80) same ∙ take_at y t 80 also,
-    sym (drop_at x s 80 whole) ∙ ap (drop 80) same ∙ drop_at y t 80 also)
+front_same x y s t whole also same = (
+  sym (take_at x s 80 whole) ∙ ap (take 80) same ∙ take_at y t 80 also,
+  sym (drop_at x s 80 whole) ∙ ap (drop 80) same ∙ drop_at y t 80 also,
+)
 
 none_left : (x s : List ℕ) → length x ≡ 80 → x ++ s ≡ [] → ⊥
 none_left x s whole none = absurd (omega (arith, length-append x s, ap length none))

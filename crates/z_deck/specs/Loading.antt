@@ -19,10 +19,9 @@ HasEnd origin cards (Some entry) = IsClosed origin cards entry
 
 -- what the cards leave: storage, and the entry if the end was there
 pub record Loaded (origin : ℕ) (cards : List (List ℕ)) (storage : List ℕ) (end : Option (Option ℕ)) : Type 0
-    where
-  pub passed : Pass origin false cards
-  pub holds : Holds origin cards storage
-  pub low : (address : ℕ) → address < 8192 → slice_index storage address ≡ 0
-  pub ended : is_some end ≡ ends cards
-  pub has : HasEnd origin cards end
-
+  where
+    pub passed : Pass origin false cards
+    pub holds : Holds origin cards storage
+    pub low : (address : ℕ) → address < 8192 → slice_index storage address ≡ 0
+    pub ended : is_some end ≡ ends cards
+    pub has : HasEnd origin cards end

@@ -21,7 +21,7 @@ returns-then-first-lt-FIRST c =
     let counts : c.from-count.result ≡ count_of c.args.card.now = c.from-count.ensures ∙ c.read_u16.ensures in
     let some : 0 < c.from-count.result = omega arith in
     elim c.then-first-lt-FIRST.branch [
-      then-first-lt-FIRST-via-then-first-lt-FIRST w ↦ too_low c.args.origin c.args.card.now c.requires.size
+      | then-first-lt-FIRST-via-then-first-lt-FIRST w ↦ too_low c.args.origin c.args.card.now c.requires.size
           c.requires.typed c.from-count.result counts c.if-count-gt-MOST_TEXT.false some c.address_of-first.result
           c.address_of-first.ensures w.if-first-lt-FIRST.true
       | then-first-lt-FIRST-via-else-first-lt-FIRST+then-first-count-gt-SIZE w ↦ too_high c.args.origin

@@ -1,0 +1,2 @@
+-- What it is to assemble the listing of a deck.
+pub mod Assembled

@@ -1,0 +1,4 @@
+//! The assembler reads the listings of decks.
+#![tactic(auto)]
+
+pub mod laws;
