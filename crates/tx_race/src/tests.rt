@@ -132,6 +132,22 @@ fn counted<R: Threads + Wait + Sync>(
     Ok(race(rt, alloc, machine, &OpenGate).ok().ok_or("no memory")?)
 }
 
+/// One turn again, of a CPU that the machine has.
+fn make_again(machine: &mut Machine, event: Event) {
+    if let Event::Turn(cpu) = event {
+        if cpu < machine.image().cpu_count() {
+            machine.event(Event::Turn(cpu));
+        }
+    }
+}
+
+/// The turns of another machine.
+fn replay(machine: &mut Machine, events: &[Event]) {
+    for event in events {
+        make_again(machine, *event);
+    }
+}
+
 #[test]
 fn both_pass(rt: HostRuntime) -> Result<(), Fail> {
     let gate = Meeting::new();
@@ -154,13 +170,7 @@ fn four_count_and_the_events_give_the_same_again(rt: HostRuntime) -> Result<(), 
         assert_eq!(rt; commits_of(raced.machine.journal(), cpu), 100);
     }
     let mut again = machine_for(rt.alloc(), 4, 100)?;
-    for event in raced.machine.events() {
-        if let Event::Turn(cpu) = *event {
-            if cpu < again.image().cpu_count() {
-                again.event(Event::Turn(cpu));
-            }
-        }
-    }
+    replay(&mut again, raced.machine.events());
     assert!(rt; again.events() == raced.machine.events());
     assert!(rt; again.journal() == raced.machine.journal());
     assert_eq!(rt; count_in(&again), 400);
