@@ -1,8 +1,8 @@
 //! `race`: a listing is read to its end, its CPUs race, and the report of what they did is written.
-ghost use Rattle.std.specs.Prelude.{◌≡◌, ◌≢◌, ℕ, ◌≤◌, ◌⊎◌, List, Option, IfOk, length};
+ghost use Rattle.std.specs.Prelude.{◌≡◌, ◌≢◌, ℕ, ◌≤◌, ◌⊎◌, [], List, Option, IfOk, length};
 ghost use Rattle.std.specs.Io.KnownBytes.{IsAtEnd, Keeps};
 ghost use Rattle.ztx_answers.specs.Due.{IsStatus};
-ghost use Rattle.ztx_answers.specs.Races.{IsDueToRace};
+ghost use Rattle.ztx_answers.specs.Races.{IsDueToRace, MayRace};
 ghost use Rattle.ztx_answers.specs.Runs.{AreLimits};
 ghost use Rattle.ztx_io.specs.Faults.{Rose};
 ghost use Rattle.ztx_top.specs.Answers.{IsInput, IsLong, IsWhole, Wrote, WasCut};
@@ -11,10 +11,33 @@ use crate::output::tell;
 use std::alloc::Global;
 use std::sync::Wait;
 use std::thread::Threads;
+use tx_machine::Machine;
 use tx_race::{Gate, race};
 use z_assemble::MOST_BYTES;
 use ztx_answers::{Answer, NoMemory, NoRace, prepare_race, refuse_long_race, report_race};
 use ztx_io::{InFault, Sink, Source, read_all};
+
+/// Lets the CPUs of a machine race, and gives the report of what they did.
+fn race_machine<R: Threads + Wait + Sync, G: Gate>(
+    rt: &R,
+    alloc: Global,
+    turns: u32,
+    tick: u32,
+    machine: Machine,
+    gate: &G,
+) -> Result<Answer, NoMemory>
+    requires limits { AreLimits turns tick }
+    requires unused { machine.events ≡ [] }
+    requires externals { machine.limits.externals ≡ 0 }
+    ensures due { IfOk result (λ answer. (input : List ℕ) → MayRace turns tick input machine
+        → IsDueToRace turns tick input answer.status answer.text.items) }
+    ensures statuses { IfOk result (λ answer. IsStatus answer.status) }
+{
+    match race(rt, alloc, machine, gate) {
+        Ok(raced) => report_race(alloc, &raced.machine),
+        Err(_) => Err(NoMemory),
+    }
+}
 
 /// What `race` answers to the bytes of a listing.
 fn answer_race<R: Threads + Wait + Sync, G: Gate>(
@@ -30,14 +53,10 @@ fn answer_race<R: Threads + Wait + Sync, G: Gate>(
         IsDueToRace turns tick input.now answer.status answer.text.items) }
     ensures statuses { IfOk result (λ answer. IsStatus answer.status) }
 {
-    let machine = match prepare_race(alloc, input, turns, tick) {
-        Ok(machine) => machine,
-        Err(NoRace::Memory) => return Err(NoMemory),
-        Err(NoRace::Refused(answer)) => return Ok(answer),
-    };
-    match race(rt, alloc, machine, gate) {
-        Ok(raced) => report_race(alloc, &raced.machine),
-        Err(_) => Err(NoMemory),
+    match prepare_race(alloc, input, turns, tick) {
+        Ok(machine) => race_machine(rt, alloc, turns, tick, machine, gate),
+        Err(NoRace::Memory) => Err(NoMemory),
+        Err(NoRace::Refused(answer)) => Ok(answer),
     }
 }
 
