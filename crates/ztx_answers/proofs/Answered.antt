@@ -21,6 +21,7 @@ use Rattle.ztx_answers.specs.Due.{IsDueToList, IsDueToRun}
 use Rattle.ztx_answers.specs.One.{IsSome, IsOnly}
 use Rattle.ztx_answers.specs.Runs.{AreLimits, externals_in, running, usual_turns}
 use Rattle.ztx_answers.proofs.Plans.{planned_known}
+use Rattle.ztx_answers.proofs.Printed.{printed}
 use Rattle.ztx_answers.proofs.Serials.{serial_run}
 
 -- ---- only one
@@ -118,6 +119,7 @@ reports turns tick seed limits input image s =
       stands = s;
       status_is = refl;
       text_is = refl;
+      printed_is = printed m (planned m seed);
       serial = serial_run m (may_run image turns tick is limits) (planned m seed) (planned_known m seed is);
     }
 

@@ -1,4 +1,5 @@
 -- Runs are serial, planned schedules are of CPUs that there are, and one answer is due, which a run gives.
+pub mod Printed
 pub mod Replays
 pub mod Serials
 pub mod Plans

@@ -9,7 +9,6 @@ use Rattle.tx_gen.specs.Programs.{listing_of}
 use Rattle.tx_journal.specs.Content.{Content}
 use Rattle.tx_journal.specs.declared.events.Event.{Event}
 use Rattle.tx_machine.specs.Machine.{Seen, opened, setting_of, state_of}
-use Rattle.tx_headline.proofs.Recorded.{recorded_mean}
 use Rattle.tx_meaning.specs.Limits.{Setting}
 use Rattle.tx_meaning.specs.Meaning.{meaning}
 use Rattle.tx_meaning.specs.Schedules.{planned, round}
@@ -23,6 +22,7 @@ use Rattle.ztx_answers.specs.Runs.{AreLimits, running, usual_turns}
 use Rattle.z_assemble.proofs.Images.{stands_for_image}
 use Rattle.ztx_answers.proofs.Answered.{may_run}
 use Rattle.ztx_answers.proofs.Plans.{planned_known}
+use Rattle.ztx_answers.proofs.Printed.{printed}
 use Rattle.ztx_answers.proofs.Serials.{serial_run}
 
 -- ---- what is shown depends on what the events mean
@@ -84,9 +84,7 @@ report_due image turns tick seed before after input status text limits is ran s 
       stands = stands;
       status_is = s ∙ ran_status m after (planned m seed) run.setting run.state;
       text_is = t ∙ ran_report m after (planned m seed) run.setting run.state;
-      printed_is = t ∙ ran_report m after (planned m seed) run.setting run.state
-          ∙ sym (report_same m (meaning m (planned m seed)).events (planned m seed)
-          (recorded_mean m (planned m seed)));
+      printed_is = t ∙ ran_report m after (planned m seed) run.setting run.state ∙ printed m (planned m seed);
       serial = serial_run m (may_run image turns tick sound limits) (planned m seed)
           (planned_known m seed sound);
     }

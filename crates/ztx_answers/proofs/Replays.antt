@@ -1,10 +1,10 @@
 -- A legal history leaves what is shown.
-use Rattle.std.proofs.Common.{◌≡◌, ℕ, zero, suc, true, false, Some, refl, sym, ap, ◌∙◌, subst}
+use Rattle.std.proofs.Common.{◌≡◌, ℕ, false, Some, ap, ◌∙◌}
 use Rattle.std.specs.Prelude.{nat_lt}
-use Rattle.z_regs.specs.Cpu.{Cpu}
 use Rattle.tx_serial.specs.Flat.{FlatState}
 use Rattle.tx_serial.specs.History.{IsLegal, replay}
 use Rattle.tx_serial.specs.Run.{run}
+use Rattle.tx_progress.proofs.Parts.{not_live}
 use Rattle.tx_meaning.specs.Limits.{Setting}
 use Rattle.tx_meaning.specs.State.{State, is_live, flat_of, flat_where, cpu_of}
 use Rattle.ztx_answers.specs.Replayed.{IsReplayed}
@@ -12,8 +12,7 @@ use Rattle.ztx_answers.specs.Replayed.{IsReplayed}
 -- a CPU that has completed nothing is at rest
 at_rest_by : (f : FlatState) (i n : ℕ) → nat_lt 0 n ≡ false → (run f i n).cpu ≡ f.cpus i
 unfolding run
-at_rest_by f i zero off = refl
-at_rest_by f i (suc n) off = absurd (let x : true ≡ false = off in cc)
+at_rest_by f i n off = ap (λ k. (run f i k).cpu) (not_live n off)
 
 flat_is : (m : Setting) (s : State) (f : FlatState) → replay m.image s.history ≡ Some f → flat_of m s ≡ f
 unfolding flat_of

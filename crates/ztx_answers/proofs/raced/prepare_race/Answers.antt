@@ -16,10 +16,10 @@ pub returns-in-Ok-clause-externals : goal.returns-in-Ok-clause-externals
 returns-in-Ok-clause-externals c =
     externals_ok c.in-Ok.image c.args.turns c.args.tick c.open_for_race.result c.open_for_race.ensures.machine
 
-pub returns-in-Err-Listing-in-Ok-clause-refused : goal.returns-in-Err-Listing-in-Ok-clause-refused
-returns-in-Err-Listing-in-Ok-clause-refused c =
+pub returns-in-Ok-refuse-clause-refused : goal.returns-in-Ok-refuse-clause-refused
+returns-in-Ok-refuse-clause-refused c =
     let first : FirstFault c.args.input.now c.in-Err-Listing.fault =
     subst (HasFault c.args.input.now) c.in-Err-Listing.field-0-is c.in-Err-Listing.ensures.fault in
-    let answer = c.in-Err-Listing-in-Ok.answer in
+    let answer = c.in-Ok-refuse.answer in
     refused_by c.args.input.now c.in-Err-Listing.fault answer.status answer.text.items first
-    c.in-Err-Listing-in-Ok.ensures.status c.in-Err-Listing-in-Ok.ensures.text
+    c.in-Ok-refuse.ensures.status c.in-Ok-refuse.ensures.text
