@@ -22,6 +22,7 @@ use Rattle.ztx_answers.specs.One.{IsSome, IsOnly}
 use Rattle.ztx_answers.specs.Runs.{AreLimits, externals_in, running, usual_turns}
 use Rattle.ztx_answers.proofs.Printed.{printed}
 use Rattle.ztx_answers.proofs.Plans.{planned_known}
+use Rattle.ztx_answers.proofs.Printed.{printed}
 use Rattle.ztx_answers.proofs.Serials.{serial_run}
 
 -- ---- only one
