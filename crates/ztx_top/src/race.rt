@@ -1,8 +1,8 @@
 //! `race`: a listing is read to its end, its CPUs race, and the report of what they did is written.
 ghost use Rattle.std.specs.Prelude.{◌≡◌, ◌≢◌, ℕ, ◌≤◌, ◌⊎◌, [], List, Option, IfOk, length};
 ghost use Rattle.std.specs.Io.KnownBytes.{IsAtEnd, Keeps};
-ghost use Rattle.ztx_answers.specs.Due.{IsStatus};
-ghost use Rattle.ztx_answers.specs.Races.{IsDueToRace, MayRace};
+ghost use Rattle.ztx_answers.specs.Due.{IsRefusal, IsStatus};
+ghost use Rattle.ztx_answers.specs.Races.{IsDueToRace, IsNoRace, MayRace};
 ghost use Rattle.ztx_answers.specs.Runs.{AreLimits};
 ghost use Rattle.ztx_io.specs.Faults.{Rose};
 ghost use Rattle.ztx_top.specs.Answers.{IsInput, IsLong, IsWhole, Wrote, WasCut};
@@ -39,6 +39,17 @@ fn race_machine<R: Threads + Wait + Sync, G: Gate>(
     }
 }
 
+/// What is answered where no race begins.
+fn answer_refusal(refusal: NoRace) -> Result<Answer, NoMemory>
+    ensures { (input : List ℕ) → IsNoRace input refusal
+        → IfOk result (λ answer. IsRefusal input answer.status answer.text.items) }
+{
+    match refusal {
+        NoRace::Memory => Err(NoMemory),
+        NoRace::Refused(answer) => Ok(answer),
+    }
+}
+
 /// What `race` answers to the bytes of a listing.
 fn answer_race<R: Threads + Wait + Sync, G: Gate>(
     rt: &R,
@@ -55,8 +66,7 @@ fn answer_race<R: Threads + Wait + Sync, G: Gate>(
 {
     match prepare_race(alloc, input, turns, tick) {
         Ok(machine) => race_machine(rt, alloc, turns, tick, machine, gate),
-        Err(NoRace::Memory) => Err(NoMemory),
-        Err(NoRace::Refused(answer)) => Ok(answer),
+        Err(refusal) => answer_refusal(refusal),
     }
 }
 
