@@ -1,6 +1,10 @@
 //! Expected values follow from what the architecture says of the operations; where a line says so, they are
 //! those that QEMU and Hercules answer.
 
+use std::test::Fail;
+use tx_control::Exception;
+use tx_control::codes::FIXED_POINT_OVERFLOW;
+use z_arith::{Answer, Shift, Width};
 use z_effect::kind::{
     Branch, Combination, General, Kind, Logic, Operation, Order, Part, Place, Source, Storage,
     Transaction,
@@ -10,10 +14,6 @@ use z_effect::{
     item, kind_of, logic, next_address, opened, operand, put, put_pair, register, settle, shift,
     size_in, target, transact, zero_code,
 };
-use std::test::Fail;
-use tx_control::Exception;
-use tx_control::codes::FIXED_POINT_OVERFLOW;
-use z_arith::{Answer, Shift, Width};
 use z_instr::instr::{Fields, Instr};
 use z_instr::lookup::find;
 use z_instr::operand::Size;

@@ -1,12 +1,12 @@
 //! Operand tests of single instructions, expected as the architecture orders them.
 
-use z_touch::{fetchable, specified, touches};
 use std::test::Fail;
 use tx_control::{Exception, codes};
 use z_instr::addresses::{first_address, second_address};
 use z_instr::instr::{Fields, Instr};
 use z_instr::lookup::find;
 use z_regs::{CpuImage, Guard, Range, Touches};
+use z_touch::{fetchable, specified, touches};
 
 /// Storage operands at base register 1 with this displacement.
 fn at(d: i32) -> Fields {

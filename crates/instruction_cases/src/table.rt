@@ -1,5 +1,6 @@
 //! Row numbers and columns as the instruction table lists them, and fields at the edges of their ranges.
 
+use std::test::Fail;
 use z_instr::addresses::{first_address, is_selected, registers_named, second_address};
 use z_instr::format::{Format, Place, length_in, place_of};
 use z_instr::instr::{Fields, Instr};
@@ -8,7 +9,6 @@ use z_instr::lookup::{find, line, row};
 use z_instr::name::Name;
 use z_instr::operand::{Demand, Operands, Size};
 use z_instr::roles::{begins, block_named, is_end, is_relative_branch, sets_access_register};
-use std::test::Fail;
 
 #[test]
 fn names_are_found_whole(rt: HostRuntime) -> Result<(), Fail> {

@@ -2,10 +2,10 @@
 ghost use Rattle.std.specs.Prelude.{◌≡◌, ◌≤◌, ◌+◌, All, length};
 ghost use Rattle.z_regs.specs.Prefix.{storage_size};
 
-use tx_lines::{Lines, lines_needed, need_for};
 use line_table::Mode;
 use std::test::Fail;
 use tx_footprint::Footprint;
+use tx_lines::{Lines, lines_needed, need_for};
 use tx_meaning::Need;
 use z_regs::{Range, STORAGE_SIZE, Touches};
 

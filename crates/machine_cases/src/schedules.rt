@@ -3,13 +3,13 @@ ghost use Rattle.std.specs.Prelude.{◌≡◌, IfOk, count_by};
 ghost use Rattle.tx_meaning.specs.Meaning.{is_external};
 ghost use Rattle.tx_schedule.specs.Ran.{MayRun};
 
-use tx_schedule::{run_drawn, run_given, run_planned, run_round};
 use std::alloc::Global;
 use std::sync::Arc;
 use std::test::Fail;
 use tx_journal::Event;
 use tx_machine::machine::Machine;
 use tx_meaning::limits::Limits;
+use tx_schedule::{run_drawn, run_given, run_planned, run_round};
 use z_assemble::assemble;
 
 /// Two CPUs that count in one doubleword, and one that halts at once.

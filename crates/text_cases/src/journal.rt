@@ -1,14 +1,14 @@
 //! Texts of entries and events both ways, and images that are compared, by values from outside.
 ghost use Rattle.std.specs.Prelude.{◌≡◌, ◌↔◌, IsTrue};
 
-use tx_journal::{
-    Entry, EntryText, Event, Image, Show, add_history, add_schedule, entry_text, read_entry,
-    read_number, schedule_text,
-};
 use std::alloc::Global;
 use std::process::Abort;
 use std::test::Fail;
 use tx_control::{Exception, Why};
+use tx_journal::{
+    Entry, EntryText, Event, Image, Show, add_history, add_schedule, entry_text, read_entry,
+    read_number, schedule_text,
+};
 use z_assemble::assemble;
 
 /// What a line with these parts says.
@@ -231,7 +231,10 @@ fn images_are_compared(rt: HostRuntime) -> Result<(), Fail> {
     assert_eq!(rt; image.storage.len(), 1048576);
     assert!(rt; image.same(&assemble(rt.alloc(), SCHEDULED.as_bytes())?));
     for other in OTHERS {
-        assert!(rt; !image.same(&assemble(rt.alloc(), other.as_bytes())?), "{other}");
+        assert!(rt;
+            !image.same(&assemble(rt.alloc(), other.as_bytes())?),
+            "{other}"
+        );
     }
     Ok(())
 }

@@ -1,8 +1,8 @@
 //! Lines with their tokens and expressions with their values, written by hand; an independent model gives the same.
-use z_text::{ExprFault, Labels, TextFault, Token, TokenKind, expression, expression_end, tokens};
 use std::alloc::{AllocError, Global};
 use std::fmt::Write;
 use std::test::Fail;
+use z_text::{ExprFault, Labels, TextFault, Token, TokenKind, expression, expression_end, tokens};
 
 /// Lines with their tokens, each by a letter or mark of its kind, its first place and its end, or with their
 /// fault.

@@ -1,12 +1,12 @@
 //! Whole transfers in pieces, and what sources and sinks are handed.
 ghost use Rattle.std.specs.Prelude.{None};
 
+use std::io;
+use std::test::Fail;
 use ztx_io::{
     InFault, MemorySink, MemorySource, OutFault, Read, ReaderSource, Sink, Source, SureSink,
     SureSource, Write, WriterSink, read_all, write_all,
 };
-use std::io;
-use std::test::Fail;
 
 const TEXT: &[u8] = b"forty bytes that come in pieces of a size";
 

@@ -1,8 +1,8 @@
 //! Expected answers are those of an independent model of the machine.
 ghost use Rattle.std.specs.Prelude.{◌≡◌, ◌≤◌, [], length};
 
-use tx_constraint::Constraint;
 use std::test::Fail;
+use tx_constraint::Constraint;
 use z_instr::instr::{Fields, Instr};
 use z_instr::lookup::find;
 use z_regs::{Range, Touches};

@@ -1,9 +1,9 @@
 //! The ladder's numbers at their ends, by values from outside.
 ghost use Rattle.std.specs.Prelude.{◌≡◌, ◌+◌, ◌≤◌};
 
-use tx_ladder::{DELAY, Ladder, Next, Parms, REJECT, STARVE, STOP, StopQueue};
 use std::process::Abort;
 use std::test::Fail;
+use tx_ladder::{DELAY, Ladder, Next, Parms, REJECT, STARVE, STOP, StopQueue};
 
 /// Suffers one more conflict abort of a constrained attempt.
 fn abort(rt: &impl Abort, parms: &Parms, ladder: &mut Ladder) -> Next

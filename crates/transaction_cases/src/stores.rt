@@ -1,8 +1,8 @@
 //! Stores of an attempt beside a plain model of the same storage: the blocks it has and the bytes they hold.
 
-use store_cache::{BLOCK_SIZE, StoreCache};
 use std::alloc::{AllocError, Global};
 use std::test::Fail;
+use store_cache::{BLOCK_SIZE, StoreCache};
 use z_regs::{STORAGE_SIZE, Storage};
 
 /// The address of the doubleword of most tests.
