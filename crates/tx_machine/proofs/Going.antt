@@ -10,7 +10,8 @@ use Rattle.tx_machine.specs.Works.{Works, Seat, kept_by, seats_of, numbers_of}
 use Rattle.tx_machine.specs.Machine.{Stands, nobody, most_events}
 use Rattle.tx_machine.specs.Ready.{owed, MayClimb, MayHold, MayTurn, IsInReach, image_storage}
 use Rattle.tx_machine.proofs.Shown.{shown}
-use Rattle.tx_machine.proofs.Turns.{may_turn}
+use Rattle.tx_machine.proofs.Turns.{may_turn, may_want}
+use Rattle.tx_machine.specs.Wanted.{MayWant}
 use Rattle.tx_machine.proofs.Most.{at_most}
 use Rattle.tx_machine.proofs.Read.{reads_state}
 use Rattle.std.specs.Prelude.{◌||◌, ◌&&◌, nat_lt, is_none}
@@ -85,6 +86,13 @@ module _ (m : Setting) (w : Works) (remaining : ℕ) (s : Stands m w remaining) 
     out = subst (λ (s : Seat). s.ladder.constrained ≡ true → waits_in w.queue j ≡ false)
         (same_seat rest j lt) c.out;
   }
+
+  -- what the next turn of a CPU asks for
+  pub wants : (rest : Seat) (i : ℕ) → i < length w.slots
+      → MayWant m (storage_in w.lines) (local_of (seats_of rest w.slots i).cpu)
+  wants rest i lt =
+      subst (λ (s : Seat). MayWant m (storage_in w.lines) (local_of s.cpu)) (same_seat rest i lt)
+      (may_want m s.setting i (kept_by (nobody m) w) (shown m w remaining s).good.truth)
 
   holds_alike : (rest : Seat) (i : ℕ) (lt : i < length w.slots) (needs : Option ℕ → List Need)
       → MayHold i (needs ((kept_by (nobody m) w).locals i).attempt.cpu.prefix) (kept_by (nobody m) w)

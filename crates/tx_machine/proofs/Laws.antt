@@ -1,6 +1,6 @@
 -- What holds behind every event.
 use Rattle.std.proofs.Common.{◌≡◌, ℕ, ◌+◌, ◌*◌, ◌<◌, ◌≤◌, Bool, true, false, [], ◌∷◌, None, ap, ◌∙◌, subst, refl}
-use Rattle.std.proofs.lemmas.List.Elements.{All-nil, All-cons}
+use Rattle.std.proofs.lemmas.List.Elements.{All-nil, All-cons, All-push}
 use Rattle.tx_journal.specs.Image.{cpu_of_event}
 use Rattle.tx_journal.specs.declared.events.Event.{Event}
 use Rattle.tx_journal.specs.declared.events.Event.TheVariants as event
@@ -23,6 +23,12 @@ use Rattle.tx_meaning.specs.Heads.{head_turns}
 use Rattle.tx_bounds.proofs.Heads.{heads_in_all}
 use Rattle.tx_bounds.proofs.Meant.{stops}
 use Rattle.tx_bounds.proofs.Stretched.{ages_within}
+use Rattle.tx_ladder.specs.Waiting.{waits_in}
+use Rattle.tx_opacity.specs.Opacity.{SeesOneRun}
+use Rattle.tx_opacity.proofs.Opaque.{opaque}
+use Rattle.tx_headline.specs.Queue.{QueueChanges, others_before}
+use Rattle.tx_headline.proofs.Bounds.{turns_left, ages_short}
+use Rattle.tx_headline.proofs.Queue.{queue_changes, before_most}
 use Rattle.tx_machine.specs.Works.{Works, kept_by}
 use Rattle.tx_machine.specs.Machine.{Stands, nobody}
 use Rattle.tx_machine.proofs.Most.{meaning_more}
@@ -65,6 +71,18 @@ module _ (m : Setting) (w : Works) (remaining : ℕ) (s : Stands m w remaining) 
       ≤ bound m.image.parms + attempt_turns m.image.parms * (stretch_of m w.events i).externals
   few_turns_left i is = ages_within m w.events i s.setting s.events.known is
 
+  pub some_turns_left : (i : ℕ) → (stretch_of m w.events i).is_open ≡ true → 1 ≤ left m (meaning m w.events) i
+  some_turns_left i is = turns_left m w.events i s.setting s.events.known is
+
+  pub short_ages : (i : ℕ) → (stretch_of m w.events i).is_open ≡ true
+      → (stretch_of m w.events i).age
+      < bound m.image.parms + attempt_turns m.image.parms * (stretch_of m w.events i).externals
+  short_ages i is = ages_short m w.events i s.setting s.events.known is
+
+  pub few_before : (i : ℕ) → waits_in (meaning m w.events).queue i ≡ true
+      → others_before i (meaning m w.events).queue < cpus_of m
+  few_before i waits = before_most m s.setting w.events s.events.known i waits
+
 -- behind one event more
 module _ (m : Setting) (w : Works) (remaining : ℕ) (s : Stands m w remaining) (e : Event)
     (within : cpu_of_event e < cpus_of m) where
@@ -77,9 +95,17 @@ module _ (m : Setting) (w : Works) (remaining : ℕ) (s : Stands m w remaining) 
   pub views_stay : KeepsViews m (meaning m w.events) (happen m e (meaning m w.events)).state
   views_stay = views_kept m s.setting w.events e s.events.known within
 
+  pub one_run : SeesOneRun m (meaning m w.events) (happen m e (meaning m w.events)).state
+  one_run = opaque m s.setting w.events e s.events.known within
+
   pub few_turns_of_heads : (i : ℕ) → head_turns m w.events i
       + counted (is_counted_turn m (meaning m w.events) e i) ≤ 34
   few_turns_of_heads i = heads_in_all m s.setting i w.events e s.events.known
 
   pub queue_at_its_ends : QueueMoves (meaning m w.events).queue (happen m e (meaning m w.events)).state.queue
   queue_at_its_ends = queue_moves m e (meaning m w.events)
+
+  pub queue_with_reasons : QueueChanges m (meaning m w.events) e
+  queue_with_reasons =
+      queue_changes m s.setting w.events e
+      (All-push (λ x. cpu_of_event x < cpus_of m) w.events e s.events.known within)

@@ -14,6 +14,7 @@ pub mod Acts
 pub mod Idling
 pub mod Lined
 pub mod SmallPlaces
+pub mod Wanted
 pub mod Turns
 pub mod Shown
 pub mod Most

@@ -18,7 +18,17 @@ use Rattle.tx_control.specs.declared.begins.Begin.{Begin}
 use Rattle.tx_cpu.specs.Plans.{levels_of}
 use Rattle.tx_meaning.specs.State.{is_live}
 use Rattle.tx_meaning.specs.Shown.{levels_at}
-use Rattle.tx_keeping.proofs.Truth.{flat_is, cpu_is, nest_is}
+use Rattle.tx_keeping.proofs.Truth.{flat_is, cpu_is, nest_is, attempt_is}
+use Rattle.tx_keeping.specs.Kept.{kept_flat, text_of}
+use Rattle.tx_progress.proofs.Parts.{followed_fate}
+use Rattle.tx_progress.specs.Progress.{Progress}
+use Rattle.tx_progress.specs.Reached.{progress_of}
+use Rattle.tx_serial.specs.Attempt.{Run}
+use Rattle.tx_serial.specs.Fate.{Fate, fate}
+use Rattle.tx_serial.specs.Run.{run}
+use Rattle.tx_meaning.specs.State.{attempt_of}
+use Rattle.z_regs.specs.Absolute.{absolute_ranges}
+use Rattle.tx_machine.specs.Wanted.{wanted, wanted_by, real_ranges}
 use Rattle.tx_machine.specs.Works.{Works, kept_by}
 use Rattle.tx_machine.specs.Machine.{Stands, nobody}
 use Rattle.tx_machine.proofs.Shown.{shown}
@@ -81,3 +91,21 @@ module _ (m : Setting) (w : Works) (remaining : ℕ) (s : Stands m w remaining) 
       ap (λ (t : State). (flat_of m t).waiting i) reads_state
       ∙ ap (λ (f : FlatState). f.waiting i)
       (flat_is m (kept_by (nobody m) w) (shown m w remaining s).good.truth)
+
+  pub reads_wanted : (i : ℕ) → wanted m (meaning m w.events) i
+      ≡ wanted_by m (storage_in w.lines) (local_of (get_or w.slots i (nobody m)).cpu)
+  unfolding wanted wanted_by progress_of
+  reads_wanted i =
+      let k = kept_by (nobody m) w in
+      let l = k.locals i in
+      let truth = (shown m w remaining s).good.truth in
+      let followed = (truth.each i).followed in
+      ap (λ (t : State). wanted m t i) reads_state
+      ∙ ap (λ (f : FlatState). absolute_ranges (cpu_of m k.state i).prefix (real_ranges (f.pending i) (f.waiting i)
+      (fate f.text (attempt_of m k.state i)))) (flat_is m k truth)
+      ∙ ap (λ (p : Run). absolute_ranges p.cpu.prefix (real_ranges l.pending l.waiting (fate (text_of m) p)))
+      (attempt_is m k truth i)
+      ∙ ap (λ (n : Option ℕ). absolute_ranges n (real_ranges l.pending l.waiting (fate (text_of m)
+      (run (kept_flat m k) i l.attempt.count)))) (ap (λ (q : Progress). q.cpu.prefix) followed.attempt)
+      ∙ ap (λ (f : Fate). absolute_ranges l.attempt.cpu.prefix (real_ranges l.pending l.waiting f))
+      (followed_fate (kept_flat m k) i l followed)

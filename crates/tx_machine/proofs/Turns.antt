@@ -52,6 +52,7 @@ use Rattle.tx_keeping.proofs.Few.{resting_room, instruction_room, small_interrup
 use Rattle.tx_bounds.proofs.Stopping.{Counted, turning_begun}
 use Rattle.tx_bounds.proofs.Stopped.{Between, may_go_on}
 use Rattle.tx_machine.specs.Ready.{MayClimb, MayAsk, MayTurn, IsInReach, image_storage}
+use Rattle.tx_machine.specs.Wanted.{MayWant}
 
 -- ---- the ladder and the stop queue
 
@@ -142,6 +143,16 @@ module _ (m : Setting) (s : IsSetting m) where
       (λ a h. sym (same_text m s (start_of m.image) (kept_flat m k) [] k.state.history refl t.replayed
       (absolute_of l.attempt.cpu.prefix a) (text_there l.attempt.cpu.prefix (text_of m) a prefix h)))
 
+  -- what the next turn asks for
+  pub may_want : (i : ℕ) (k : Kept) → Truth m k → MayWant m k.storage (k.locals i)
+  may_want i k t = record {
+    inside = λ block is.
+        let kept = kept_is m s k t in
+        block_inside (k.locals i).cpu.prefix (text_of m) block (kept.blocks i block is);
+    reach = λ instr ranges is. in_reach (kept_flat m k) i (k.locals i) instr ranges (t.each i).followed is;
+    text = image_text i k t;
+  }
+
   pub may_turn : (i : ℕ) (k : Kept) → IsGood m k → AllWithin k.state.held → Between m k
       → k_idle m k i ≡ None → MayTurn m i k
   may_turn i k g within b goes_on = record {
@@ -163,15 +174,13 @@ module _ (m : Setting) (s : IsSetting m) where
     rests = λ w is. waiting_rests m s i k w g.truth is;
     rested = λ off. quiet_nest (kept_flat m k) i (k.locals i) (g.truth.each i).followed
         (sym (live_is m k g.truth i) ∙ off);
-    inside = λ block is.
-        let kept = kept_is m s k g.truth in
-        block_inside (k.locals i).cpu.prefix (text_of m) block (kept.blocks i block is);
-    reach = λ instr ranges is. in_reach (kept_flat m k) i (k.locals i) instr ranges (g.truth.each i).followed is;
+    inside = (may_want i k g.truth).inside;
+    reach = (may_want i k g.truth).reach;
     ends = λ why is. live_is m k g.truth i
         ∙ ends_live (kept_flat m k) i (k.locals i) why (g.truth.each i).followed is;
     stops = λ e is. live_is m k g.truth i
         ∙ stops_not_live (kept_flat m k) i (k.locals i) e (g.truth.each i).followed is;
-    text = image_text i k g.truth;
+    text = (may_want i k g.truth).text;
   }
 
 -- ---- with the turn counted

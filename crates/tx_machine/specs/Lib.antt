@@ -7,3 +7,4 @@ pub mod Turned
 pub mod InTurn
 pub mod Machine
 pub mod Opened
+pub mod Wanted

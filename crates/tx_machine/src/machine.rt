@@ -1,6 +1,6 @@
 //! The machine, as programs use it.
 ghost use Rattle.std.specs.Prelude.{◌≡◌, ℕ, ◌+◌, ◌*◌, ◌^◌, ◌<◌, ◌≤◌, IfOk, None, true, length, slice_get};
-ghost use Rattle.std.specs.Prelude.{count_by};
+ghost use Rattle.std.specs.Prelude.{All, count_by, ◌⊎◌, []};
 ghost use Rattle.std.specs.Arc.{arc_value};
 ghost use Rattle.z_regs.specs.Cpu.{cpu_of};
 ghost use Rattle.z_regs.specs.Prefix.{storage_size};
@@ -11,6 +11,9 @@ ghost use Rattle.tx_meaning.specs.Limits.{Setting};
 ghost use Rattle.tx_meaning.specs.Meaning.{meaning};
 ghost use Rattle.tx_meaning.specs.State as meant;
 ghost use Rattle.tx_meaning.specs.Turn.{happen};
+ghost use Rattle.tx_opacity.specs.Opacity.{SeesOneRun};
+ghost use Rattle.tx_headline.specs.Queue.{QueueChanges, others_before};
+ghost use Rattle.tx_ladder.specs.Waiting.{waits_in};
 ghost use Rattle.tx_meaning.specs.Hits.{hits};
 ghost use Rattle.tx_meaning.specs.Queues.{QueueMoves};
 ghost use Rattle.tx_meaning.specs.Heads.{head_turns};
@@ -26,6 +29,7 @@ ghost use Rattle.tx_machine.specs.Machine.{IsLeft, Stands, setting_of, state_of,
 ghost use Rattle.tx_meaning.specs.Shown.{levels_at, counts_at, commits_of, aborts_of};
 ghost use Rattle.tx_machine.specs.Machine.{code_awaited, counts_with, most_events};
 ghost use Rattle.tx_machine.specs.Machine.{tally_at};
+ghost use Rattle.tx_machine.specs.Wanted.{wanted};
 
 use crate::slot::Tally;
 use crate::works::Works;
@@ -35,7 +39,7 @@ use std::sync::Arc;
 use tx_cpu::{Cpu, Program};
 use tx_journal::{Entry, Event, Image};
 use tx_meaning::{Counts, Limits, Outcome, Reject};
-use z_regs::{CpuImage, RunState};
+use z_regs::{CpuImage, RunState, Touches};
 
 /// There was no memory.
 #[derive(Clone, Copy, Debug, PartialEq, Eq)]
@@ -195,10 +199,11 @@ impl Machine {
     /// One event more, of a CPU that there is; an external one only while some are left. Says what came of
     /// it. It takes no memory.
     ///
-    /// Behind every event the history is legal, and it only grows. No live attempt sees a mixed state, and
-    /// what one has touched is held. No CPU has more conflict aborts than lead to the stop queue, the queue
-    /// changes at its ends alone; its head is never rejected and has at most 34 turns, unless it is
-    /// interrupted from outside. A constrained transaction has no more turns than the retry ladder bounds.
+    /// Behind every event the history is legal, and it only grows. No live attempt sees a mixed state: what it
+    /// has seen is one private run on storage as it is now. What an attempt has touched is held. No CPU has more conflict aborts than lead to the stop queue, the queue
+    /// changes at its ends alone, and for the reasons that there are; its head is never rejected, has at most 34
+    /// turns, unless it is interrupted from outside, and alone has turns. A constrained transaction has no more
+    /// turns than the retry ladder bounds: as long as it goes on, it has had fewer.
     pub fn event(&mut self, e: Event) -> Outcome
         requires known { cpu_of_event e < length self.old.image.cpus }
         requires external { is_external e ≡ true
@@ -209,6 +214,7 @@ impl Machine {
         ensures legal { IsLegal self.new.image (state_of self.new).history }
         ensures grows { GoesOnWith (state_of self.old).history (state_of self.new).history }
         ensures views { KeepsViews (setting_of self.old) (state_of self.old) (state_of self.new) }
+        ensures opaque { SeesOneRun (setting_of self.old) (state_of self.old) (state_of self.new) }
         ensures held { HoldsTouched (setting_of self.new) (state_of self.new) }
         ensures few { (i : ℕ) →
             hits self.new.image (state_of self.new).history i ≤ self.new.image.parms.stop }
@@ -219,6 +225,16 @@ impl Machine {
         ensures turns { (i : ℕ) → let stretch = stretch_of (setting_of self.new) self.new.events i in
             stretch.is_open ≡ true → stretch.age + left (setting_of self.new) (state_of self.new) i
             ≤ bound self.new.image.parms + attempt_turns self.new.image.parms * stretch.externals }
+        ensures some_left { (i : ℕ) → (stretch_of (setting_of self.new) self.new.events i).is_open ≡ true
+            → 1 ≤ left (setting_of self.new) (state_of self.new) i }
+        ensures ages { (i : ℕ) → let stretch = stretch_of (setting_of self.new) self.new.events i in
+            stretch.is_open ≡ true → stretch.age
+            < bound self.new.image.parms + attempt_turns self.new.image.parms * stretch.externals }
+        ensures reasons { QueueChanges (setting_of self.old) (state_of self.old) e }
+        ensures behind_few { (i : ℕ) → waits_in (state_of self.new).queue i ≡ true
+            → others_before i (state_of self.new).queue < length self.new.image.cpus }
+        ensures head_alone { (i : ℕ) → is_counted_turn (setting_of self.old) (state_of self.old) e i ≡ true
+            → ((state_of self.old).queue ≡ []) ⊎ (is_head (state_of self.old) i ≡ true) }
     {
         advance(
             &self.program,
@@ -355,6 +371,19 @@ impl Machine {
             result ≡ code_awaited (meant.cpu_of m s cpu).state ((meant.flat_of m s).waiting cpu) }
     {
         code_awaited(&self.works.slots[cpu as usize].cpu)
+    }
+
+    /// The bytes that the next turn of the CPU has to fetch or store, by absolute addresses: those of the block
+    /// that is pending, else those of the interruption that waits, else those that its next instruction touches;
+    /// none where that does not go. There are at most four ranges, each of at most 256 bytes of storage. A turn
+    /// that is idle, a tick and a turn of waiting ask for none of them.
+    pub fn wanted(&self, cpu: u32) -> Touches
+        requires { cpu < length self.now.image.cpus }
+        ensures value { result ≡ wanted (setting_of self.now) (state_of self.now) cpu }
+        ensures small { All (λ r. r.length ≤ 256) result }
+        ensures in_storage { All (λ r. r.first + r.length ≤ storage_size) result }
+    {
+        self.works.wanted(cpu, &self.program)
     }
 
     /// What is counted of the CPU; its commits and its aborts as the history has them.

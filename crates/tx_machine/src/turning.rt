@@ -1,5 +1,5 @@
 //! What a CPU does in its turn: the lines first.
-ghost use Rattle.std.specs.Prelude.{◌≡◌, ◌+◌, ◌<◌, ◌≤◌, ◌∷◌, [], IsTrue, ℕ, List, Option, true, false, is_some, length};
+ghost use Rattle.std.specs.Prelude.{◌≡◌, ◌+◌, ◌<◌, ◌≤◌, ◌∷◌, [], All, IsTrue, ℕ, List, Option, true, false, is_some, length};
 ghost use Rattle.z_regs.specs.Absolute.{absolute_ranges};
 ghost use Rattle.z_regs.specs.Prefix.{is_prefix, storage_size};
 ghost use Rattle.tx_cpu.specs.Plans.{IsPrepared, HasPlanRoom, fate_of};
@@ -18,6 +18,7 @@ ghost use Rattle.tx_machine.specs.Asks.{is_cpu_starved};
 ghost use Rattle.tx_machine.specs.InTurn.{MayAct, block_awaited};
 ghost use Rattle.tx_machine.specs.Ready.{MayAsk, MayHold, MayTurn, IsInReach, image_storage};
 ghost use Rattle.tx_machine.specs.Turned.{turned_as};
+ghost use Rattle.tx_machine.specs.Wanted.{MayWant, operands_of, wanted_by};
 ghost use Rattle.tx_machine.specs.Works.{Seat, kept_by, IsSameSize};
 
 use crate::acting::{Turned, without_reject};
@@ -238,5 +239,48 @@ impl Works {
             return self.take_waiting(cpu, block);
         }
         self.attempt(cpu, program)
+    }
+
+    /// The bytes that the next instruction of the CPU touches, by absolute addresses; none where it does not
+    /// go.
+    fn operands_wanted(&self, cpu: u32, program: &Program) -> Touches
+        requires cpu { cpu < length self.now.slots }
+        requires wants { (rest : Seat) (limits : RunLimits) → let k = kept_by rest self.now in
+            MayWant (record { image = program.now; limits = limits }) k.storage (k.locals cpu) }
+        ensures value { (rest : Seat) (limits : RunLimits) →
+            let m : Setting = record { image = program.now; limits = limits } in
+            let k = kept_by rest self.now in let l = k.locals cpu in
+            result ≡ absolute_ranges l.attempt.cpu.prefix
+            (operands_of (fate_by_progress (text_of m) k.storage l.attempt)) }
+        ensures small { All (λ r. r.length ≤ 256) result }
+        ensures in_storage { All (λ r. r.first + r.length ≤ storage_size) result }
+    {
+        let prefix = self.prefix(cpu);
+        match self.plan(cpu, program) {
+            Plan::Go { need, .. } => operand_places(&need, prefix),
+            Plan::Ends(_) => Touches::none(),
+            Plan::Stops(_) => Touches::none(),
+        }
+    }
+
+    /// The bytes that the next turn of the CPU has to fetch or store, by absolute addresses, where it is not
+    /// idle, no tick comes with it, and the program does not wait.
+    pub(crate) fn wanted(&self, cpu: u32, program: &Program) -> Touches
+        requires cpu { cpu < length self.now.slots }
+        requires wants { (rest : Seat) (limits : RunLimits) → let k = kept_by rest self.now in
+            MayWant (record { image = program.now; limits = limits }) k.storage (k.locals cpu) }
+        ensures value { (rest : Seat) (limits : RunLimits) → let k = kept_by rest self.now in
+            result ≡ wanted_by (record { image = program.now; limits = limits }) k.storage (k.locals cpu) }
+        ensures small { All (λ r. r.length ≤ 256) result }
+        ensures in_storage { All (λ r. r.first + r.length ≤ storage_size) result }
+    {
+        let prefix = self.prefix(cpu);
+        if let Some(address) = self.pending(cpu) {
+            return block_places(address, prefix);
+        }
+        if let Some(block) = self.awaited(cpu) {
+            return interruption_places(block, prefix);
+        }
+        self.operands_wanted(cpu, program)
     }
 }

@@ -4,3 +4,4 @@ pub mod Plans
 pub mod Answered
 pub mod Ran
 pub mod Given
+pub mod Asked

@@ -1,7 +1,7 @@
 -- Whatever the events, what happens is one serial history.
 use Rattle.std.proofs.Common.{◌<◌, List, [], ◌∷◌, ◌++◌, subst, arith}
 use Rattle.std.specs.Prelude.{All}
-use Rattle.std.proofs.lemmas.List.Elements.{All-nil, All-cons, All-tail, All-get_or, All-push}
+use Rattle.std.proofs.lemmas.List.Elements.{All-nil, All-cons, All-head, All-push}
 use Rattle.tx_journal.specs.Image.{cpu_of_event}
 use Rattle.tx_journal.specs.declared.events.Event.{Event}
 use Rattle.tx_meaning.specs.Limits.{Setting}
@@ -13,24 +13,13 @@ use Rattle.tx_keeping.proofs.Events.{legal, grows_only, views_kept, touched_held
 use Rattle.tx_bounds.proofs.Meant.{stops}
 use Rattle.tx_bounds.proofs.Stretched.{ages_within}
 use Rattle.tx_bounds.proofs.Heads.{heads_in_all}
+use Rattle.tx_opacity.proofs.Opaque.{opaque}
+use Rattle.tx_headline.proofs.Bounds.{turns_left, ages_short, turns_of_head}
+use Rattle.tx_headline.proofs.Lists.{all_first, all_later}
+use Rattle.tx_headline.proofs.Queue.{queue_changes, before_most}
 use Rattle.tx_machine.proofs.Laws.{unrejected_head}
 use Rattle.tx_machine.proofs.Most.{meaning_more}
 use Rattle.ztx_answers.specs.Serial.{IsSerial, IsSerialRun, IsOrderly, IsBounded}
-
--- ---- parts of lists
-
-module _ {X : Type 0} (P : X → Type 0) where
-  All-head : (x : X) (xs : List X) → All P (x ∷ xs) → P x
-  All-head x xs all = All-get_or P (x ∷ xs) 0 x (omega arith) all
-
-  pub All-before : (xs ys : List X) → All P (xs ++ ys) → All P xs
-  All-before [] ys all = All-nil P
-  All-before (x ∷ xs) ys all =
-      All-cons P x xs (All-head x (xs ++ ys) all) (All-before xs ys (All-tail P x (xs ++ ys) all))
-
-  pub All-between : (xs : List X) (y : X) (ys : List X) → All P (xs ++ y ∷ ys) → P y
-  All-between [] y ys all = All-head y ys all
-  All-between (x ∷ xs) y ys all = All-between xs y ys (All-tail P x (xs ++ y ∷ ys) all)
 
 -- ---- runs
 
@@ -38,7 +27,9 @@ module _ (m : Setting) (s : IsSetting m) where
   bounded : (events : List Event) → AreKnown m events → IsBounded m events
   bounded events known = record {
     few = λ i. (stops m events s known).counted.few i;
+    some_left = λ i is. turns_left m events i s known is;
     turns = λ i is. ages_within m events i s known is;
+    ages = λ i is. ages_short m events i s known is;
   }
 
   serial : (events : List Event) → AreKnown m events → IsSerial m events
@@ -59,7 +50,11 @@ module _ (m : Setting) (s : IsSetting m) where
         grows = subst (GrowsFrom before) (meaning_more m before e)
             (grows_only m s before (e ∷ []) known (All-cons P e [] within (All-nil P)));
         views = views_kept m s before e known within;
+        opaque = opaque m s before e known within;
         queue = queue_moves m e (meaning m before);
+        reasons = queue_changes m s before e (All-push P before e known within);
+        behind_few = λ i waits. before_most m s before known i waits;
+        head_alone = λ i is. turns_of_head m (meaning m before) e i is;
         unrejected = unrejected_head m (meaning m before) e;
         heads = λ i. heads_in_all m s i before e known;
       }
@@ -70,7 +65,7 @@ module _ (m : Setting) (s : IsSetting m) where
     each = λ before rest e is.
         let P : Event → Type 0 = λ x. cpu_of_event x < cpus_of m in
         let all : All P (before ++ e ∷ rest) = subst (All P) is known in
-        let first = All-before P before (e ∷ rest) all in
-        let within = All-between P before e rest all in
+        let first = all_first P before (e ∷ rest) all in
+        let within = All-head P e rest (all_later P before (e ∷ rest) all) in
         (serial (before ++ e ∷ []) (All-push P before e first within), orderly before e first within);
   }

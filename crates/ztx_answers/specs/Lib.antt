@@ -3,3 +3,4 @@ pub mod Serial
 pub mod Runs
 pub mod Due
 pub mod One
+pub mod Requests

@@ -1,13 +1,16 @@
 -- What holds of a run of the machine, behind each of its events.
-use Rattle.std.specs.Prelude.{◌≡◌, ℕ, ◌+◌, ◌*◌, ◌≤◌, true, List, [], ◌∷◌, ◌++◌, None}
+use Rattle.std.specs.Prelude.{◌≡◌, ℕ, ◌+◌, ◌*◌, ◌<◌, ◌≤◌, ◌⊎◌, true, List, [], ◌∷◌, ◌++◌, None}
 use Rattle.tx_journal.specs.Image.{cpu_of_event}
 use Rattle.tx_journal.specs.declared.events.Event.{Event}
 use Rattle.tx_serial.specs.History.{IsLegal}
 use Rattle.tx_meaning.specs.Limits.{Setting}
 use Rattle.tx_meaning.specs.Meaning.{meaning}
-use Rattle.tx_meaning.specs.State.{State, is_head}
+use Rattle.tx_meaning.specs.State.{State, is_head, cpus_of}
 use Rattle.tx_meaning.specs.Turn.{happen}
 use Rattle.tx_meaning.specs.Hits.{hits}
+use Rattle.tx_ladder.specs.Waiting.{waits_in}
+use Rattle.tx_opacity.specs.Opacity.{SeesOneRun}
+use Rattle.tx_headline.specs.Queue.{QueueChanges, others_before}
 use Rattle.tx_meaning.specs.Queues.{QueueMoves}
 use Rattle.tx_meaning.specs.Stretches.{stretch_of, left, bound, attempt_turns}
 use Rattle.tx_meaning.specs.Stretches.{counted, is_counted_turn}
@@ -19,21 +22,33 @@ abbrev pub behind : Setting → List Event → Event → State
 behind m before e = (happen m e (meaning m before)).state
 
 -- No CPU has more conflict aborts than lead to the stop queue. While a CPU is in the middle of a constrained
--- transaction, the turns that it has had in it and those that it can still need stay within the bound, and
--- within those of one attempt more for each interruption from outside.
+-- transaction, a turn is left to it, and the turns that it has had in it and those that it can still need stay
+-- within the bound, and within those of one attempt more for each interruption from outside. So those that it
+-- has had are fewer.
 pub record IsBounded (m : Setting) (events : List Event) : Type 0 where
   pub few : (i : ℕ) → hits m.image (meaning m events).history i ≤ m.image.parms.stop
+  pub some_left : (i : ℕ) → (stretch_of m events i).is_open ≡ true → 1 ≤ left m (meaning m events) i
   pub turns : (i : ℕ) → (stretch_of m events i).is_open ≡ true
       → (stretch_of m events i).age + left m (meaning m events) i
       ≤ bound m.image.parms + attempt_turns m.image.parms * (stretch_of m events i).externals
+  pub ages : (i : ℕ) → (stretch_of m events i).is_open ≡ true
+      → (stretch_of m events i).age
+      < bound m.image.parms + attempt_turns m.image.parms * (stretch_of m events i).externals
 
 -- An event comes: the history only grows, no live attempt sees a mixed state, and the stop queue changes at
--- its ends alone. Its head is never rejected, and as the head it has at most 34 turns, unless it is
--- interrupted from outside.
+-- its ends alone, for the reasons that there are. Fewer CPUs stand before one that waits than the machine has,
+-- and while any waits only the head has turns. The head is never rejected, and as the head it has at most 34
+-- turns, unless it is interrupted from outside.
 pub record IsOrderly (m : Setting) (before : List Event) (e : Event) : Type 0 where
   pub grows : GoesOnWith (meaning m before).history (behind m before e).history
   pub views : KeepsViews m (meaning m before) (behind m before e)
+  pub opaque : SeesOneRun m (meaning m before) (behind m before e)
   pub queue : QueueMoves (meaning m before).queue (behind m before e).queue
+  pub reasons : QueueChanges m (meaning m before) e
+  pub behind_few : (i : ℕ) → waits_in (meaning m before).queue i ≡ true
+      → others_before i (meaning m before).queue < cpus_of m
+  pub head_alone : (i : ℕ) → is_counted_turn m (meaning m before) e i ≡ true
+      → ((meaning m before).queue ≡ []) ⊎ (is_head (meaning m before) i ≡ true)
   pub unrejected : is_head (meaning m before) (cpu_of_event e) ≡ true
       → (happen m e (meaning m before)).reject ≡ None
   pub heads : (i : ℕ) → head_turns m before i + counted (is_counted_turn m (meaning m before) e i) ≤ 34

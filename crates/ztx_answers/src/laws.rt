@@ -1,13 +1,14 @@
 //! What holds of all answers. Each law is the contract of a function that does nothing.
-ghost use Rattle.std.specs.Prelude.{ℕ, List, Option};
+ghost use Rattle.std.specs.Prelude.{ℕ, List};
 ghost use Rattle.tx_journal.specs.declared.events.Event.{Event};
 ghost use Rattle.tx_meaning.specs.Views.{AreKnown};
 ghost use Rattle.tx_meaning.specs.Limits.{Setting};
 ghost use Rattle.tx_meaning.specs.Meaning.{IsSetting};
-ghost use Rattle.ztx_answers.specs.Due.{IsDueToList, IsDueToRun, IsSummary, IsGenerated};
+ghost use Rattle.ztx_answers.specs.Due.{IsSummary, IsGenerated};
 ghost use Rattle.ztx_answers.specs.One.{IsSome, IsOnly};
-ghost use Rattle.ztx_answers.specs.Runs.{AreLimits};
+ghost use Rattle.ztx_answers.specs.Requests.{IsAllowed, IsDue};
 ghost use Rattle.ztx_answers.specs.Serial.{IsSerialRun};
+ghost use Rattle.ztx_answers.specs.declared.requests.Request.{Request};
 
 /// Whatever the schedule, what happens is one serial history on flat storage, behind each event, and the
 /// retry ladder keeps its bounds.
@@ -17,12 +18,8 @@ pub fn every_run_is_serial()
 
 /// For every input there is an answer, and only one: one status with one text.
 pub fn one_answer_is_due()
-    ensures listed { (input : List ℕ) → IsSome (IsDueToList input) }
-    ensures one_list { (input : List ℕ) → IsOnly (IsDueToList input) }
-    ensures reported { (turns tick : ℕ) (seed : Option ℕ) (input : List ℕ) → AreLimits turns tick
-        → IsSome (IsDueToRun turns tick seed input) }
-    ensures one_report { (turns tick : ℕ) (seed : Option ℕ) (input : List ℕ)
-        → IsOnly (IsDueToRun turns tick seed input) }
+    ensures some { (request : Request) (input : List ℕ) → IsAllowed request → IsSome (IsDue request input) }
+    ensures one { (request : Request) (input : List ℕ) → IsOnly (IsDue request input) }
     ensures summed { (number : ℕ) → IsSome (IsSummary number) }
     ensures one_summary { (number : ℕ) → IsOnly (IsSummary number) }
     ensures one_listing { (number : ℕ) → IsOnly (IsGenerated number) }

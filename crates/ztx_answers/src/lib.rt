@@ -7,7 +7,8 @@ mod generated;
 pub mod laws;
 mod listed;
 mod machine;
+mod requests;
 
 pub use answer::{Answer, NoMemory};
 pub use generated::{generate, summary};
-pub use listed::{list, refuse_long, run};
+pub use requests::{Request, answer_to, most_bytes, refuse_long};

@@ -27,8 +27,8 @@ fn refuse(alloc: Global, fault: ListingFault) -> Result<Answer, NoMemory>
     })
 }
 
-/// What is due to an input that has more bytes than a listing may have.
-pub fn refuse_long(alloc: Global) -> Result<Answer, NoMemory>
+/// The line of the fault of a listing that has too many bytes.
+pub fn refuse_long_listing(alloc: Global) -> Result<Answer, NoMemory>
     ensures status { IfOk result (λ answer. answer.status ≡ 5) }
     ensures text { IfOk result (λ answer. answer.text.items ≡ fault_line long_fault) }
 {

@@ -1,14 +1,15 @@
 -- Over a source and a sink that never fail there is one answer.
-use Rattle.std.proofs.Common.{◌≡◌, ◌≢◌, ℕ, zero, suc, ◌⊎◌, List, [], Option, Some, None, sym, subst, inl, inr}
+use Rattle.std.proofs.Common.{◌≡◌, ◌≢◌, ℕ, zero, suc, ◌⊎◌, List, [], Option, Some, sym, subst, inl, inr}
 use Rattle.std.proofs.Common.{refl, arith, ◌∙◌}
 use Rattle.std.specs.Io.KnownBytes.{Appends}
 use Rattle.std.proofs.KnownBytes.{Appends-nil, Appends-kept}
 use Rattle.ztx_answers.specs.One.{IsOnly}
-use Rattle.ztx_answers.proofs.Answered.{one_list, one_report, one_listing, one_summary}
+use Rattle.ztx_answers.proofs.Answered.{one_listing, one_summary}
+use Rattle.ztx_answers.proofs.Asked.{one_due as one_request}
 use Rattle.ztx_io.specs.Faults.{Rose}
 use Rattle.ztx_io.specs.Writes.{AppendsPrefix}
-use Rattle.ztx_words.specs.declared.Command.{Command}
-use Rattle.ztx_words.specs.declared.Command.TheVariants as command
+use Rattle.ztx_top.specs.declared.errand.Errand.{Errand}
+use Rattle.ztx_top.specs.declared.errand.Errand.TheVariants as errand
 use Rattle.ztx_top.specs.Answers.{Due, IsWhole, Wrote, WasCut, Tells}
 use Rattle.ztx_top.specs.Asked.{IsBadWords, due}
 
@@ -25,13 +26,11 @@ one_refusal s t xs ys r q = record {
   texts = r.text_is ∙ sym q.text_is;
 }
 
-pub one_due : (asked : Option Command) (input : List ℕ) → IsOnly (due asked input)
-one_due None input = one_refusal
-one_due (Some command.List) input = one_list input
-one_due (Some (command.Run turns tick seed)) input = one_report turns tick seed input
-one_due (Some (command.Race turns tick)) input = one_refusal
-one_due (Some (command.Generate number)) input = one_listing number
-one_due (Some (command.Summary number)) input = one_summary number
+pub one_due : (asked : Errand) (input : List ℕ) → IsOnly (due asked input)
+one_due (errand.Input asked) input = one_request asked input
+one_due (errand.Generate number) input = one_listing number
+one_due (errand.Summary number) input = one_summary number
+one_due errand.Nothing input = one_refusal
 
 -- ---- and it is told
 

@@ -1,5 +1,5 @@
 -- What the top call answers, and what it has written.
-use Rattle.std.specs.Prelude.{◌≡◌, ◌≢◌, ℕ, ◌⊎◌, List, Option, Some, None}
+use Rattle.std.specs.Prelude.{◌≡◌, ◌≢◌, ℕ, ◌<◌, ◌⊎◌, List, length, Option, Some, None}
 use Rattle.std.specs.Io.KnownBytes.{Appends, Keeps}
 use Rattle.ztx_io.specs.Writes.{AppendsPrefix}
 
@@ -7,6 +7,12 @@ use Rattle.ztx_io.specs.Writes.{AppendsPrefix}
 abbrev pub IsInput : Option (List ℕ) → List ℕ → Type 0
 IsInput None input = Unit {0}
 IsInput (Some left) input = left ≡ input
+
+-- the source may have an input of more bytes than these left
+pub record IsLong (most : ℕ) (left : Option (List ℕ)) : Type 0 where
+  pub input : List ℕ
+  pub is_input : IsInput left input
+  pub long : most < length input
 
 -- what is due to each input: a status with a text
 abbrev pub Due : Type 1

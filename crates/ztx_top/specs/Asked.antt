@@ -1,32 +1,41 @@
 -- What the words of a command line ask for, and what is due then.
 use Rattle.std.specs.Prelude.{◌≡◌, ℕ, Bool, true, false, List, Option, Some, None, codes}
 use Rattle.clap.specs.Words.{Text}
-use Rattle.ztx_answers.specs.Due.{IsDueToList, IsDueToRun, IsGenerated, IsSummary}
+use Rattle.ztx_answers.specs.Due.{IsGenerated, IsSummary}
+use Rattle.ztx_answers.specs.Requests.{IsAllowed, IsDue}
+use Rattle.ztx_answers.specs.declared.requests.Request.TheVariants as request
 use Rattle.ztx_words.specs.Words.{command_of}
 use Rattle.ztx_words.specs.declared.Command.{Command}
 use Rattle.ztx_words.specs.declared.Command.TheVariants as command
+use Rattle.ztx_top.specs.declared.errand.Errand.{Errand}
+use Rattle.ztx_top.specs.declared.errand.Errand.TheVariants as errand
 
--- a race is not built yet: its words are answered as those that are no command line
-abbrev pub if_built : Option Command → Option Command
-if_built None = None
-if_built (Some (command.Race turns tick)) = None
-if_built (Some command.List) = Some command.List
-if_built (Some (command.Run turns tick seed)) = Some (command.Run turns tick seed)
-if_built (Some (command.Generate number)) = Some (command.Generate number)
-if_built (Some (command.Summary number)) = Some (command.Summary number)
+-- what a command asks for; the words of one that is not built yet are answered as those that are none
+abbrev pub errand_of : Option Command → Errand
+errand_of None = errand.Nothing
+errand_of (Some command.List) = errand.Input request.List
+errand_of (Some (command.Run turns tick seed)) = errand.Input (request.Run turns tick seed)
+errand_of (Some (command.Race turns tick)) = errand.Nothing
+errand_of (Some (command.Generate number)) = errand.Generate number
+errand_of (Some (command.Summary number)) = errand.Summary number
+errand_of (Some command.Check) = errand.Nothing
+errand_of (Some (command.Heat turns tick seed)) = errand.Nothing
+errand_of (Some (command.Deck read origin)) = errand.Nothing
+errand_of (Some (command.Step turns tick seed)) = errand.Nothing
 
--- the command that the words ask for, or none
-abbrev pub asked : List Text → Option Command
-asked words = if_built (command_of words)
+-- what the words ask for
+abbrev pub asked : List Text → Errand
+asked words = errand_of (command_of words)
 
--- the command is one on a listing, which is read from the source
-abbrev pub reads : Option Command → Bool
-reads None = false
-reads (Some command.List) = true
-reads (Some (command.Run turns tick seed)) = true
-reads (Some (command.Race turns tick)) = false
-reads (Some (command.Generate number)) = false
-reads (Some (command.Summary number)) = false
+-- the source is read
+abbrev pub reads : Errand → Bool
+reads (errand.Input asked) = true
+reads _ = false
+
+-- a request has its numbers in their ranges
+abbrev pub IsReady : Errand → Type 0
+IsReady (errand.Input asked) = IsAllowed asked
+IsReady _ = Unit {0}
 
 abbrev pub bad_words : List ℕ
 bad_words = codes "ztx: bad words\n"
@@ -37,10 +46,8 @@ pub record IsBadWords (status : ℕ) (text : List ℕ) : Type 0 where
   pub text_is : text ≡ bad_words
 
 -- what is due, by what the words ask for and by the input
-abbrev pub due : Option Command → List ℕ → ℕ → List ℕ → Type 0
-due None input = IsBadWords
-due (Some command.List) input = IsDueToList input
-due (Some (command.Run turns tick seed)) input = IsDueToRun turns tick seed input
-due (Some (command.Race turns tick)) input = IsBadWords
-due (Some (command.Generate number)) input = IsGenerated number
-due (Some (command.Summary number)) input = IsSummary number
+abbrev pub due : Errand → List ℕ → ℕ → List ℕ → Type 0
+due (errand.Input asked) input = IsDue asked input
+due (errand.Generate number) input = IsGenerated number
+due (errand.Summary number) input = IsSummary number
+due errand.Nothing input = IsBadWords

@@ -1,6 +1,7 @@
 //! The top call of the program: words and bytes in, a text and a status out.
 #![tactic(auto)]
 
+mod errand;
 mod input;
 mod output;
 mod sure;

@@ -4,14 +4,15 @@ ghost use Rattle.std.specs.Io.KnownBytes.{IsAtEnd, Keeps};
 ghost use Rattle.ztx_answers.specs.Due.{IsGenerated, IsSummary};
 ghost use Rattle.ztx_io.specs.Faults.{Rose};
 ghost use Rattle.ztx_top.specs.Answers.{IsWhole, Wrote, WasCut};
-ghost use Rattle.ztx_top.specs.Asked.{IsBadWords, asked, due, reads};
+ghost use Rattle.ztx_top.specs.Asked.{IsBadWords, IsReady, asked, due, reads};
 
-use crate::input::{list_input, run_input};
+use crate::errand::{Errand, errand_of};
+use crate::input::answer_input;
 use crate::output::tell;
 use std::alloc::Global;
 use ztx_answers::{generate, summary};
 use ztx_io::{Sink, Source};
-use ztx_words::{Command, read_words};
+use ztx_words::read_words;
 
 const BAD_WORDS: &[u8] = b"ztx: bad words\n";
 
@@ -57,6 +58,35 @@ fn tell_summary<K: Sink>(alloc: Global, number: u64, sink: &mut K) -> u8
     match summary(alloc, number) {
         Ok(answer) => tell(sink, answer.text.as_slice(), answer.status),
         Err(_) => 1,
+    }
+}
+
+/// Does what the words ask for.
+fn answer<S: Source, K: Sink>(
+    alloc: Global,
+    errand: Errand,
+    source: &mut S,
+    sink: &mut K,
+) -> u8
+    requires { IsReady errand }
+    ensures statuses { result ≤ 6 }
+    ensures whole { IsWhole result
+        → Wrote (due errand) (S.left source.old) result (K.held sink.old) (K.held sink.new) }
+    ensures cut { ((result ≡ 1) ⊎ (result ≡ 3))
+        → WasCut (due errand) (S.left source.old) (K.held sink.old) (K.held sink.new) }
+    ensures source { result ≡ 2 → (reads errand ≡ true)
+        × Rose (S.faults source.old) (S.faults source.new) × Keeps (K.held sink.old) (K.held sink.new) }
+    ensures sink { result ≡ 3 → Rose (K.faults sink.old) (K.faults sink.new) }
+    ensures source_count { S.faults source.old ≤ S.faults source.new }
+    ensures sink_count { K.faults sink.old ≤ K.faults sink.new }
+    ensures read { reads errand ≡ true → ((result ≡ 0) ⊎ (result ≡ 6)) → IsAtEnd (S.left source.new) }
+    ensures unread { reads errand ≡ false → Keeps (S.left source.old) (S.left source.new) }
+{
+    match errand {
+        Errand::Input(request) => answer_input(alloc, request, source, sink),
+        Errand::Generate(number) => tell_generated(alloc, number, sink),
+        Errand::Summary(number) => tell_summary(alloc, number, sink),
+        Errand::Nothing => tell_bad_words(sink),
     }
 }
 
@@ -107,14 +137,7 @@ pub fn ztx_top<S: Source, K: Sink>(
         → Keeps (S.left source.old) (S.left source.new) }
 {
     match read_words(alloc, words) {
+        Ok(command) => answer(alloc, errand_of(command), source, sink),
         Err(_) => 1,
-        Ok(None) => tell_bad_words(sink),
-        Ok(Some(Command::Race { .. })) => tell_bad_words(sink),
-        Ok(Some(Command::List)) => list_input(alloc, source, sink),
-        Ok(Some(Command::Run { turns, tick, seed })) => {
-            run_input(alloc, turns as u32, tick as u32, seed, source, sink)
-        }
-        Ok(Some(Command::Generate { number })) => tell_generated(alloc, number, sink),
-        Ok(Some(Command::Summary { number })) => tell_summary(alloc, number, sink),
     }
 }

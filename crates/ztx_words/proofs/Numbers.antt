@@ -1,12 +1,12 @@
 -- The numbers that the getters give of a parse are those of the words, in the ranges of their arguments.
-use Rattle.std.proofs.Common.{◌≡◌, ◌∙◌, ◌<◌, ◌≤◌, ap, ℕ, true, false, List, [], ◌∷◌, zero, suc}
+use Rattle.std.proofs.Common.{◌≡◌, ◌∙◌, ◌<◌, ◌≤◌, ap, ℕ, Bool, true, false, List, [], ◌∷◌, zero, suc}
 use Rattle.std.proofs.Common.{length, Option, Some, None, is_some, refl, sym, subst, inl, inr, arith}
 use Rattle.std.proofs.Common.{unwrap_or, option_map, Result, slice_get, true≢false}
 use Rattle.std.specs.List.{All, slice_index_or}
 use Rattle.std.specs.Borrow.{Bor}
 use Rattle.std.specs.Prelude.{map, codes}
 use Rattle.std.specs.Str.{bytes_eq}
-use Rattle.std.specs.Str.Parse.{ExplainsUnsignedError, HasUnsignedDigitsIfOk, ParsesUnsigned}
+use Rattle.std.specs.Str.Parse.{ExplainsUnsignedError, HasUnsignedDigitsIfOk, ParsesBool, ParsesUnsigned}
 use Rattle.std.proofs.lemmas.Bool.{cases_lt}
 use Rattle.std.proofs.lemmas.Slice.Eq.{bytes_eq-Decides}
 use Rattle.std.specs.declared.num.ParseIntError.{ParseIntError}
@@ -30,9 +30,9 @@ use Rattle.clap.specs.declared.parser.matches.MatchedArg.{MatchedArg}
 use Rattle.clap.proofs.CallerLemmas.{entry_by_id}
 use Rattle.clap.proofs.SimpleLemmas.{plain_fields, simple_groups}
 use Rattle.clap.proofs.WalkLemmas.{both, one_text-rows}
-use Rattle.ztx_words.specs.Parses.{IsParse}
-use Rattle.ztx_words.specs.Words.{number_in, number_of}
-use Rattle.ztx_words.proofs.Simple.{EachHas, IsReady, Reads}
+use Rattle.ztx_words.specs.Parses.{EachHas, IsParse, IsReady, Reads}
+use Rattle.ztx_words.specs.Words.{flag_in, number_in, number_of}
+use Rattle.ztx_words.proofs.Others.{unlike}
 
 differs : (s t : Text) → bytes_eq s t ≡ false → s ≡ t → ⊥
 differs s t unlike same = true≢false (sym ((bytes_eq-Decides s t).1 same) ∙ unlike)
@@ -183,3 +183,27 @@ module _ {app : App} {words : List Text} {m : ArgMatches} {id : Text} {low high 
         go (Some u) is =
             let passed = passes u is in
             rw (number_read u low high passed read (some u is)) (passed.2, passed.3)
+
+-- a text that is read as a flag is "true" or not
+flag_read : (E : Type 0) (u : Text) (r : Option Bool) → ReadsOne {E = E} ParsesBool u r
+    → unwrap_or r false ≡ bytes_eq u (codes "true")
+flag_read E u None given = sym (unlike u (codes "true") given.1.0)
+flag_read E u (Some true) is = sym ((bytes_eq-Decides _ _).1 is)
+flag_read E u (Some false) is = rw is refl
+
+abbrev is_true : Option Text → Bool
+is_true o = unwrap_or (option_map (λ t. bytes_eq t (codes "true")) o) false
+
+-- what a getter gives of the id of a flag in a parse is whether the words have the flag
+pub flag_found : (E : Type 0) {app : App} {words : List Text} {m : ArgMatches} (id : Text)
+    → IsParse app words m → (read : Option Bool) → (one_text (found_of m) id ≡ None → read ≡ None)
+    → ((u : List ℕ) → one_text (found_of m) id ≡ Some u → ReadsOne {E = E} ParsesBool u read)
+    → unwrap_or read false ≡ flag_in id (matches_of app words)
+flag_found E {app} {words} {m} id parse read none some =
+    go (one_text (found_of m) id) refl
+    ∙ ap is_true (one_text-rows (found_of m) id ∙ ap (one_of id) parse.rows)
+  where
+    go : (o : Option Text) → one_text (found_of m) id ≡ o
+        → unwrap_or read false ≡ is_true (one_text (found_of m) id)
+    go None is = rw (none is, is) refl
+    go (Some u) is = rw is (flag_read E u read (some u is))

@@ -7,7 +7,7 @@ use Rattle.std.proofs.lemmas.Slice.Eq.{bytes_eq-Decides}
 use Rattle.clap.specs.Words.{Text}
 use Rattle.ztx_words.specs.Words.{command_of}
 
-unlike : (s t : Text) → (s ≡ t → ⊥) → bytes_eq s t ≡ false
+pub unlike : (s t : Text) → (s ≡ t → ⊥) → bytes_eq s t ≡ false
 unlike s t differs = go (bytes_eq s t) refl
   where
     go : (b : Bool) → bytes_eq s t ≡ b → b ≡ false
@@ -21,13 +21,22 @@ pub record IsNoName (name : Text) : Type 0 where
   pub race : name ≡ codes "race" → ⊥
   pub generate : name ≡ codes "generate" → ⊥
   pub summary : name ≡ codes "summary" → ⊥
+  pub check : name ≡ codes "check" → ⊥
+  pub heat : name ≡ codes "heat" → ⊥
+  pub deck : name ≡ codes "deck" → ⊥
+  pub step : name ≡ codes "step" → ⊥
 
 no_command : (name : Text) (others : List Text) → IsNoName name → command_of (name ∷ others) ≡ None
 no_command name others other =
     let list = unlike _ _ other.list in
     let run = unlike _ _ other.run in
     let race = unlike _ _ other.race in
-    rw (list, run, race, unlike _ _ other.generate, unlike _ _ other.summary) refl
+    let generate = unlike _ _ other.generate in
+    let summary = unlike _ _ other.summary in
+    let check = unlike _ _ other.check in
+    let heat = unlike _ _ other.heat in
+    let deck = unlike _ _ other.deck in
+    rw (list, run, race, generate, summary, check, heat, deck, unlike _ _ other.step) refl
 
 pub other_words : {X : Type 0} (text_of : X → Text) (words : List X) (first : X) (name : Text)
     → Some first ≡ slice_get words 0 → name ≡ text_of first → IsNoName name

@@ -22,3 +22,9 @@ module _ (whole narrowed : ValueParser) (first last : ℤ)
 
   pub ranged_tick : first ≡ pos 0 → last ≡ pos 1000000 → narrowed ≡ parser.Unsigned 0 1000000
   ranged_tick starts ends = at_ends (pos 0) (pos 1000000) starts ends
+
+  pub ranged_steps : first ≡ pos 1 → last ≡ pos 20000 → narrowed ≡ parser.Unsigned 1 20000
+  ranged_steps starts ends = at_ends (pos 1) (pos 20000) starts ends
+
+  pub ranged_origin : first ≡ pos 0 → last ≡ pos 1040384 → narrowed ≡ parser.Unsigned 0 1040384
+  ranged_origin starts ends = at_ends (pos 0) (pos 1040384) starts ends

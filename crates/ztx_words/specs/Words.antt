@@ -8,7 +8,8 @@ use Rattle.clap.specs.Words.{App, Row, Text, fault_of, matches_of, one_of}
 use Rattle.clap.specs.Kinds.{Kinds}
 use Rattle.ztx_words.specs.declared.Command.{Command}
 use Rattle.ztx_words.specs.declared.Command.TheVariants as command
-use Rattle.ztx_words.specs.Arguments.{list_app, race_app, run_app, number_app}
+use Rattle.ztx_words.specs.declared.reading.Plan.{Plan}
+use Rattle.ztx_words.specs.Arguments.{plain_app, race_app, run_app, step_app, deck_app, number_app}
 
 -- a simple command is handed the program's name, and then the words behind the subcommand's
 abbrev pub handed : List Text → List Text
@@ -30,51 +31,85 @@ number_of text = digits_value 10 (without_leading_plus text)
 abbrev pub number_in : Text → List Row → Option ℕ
 number_in id rows = option_map number_of (one_of id rows)
 
-abbrev pub turns_in : List Row → ℕ
-turns_in rows = unwrap_or (number_in (codes "turns") rows) 200000
+-- the flag is among the arguments
+abbrev pub flag_in : Text → List Row → Bool
+flag_in id rows = unwrap_or (option_map (λ t. bytes_eq t (codes "true")) (one_of id rows)) false
 
 abbrev pub tick_in : List Row → ℕ
 tick_in rows = unwrap_or (number_in (codes "tick") rows) 0
 
-abbrev pub listing_of : List Row → Command
-listing_of rows = command.List
+-- the arguments of a run by a schedule, with this default of its turns
+abbrev pub plan_of : ℕ → List Row → Plan
+plan_of usual rows = record {
+  turns = unwrap_or (number_in (codes "turns") rows) usual;
+  tick = tick_in rows;
+  seed = number_in (codes "seed") rows;
+}
 
-abbrev pub run_of : List Row → Command
-run_of rows = command.Run (turns_in rows) (tick_in rows) (number_in (codes "seed") rows)
+abbrev pub nothing_of : List Row → Unit {0}
+nothing_of rows = tt
+
+abbrev pub run_of : Plan → Command
+run_of plan = command.Run plan.turns plan.tick plan.seed
+
+abbrev pub heat_of : Plan → Command
+heat_of plan = command.Heat plan.turns plan.tick plan.seed
+
+abbrev pub step_of : Plan → Command
+step_of plan = command.Step plan.turns plan.tick plan.seed
 
 abbrev pub race_of : List Row → Command
-race_of rows = command.Race (turns_in rows) (tick_in rows)
+race_of rows = command.Race (unwrap_or (number_in (codes "turns") rows) 200000) (tick_in rows)
+
+abbrev pub deck_of : List Row → Command
+deck_of rows =
+    command.Deck (flag_in (codes "read") rows) (unwrap_or (number_in (codes "origin") rows) 0)
 
 abbrev pub required_number : List Row → ℕ
 required_number rows = unwrap_or (number_in (codes "number") rows) 0
-
-abbrev pub generate_of : List Row → Command
-generate_of rows = command.Generate (required_number rows)
-
-abbrev pub summary_of : List Row → Command
-summary_of rows = command.Summary (required_number rows)
 
 -- what a simple command makes of the words behind a subcommand's name, where it takes them
 abbrev pub taken_as : {X : Type 0} → App → (List Row → X) → List Text → Option X
 taken_as app made others =
     if is_taken app (handed others) then Some (made (matches_of app (handed others))) else None
 
+-- the command that the words behind a name ask for, or none
+abbrev pub command_by : Text → List Text → Option Command
+command_by name others =
+    if bytes_eq name (codes "list")
+    then option_map (λ u. command.List) (taken_as plain_app nothing_of others)
+    else (if bytes_eq name (codes "run")
+    then option_map run_of (taken_as run_app (plan_of 200000) others)
+    else (if bytes_eq name (codes "race")
+    then taken_as race_app race_of others
+    else (if bytes_eq name (codes "generate")
+    then option_map command.Generate (taken_as number_app required_number others)
+    else (if bytes_eq name (codes "summary")
+    then option_map command.Summary (taken_as number_app required_number others)
+    else (if bytes_eq name (codes "check")
+    then option_map (λ u. command.Check) (taken_as plain_app nothing_of others)
+    else (if bytes_eq name (codes "heat")
+    then option_map heat_of (taken_as run_app (plan_of 200000) others)
+    else (if bytes_eq name (codes "deck")
+    then taken_as deck_app deck_of others
+    else (if bytes_eq name (codes "step")
+    then option_map step_of (taken_as step_app (plan_of 20000) others)
+    else None))))))))
+
 -- the command that the words are, or none
 abbrev pub command_of : List Text → Option Command
 command_of [] = None
-command_of (name ∷ others) =
-    if bytes_eq name (codes "list") then taken_as list_app listing_of others
-    else (if bytes_eq name (codes "run") then taken_as run_app run_of others
-    else (if bytes_eq name (codes "race") then taken_as race_app race_of others
-    else (if bytes_eq name (codes "generate") then taken_as number_app generate_of others
-    else (if bytes_eq name (codes "summary") then taken_as number_app summary_of others
-    else None))))
+command_of (name ∷ others) = command_by name others
 
-abbrev pub AreLimits : ℕ → ℕ → Type 0
-AreLimits turns tick = (1 ≤ turns) × (turns ≤ 200000) × (tick ≤ 1000000)
+-- turns up to so many, and a tick
+abbrev pub AreLimits : ℕ → ℕ → ℕ → Type 0
+AreLimits most turns tick = (1 ≤ turns) × (turns ≤ most) × (tick ≤ 1000000)
 
--- the limits of a run stay within their ranges
+-- the numbers of a command stay within their ranges
 abbrev pub IsInRange : Command → Type 0
-IsInRange (command.Run turns tick seed) = AreLimits turns tick
-IsInRange (command.Race turns tick) = AreLimits turns tick
+IsInRange (command.Run turns tick seed) = AreLimits 200000 turns tick
+IsInRange (command.Race turns tick) = AreLimits 200000 turns tick
+IsInRange (command.Heat turns tick seed) = AreLimits 200000 turns tick
+IsInRange (command.Step turns tick seed) = AreLimits 20000 turns tick
+IsInRange (command.Deck read origin) = origin ≤ 1040384
 IsInRange _ = Unit {0}

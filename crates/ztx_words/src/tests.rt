@@ -13,51 +13,76 @@ fn words(alloc: Global, line: &str) -> Result<Vec<String>, AllocError> {
     Ok(words)
 }
 
+/// Lists of words, and what they ask for.
+const TAKEN: [(&str, Command); 11] = [
+    ("list|--", Command::List),
+    (
+        "run|--turns=1|--seed|007",
+        Command::Run {
+            turns: 1,
+            tick: 0,
+            seed: Some(7),
+        },
+    ),
+    (
+        "race|--tick|2|--turns|+3",
+        Command::Race { turns: 3, tick: 2 },
+    ),
+    (
+        "generate|18446744073709551615",
+        Command::Generate {
+            number: 18_446_744_073_709_551_615,
+        },
+    ),
+    ("summary|--|7", Command::Summary { number: 7 }),
+    ("check", Command::Check),
+    (
+        "heat|--tick=1000000",
+        Command::Heat {
+            turns: 200_000,
+            tick: 1_000_000,
+            seed: None,
+        },
+    ),
+    (
+        "deck",
+        Command::Deck {
+            read: false,
+            origin: 0,
+        },
+    ),
+    (
+        "deck|--origin|1040384|--read",
+        Command::Deck {
+            read: true,
+            origin: 1_040_384,
+        },
+    ),
+    (
+        "step",
+        Command::Step {
+            turns: 20_000,
+            tick: 0,
+            seed: None,
+        },
+    ),
+    (
+        "step|--seed|5|--turns=20000",
+        Command::Step {
+            turns: 20_000,
+            tick: 0,
+            seed: Some(5),
+        },
+    ),
+];
+
 #[test]
 fn takes_command_lines(rt: HostRuntime) -> Result<(), Fail> {
     let alloc = rt.alloc();
-    let run = |turns, tick, seed| Command::Run { turns, tick, seed };
-    for (line, command) in [
-        ("list", Command::List),
-        ("list|--", Command::List),
-        ("run", run(200_000, 0, None)),
-        ("run|--turns|5", run(5, 0, None)),
-        ("run|--turns=5", run(5, 0, None)),
-        (
-            "run|--turns=1|--tick=1000000|--seed=18446744073709551615",
-            run(1, 1_000_000, Some(u64::MAX)),
-        ),
-        (
-            "run|--seed|7|--turns|200000|--tick|0",
-            run(200_000, 0, Some(7)),
-        ),
-        ("run|--seed|+7", run(200_000, 0, Some(7))),
-        ("run|--seed|007|--", run(200_000, 0, Some(7))),
-        ("run|--tick|3", run(200_000, 3, None)),
-        (
-            "race",
-            Command::Race {
-                turns: 200_000,
-                tick: 0,
-            },
-        ),
-        (
-            "race|--tick|2|--turns|3",
-            Command::Race { turns: 3, tick: 2 },
-        ),
-        ("generate|0", Command::Generate { number: 0 }),
-        (
-            "generate|18446744073709551615",
-            Command::Generate { number: u64::MAX },
-        ),
-        ("generate|--|7", Command::Generate { number: 7 }),
-        ("generate|007", Command::Generate { number: 7 }),
-        ("summary|15", Command::Summary { number: 15 }),
-        ("summary|+7", Command::Summary { number: 7 }),
-    ] {
+    for (line, command) in &TAKEN {
         let words = words(alloc, line)?;
         assert!(&rt;
-            read_words(alloc, words.as_slice())? == Some(command),
+            read_words(alloc, words.as_slice())? == Some(*command),
             "{line}"
         );
     }
@@ -65,70 +90,53 @@ fn takes_command_lines(rt: HostRuntime) -> Result<(), Fail> {
 }
 
 /// Lists of words that ask for nothing.
-static OTHER_WORDS: [&str; 57] = [
+const OTHERS: [&str; 40] = [
     "",
     "|list",
     "Run",
-    "lis",
     "ztx",
     "help",
     "--help",
-    "--",
     "list|x",
-    "list|--turns|5",
     "list|",
-    "list|--help",
     "list|-h",
-    "run|x",
     "run|5",
     "run|--turns",
     "run|--turns|0",
     "run|--turns=200001",
     "run|--tick|1000001",
     "run|--turns|5|--turns|6",
-    "run|--seed|1|--seed=1",
     "run|--seed|-5",
-    "run|--seed=-5",
-    "run|--seed|",
     "run|--seed=",
-    "run|--seed|-",
     "run|--seed|18446744073709551616",
-    "run|--seed|x",
-    "run|--seed| 5",
     "run|--tur|5",
-    "run|--Turns|5",
     "run|-t|5",
     "run|--help",
-    "run|-h",
     "run|--version",
-    "run|-V",
     "run|--|5",
     "run|-",
     "race|--seed|5",
-    "race|5",
     "generate",
-    "generate|",
     "generate|x",
-    "generate|-",
     "generate|-7",
     "generate|5|6",
-    "generate|18446744073709551616",
-    "generate|--number|5",
     "generate|--help",
-    "summary",
     "summary|5|",
-    "summary|--help",
-    "check",
     "check|report",
-    "heat",
-    "deck",
-    "step",
+    "heat|--turns|200001",
+    "deck|--origin|1040385",
+    "deck|--read=true",
+    "deck|--read|--read",
+    "deck|--read|5",
+    "step|--turns|20001",
+    "step|--turns|0",
+    "step|--read",
 ];
 
 #[test]
 fn refuses_other_words(rt: HostRuntime) -> Result<(), Fail> {
     let alloc = rt.alloc();
-    for line in &OTHER_WORDS {
+    for line in &OTHERS {
         let words = words(alloc, line)?;
         assert!(&rt; read_words(alloc, words.as_slice())?.is_none(), "{line}");
     }

@@ -1,17 +1,12 @@
-use Rattle.ztx_answers.proofs.Answered.{listed, one_list, reported, one_report, summed, one_summary}
+use Rattle.ztx_answers.proofs.Answered.{summed, one_summary}
+use Rattle.ztx_answers.proofs.Asked.{some_due, one_due}
 use Rattle.ztx_answers.proofs.laws.one_answer_is_due.Goals as goal
 
-pub returns-clause-listed : goal.returns-clause-listed
-returns-clause-listed c = listed
+pub returns-clause-some : goal.returns-clause-some
+returns-clause-some c = some_due
 
-pub returns-clause-one_list : goal.returns-clause-one_list
-returns-clause-one_list c = one_list
-
-pub returns-clause-reported : goal.returns-clause-reported
-returns-clause-reported c = reported
-
-pub returns-clause-one_report : goal.returns-clause-one_report
-returns-clause-one_report c = one_report
+pub returns-clause-one : goal.returns-clause-one
+returns-clause-one c = one_due
 
 pub returns-clause-summed : goal.returns-clause-summed
 returns-clause-summed c = summed

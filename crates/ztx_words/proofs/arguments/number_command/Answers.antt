@@ -8,4 +8,4 @@ pub returns : goal.returns
 unfolding number_app
 returns c = IfOk-weaker c.arg.result _ _
     (λ command added. added.shape c.number.ensures.local
-    ∙ ap₂ with_rule c.list_command.ensures c.number.ensures.rule) c.arg.ensures
+    ∙ ap₂ with_rule c.plain_command.ensures c.number.ensures.rule) c.arg.ensures

@@ -8,7 +8,7 @@ pub returns : goal.returns
 unfolding race_app
 returns c =
     let one = c.in_ok-arg.ensures.shape c.turns.ensures.local
-    ∙ ap₂ with_rule c.list_command.ensures c.turns.ensures.rule in
+    ∙ ap₂ with_rule c.plain_command.ensures c.turns.ensures.rule in
     IfOk-weaker c.arg-2.result _ _
     (λ command added. added.shape c.tick.ensures.local ∙ ap₂ with_rule one c.tick.ensures.rule)
     c.arg-2.ensures

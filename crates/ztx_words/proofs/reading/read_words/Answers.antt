@@ -12,4 +12,8 @@ returns-in_default-as_str-clause-value c =
       race = c.in_default-as_str.not-race;
       generate = c.in_default-as_str.not-generate;
       summary = c.in_default-as_str.not-summary;
+      check = c.in_default-as_str.not-check;
+      heat = c.in_default-as_str.not-heat;
+      deck = c.in_default-as_str.not-deck;
+      step = c.in_default-as_str.not-step;
     })

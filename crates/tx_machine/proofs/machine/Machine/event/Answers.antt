@@ -1,5 +1,6 @@
 -- What holds behind every event holds behind this one.
-use Rattle.std.proofs.Common.{◌≡◌, ◌+◌, ◌<◌, ◌≤◌, None, true, sym, subst, length}
+use Rattle.std.proofs.Common.{◌≡◌, ℕ, ◌+◌, ◌<◌, ◌≤◌, None, true, [], sym, subst, length}
+use Rattle.std.specs.Prelude.{◌⊎◌}
 use Rattle.tx_journal.specs.Image.{cpu_of_event}
 use Rattle.tx_meaning.specs.Limits.{Setting}
 use Rattle.tx_meaning.specs.Meaning.{meaning}
@@ -11,7 +12,11 @@ use Rattle.tx_meaning.specs.Heads.{head_turns}
 use Rattle.tx_meaning.specs.Views.{GoesOnWith, KeepsViews}
 use Rattle.tx_machine.specs.Machine.{Seen, Stands, setting_of, state_of, event_of}
 use Rattle.tx_machine.proofs.Laws.{is_legal, is_held, few_hits, few_turns_left, history_grows, views_stay}
-use Rattle.tx_machine.proofs.Laws.{queue_at_its_ends, few_turns_of_heads, unrejected_head}
+use Rattle.tx_opacity.specs.Opacity.{SeesOneRun}
+use Rattle.tx_machine.proofs.Laws.{one_run, queue_at_its_ends, few_turns_of_heads, unrejected_head}
+use Rattle.tx_machine.proofs.Laws.{some_turns_left, short_ages, few_before, queue_with_reasons}
+use Rattle.tx_headline.specs.Queue.{QueueChanges}
+use Rattle.tx_headline.proofs.Bounds.{turns_of_head}
 use Rattle.tx_machine.proofs.machine.Machine.event.Goals as goal
 
 abbrev setting : goal.After-advance → Setting
@@ -43,6 +48,12 @@ returns-clause-views c =
     c.self.view_is (subst (KeepsViews (setting c) (meaning (setting c) c.self.inside.works.events)) (means c)
     (views_stay (setting c) c.self.inside.works _ c.self.invariant c.args.e (known c)))
 
+pub returns-clause-opaque : goal.returns-clause-opaque
+returns-clause-opaque c =
+    subst (λ (s : Seen). SeesOneRun (setting_of s) (state_of s) (meaning (setting c) c.advance.new.works.events))
+    c.self.view_is (subst (SeesOneRun (setting c) (meaning (setting c) c.self.inside.works.events)) (means c)
+    (one_run (setting c) c.self.inside.works _ c.self.invariant c.args.e (known c)))
+
 pub returns-clause-held : goal.returns-clause-held
 returns-clause-held c = is_held (setting c) c.advance.new.works _ (stands c)
 
@@ -57,6 +68,26 @@ returns-clause-queue c =
 
 pub returns-clause-turns : goal.returns-clause-turns
 returns-clause-turns c i is = few_turns_left (setting c) c.advance.new.works _ (stands c) i is
+
+pub returns-clause-some_left : goal.returns-clause-some_left
+returns-clause-some_left c i is = some_turns_left (setting c) c.advance.new.works _ (stands c) i is
+
+pub returns-clause-ages : goal.returns-clause-ages
+returns-clause-ages c i is = short_ages (setting c) c.advance.new.works _ (stands c) i is
+
+pub returns-clause-behind_few : goal.returns-clause-behind_few
+returns-clause-behind_few c i waits = few_before (setting c) c.advance.new.works _ (stands c) i waits
+
+pub returns-clause-reasons : goal.returns-clause-reasons
+returns-clause-reasons c =
+    subst (λ (s : Seen). QueueChanges (setting_of s) (state_of s) c.args.e) c.self.view_is
+    (queue_with_reasons (setting c) c.self.inside.works _ c.self.invariant c.args.e (known c))
+
+pub returns-clause-head_alone : goal.returns-clause-head_alone
+returns-clause-head_alone c =
+    subst (λ (s : Seen). (i : ℕ) → is_counted_turn (setting_of s) (state_of s) c.args.e i ≡ true
+    → ((state_of s).queue ≡ []) ⊎ (is_head (state_of s) i ≡ true)) c.self.view_is
+    (turns_of_head (setting c) (meaning (setting c) c.self.inside.works.events) c.args.e)
 
 pub returns-clause-head : goal.returns-clause-head
 returns-clause-head c i =

@@ -1,0 +1,47 @@
+-- Those of an instruction that goes.
+use Rattle.std.proofs.Common.{ℕ, sym, ap, subst, ◌∙◌, Option}
+use Rattle.std.specs.Prelude.{All}
+use Rattle.z_regs.specs.Absolute.{absolute_ranges, IsAccessible}
+use Rattle.tx_serial.specs.Fate.{Fate}
+use Rattle.tx_meaning.specs.Limits.{Setting}
+use Rattle.tx_machine.specs.Wanted.{operands_of}
+use Rattle.tx_machine.specs.Works.{kept_by}
+use Rattle.tx_machine.proofs.Seats.{no_seat}
+use Rattle.tx_machine.proofs.Lined.{no_limits}
+use Rattle.tx_machine.proofs.works.Works.operands_wanted.Goals as goal
+
+pub operand_places-requires-clause-few : goal.operand_places-requires-clause-few
+operand_places-requires-clause-few c =
+    let w = c.requires.wants no_seat no_limits in
+    (w.reach _ c.in-Go.need (sym w.text ∙ sym ((c.in-Go.ensures).value no_seat no_limits))).few
+
+pub operand_places-requires-clause-accessible : goal.operand_places-requires-clause-accessible
+operand_places-requires-clause-accessible c =
+    let w = c.requires.wants no_seat no_limits in
+    subst (λ (p : Option ℕ). All (IsAccessible p) c.in-Go.need) (sym (c.prefix-prefix.ensures.value no_seat))
+    (w.reach _ c.in-Go.need (sym w.text ∙ sym ((c.in-Go.ensures).value no_seat no_limits))).accessible
+
+pub returns-in-Go-clause-value : goal.returns-in-Go-clause-value
+returns-in-Go-clause-value c rest limits =
+    let k = kept_by rest c.args.self.now in
+    let prefix = (k.locals c.args.cpu).attempt.cpu.prefix in
+    c.operand_places.ensures.value
+    ∙ ap (λ (p : Option ℕ). absolute_ranges p c.in-Go.need) (c.prefix-prefix.ensures.value rest)
+    ∙ ap (λ (f : Fate). absolute_ranges prefix (operands_of f))
+    ((c.in-Go.ensures).value rest limits ∙ (c.requires.wants rest limits).text)
+
+pub returns-in-Ends-clause-value : goal.returns-in-Ends-clause-value
+returns-in-Ends-clause-value c rest limits =
+    let k = kept_by rest c.args.self.now in
+    let prefix = (k.locals c.args.cpu).attempt.cpu.prefix in
+    c.none.ensures
+    ∙ ap (λ (f : Fate). absolute_ranges prefix (operands_of f))
+    ((c.in-Ends.ensures).value rest limits ∙ (c.requires.wants rest limits).text)
+
+pub returns-in-Stops-clause-value : goal.returns-in-Stops-clause-value
+returns-in-Stops-clause-value c rest limits =
+    let k = kept_by rest c.args.self.now in
+    let prefix = (k.locals c.args.cpu).attempt.cpu.prefix in
+    c.none-in-Stops.ensures
+    ∙ ap (λ (f : Fate). absolute_ranges prefix (operands_of f))
+    ((c.in-Stops.ensures).value rest limits ∙ (c.requires.wants rest limits).text)

@@ -1,0 +1,2 @@
+-- What live attempts see.
+pub mod Opacity

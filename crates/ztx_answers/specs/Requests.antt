@@ -1,0 +1,21 @@
+-- What is asked of the bytes of an input, and what is due then.
+use Rattle.std.specs.Prelude.{ℕ, List}
+use Rattle.ztx_answers.specs.declared.requests.Request.{Request}
+use Rattle.ztx_answers.specs.declared.requests.Request.TheVariants as request
+use Rattle.ztx_answers.specs.Due.{IsDueToList, IsDueToRun}
+use Rattle.ztx_answers.specs.Runs.{AreLimits}
+
+-- how many bytes an input may have
+abbrev pub most_of : Request → ℕ
+most_of request.List = 16777216
+most_of (request.Run turns tick seed) = 16777216
+
+-- the numbers of the request are in their ranges
+abbrev pub IsAllowed : Request → Type 0
+IsAllowed request.List = Unit {0}
+IsAllowed (request.Run turns tick seed) = AreLimits turns tick
+
+-- what is due to the request and an input: a status with a text
+abbrev pub IsDue : Request → List ℕ → ℕ → List ℕ → Type 0
+IsDue request.List input = IsDueToList input
+IsDue (request.Run turns tick seed) input = IsDueToRun turns tick seed input

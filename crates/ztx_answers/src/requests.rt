@@ -1,0 +1,57 @@
+//! What is asked of the bytes of an input.
+ghost use Rattle.std.specs.Prelude.{◌≡◌, ℕ, ◌<◌, ◌≤◌, List, IfOk, length};
+ghost use Rattle.ztx_answers.specs.Due.{IsStatus};
+ghost use Rattle.ztx_answers.specs.Requests.{IsAllowed, IsDue, most_of};
+
+use crate::answer::{Answer, NoMemory};
+use crate::listed::{list, refuse_long_listing, run};
+use std::alloc::Global;
+use z_assemble::MOST_BYTES;
+
+/// What is asked of an input.
+#[derive(Clone, Copy, Debug, PartialEq, Eq)]
+pub enum Request {
+    /// The instructions of a listing.
+    List,
+    /// The report of a listing's run: each CPU has at most `turns` counted turns, and a tick comes with each
+    /// turn whose number is a multiple of `tick`, where that is not 0. The seed draws a schedule for a listing
+    /// that has none.
+    Run {
+        turns: u32,
+        tick: u32,
+        seed: Option<u64>,
+    },
+}
+
+/// How many bytes an input of the request may have.
+pub fn most_bytes(request: Request) -> usize
+    ensures { result ≡ most_of request }
+{
+    match request {
+        Request::List | Request::Run { .. } => MOST_BYTES,
+    }
+}
+
+/// What is due to the request and an input that is not too long.
+pub fn answer_to(alloc: Global, request: Request, input: &[u8]) -> Result<Answer, NoMemory>
+    requires allowed { IsAllowed request }
+    requires short { length input.now ≤ most_of request }
+    ensures due { IfOk result (λ answer. IsDue request input.now answer.status answer.text.items) }
+    ensures statuses { IfOk result (λ answer. IsStatus answer.status) }
+{
+    match request {
+        Request::List => list(alloc, input),
+        Request::Run { turns, tick, seed } => run(alloc, input, turns, tick, seed),
+    }
+}
+
+/// What is due to the request and an input that is too long.
+pub fn refuse_long(alloc: Global, request: Request) -> Result<Answer, NoMemory>
+    ensures due { IfOk result (λ answer. (input : List ℕ) → most_of request < length input
+        → IsDue request input answer.status answer.text.items) }
+    ensures status { IfOk result (λ answer. answer.status ≡ 5) }
+{
+    match request {
+        Request::List | Request::Run { .. } => refuse_long_listing(alloc),
+    }
+}
