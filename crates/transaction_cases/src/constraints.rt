@@ -172,13 +172,6 @@ fn two_operands_of_one_instruction(rt: HostRuntime) -> Result<(), Fail> {
     Ok(())
 }
 
-/// Adds operands of an instruction, where they are admitted.
-fn take(constraint: &mut Constraint, instr: &Instr, touches: &Touches) {
-    if constraint.admit_operands(instr, touches).is_ok() {
-        constraint.add(touches);
-    }
-}
-
 #[test]
 fn same_octowords_in_any_order(rt: HostRuntime) -> Result<(), Fail> {
     let one = operand(0x9000, 8);
@@ -186,11 +179,15 @@ fn same_octowords_in_any_order(rt: HostRuntime) -> Result<(), Fail> {
     let fetch = instruction(b"LG", 0)?;
     let mut first = Constraint::begin(0x4000);
     let mut second = Constraint::begin(0x4000);
-    take(&mut first, &fetch, &one);
-    take(&mut first, &fetch, &other);
-    take(&mut second, &fetch, &other);
+    assert!(rt; first.admit_operands(&fetch, &one).is_ok());
+    first.add(&one);
+    assert!(rt; first.admit_operands(&fetch, &other).is_ok());
+    first.add(&other);
+    assert!(rt; second.admit_operands(&fetch, &other).is_ok());
+    second.add(&other);
     let half = first.same(&second);
-    take(&mut second, &fetch, &one);
+    assert!(rt; second.admit_operands(&fetch, &one).is_ok());
+    second.add(&one);
     assert_eq!(rt; [half, first.same(&second)], [false, true]);
     Ok(())
 }

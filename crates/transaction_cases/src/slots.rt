@@ -30,6 +30,7 @@ fn keys_have_slots(rt: HostRuntime) -> Result<(), Fail> {
 }
 
 #[test]
+#[tactic(auto, unfolding(slot_index::specs::Slots::slot_in))]
 fn a_key_is_at_its_slot(rt: HostRuntime) -> Result<(), Fail> {
     let mut index = SlotIndex::open(rt.alloc(), 4096, 3)?;
     index.add(40);
@@ -40,10 +41,13 @@ fn a_key_is_at_its_slot(rt: HostRuntime) -> Result<(), Fail> {
 }
 
 #[test]
+#[tactic(auto, unfolding(slot_index::specs::Slots::slot_in))]
 fn a_copy_has_the_same_keys(rt: HostRuntime) -> Result<(), Fail> {
-    let index = two_keys(rt.alloc())?;
+    let mut index = SlotIndex::open(rt.alloc(), 4096, 3)?;
     let mut other = SlotIndex::open(rt.alloc(), 4096, 3)?;
+    index.add(4095);
+    other.add(40);
     other.copy_from(&index);
-    assert_eq!(rt; [other.slot_of(40), other.slot_of(4095)], [None, Some(1)]);
+    assert_eq!(rt; [other.slot_of(40), other.slot_of(4095)], [None, Some(0)]);
     Ok(())
 }
