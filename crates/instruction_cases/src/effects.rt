@@ -1,6 +1,10 @@
 //! Expected values follow from what the architecture says of the operations; where a line says so, they are
 //! those that QEMU and Hercules answer.
 
+use std::test::Fail;
+use tx_control::Exception;
+use tx_control::codes::FIXED_POINT_OVERFLOW;
+use z_arith::{Answer, Shift, Width};
 use z_effect::kind::{
     Branch, Combination, General, Kind, Logic, Operation, Order, Part, Place, Source, Storage,
     Transaction,
@@ -10,10 +14,6 @@ use z_effect::{
     item, kind_of, logic, next_address, opened, operand, put, put_pair, register, settle, shift,
     size_in, target, transact, zero_code,
 };
-use std::test::Fail;
-use tx_control::Exception;
-use tx_control::codes::FIXED_POINT_OVERFLOW;
-use z_arith::{Answer, Shift, Width};
 use z_instr::instr::{Fields, Instr};
 use z_instr::lookup::find;
 use z_instr::operand::Size;
@@ -83,16 +83,21 @@ fn kinds_by_operations(rt: HostRuntime) -> Result<(), Fail> {
 fn operations_on_words(rt: HostRuntime) {
     let w = Width::Word;
     // as QEMU answers for AR and for LCR
-    let sum = combine(Operation::Add, w, 0, 0x7FFF_FFFF, 0x80);
-    assert_eq!(rt; sum, answer(0x8000_007F, 3, true));
-    let negated = combine(Operation::LoadComplement, w, 2, 0, 0xFFFF_FFFF);
-    assert_eq!(rt; negated, answer(1, 2, false));
-    let product = combine(Operation::Multiply, w, 3, 0xFFFF_FF80, 0xFFFF_FF80);
-    assert_eq!(rt; product, answer(0x4000, 3, false));
-    let difference = combine(Operation::Subtract, w, 0, 5, 7);
-    assert_eq!(rt; difference, answer(0xFFFF_FFFE, 1, false));
-    let differing = combine(Operation::Logic(Logic::ExclusiveOr), w, 3, 5, 5);
-    assert_eq!(rt; differing, answer(0, 0, false));
+    let made = [
+        combine(Operation::Add, w, 0, 0x7FFF_FFFF, 0x80),
+        combine(Operation::LoadComplement, w, 2, 0, 0xFFFF_FFFF),
+        combine(Operation::Multiply, w, 3, 0xFFFF_FF80, 0xFFFF_FF80),
+        combine(Operation::Subtract, w, 0, 5, 7),
+        combine(Operation::Logic(Logic::ExclusiveOr), w, 3, 5, 5),
+    ];
+    let wanted = [
+        answer(0x8000_007F, 3, true),
+        answer(1, 2, false),
+        answer(0x4000, 3, false),
+        answer(0xFFFF_FFFE, 1, false),
+        answer(0, 0, false),
+    ];
+    assert_eq!(rt; made, wanted);
 }
 
 #[test]
@@ -107,7 +112,6 @@ fn operations_with_carry(rt: HostRuntime) {
         0x8000_0000_0000_0001,
         highest,
     );
-    assert_eq!(rt; sum, answer(0, 2, false));
     let carried = combine(
         Operation::AddWithCarry,
         w,
@@ -115,16 +119,23 @@ fn operations_with_carry(rt: HostRuntime) {
         0x8000_0000_0000_0001,
         1 << 63,
     );
-    assert_eq!(rt; carried, answer(2, 3, false));
     let borrowed = combine(Operation::SubtractWithBorrow, w, 1, 0, 0);
-    assert_eq!(rt; borrowed, answer(u64::MAX, 1, false));
+    let wanted = [
+        answer(0, 2, false),
+        answer(2, 3, false),
+        answer(u64::MAX, 1, false),
+    ];
+    assert_eq!(rt; [sum, carried, borrowed], wanted);
 }
 
 #[test]
 fn comparisons(rt: HostRuntime) {
-    assert_eq!(rt; compare(Order::Signed, Width::Word, 0xFFFF_FFFF, 1), 1);
-    assert_eq!(rt; compare(Order::Logical, Width::Word, 0xFFFF_FFFF, 1), 2);
-    assert_eq!(rt; compare(Order::Signed, Width::Double, 0xFFFF_FFFF, 1), 2);
+    let codes = [
+        compare(Order::Signed, Width::Word, 0xFFFF_FFFF, 1),
+        compare(Order::Logical, Width::Word, 0xFFFF_FFFF, 1),
+        compare(Order::Signed, Width::Double, 0xFFFF_FFFF, 1),
+    ];
+    assert_eq!(rt; codes, [1, 2, 2]);
 }
 
 #[test]
@@ -137,15 +148,15 @@ fn bits(rt: HostRuntime) {
 #[test]
 fn pieces(rt: HostRuntime) {
     let signed = Part::Signed(Size::Halfword);
-    assert_eq!(rt; extend(Width::Word, signed, 0x8000), 0xFFFF_8000);
-    assert_eq!(rt;
+    let values = [
+        extend(Width::Word, signed, 0x8000),
         extend(Width::Double, signed, 0x8000),
-        0xFFFF_FFFF_FFFF_8000
-    );
-    assert_eq!(rt; extend(Width::Double, Part::Plain(Size::Byte), 0x80), 0x80);
-    assert_eq!(rt; immediate(Width::Word, -2), 0xFFFF_FFFE);
-    assert!(rt; size_in(signed) == Size::Halfword);
-    assert!(rt; item(Width::Word) == Size::Word);
+        extend(Width::Double, Part::Plain(Size::Byte), 0x80),
+        immediate(Width::Word, -2),
+    ];
+    let wanted = [0xFFFF_8000, 0xFFFF_FFFF_FFFF_8000, 0x80, 0xFFFF_FFFE];
+    assert_eq!(rt; values, wanted);
+    assert!(rt; size_in(signed) == Size::Halfword && item(Width::Word) == Size::Word);
 }
 
 #[test]
@@ -153,36 +164,45 @@ fn shifts(rt: HostRuntime) {
     let w = Width::Word;
     // a shift without a sign leaves the code
     let plain = shift(Shift::LeftLogical, w, 3, 0x8000_0001, 1);
-    assert_eq!(rt; plain, answer(2, 3, false));
     // one is lost, unlike the sign
     let signed = shift(Shift::LeftSigned, w, 0, 0x4000_0001, 1);
-    assert_eq!(rt; signed, answer(2, 3, true));
     // a word rotates by the amount modulo 32
     let around = shift(Shift::Rotate, w, 1, 0x8000_0001, 33);
-    assert_eq!(rt; around, answer(3, 1, false));
+    let wanted = [answer(2, 3, false), answer(2, 3, true), answer(3, 1, false)];
+    assert_eq!(rt; [plain, signed, around], wanted);
 }
 
 #[test]
 fn registers(rt: HostRuntime) {
     let mut image = cpu(0x1111_2222_3333_4444);
-    assert_eq!(rt; operand(&image, Width::Word, 1), 0x3333_4444);
+    let right = operand(&image, Width::Word, 1);
     put(&mut image, Width::Word, 1, 5);
-    assert_eq!(rt; register(&image, 1), 0x1111_2222_0000_0005);
-    assert_eq!(rt; (after(2), after(15)), (3, 0));
     put_pair(&mut image, Width::Double, 2, 7, 8);
-    assert_eq!(rt; (register(&image, 2), register(&image, 3)), (7, 8));
+    let whole = [
+        register(&image, 1),
+        register(&image, 2),
+        register(&image, 3),
+    ];
+    assert_eq!(rt;
+        (right, whole),
+        (0x3333_4444, [0x1111_2222_0000_0005, 7, 8])
+    );
+    assert_eq!(rt; (after(2), after(15)), (3, 0));
 }
 
 #[test]
 fn places(rt: HostRuntime) -> Result<(), Fail> {
     let mut image = cpu(0);
     let back = instruction(b"LARL", -3)?;
-    assert_eq!(rt; target(&back, &image), 0x3FFA);
-    assert_eq!(rt; next_address(&image, 6), 0x4006);
+    let behind = target(&back, &image);
+    let next = next_address(&image, 6);
     image.address = u64::MAX - 1;
-    assert_eq!(rt; target(&instruction(b"LARL", 2)?, &image), 2);
+    let around = target(&instruction(b"LARL", 2)?, &image);
     advance(&mut image, 4);
-    assert_eq!(rt; image.address, 2);
+    assert_eq!(rt;
+        [behind, next, around, image.address],
+        [0x3FFA, 0x4006, 2, 2]
+    );
     Ok(())
 }
 
@@ -222,14 +242,15 @@ fn transaction_steps(rt: HostRuntime) -> Result<(), Fail> {
         ..Fields::zero()
     };
     let assist = Instr::new(assist, fields).ok_or("an assist")?;
-    assert_eq!(rt; delay(&assist, &image), 64);
+    let turns = delay(&assist, &image);
     transact(Transaction::ExtractDepth, &assist, &mut image, 4, 16);
-    let first = image.general[1];
-    assert_eq!(rt; first, 16);
-    assert_eq!(rt; image.address, 0x4004);
-    let overflow = exception(FIXED_POINT_OVERFLOW, 6);
-    interrupt(&mut image, overflow);
-    assert_eq!(rt; image.address, 0x400A);
+    let depth = image.general[1];
+    let next = image.address;
+    interrupt(&mut image, exception(FIXED_POINT_OVERFLOW, 6));
+    assert_eq!(rt;
+        (turns, depth, next, image.address),
+        (64, 16, 0x4004, 0x400A)
+    );
     assert!(rt; image.state == RunState::Interrupted(FIXED_POINT_OVERFLOW));
     Ok(())
 }
@@ -244,7 +265,7 @@ fn a_level_is_opened(rt: HostRuntime) -> Result<(), Fail> {
     let begin = Instr::new(op, fields).ok_or("a begin")?;
     assert!(rt; begins(begin.op));
     let level = opened(&begin, &cpu(0));
-    assert_eq!(rt; level.mask, 0xFF);
-    assert!(rt; level.constrained && !level.f && level.pifc == 0);
+    let told = (level.mask, level.constrained, level.f, level.pifc);
+    assert_eq!(rt; told, (0xFF, true, false, 0));
     Ok(())
 }

@@ -3,7 +3,6 @@
 ghost use Rattle.std.specs.Prelude.{◌<◌, ◌^◌, ◌↔◌, IsTrue};
 ghost use Rattle.z_arith.specs.Whole.{bits};
 
-use std::test::Fail;
 use z_arith::Shift::*;
 use z_arith::Width::*;
 use z_arith::shifts::shift;
@@ -64,30 +63,39 @@ fn answers() -> bool {
 
 #[test]
 fn corners_of_sums(rt: HostRuntime) {
-    assert!(rt; sums());
-    assert!(rt; differences());
-    assert!(rt; logical_sums());
-    assert!(rt; logical_differences());
-    assert!(rt; signs());
+    let right = [
+        sums(),
+        differences(),
+        logical_sums(),
+        logical_differences(),
+        signs(),
+    ];
+    assert_eq!(rt; right, [true; 5]);
 }
 
 #[test]
 fn corners_of_products(rt: HostRuntime) {
-    assert!(rt; low_products());
-    assert!(rt; word_products());
-    assert!(rt; logical_products());
-    assert!(rt; word_quotients());
-    assert!(rt; quotients());
-    assert!(rt; logical_quotients());
+    let right = [
+        low_products(),
+        word_products(),
+        logical_products(),
+        word_quotients(),
+        quotients(),
+        logical_quotients(),
+    ];
+    assert_eq!(rt; right, [true; 6]);
 }
 
 #[test]
 fn corners_of_bits(rt: HostRuntime) {
-    assert!(rt; orders());
-    assert!(rt; shifted());
-    assert!(rt; byte_tests());
-    assert!(rt; halfword_tests());
-    assert!(rt; first_ones());
+    let right = [
+        orders(),
+        shifted(),
+        byte_tests(),
+        halfword_tests(),
+        first_ones(),
+    ];
+    assert_eq!(rt; right, [true; 5]);
 }
 
 // Operands, value and code.
@@ -631,13 +639,10 @@ fn first_ones() -> bool {
 }
 
 #[test]
-fn patterns_and_numbers(rt: HostRuntime) -> Result<(), Fail> {
-    assert_eq!(rt; low(Word, ONES), 0xffff_ffff);
-    assert_eq!(rt; low(Double, ONES), ONES);
-    assert_eq!(rt; number(Word, 0x8000_0000), -0x8000_0000);
-    assert_eq!(rt; number(Double, HIGHEST), i64::MAX);
-    assert_eq!(rt; doubleword(-1), ONES);
-    assert_eq!(rt; word(-1), 0xffff_ffff);
-    assert_eq!(rt; word(0x1_0000_0007), 7);
-    Ok(())
+fn patterns_and_numbers(rt: HostRuntime) {
+    let patterns = [low(Word, ONES), low(Double, ONES), doubleword(-1)];
+    assert_eq!(rt; patterns, [0xffff_ffff, ONES, ONES]);
+    let numbers = [number(Word, 0x8000_0000), number(Double, HIGHEST)];
+    assert_eq!(rt; numbers, [-0x8000_0000, i64::MAX]);
+    assert_eq!(rt; [word(-1), word(0x1_0000_0007)], [0xffff_ffff, 7]);
 }

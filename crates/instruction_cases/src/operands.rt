@@ -1,12 +1,12 @@
 //! Operand tests of single instructions, expected as the architecture orders them.
 
-use z_touch::{fetchable, specified, touches};
 use std::test::Fail;
 use tx_control::{Exception, codes};
 use z_instr::addresses::{first_address, second_address};
 use z_instr::instr::{Fields, Instr};
 use z_instr::lookup::find;
 use z_regs::{CpuImage, Guard, Range, Touches};
+use z_touch::{fetchable, specified, touches};
 
 /// Storage operands at base register 1 with this displacement.
 fn at(d: i32) -> Fields {
@@ -42,24 +42,26 @@ fn code(name: &[u8], fields: Fields, base: u64, depth: u32) -> Result<u16, Fail>
     }
 }
 
-#[test]
-fn edges_of_storage(rt: HostRuntime) -> Result<(), Fail> {
-    assert_eq!(rt; code(b"LG", at(0), 8192, 0)?, 0);
-    assert_eq!(rt; code(b"LG", at(0), 8191, 0)?, codes::ADDRESSING);
-    assert_eq!(rt; code(b"LG", at(0), 1048568, 0)?, 0);
-    assert_eq!(rt; code(b"LG", at(0), 1048569, 0)?, codes::ADDRESSING);
-    assert_eq!(rt; code(b"LG", at(0), u64::MAX - 3, 0)?, codes::ADDRESSING);
-    assert_eq!(rt; code(b"LG", at(8193), u64::MAX, 0)?, 0);
-    assert_eq!(rt; code(b"LG", at(-1), 0, 0)?, codes::ADDRESSING);
-    Ok(())
-}
+/// An operation, its displacement, register 1, and the code that is expected.
+static PLACES: [(&[u8], i32, u64, u16); 11] = [
+    (b"LG", 0, 8192, 0),
+    (b"LG", 0, 8191, codes::ADDRESSING),
+    (b"LG", 0, 1048568, 0),
+    (b"LG", 0, 1048569, codes::ADDRESSING),
+    (b"LG", 0, u64::MAX - 3, codes::ADDRESSING),
+    (b"LG", 8193, u64::MAX, 0),
+    (b"LG", -1, 0, codes::ADDRESSING),
+    (b"LG", 0, 0x4000, 0),
+    (b"STG", 0, 0x3FF8, 0),
+    (b"STG", 0, 0x3FFC, codes::PROTECTION),
+    (b"STG", 0, 0x5000, 0),
+];
 
 #[test]
-fn text_pages_are_protected(rt: HostRuntime) -> Result<(), Fail> {
-    assert_eq!(rt; code(b"LG", at(0), 0x4000, 0)?, 0);
-    assert_eq!(rt; code(b"STG", at(0), 0x3FF8, 0)?, 0);
-    assert_eq!(rt; code(b"STG", at(0), 0x3FFC, 0)?, codes::PROTECTION);
-    assert_eq!(rt; code(b"STG", at(0), 0x5000, 0)?, 0);
+fn edges_of_storage_and_text(rt: HostRuntime) -> Result<(), Fail> {
+    for (name, d, base, wanted) in PLACES {
+        assert_eq!(rt; code(name, at(d), base, 0)?, wanted);
+    }
     let move_to_text = Fields {
         b: 1,
         imm: 7,
@@ -104,25 +106,32 @@ fn what_is_not_selected_is_not_touched(rt: HostRuntime) -> Result<(), Fail> {
     Ok(())
 }
 
+/// A begin, register 1, the depth, and the code that is expected.
+static BEGINS: [(&[u8], u64, u32, u16); 6] = [
+    (b"TBEGIN", 0x5008, 0, 0),
+    (b"TBEGIN", 0x5004, 0, codes::SPECIFICATION),
+    (b"TBEGIN", 0x3F08, 0, codes::PROTECTION),
+    (b"TBEGIN", 0, 0, codes::ADDRESSING),
+    (b"TBEGIN", 0, 1, 0),
+    (b"TBEGINC", 0x5008, 0, codes::SPECIFICATION),
+];
+
 #[test]
 fn begins_and_services(rt: HostRuntime) -> Result<(), Fail> {
     let block = Fields {
         b: 1,
         ..Fields::zero()
     };
-    assert_eq!(rt; code(b"TBEGIN", block, 0x5008, 0)?, 0);
-    assert_eq!(rt; code(b"TBEGIN", block, 0x5004, 0)?, codes::SPECIFICATION);
-    assert_eq!(rt; code(b"TBEGIN", block, 0x3F08, 0)?, codes::PROTECTION);
-    assert_eq!(rt; code(b"TBEGIN", block, 0, 0)?, codes::ADDRESSING);
-    assert_eq!(rt; code(b"TBEGIN", block, 0, 1)?, 0);
-    assert_eq!(rt; code(b"TBEGINC", block, 0x5008, 0)?, codes::SPECIFICATION);
-    let served = Fields::zero();
-    let unserved = Fields {
-        imm: 1,
-        ..Fields::zero()
-    };
-    assert_eq!(rt; code(b"SVC", served, 0, 0)?, 0);
-    assert_eq!(rt; code(b"SVC", unserved, 0, 0)?, codes::OPERATION);
+    for (name, base, depth, wanted) in BEGINS {
+        assert_eq!(rt; code(name, block, base, depth)?, wanted);
+    }
+    for (imm, wanted) in [(0, 0), (1, codes::OPERATION)] {
+        let service = Fields {
+            imm,
+            ..Fields::zero()
+        };
+        assert_eq!(rt; code(b"SVC", service, 0, 0)?, wanted);
+    }
     Ok(())
 }
 
@@ -163,31 +172,28 @@ fn addresses_wrap(rt: HostRuntime) -> Result<(), Fail> {
     Ok(())
 }
 
+/// An address, the length that is fetched, and the code of the exception; 0 where there is none.
+static FETCHES: [(u64, u8, u16); 5] = [
+    (0x4ffe, 2, 0),
+    (0x4ffe, 4, codes::PROTECTION),
+    (1_048_574, 4, codes::PROTECTION),
+    (u64::MAX - 1, 6, codes::ADDRESSING),
+    (u64::MAX, 2, codes::SPECIFICATION),
+];
+
 /// The exception of a fetch: odd before closed, and then byte by byte.
 #[test]
 fn fetches(rt: HostRuntime) {
     let mut guard = Guard::none();
     guard.add(4);
-    let mut image = CpuImage::entering(0x4ffe);
-    assert_eq!(rt; fetchable(&image, &guard, 2), Ok(()));
-    let protected = Exception {
-        code: codes::PROTECTION,
-        fetch: true,
-        length: 0,
-    };
-    assert_eq!(rt; fetchable(&image, &guard, 4), Err(protected));
-    image.address = 1_048_574;
-    assert_eq!(rt; fetchable(&image, &guard, 4), Err(protected));
-    image.address = u64::MAX - 1;
-    let closed = Exception {
-        code: codes::ADDRESSING,
-        ..protected
-    };
-    assert_eq!(rt; fetchable(&image, &guard, 6), Err(closed));
-    image.address = u64::MAX;
-    let odd = Exception {
-        code: codes::SPECIFICATION,
-        ..protected
-    };
-    assert_eq!(rt; fetchable(&image, &guard, 2), Err(odd));
+    for (address, length, code) in FETCHES {
+        let image = CpuImage::entering(address);
+        let exception = Exception {
+            code,
+            fetch: true,
+            length: 0,
+        };
+        let wanted = if code == 0 { Ok(()) } else { Err(exception) };
+        assert_eq!(rt; fetchable(&image, &guard, length), wanted);
+    }
 }

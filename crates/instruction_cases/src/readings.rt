@@ -1,9 +1,9 @@
 //! Encodings that an outside assembler gave, the ends of each field's range, and every row by way of its
 //! bytes.
 
-use z_decode::{Code, NoReading, decode, encode, length_of};
 use std::process::Abort;
 use std::test::Fail;
+use z_decode::{Code, NoReading, decode, encode, length_of};
 use z_instr::instr::{Fields, Instr};
 use z_instr::limits::{Bounds, field_limits};
 use z_instr::lookup::{find, line, row};

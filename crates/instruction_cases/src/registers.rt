@@ -1,10 +1,10 @@
 //! Registers, storage, prefixes and ranges at values worked by hand.
 
+use std::test::Fail;
 use z_regs::{
     Bytes, CpuImage, Guard, Range, RealView, RunState, Storage, Touches, Waiting, absolute,
     load_psw, psw_of,
 };
-use std::test::Fail;
 
 #[test]
 fn storage_keeps_bytes(rt: HostRuntime) -> Result<(), Fail> {

@@ -1,6 +1,5 @@
 //! Reports and summaries of machines against those of an independent model.
 
-use tx_report::{report, status, summary};
 use std::alloc::Global;
 use std::process::Abort;
 use std::sync::Arc;
@@ -10,6 +9,7 @@ use tx_journal::Event;
 use tx_machine::machine::Machine;
 use tx_meaning::Limits;
 use tx_meaning::limits::MOST_TURNS;
+use tx_report::{report, status, summary};
 use z_assemble::assemble;
 
 /// The machine of a listing, from which nothing has happened.

@@ -3,13 +3,13 @@ ghost use Rattle.std.specs.Prelude.{◌≡◌, IfOk, count_by};
 ghost use Rattle.tx_meaning.specs.Meaning.{is_external};
 ghost use Rattle.tx_schedule.specs.Ran.{MayRun};
 
-use tx_schedule::{run_drawn, run_given, run_planned, run_round};
 use std::alloc::Global;
 use std::sync::Arc;
 use std::test::Fail;
 use tx_journal::Event;
 use tx_machine::machine::Machine;
 use tx_meaning::limits::Limits;
+use tx_schedule::{run_drawn, run_given, run_planned, run_round};
 use z_assemble::assemble;
 
 /// Two CPUs that count in one doubleword, and one that halts at once.
@@ -102,17 +102,23 @@ fn planned(alloc: Global, listing: &str, turns: u32, seed: Option<u64>) -> Resul
     recorded(alloc, &machine)
 }
 
+/// A listing, the turns that each CPU may have, a seed, and what is recorded of the planned run.
+static PLANNED: [(&str, u32, Option<u64>, &str); 6] = [
+    (GIVEN, 1000, Some(3), RECORDED),
+    (THREE, 1000, Some(0), DRAWN),
+    (THREE, 1000, None, ROUND),
+    (THREE, 1000, Some(u64::MAX), "1,2,1,2,0,1,1,1,0,0,1,0,0,0,"),
+    (THREE, 2, Some(0), "2,0,1,1,2,0,"),
+    (THREE, 2, None, "0,1,2,0,1,2,"),
+];
+
 #[test]
 fn turns_that_are_planned(rt: HostRuntime) -> Result<(), Fail> {
-    let alloc = rt.alloc();
-    assert_eq!(rt; planned(alloc, GIVEN, 1000, Some(3))?.as_str(), RECORDED);
-    assert_eq!(rt; planned(alloc, THREE, 1000, Some(0))?.as_str(), DRAWN);
-    assert_eq!(rt; planned(alloc, THREE, 1000, None)?.as_str(), ROUND);
-    assert_eq!(rt;
-        planned(alloc, THREE, 1000, Some(u64::MAX))?.as_str(),
-        "1,2,1,2,0,1,1,1,0,0,1,0,0,0,"
-    );
-    assert_eq!(rt; planned(alloc, THREE, 2, Some(0))?.as_str(), "2,0,1,1,2,0,");
-    assert_eq!(rt; planned(alloc, THREE, 2, None)?.as_str(), "0,1,2,0,1,2,");
+    for (listing, turns, seed, wanted) in &PLANNED {
+        assert_eq!(rt;
+            planned(rt.alloc(), listing, *turns, *seed)?.as_str(),
+            *wanted
+        );
+    }
     Ok(())
 }

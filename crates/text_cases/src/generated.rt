@@ -1,8 +1,8 @@
 //! Listings that an independent model of the machine gives for numbers.
 
-use tx_gen::{counters, generate};
 use std::alloc::Global;
 use std::test::Fail;
+use tx_gen::{counters, generate};
 
 /// How often each CPU counts and at which address, and how many bytes are shown, in the listings of 0 to 15.
 static DRAWN: [&str; 16] = [

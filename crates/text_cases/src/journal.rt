@@ -1,14 +1,14 @@
 //! Texts of entries and events both ways, and images that are compared, by values from outside.
 ghost use Rattle.std.specs.Prelude.{◌≡◌, ◌↔◌, IsTrue};
 
-use tx_journal::{
-    Entry, EntryText, Event, Image, Show, add_history, add_schedule, entry_text, read_entry,
-    read_number, schedule_text,
-};
 use std::alloc::Global;
 use std::process::Abort;
 use std::test::Fail;
 use tx_control::{Exception, Why};
+use tx_journal::{
+    Entry, EntryText, Event, Image, Show, add_history, add_schedule, entry_text, read_entry,
+    read_number, schedule_text,
+};
 use z_assemble::assemble;
 
 /// What a line with these parts says.
@@ -36,100 +36,72 @@ fn both_ways(
     Ok(())
 }
 
+/// Entries with their lines, and what these are read as: kind, CPU, count.
+static ENTRIES: [(Entry, &[u8], u8, u32, u32); 4] = [
+    (Entry::Step(0), b"S 0\n", b'S', 0, 0),
+    (Entry::Commit(15, 1155), b"C 15 1155\n", b'C', 15, 1155),
+    (Entry::Tdb(10), b"T 10\n", b'T', 10, 0),
+    (Entry::Interrupt(3), b"I 3\n", b'I', 3, 0),
+];
+
 #[test]
 fn lines_of_entries(rt: HostRuntime) -> Result<(), Fail> {
-    let alloc = rt.alloc();
-    both_ways(&rt, alloc, Entry::Step(0), b"S 0\n", told(b'S', 0, 0, 0, 0))?;
-    both_ways(
-        &rt,
-        alloc,
-        Entry::Commit(15, 1155),
-        b"C 15 1155\n",
-        told(b'C', 15, 1155, 0, 0),
-    )?;
-    both_ways(
-        &rt,
-        alloc,
-        Entry::Tdb(10),
-        b"T 10\n",
-        told(b'T', 10, 0, 0, 0),
-    )?;
-    both_ways(
-        &rt,
-        alloc,
-        Entry::Interrupt(3),
-        b"I 3\n",
-        told(b'I', 3, 0, 0, 0),
-    )?;
+    for (entry, line, kind, cpu, count) in &ENTRIES {
+        both_ways(
+            &rt,
+            rt.alloc(),
+            *entry,
+            line,
+            told(*kind, *cpu, *count, 0, 0),
+        )?;
+    }
     Ok(())
 }
 
-/// The abort of CPU 1 after two instructions by this cause has this line, which is read as this code and
-/// detail.
-fn abort_both_ways(
-    rt: &impl Abort,
-    alloc: Global,
-    why: Why,
-    line: &[u8],
-    code: u64,
-    detail: u64,
-) -> Result<(), Fail> {
-    both_ways(
-        rt,
-        alloc,
-        Entry::Abort(1, 2, why),
-        line,
-        told(b'A', 1, 2, code, detail),
-    )
-}
+/// A constraint that is broken by an instruction of six bytes.
+const BROKEN: Exception = Exception {
+    code: 0x0018,
+    fetch: false,
+    length: 6,
+};
 
-#[test]
-fn lines_of_aborts(rt: HostRuntime) -> Result<(), Fail> {
-    let alloc = rt.alloc();
-    let exception = Exception {
-        code: 0x0018,
-        fetch: false,
-        length: 6,
-    };
-    abort_both_ways(&rt, alloc, Why::External, b"A 1 2 2 -\n", 2, 0)?;
-    abort_both_ways(
-        &rt,
-        alloc,
-        Why::Program(exception),
-        b"A 1 2 4 0018\n",
-        4,
-        0x18,
-    )?;
-    abort_both_ways(&rt, alloc, Why::FetchOverflow, b"A 1 2 7 -\n", 7, 0)?;
-    abort_both_ways(&rt, alloc, Why::StoreOverflow, b"A 1 2 8 -\n", 8, 0)?;
-    abort_both_ways(
-        &rt,
-        alloc,
+/// Causes of the abort of CPU 1 after two instructions, its lines, and the code and detail that they tell.
+static ABORTS: [(Why, &[u8], u64, u64); 11] = [
+    (Why::External, b"A 1 2 2 -\n", 2, 0),
+    (Why::Program(BROKEN), b"A 1 2 4 0018\n", 4, 0x18),
+    (Why::FetchOverflow, b"A 1 2 7 -\n", 7, 0),
+    (Why::StoreOverflow, b"A 1 2 8 -\n", 8, 0),
+    (
         Why::FetchConflict(0x90),
         b"A 1 2 9 0000000000009000\n",
         9,
         0x9000,
-    )?;
-    abort_both_ways(
-        &rt,
-        alloc,
+    ),
+    (
         Why::StoreConflict(0xfff),
         b"A 1 2 10 00000000000fff00\n",
         10,
         0xfff00,
-    )?;
-    abort_both_ways(&rt, alloc, Why::Restricted, b"A 1 2 11 -\n", 11, 0)?;
-    abort_both_ways(
-        &rt,
-        alloc,
-        Why::Filtered(exception),
-        b"A 1 2 12 0018\n",
-        12,
-        0x18,
-    )?;
-    abort_both_ways(&rt, alloc, Why::Depth, b"A 1 2 13 -\n", 13, 0)?;
-    abort_both_ways(&rt, alloc, Why::Starved, b"A 1 2 255 -\n", 255, 0)?;
-    abort_both_ways(&rt, alloc, Why::Tabort(257), b"A 1 2 257 -\n", 257, 0)?;
+    ),
+    (Why::Restricted, b"A 1 2 11 -\n", 11, 0),
+    (Why::Filtered(BROKEN), b"A 1 2 12 0018\n", 12, 0x18),
+    (Why::Depth, b"A 1 2 13 -\n", 13, 0),
+    (Why::Starved, b"A 1 2 255 -\n", 255, 0),
+    (Why::Tabort(257), b"A 1 2 257 -\n", 257, 0),
+];
+
+#[test]
+fn lines_of_aborts(rt: HostRuntime) -> Result<(), Fail> {
+    for (why, line, code, detail) in &ABORTS {
+        let entry = Entry::Abort(1, 2, *why);
+        both_ways(
+            &rt,
+            rt.alloc(),
+            entry,
+            line,
+            told(b'A', 1, 2, *code, *detail),
+        )?;
+    }
     Ok(())
 }
 
@@ -231,7 +203,10 @@ fn images_are_compared(rt: HostRuntime) -> Result<(), Fail> {
     assert_eq!(rt; image.storage.len(), 1048576);
     assert!(rt; image.same(&assemble(rt.alloc(), SCHEDULED.as_bytes())?));
     for other in OTHERS {
-        assert!(rt; !image.same(&assemble(rt.alloc(), other.as_bytes())?), "{other}");
+        assert!(rt;
+            !image.same(&assemble(rt.alloc(), other.as_bytes())?),
+            "{other}"
+        );
     }
     Ok(())
 }

@@ -1,8 +1,8 @@
 //! Lines with their tokens and expressions with their values, written by hand; an independent model gives the same.
-use z_text::{ExprFault, Labels, TextFault, Token, TokenKind, expression, expression_end, tokens};
 use std::alloc::{AllocError, Global};
 use std::fmt::Write;
 use std::test::Fail;
+use z_text::{ExprFault, Labels, TextFault, Token, TokenKind, expression, expression_end, tokens};
 
 /// Lines with their tokens, each by a letter or mark of its kind, its first place and its end, or with their
 /// fault.
@@ -224,12 +224,14 @@ fn valued(alloc: Global, line: &[u8], at: usize, labels: &Labels) -> Result<Stri
 #[test]
 fn expressions_and_their_values(rt: HostRuntime) -> Result<(), Fail> {
     let mut labels = Labels::new(rt.alloc());
-    assert_eq!(rt; labels.add(b"A", 5), Ok(true));
-    assert_eq!(rt; labels.add(b"BIG", 0xffff_ffff_ffff_ffff), Ok(true));
-    assert_eq!(rt; labels.add(b"SMALL", -0x8000_0000_0000_0000), Ok(true));
-    assert_eq!(rt; labels.add(b"A", 6), Ok(false));
-    assert_eq!(rt; labels.value(b"A"), Some(5));
-    assert_eq!(rt; labels.value(b"a"), None);
+    let added = [
+        labels.add(b"A", 5)?,
+        labels.add(b"BIG", 0xffff_ffff_ffff_ffff)?,
+        labels.add(b"SMALL", -0x8000_0000_0000_0000)?,
+        labels.add(b"A", 6)?,
+    ];
+    assert_eq!(rt; added, [true, true, true, false]);
+    assert_eq!(rt; [labels.value(b"A"), labels.value(b"a")], [Some(5), None]);
     for (line, at, wanted) in &EXPRESSIONS {
         let answer = valued(rt.alloc(), line.as_bytes(), *at, &labels)?;
         assert_eq!(rt; answer.as_str(), *wanted, "at {line}");

@@ -1,12 +1,12 @@
 //! Whole transfers in pieces, and what sources and sinks are handed.
 ghost use Rattle.std.specs.Prelude.{None};
 
+use std::io;
+use std::test::Fail;
 use ztx_io::{
     InFault, MemorySink, MemorySource, OutFault, Read, ReaderSource, Sink, Source, SureSink,
     SureSource, Write, WriterSink, read_all, write_all,
 };
-use std::io;
-use std::test::Fail;
 
 const TEXT: &[u8] = b"forty bytes that come in pieces of a size";
 
@@ -58,6 +58,11 @@ fn whole_inputs(rt: HostRuntime) -> Result<(), Fail> {
             "in pieces of {piece}"
         );
     }
+    Ok(())
+}
+
+#[test]
+fn faults_of_inputs(rt: HostRuntime) -> Result<(), Fail> {
     let mut source = SureSource::new(TEXT.to_vec(rt.alloc())?, 7);
     assert_eq!(rt;
         read_all(rt.alloc(), &mut source, TEXT.len() - 1).err(),
@@ -139,22 +144,49 @@ fn each_call_is_handed_the_whole_rest(rt: HostRuntime) -> Result<(), Fail> {
 }
 
 #[test]
-fn pieces_have_their_size(rt: HostRuntime) -> Result<(), Fail> {
+fn sources_give_pieces(rt: HostRuntime) -> Result<(), Fail> {
     let mut room = [0u8; 100];
     let mut source = SureSource::new(TEXT.to_vec(rt.alloc())?, 20);
-    assert_eq!(rt; source.read(&mut room), Read::Got(20));
-    assert_eq!(rt; source.read(&mut room), Read::Got(20));
-    assert_eq!(rt; source.read(&mut room), Read::Got(1));
-    assert_eq!(rt; source.read(&mut room), Read::End);
+    let reads = [
+        source.read(&mut room),
+        source.read(&mut room),
+        source.read(&mut room),
+        source.read(&mut room),
+    ];
+    let wanted = [Read::Got(20), Read::Got(20), Read::Got(1), Read::End];
+    assert_eq!(rt; reads, wanted);
+    Ok(())
+}
+
+#[test]
+fn a_source_that_fails_once(rt: HostRuntime) -> Result<(), Fail> {
+    let mut room = [0u8; 100];
     let mut source = MemorySource::new(TEXT.to_vec(rt.alloc())?, 20, [2].to_vec(rt.alloc())?);
-    assert_eq!(rt; source.read(&mut room), Read::Got(20));
-    assert_eq!(rt; source.read(&mut room), Read::Failed);
-    assert_eq!(rt; source.read(&mut room[..5]), Read::Got(5));
-    let mut sink = SureSink::new(rt.alloc(), 20);
-    assert_eq!(rt; sink.write(TEXT), Write::Took(20));
-    assert_eq!(rt; sink.write(b"rest"), Write::Took(4));
-    let mut sink = MemorySink::new(rt.alloc(), 20, [2].to_vec(rt.alloc())?);
-    assert_eq!(rt; sink.write(TEXT), Write::Took(20));
-    assert_eq!(rt; sink.write(TEXT), Write::Failed);
+    let reads = [
+        source.read(&mut room),
+        source.read(&mut room),
+        source.read(&mut room[..5]),
+    ];
+    assert_eq!(rt; reads, [Read::Got(20), Read::Failed, Read::Got(5)]);
+    Ok(())
+}
+
+#[test]
+fn sinks_take_pieces(rt: HostRuntime) -> Result<(), Fail> {
+    let mut sure = SureSink::new(rt.alloc(), 20);
+    let mut fails = MemorySink::new(rt.alloc(), 20, [2].to_vec(rt.alloc())?);
+    let writes = [
+        sure.write(TEXT),
+        sure.write(b"rest"),
+        fails.write(TEXT),
+        fails.write(TEXT),
+    ];
+    let wanted = [
+        Write::Took(20),
+        Write::Took(4),
+        Write::Took(20),
+        Write::Failed,
+    ];
+    assert_eq!(rt; writes, wanted);
     Ok(())
 }

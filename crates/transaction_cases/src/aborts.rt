@@ -1,8 +1,8 @@
 //! Expected blocks are those of an independent model of the machine, as doublewords: bytes 0 to 39, and the
 //! registers from byte 128 on. All between is zero.
 
-use tx_abort::{BLOCK_SIZE, block_of, code_of, condition_of, restore};
 use byteorder::{BigEndian, ByteOrder};
+use tx_abort::{BLOCK_SIZE, block_of, code_of, condition_of, restore};
 use tx_control::{Begin, Exception, MOST_LEVELS, Nest, Why};
 use z_regs::CpuImage;
 

@@ -1,8 +1,8 @@
 //! Expected answers are those of an independent model of the machine.
 ghost use Rattle.std.specs.Prelude.{◌≡◌, ◌≤◌, [], length};
 
-use tx_constraint::Constraint;
 use std::test::Fail;
+use tx_constraint::Constraint;
 use z_instr::instr::{Fields, Instr};
 use z_instr::lookup::find;
 use z_regs::{Range, Touches};
@@ -179,19 +179,24 @@ fn same_octowords_in_any_order(rt: HostRuntime) -> Result<(), Fail> {
     let fetch = instruction(b"LG", 0)?;
     let mut first = Constraint::begin(0x4000);
     let mut second = Constraint::begin(0x4000);
-    let mut elsewhere = Constraint::begin(0x4006);
-    elsewhere.copy_from(&first);
-    assert!(rt; elsewhere.same(&first));
     assert!(rt; first.admit_operands(&fetch, &one).is_ok());
     first.add(&one);
     assert!(rt; first.admit_operands(&fetch, &other).is_ok());
     first.add(&other);
     assert!(rt; second.admit_operands(&fetch, &other).is_ok());
     second.add(&other);
-    assert!(rt; !first.same(&second));
+    let half = first.same(&second);
     assert!(rt; second.admit_operands(&fetch, &one).is_ok());
     second.add(&one);
-    assert!(rt; first.same(&second));
-    assert!(rt; !first.same(&Constraint::begin(0x4006)));
+    assert_eq!(rt; [half, first.same(&second)], [false, true]);
     Ok(())
+}
+
+#[test]
+fn begins_at_two_addresses(rt: HostRuntime) {
+    let first = Constraint::begin(0x4000);
+    let mut elsewhere = Constraint::begin(0x4006);
+    let before = first.same(&elsewhere);
+    elsewhere.copy_from(&first);
+    assert_eq!(rt; [before, first.same(&elsewhere)], [false, true]);
 }

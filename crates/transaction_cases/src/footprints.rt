@@ -2,8 +2,8 @@
 ghost use Rattle.std.specs.Prelude.{◌+◌, ◌≤◌, All};
 ghost use Rattle.tx_footprint.specs.Places.{IsInStorage};
 
-use tx_footprint::{Footprint, Overflow};
 use std::test::Fail;
+use tx_footprint::{Footprint, Overflow};
 use z_regs::{Range, STORAGE_SIZE, Touches};
 
 /// One range of a doubleword.

@@ -1,9 +1,9 @@
 //! The ladder's numbers at their ends, by values from outside.
 ghost use Rattle.std.specs.Prelude.{◌≡◌, ◌+◌, ◌≤◌};
 
-use tx_ladder::{DELAY, Ladder, Next, Parms, REJECT, STARVE, STOP, StopQueue};
 use std::process::Abort;
 use std::test::Fail;
+use tx_ladder::{DELAY, Ladder, Next, Parms, REJECT, STARVE, STOP, StopQueue};
 
 /// Suffers one more conflict abort of a constrained attempt.
 fn abort(rt: &impl Abort, parms: &Parms, ladder: &mut Ladder) -> Next
@@ -49,12 +49,18 @@ fn starve(ladder: &mut Ladder) -> (u32, u32)
 #[test]
 fn usual_numbers(rt: HostRuntime) {
     let parms = Parms::usual();
-    assert!(rt; parms.reject == 8 && parms.firm == 64 && parms.late == 4);
-    assert!(rt; parms.starve == 64 && parms.stop == 8 && parms.delay == 128);
-    assert!(rt;
-        REJECT.least == 0 && REJECT.most == 1000 && STARVE.least == 1 && STARVE.most == 1000
-    );
-    assert!(rt; STOP.least == 1 && STOP.most == 16 && DELAY.least == 0 && DELAY.most == 32768);
+    let numbers = [
+        parms.reject,
+        parms.firm,
+        parms.late,
+        parms.starve,
+        parms.stop,
+        parms.delay,
+    ];
+    assert_eq!(rt; numbers, [8, 64, 4, 64, 8, 128]);
+    let least = [REJECT.least, STARVE.least, STOP.least, DELAY.least];
+    let most = [REJECT.most, STARVE.most, STOP.most, DELAY.most];
+    assert_eq!(rt; (least, most), ([0, 1, 1, 0], [1000, 1000, 16, 32768]));
 }
 
 /// Suffers conflict aborts with these delays, and then the one that leads to the queue.
@@ -204,15 +210,17 @@ fn counts_anew_and_apart(rt: HostRuntime) {
 #[test]
 fn queues_and_turns(rt: HostRuntime) -> Result<(), Fail> {
     let mut queue = StopQueue::open(rt.alloc(), 3).map_err(|_| "no memory")?;
-    assert_eq!(rt; queue.head(), None);
+    let empty = queue.head();
     queue.join(2);
-    assert!(rt; !queue.has(0));
     queue.join(0);
-    assert_eq!(rt; queue.head(), Some(2));
+    let first = queue.head();
     queue.to_tail();
-    assert_eq!(rt; queue.head(), Some(0));
+    let second = queue.head();
     queue.leave();
-    assert_eq!(rt; queue.head(), Some(2));
-    assert!(rt; queue.has(2) && !queue.has(0));
+    assert_eq!(rt;
+        [empty, first, second, queue.head()],
+        [None, Some(2), Some(0), Some(2)]
+    );
+    assert_eq!(rt; [queue.has(2), queue.has(0)], [true, false]);
     Ok(())
 }

@@ -30,12 +30,17 @@ fn classes_of_the_architecture(rt: HostRuntime) {
         assert_eq!(rt; class_of(exception(code, false)), class);
         assert_eq!(rt; class_of(exception(code, true)), at_fetch);
     }
-    assert!(rt;
-        codes::OPERATION == 0x0001 && codes::PROTECTION == 0x0004 && codes::ADDRESSING == 0x0005
-    );
-    assert!(rt; codes::SPECIFICATION == 0x0006 && codes::FIXED_POINT_OVERFLOW == 0x0008);
-    assert!(rt; codes::FIXED_POINT_DIVIDE == 0x0009 && codes::SPECIAL_OPERATION == 0x0013);
-    assert!(rt; codes::TRANSACTION_CONSTRAINT == 0x0018);
+    let named = [
+        codes::OPERATION,
+        codes::PROTECTION,
+        codes::ADDRESSING,
+        codes::SPECIFICATION,
+        codes::FIXED_POINT_OVERFLOW,
+        codes::FIXED_POINT_DIVIDE,
+        codes::SPECIAL_OPERATION,
+        codes::TRANSACTION_CONSTRAINT,
+    ];
+    assert_eq!(rt; named, [1, 4, 5, 6, 8, 9, 0x13, 0x18]);
 }
 
 #[test]
@@ -99,6 +104,15 @@ fn controlled(a: bool, f: bool, pifc: u8) -> Begin {
     }
 }
 
+/// The controls that are in force.
+fn in_force(nest: &Nest) -> (bool, bool, u8) {
+    (
+        nest.effective_a(),
+        nest.effective_f(),
+        nest.effective_pifc(),
+    )
+}
+
 #[test]
 fn the_strictest_level_decides(rt: HostRuntime) {
     // the controls of an outer and an inner begin, and what both leave in force
@@ -110,18 +124,19 @@ fn the_strictest_level_decides(rt: HostRuntime) {
         ((true, true, 2), (true, true, 2), (true, true, 2)),
     ] {
         let mut nest = Nest::none();
-        assert!(rt; nest.effective_a() && nest.effective_f() && nest.effective_pifc() == 0);
+        let none = in_force(&nest);
         nest.enter(controlled(outer.0, outer.1, outer.2));
         let mut before = Nest::none();
         before.copy_from(&nest);
         nest.enter(controlled(inner.0, inner.1, inner.2));
-        assert!(rt; nest.effective_a() == both.0 && nest.effective_f() == both.1);
-        assert_eq!(rt; nest.effective_pifc(), both.2);
-        assert!(rt; !nest.same(&before));
+        let inside = in_force(&nest);
+        let same_inside = nest.same(&before);
         nest.leave();
-        assert!(rt; nest.effective_a() == outer.0 && nest.effective_f() == outer.1);
-        assert_eq!(rt; nest.effective_pifc(), outer.2);
-        assert!(rt; nest.same(&before));
+        assert_eq!(rt;
+            [none, inside, in_force(&nest)],
+            [(true, true, 0), both, outer]
+        );
+        assert_eq!(rt; [same_inside, nest.same(&before)], [false, true]);
     }
 }
 
@@ -185,10 +200,12 @@ fn is_same_cause(one: Why, other: Why) -> bool
 #[test]
 fn causes_are_compared(rt: HostRuntime) {
     let met = exception(codes::ADDRESSING, false);
-    assert!(rt;
-        is_same_exception(met, met) && !is_same_exception(met, exception(codes::ADDRESSING, true))
-    );
-    assert!(rt; is_same_cause(Why::Program(met), Why::Program(met)));
-    assert!(rt; !is_same_cause(Why::Program(met), Why::Filtered(met)));
-    assert!(rt; !is_same_cause(Why::FetchConflict(1), Why::FetchConflict(2)));
+    let same = [
+        is_same_exception(met, met),
+        is_same_exception(met, exception(codes::ADDRESSING, true)),
+        is_same_cause(Why::Program(met), Why::Program(met)),
+        is_same_cause(Why::Program(met), Why::Filtered(met)),
+        is_same_cause(Why::FetchConflict(1), Why::FetchConflict(2)),
+    ];
+    assert_eq!(rt; same, [true, false, true, false, false]);
 }

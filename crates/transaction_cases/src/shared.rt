@@ -16,12 +16,9 @@ fn is_shared<T: Send + Sync>() -> bool {
 
 #[test]
 fn values_are_shared_by_threads(rt: HostRuntime) {
-    assert!(rt; is_shared::<Answer>() && is_shared::<Asker>() && is_shared::<L1>());
-    assert!(rt; is_shared::<LineTable>() && is_shared::<Mode>());
-    assert!(rt; is_shared::<line_table::NoMemory>() && is_shared::<StoreCache>());
-    assert!(rt; is_shared::<Constraint>() && is_shared::<Footprint>() && is_shared::<Overflow>());
-    assert!(rt; is_shared::<Nest>() && is_shared::<Begin>());
-    assert!(rt; is_shared::<Exception>() && is_shared::<Why>());
-    assert!(rt; is_shared::<Parms>() && is_shared::<Ladder>());
-    assert!(rt; is_shared::<StopQueue>() && is_shared::<Next>());
+    let tables = is_shared::<(LineTable, L1, StoreCache, Footprint)>();
+    let attempts = is_shared::<(Constraint, Nest, Ladder, StopQueue)>();
+    let values = is_shared::<(Answer, Asker, Mode, Begin, Exception, Why, Next, Parms)>();
+    let faults = is_shared::<(Overflow, line_table::NoMemory)>();
+    assert_eq!(rt; [tables, attempts, values, faults], [true; 4]);
 }

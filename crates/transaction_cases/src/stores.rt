@@ -1,8 +1,8 @@
 //! Stores of an attempt beside a plain model of the same storage: the blocks it has and the bytes they hold.
 
-use store_cache::{BLOCK_SIZE, StoreCache};
 use std::alloc::{AllocError, Global};
 use std::test::Fail;
+use store_cache::{BLOCK_SIZE, StoreCache};
 use z_regs::{STORAGE_SIZE, Storage};
 
 /// The address of the doubleword of most tests.
@@ -75,12 +75,15 @@ fn the_last_ntstg_lasts(rt: HostRuntime) -> Result<(), Fail> {
     let mut copy = StoreCache::open(rt.alloc())?;
     copy.copy_from(&cache);
     let mut storage = zeros(rt.alloc())?;
-    assert!(rt; end(&mut cache, &mut storage, false));
-    assert_eq!(rt; byte_of(&storage, PLACE + 7), Some(3));
-    assert_eq!(rt; cache.blocks(), 0);
-    assert_eq!(rt; copy.byte(PLACE + 7), Some(4));
-    assert!(rt; end(&mut copy, &mut storage, false));
-    assert_eq!(rt; byte_of(&storage, PLACE + 7), Some(3));
+    let first = end(&mut cache, &mut storage, false);
+    let left = byte_of(&storage, PLACE + 7);
+    let seen = copy.byte(PLACE + 7);
+    let second = end(&mut copy, &mut storage, false);
+    assert_eq!(rt; (first, second, cache.blocks()), (true, true, 0));
+    assert_eq!(rt;
+        [left, seen, byte_of(&storage, PLACE + 7)],
+        [Some(3), Some(4), Some(3)]
+    );
     Ok(())
 }
 
@@ -88,28 +91,25 @@ fn the_last_ntstg_lasts(rt: HostRuntime) -> Result<(), Fail> {
 fn a_commit_leaves_the_last_store(rt: HostRuntime) -> Result<(), Fail> {
     let mut cache = three_then_four(rt.alloc())?;
     let mut storage = zeros(rt.alloc())?;
-    assert!(rt; end(&mut cache, &mut storage, true));
-    assert_eq!(rt; byte_of(&storage, PLACE + 7), Some(4));
-    assert_eq!(rt; byte_of(&storage, PLACE + 8), Some(0));
-    assert_eq!(rt; cache.blocks(), 0);
+    let done = end(&mut cache, &mut storage, true);
+    let left = [byte_of(&storage, PLACE + 7), byte_of(&storage, PLACE + 8)];
+    assert_eq!(rt; (done, left, cache.blocks()), (true, [Some(4), Some(0)], 0));
     Ok(())
 }
 
 #[test]
 fn sixty_four_blocks_have_room(rt: HostRuntime) -> Result<(), Fail> {
     let mut cache = StoreCache::open(rt.alloc())?;
-    assert_eq!(rt; cache.byte(PLACE), None);
+    let nothing = cache.byte(PLACE);
     for k in 0..64u64 {
         assert!(rt; store(&mut cache, k * 16384 + 5, 1));
     }
-    assert_eq!(rt; cache.blocks(), 64);
     for block in 0..8192u32 {
         assert_eq!(rt; cache.has_room(block), block % 128 == 0);
     }
-    assert!(rt; !store(&mut cache, 128, 1));
-    assert_eq!(rt; cache.byte(128), None);
-    assert_eq!(rt; cache.byte(5), Some(1));
-    assert_eq!(rt; cache.byte(16389), Some(1));
+    assert_eq!(rt; (cache.blocks(), store(&mut cache, 128, 1)), (64, false));
+    let bytes = [nothing, cache.byte(128), cache.byte(5), cache.byte(16389)];
+    assert_eq!(rt; bytes, [None, None, Some(1), Some(1)]);
     Ok(())
 }
 

@@ -12,3 +12,7 @@ returns-clause-division c =
     let e : ◌≡◌ {A = Result (ℕ × ℕ) DivideFault} (Ok (c.word.result, c.word-2.result))
     (divide_word_of c.args.dividend c.args.divisor) = grind (arith, common_steps) in
     divides_word c.args.dividend c.args.divisor (c.word.result, c.word-2.result) (search rules) e
+
+pub returns-clause-value : goal.returns-clause-value
+unfolding divide_word_of
+returns-clause-value c = grind (arith, common_steps)
