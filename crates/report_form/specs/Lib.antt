@@ -1,0 +1,6 @@
+-- The form of a report.
+pub mod Words
+pub mod Spelling
+pub mod Rows
+pub mod Lines
+pub mod Sheet

@@ -1,0 +1,18 @@
+//! The form of a report: which lines it has, one row of words for each, and the first line at which a text leaves
+//! that form.
+#![tactic(auto)]
+
+mod laws;
+mod lines;
+mod rows;
+mod sheet;
+mod spelling;
+#[cfg(test)]
+mod tests;
+mod words;
+
+pub use laws::lines_have_a_form_or_one_fault;
+pub use lines::Part;
+pub use rows::{Row, fits};
+pub use sheet::{FormFault, Sheet, read};
+pub use words::{Name, Word};

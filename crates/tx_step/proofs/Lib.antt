@@ -1,0 +1,8 @@
+-- Changes that are made and taken back, what is seen, and runs event by event.
+pub mod Changed
+pub mod Listed
+pub mod Stepped
+pub mod Followed
+pub mod Moved
+pub mod Framed
+pub mod Touched

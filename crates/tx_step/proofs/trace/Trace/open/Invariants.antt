@@ -1,0 +1,12 @@
+-- The first so many events have happened, and each that was recorded has its step.
+use Rattle.std.proofs.Common.{length}
+use Rattle.std.specs.Arc.{arc_value}
+use Rattle.tx_step.specs.Traces.{IsTraced}
+use Rattle.tx_step.proofs.Followed.{Follows}
+use Rattle.tx_step.proofs.trace.Trace.open.Given as goal
+
+abbrev pub invariant-loop-event : goal.invariant-loop-event
+invariant-loop-event l = record {
+  follows : Follows (record { image = arc_value l.fn.image; limits = l.fn.limits }) l.events l.event-index l.machine;
+  traced : IsTraced l.machine l.view l.steps.items (length l.steps.items);
+}

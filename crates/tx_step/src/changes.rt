@@ -1,0 +1,109 @@
+//! Changes of a table, which are made and taken back.
+ghost use Rattle.std.specs.Prelude.{◌≡◌, ◌<◌, List, ℕ, IfOk, length, slice_set};
+ghost use Rattle.tx_step.specs.Sights.{CpuSeen};
+ghost use Rattle.tx_step.specs.Changes.{redo, undo, Leads};
+
+use crate::seen::CpuSight;
+use std::alloc::AllocError;
+
+/// One place of a table has a new value.
+#[derive(Drop)]
+pub struct Change<T: Drop> {
+    /// The place.
+    pub at: u32,
+    /// What was there.
+    pub old: T,
+    /// What is there now.
+    pub new: T,
+}
+
+/// Writes a value to a place, where there is that place.
+fn put<T: Drop>(table: &mut [T], at: u32, value: T)
+    ensures { table.new ≡ slice_set table.old at value }
+{
+    if (at as usize) < table.len() {
+        table[at as usize] = value;
+    }
+}
+
+/// Makes changes of bytes.
+pub fn redo_bytes(table: &mut [u8], changes: &[Change<u8>])
+    ensures { table.new ≡ redo changes.now table.old }
+{
+    for change in changes {
+        put(table, change.at, change.new);
+    }
+}
+
+/// Takes changes of bytes back.
+pub fn undo_bytes(table: &mut [u8], changes: &[Change<u8>])
+    ensures { table.new ≡ undo changes.now table.old }
+{
+    for behind in 0..changes.len() {
+        let change = &changes[changes.len() - 1 - behind];
+        put(table, change.at, change.old);
+    }
+}
+
+/// Makes changes of CPUs.
+pub fn redo_cpus(table: &mut [CpuSight], changes: &[Change<CpuSight>])
+    ensures { table.new ≡ redo changes.now table.old }
+{
+    for change in changes {
+        put(table, change.at, change.new.again());
+    }
+}
+
+/// Takes changes of CPUs back.
+pub fn undo_cpus(table: &mut [CpuSight], changes: &[Change<CpuSight>])
+    ensures { table.new ≡ undo changes.now table.old }
+{
+    for behind in 0..changes.len() {
+        let change = &changes[changes.len() - 1 - behind];
+        put(table, change.at, change.old.again());
+    }
+}
+
+/// Writes a byte, and notes the change where it is one. The error is want of memory.
+pub fn note_byte(
+    table: &mut [u8],
+    changes: &mut Vec<Change<u8>>,
+    at: u32,
+    new: u8,
+) -> Result<(), AllocError>
+    requires { at < length table.old }
+    ensures value { IfOk result (λ _. table.new ≡ slice_set table.old at new) }
+    ensures leads { IfOk result (λ _. (from : List ℕ) → Leads from changes.old.items table.old
+        → Leads from changes.new.items table.new) }
+{
+    let old = table[at as usize];
+    if old != new {
+        changes.push(Change { at, old, new })?;
+        table[at as usize] = new;
+    }
+    Ok(())
+}
+
+/// Writes what is seen of a CPU, and notes the change where it is one. The error is want of memory.
+pub fn note_cpu(
+    table: &mut [CpuSight],
+    changes: &mut Vec<Change<CpuSight>>,
+    at: u32,
+    new: CpuSight,
+) -> Result<(), AllocError>
+    requires { at < length table.old }
+    ensures value { IfOk result (λ _. table.new ≡ slice_set table.old at new) }
+    ensures leads { IfOk result (λ _. (from : List CpuSeen) → Leads from changes.old.items table.old
+        → Leads from changes.new.items table.new) }
+{
+    let old = table[at as usize].again();
+    if !old.is_same(&new) {
+        changes.push(Change {
+            at,
+            old,
+            new: new.again(),
+        })?;
+        table[at as usize] = new;
+    }
+    Ok(())
+}

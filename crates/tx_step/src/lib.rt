@@ -1,0 +1,10 @@
+//! A run of a machine that can be looked at behind each of its recorded events, forward and back.
+#![tactic(auto)]
+
+pub mod changes;
+pub mod following;
+pub mod laws;
+pub mod seen;
+pub mod trace;
+
+pub use trace::{NoMemory, Trace};
