@@ -182,7 +182,7 @@ fn sixteen_count(rt: HostRuntime) -> Result<(), Fail> {
     let raced = counted(&rt, rt.alloc(), 16, 20)?;
     assert_eq!(rt; count_in(&raced.machine), 320);
     assert_eq!(rt;
-        raced.worked + raced.finished,
+        raced.worked.saturating_add(raced.finished),
         raced.machine.events().len() as u64
     );
     assert!(rt; raced.worked > 0);
