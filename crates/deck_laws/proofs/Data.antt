@@ -39,13 +39,13 @@ data_text bytes = 32 ∷ 68 ∷ 67 ∷ 32 ∷ field_of bytes
 abbrev dc_token : Token
 dc_token = record { first = 1; end = 3; kind = Name }
 
-all_take : (p : ℕ → Bool) (n : ℕ) (xs : List ℕ) → list_all p xs ≡ true → list_all p (take n xs) ≡ true
+pub all_take : (p : ℕ → Bool) (n : ℕ) (xs : List ℕ) → list_all p xs ≡ true → list_all p (take n xs) ≡ true
 all_take p zero xs h = refl
 all_take p (suc n) [] h = refl
 all_take p (suc n) (x ∷ xs) h =
     let parts = and_parts (p x) (list_all p xs) h in and_from _ _ parts.0 (all_take p n xs parts.1)
 
-prefix_all : (p : ℕ → Bool) (xs : List ℕ) → list_all p xs ≡ true → prefix_len p xs ≡ length xs
+pub prefix_all : (p : ℕ → Bool) (xs : List ℕ) → list_all p xs ≡ true → prefix_len p xs ≡ length xs
 prefix_all p [] h = refl
 prefix_all p (x ∷ xs) h =
     let parts = and_parts (p x) (list_all p xs) h in

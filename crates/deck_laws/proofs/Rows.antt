@@ -36,7 +36,7 @@ rows_append (x ∷ xs) ys =
 not_end : (b : ℕ) → nat_lt 31 b ≡ true → (b == 10) ≡ false
 not_end b h = let high : 31 < b = ltb-true 31 b h in ne_eqb b 10 (λ e. omega arith)
 
-one_piece : (l rest : List ℕ) → list_all (λ b. nat_lt 31 b) l ≡ true
+pub one_piece : (l rest : List ℕ) → list_all (λ b. nat_lt 31 b) l ≡ true
     → pieces_by 10 ((l ++ 10 ∷ []) ++ rest) ≡ (l ++ 10 ∷ []) ∷ pieces_by 10 rest
 unfolding pieces_by
 one_piece [] rest h = refl
@@ -71,7 +71,7 @@ ends_so l b =
     ap₂ (λ (c : Bool) (x : ℕ). c && (x == b)) (lt-ltb 0 (length (l ++ b ∷ [])) (omega arith))
     (ap (slice_index (l ++ b ∷ [])) less ∙ last_is l b) ∙ eq-eqb b b refl
 
-shortened_so : (l : List ℕ) (b : ℕ) → shortened (l ++ b ∷ []) ≡ l
+pub shortened_so : (l : List ℕ) (b : ℕ) → shortened (l ++ b ∷ []) ≡ l
 shortened_so l b =
     let less : length (l ++ b ∷ []) - 1 ≡ length l = omega (arith, length-append l (b ∷ [])) in
     ap (λ n. take n (l ++ b ∷ [])) less ∙ take_at l (b ∷ []) (length l) refl

@@ -84,16 +84,17 @@ pub raced_due : (turns tick : ℕ) (input : List ℕ) (machine : Seen) (status :
 raced_due turns tick input machine status text limits raced meant known s t =
     let m = racing raced.image turns tick in
     let events = machine.events in
+    let among = subst (λ (n : Setting). All (λ e. cpu_of_event e < length n.image.cpus) events) raced.setting known in
     record {
       image = raced.image;
       stands = raced.stands;
       events = events;
       recorded = sym (meant ∙ ap (λ (n : Setting). (meaning n events).events) raced.setting);
       turns_alone = raced.turns_alone;
+      known = among;
       complete = subst (λ (n : Setting). IsComplete n events) raced.setting raced.complete;
       status_is = s ∙ ap (λ (n : Setting). status_of n events) raced.setting;
       text_is = t ∙ ap (λ (n : Setting). report_of n events) raced.setting;
       serial = serial_run m
-          (may_race raced.image turns tick (stands_for_image input raced.image raced.stands) limits) events
-          (subst (λ (n : Setting). All (λ e. cpu_of_event e < length n.image.cpus) events) raced.setting known);
+          (may_race raced.image turns tick (stands_for_image input raced.image raced.stands) limits) events among;
     }

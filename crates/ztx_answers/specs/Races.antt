@@ -1,6 +1,7 @@
 -- How a listing is raced, and what is due then.
-use Rattle.std.specs.Prelude.{◌≡◌, ℕ, ◌⊎◌, List, count_by}
+use Rattle.std.specs.Prelude.{◌≡◌, ℕ, ◌<◌, ◌⊎◌, List, length, count_by, All}
 use Rattle.tx_journal.specs.Content.{Content}
+use Rattle.tx_journal.specs.Image.{cpu_of_event}
 use Rattle.tx_journal.specs.declared.events.Event.{Event}
 use Rattle.tx_machine.specs.Machine.{Seen, opened, setting_of}
 use Rattle.tx_meaning.specs.Limits.{Setting}
@@ -19,13 +20,15 @@ racing image turns tick =
     record { image = image; limits = record { turns = turns; tick = tick; externals = 0 } }
 
 -- 0 or 6, as every CPU is finished or not, and the report of a list of events on the listing's image. The list is
--- the one that the report prints: turns alone, behind which no CPU is ready. It is that of one serial history
+-- the one that the report prints: turns alone, of CPUs that there are, behind which none is ready. It is that of one
+-- serial history
 pub record IsRaceReport (turns tick : ℕ) (input : List ℕ) (status : ℕ) (text : List ℕ) : Type 0 where
   pub image : Content
   pub stands : Stands input image
   pub events : List Event
   pub recorded : (meaning (racing image turns tick) events).events ≡ events
   pub turns_alone : count_by is_external events ≡ 0
+  pub known : All (λ e. cpu_of_event e < length image.cpus) events
   pub complete : IsComplete (racing image turns tick) events
   pub status_is : status ≡ status_of (racing image turns tick) events
   pub text_is : text ≡ report_of (racing image turns tick) events

@@ -1,0 +1,2 @@
+-- What it is for a listing to take a printed schedule.
+pub mod Taken

@@ -1,0 +1,4 @@
+//! The assembler takes the schedules that reports print.
+#![tactic(auto)]
+
+pub mod laws;
