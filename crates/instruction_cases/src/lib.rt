@@ -1,15 +1,7 @@
-//! Cases of single instructions and their parts: each call with values from outside or worked by hand.
+//! Cases of what instructions do, and of their arithmetic.
 #![tactic(auto)]
 
 #[cfg(test)]
 mod effects;
 #[cfg(test)]
 mod numbers;
-#[cfg(test)]
-mod operands;
-#[cfg(test)]
-mod readings;
-#[cfg(test)]
-mod registers;
-#[cfg(test)]
-mod table;

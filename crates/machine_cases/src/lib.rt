@@ -1,10 +1,6 @@
-//! Cases of the machine and what is made of it: each call with values from outside or worked by hand.
+//! Cases of schedules and reports of the machine, with values of an independent model.
 #![tactic(auto)]
 
-#[cfg(test)]
-mod attempts;
-#[cfg(test)]
-mod holders;
 #[cfg(test)]
 mod reports;
 #[cfg(test)]

@@ -1,4 +1,4 @@
-//! Cases of texts: each call that reads or writes one, with values from outside or worked by hand.
+//! Cases of what is written: generated listings, journals and reports.
 #![tactic(auto)]
 
 #[cfg(test)]
@@ -6,12 +6,4 @@ mod generated;
 #[cfg(test)]
 mod journal;
 #[cfg(test)]
-mod lines;
-#[cfg(test)]
-mod listings;
-#[cfg(test)]
 mod reports;
-#[cfg(test)]
-mod spellings;
-#[cfg(test)]
-mod streams;

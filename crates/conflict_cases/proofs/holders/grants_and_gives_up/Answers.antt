@@ -3,7 +3,7 @@ use Rattle.std.specs.Prelude.{◌&&◌}
 use Rattle.line_table.specs.declared.table.Mode.TheVariants.{Shared, Exclusive}
 use Rattle.line_table.specs.Holders.{Holders, holding, is_against, mode_in}
 use Rattle.line_table.proofs.Against.{nobody_against}
-use Rattle.transaction_cases.proofs.holders.grants_and_gives_up.Goals as goal
+use Rattle.conflict_cases.proofs.holders.grants_and_gives_up.Goals as goal
 
 pub grant-requires-clause-free : goal.grant-requires-clause-free
 grant-requires-clause-free g c =

@@ -1,6 +1,6 @@
 use Rattle.std.proofs.Common.{◌≡◌}
 use Rattle.tx_ladder.specs.Parameters.{usual}
-use Rattle.transaction_cases.proofs.answers.ladder_of.Given as goal
+use Rattle.conflict_cases.proofs.answers.ladder_of.Given as goal
 
 -- the ladder climbs by the usual numbers
 abbrev pub invariant-loop : goal.invariant-loop

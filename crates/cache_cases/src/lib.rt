@@ -1,0 +1,11 @@
+//! Cases of the caches and the sets below them, with values worked by hand.
+#![tactic(auto)]
+
+#[cfg(test)]
+mod copies;
+#[cfg(test)]
+mod sets;
+#[cfg(test)]
+mod slots;
+#[cfg(test)]
+mod stores;

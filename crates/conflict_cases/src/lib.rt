@@ -1,0 +1,13 @@
+//! Cases of what CPUs ask of one another and what attempts touch, with values from outside or worked by hand.
+#![tactic(auto)]
+
+#[cfg(test)]
+mod answers;
+#[cfg(test)]
+mod constraints;
+#[cfg(test)]
+mod footprints;
+#[cfg(test)]
+mod holders;
+#[cfg(test)]
+mod shared;
