@@ -1,2 +1,3 @@
--- What it is to assemble the listing of a deck.
+-- What it is to assemble the listing of a deck, and which decks are read alike.
 pub mod Assembled
+pub mod Alike
