@@ -1,0 +1,2 @@
+-- What is said of the text of a history.
+pub mod Fitting

@@ -1,0 +1,4 @@
+//! What the text of a history tells.
+#![tactic(auto)]
+
+pub mod laws;
