@@ -40,7 +40,8 @@ def read(path):
 
 def lines_of(text, operations):
     """The places of the lines with one of these operations."""
-    return [at for at, line in enumerate(text.split(b'\n')) if re.match(rb'\S*\s+(%s)(\s|$)' % operations, line)]
+    line_of = re.compile(rb'\S*\s+(%s)(\s|$)' % operations, re.IGNORECASE)
+    return [at for at, line in enumerate(text.split(b'\n')) if line_of.match(line)]
 
 
 def without(text, operations):
