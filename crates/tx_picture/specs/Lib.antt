@@ -1,0 +1,3 @@
+-- Which turns and entries a picture has.
+pub mod Window
+pub mod Replay
