@@ -1,7 +1,8 @@
 //! What is answered to a listing.
-ghost use Rattle.std.specs.Prelude.{◌≡◌, ◌≤◌, IfOk};
-ghost use Rattle.tx_machine.specs.Machine.{opened};
+ghost use Rattle.std.specs.Prelude.{◌≡◌, ◌≤◌, IfOk, count_by};
 ghost use Rattle.tx_meaning.specs.Limits.{external_limit};
+ghost use Rattle.tx_meaning.specs.Meaning.{is_external};
+ghost use Rattle.tx_schedule.specs.Ran.{MayRun};
 
 use crate::words::Plan;
 use std::alloc::{AllocError, Global};
@@ -33,7 +34,10 @@ pub fn refuse(alloc: Global, fault: ListingFault) -> Result<Answer, AllocError> 
 }
 
 /// How many interruptions from outside the schedule of an image has.
-fn externals_in(image: &Image) -> u32 {
+fn externals_in(image: &Image) -> u32
+    ensures value { result ≡ count_by is_external image.now.schedule }
+    ensures few { result ≤ external_limit }
+{
     let _cpus = image.cpu_count();
     let externals = image
         .schedule
@@ -43,7 +47,9 @@ fn externals_in(image: &Image) -> u32 {
 }
 
 /// A machine of an image from which nothing has happened.
-fn open(alloc: Global, image: Image, plan: Plan) -> Result<Machine, NoMemory> {
+fn open(alloc: Global, image: Image, plan: Plan) -> Result<Machine, NoMemory>
+    ensures { IfOk result MayRun }
+{
     let limits = Limits {
         turns: plan.turns,
         tick: plan.tick,

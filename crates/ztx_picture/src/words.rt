@@ -1,4 +1,6 @@
 //! The words of the command line.
+ghost use Rattle.std.specs.Prelude.{◌≤◌};
+
 use clap::error::ErrorKind;
 use clap::{Arg, ArgAction, ArgMatches, Command};
 use std::alloc::{AllocError, Global};
@@ -16,6 +18,9 @@ pub struct Plan {
     pub seed: Option<u64>,
     /// The turns that are drawn.
     pub window: Window,
+    ghost some_turns: { 1 ≤ turns },
+    ghost few_turns: { turns ≤ 200000 },
+    ghost tick_in: { tick ≤ 1000000 },
 }
 
 /// The most turns that can be recorded, and more.
