@@ -1,5 +1,6 @@
 //! The drawing of a run.
-ghost use Rattle.std.specs.Prelude.{◌≡◌, ◌≤◌, IfOk, length};
+ghost use Rattle.std.specs.Prelude.{◌≡◌, ◌≤◌, ◌++◌, IfOk, OnOk, length, string_bytes};
+ghost use Rattle.std.specs.List.{flat_map};
 ghost use Rattle.tx_machine.specs.Machine.{setting_of, state_of};
 ghost use Rattle.tx_picture.specs.Window.{turns_in, entries_in};
 
@@ -102,6 +103,11 @@ pub fn draw(alloc: Global, machine: &Machine, window: Window) -> Result<Drawing,
     ensures turns { IfOk result (λ d. length d.turns.items ≡ turns_in window (length machine.now.events)) }
     ensures entries { IfOk result (λ d. length d.entries.items
         ≡ entries_in window (setting_of machine.now) machine.now.events) }
+
+    // A window of all turns has the whole history.
+    ensures whole { window.first ≤ 1 → length machine.now.events ≤ window.last
+        → length machine.now.events ≤ 2000
+        → IfOk result (λ d. length d.entries.items ≡ length (state_of machine.now).history) }
 {
     let picture = observe(alloc, machine, window)?;
     let recorded = (machine.events().len(), machine.journal().len());
@@ -110,7 +116,9 @@ pub fn draw(alloc: Global, machine: &Machine, window: Window) -> Result<Drawing,
 }
 
 /// Adds texts, one behind the other.
-fn add_all(text: &mut Vec<u8>, elements: &[String]) -> Result<(), AllocError> {
+fn add_all(text: &mut Vec<u8>, elements: &[String]) -> Result<(), AllocError>
+    ensures { OnOk result (text.new.items ≡ text.old.items ++ flat_map string_bytes elements.now) }
+{
     for element in elements {
         text.extend_from_slice(element.as_bytes())?;
     }
@@ -118,8 +126,12 @@ fn add_all(text: &mut Vec<u8>, elements: &[String]) -> Result<(), AllocError> {
 }
 
 impl Drawing {
+    ghost use Rattle.tx_picture.specs.Drawn.{text_of};
+
     /// The bytes of the SVG: all elements, one behind the other.
-    pub fn text(&self, alloc: Global) -> Result<Vec<u8>, AllocError> {
+    pub fn text(&self, alloc: Global) -> Result<Vec<u8>, AllocError>
+        ensures { IfOk result (λ text. text.items ≡ text_of self.now) }
+    {
         let mut text = Vec::new(alloc);
         text.extend_from_slice(self.head.as_bytes())?;
         add_all(&mut text, &self.attempts)?;

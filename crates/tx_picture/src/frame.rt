@@ -1,5 +1,5 @@
 //! What stands round the marks: the style, the lanes, and the legend.
-ghost use Rattle.std.specs.Prelude.{◌≡◌, ◌≤◌, ◌<◌, ◌^◌};
+ghost use Rattle.std.specs.Prelude.{◌<◌, ◌^◌};
 
 use crate::marks::Picture;
 use crate::places::{column_x, entry_y, lane_y};

@@ -1,7 +1,6 @@
 //! From a machine that has run to the marks of a picture: its recorded events happen once more, to another
 //! machine, which is looked at behind each.
 ghost use Rattle.std.specs.Prelude.{◌≡◌, ◌+◌, ◌<◌, ◌≤◌, IfOk, OnOk, Some, length, slice_get, true, count_by};
-ghost use Rattle.z_regs.specs.Prefix.{storage_size};
 ghost use Rattle.tx_journal.specs.Image.{cpu_of_event};
 ghost use Rattle.tx_meaning.specs.Meaning.{is_external};
 ghost use Rattle.tx_machine.specs.Machine.{setting_of, state_of, event_of, after};
