@@ -1,5 +1,6 @@
 -- A run that is made once more, and what a window of all turns has.
-use Rattle.std.proofs.Common.{◌≡◌, ℕ, ◌+◌, ◌-◌, ◌<◌, ◌≤◌, true, Some, length, get_or, refl, ap, ap₂, ◌∙◌, arith}
+use Rattle.std.proofs.Common.{◌≡◌, ℕ, ◌+◌, ◌-◌, ◌<◌, ◌≤◌, true, Some, length, get_or, refl, ap, ap₂}
+use Rattle.std.proofs.Common.{◌∙◌, arith}
 use Rattle.std.specs.Prelude.{count_by, slice_get}
 use Rattle.std.proofs.lemmas.List.{take_all}
 use Rattle.std.proofs.lemmas.Option.{get_or_from_slice_get}
@@ -12,7 +13,8 @@ use Rattle.tx_picture.specs.Window.{start_of, turns_in, entries_behind, entries_
 use Rattle.tx_picture.specs.declared.window.Window.{Window}
 
 -- a machine from which nothing has happened has the first none of the events
-pub replays_first : (machine replay : Seen) → replay ≡ opened machine.image machine.limits → Replays machine 0 replay
+pub replays_first : (machine replay : Seen) → replay ≡ opened machine.image machine.limits
+    → Replays machine 0 replay
 replays_first machine replay is =
     let f = begins_following machine.image machine.limits machine.events replay is in
     record { setting = f.setting; recorded = f.recorded; state = f.state }
@@ -31,7 +33,8 @@ module _ (machine : Seen) (k : ℕ) (replay : Seen) (replays : Replays machine k
     pub replays_on : (next : Seen) → next ≡ after replay e → state_of next ≡ (event_of replay e).state
         → Replays machine (k + 1) next
     replays_on next next_is state_is =
-        let f = follows_on (setting_of machine) machine.events k e within is_there replay follows next next_is state_is in
+        let f =
+        follows_on (setting_of machine) machine.events k e within is_there replay follows next next_is state_is in
         record { setting = f.setting; recorded = f.recorded; state = f.state }
 
     -- an interruption from outside may still come

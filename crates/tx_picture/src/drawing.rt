@@ -97,8 +97,8 @@ fn drawn(
     })
 }
 
-/// The drawing of a machine's run: of the turns that it has recorded those of the window, one column for each,
-/// and the entries that its history gained in them. The error is want of memory.
+/// The drawing of a machine's run: of the turns that it has recorded those of the window, one column for
+/// each, and the entries that its history gained in them. The error is want of memory.
 pub fn draw(alloc: Global, machine: &Machine, window: Window) -> Result<Drawing, NoMemory>
     ensures turns { IfOk result (λ d. length d.turns.items ≡ turns_in window (length machine.now.events)) }
     ensures entries { IfOk result (λ d. length d.entries.items

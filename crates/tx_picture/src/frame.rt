@@ -45,18 +45,28 @@ text{font:10px 'DejaVu Sans Mono',Menlo,Consolas,monospace;fill:#1b1b1b}
 ";
 
 /// What the marks mean, from the upper edge of the legend on.
-const KEYS: &str =
-    "<g class='key executed'><rect x='8' y='8' width='20' height='14' rx='3'/><text x='34' y='19'>executed</text></g>
-<g class='key rejected'><rect x='132' y='8' width='20' height='14' rx='3'/><text x='158' y='19'>rejected</text></g>
-<g class='key delayed'><rect x='256' y='8' width='20' height='14' rx='3'/><text x='282' y='19'>delayed</text></g>
-<g class='key aborted'><rect x='380' y='8' width='20' height='14' rx='3'/><text x='406' y='19'>aborted</text></g>
-<g class='key interrupted'><rect x='504' y='8' width='20' height='14' rx='3'/><text x='530' y='19'>interrupted</text></g>
-<g class='key external'><rect x='628' y='8' width='20' height='14' rx='3'/><text x='654' y='19'>external</text></g>
-<g class='key commit'><path d='M8 44v-6h20'/><path class='end' d='M28 38l4 5l8 -10'/><text x='46' y='44'>attempt, commit</text></g>
-<g class='key abort'><path d='M168 44v-6h20'/><path class='end' d='M188 34l9 9m0 -9l-9 9'/><text x='206' y='44'>abort, with its code</text></g>
-<g class='key arrow reject'><path d='M372 44v-4h8'/><path class='point' d='M380 37v6l5 -3z'/><text x='392' y='44'>rejected by, with the line</text></g>
-<g class='key arrow abort'><path d='M572 44v-4h8'/><path class='point' d='M580 37v6l5 -3z'/><text x='592' y='44'>aborts, with the line</text></g>
-<text x='8' y='64'>history: S an instruction, C a commit, A an abort, T a stored block, I a taken interruption; with the CPU</text>
+const KEYS: &str = "<g class='key executed'><rect x='8' y='8' width='20' height='14' rx='3'/>
+<text x='34' y='19'>executed</text></g>
+<g class='key rejected'><rect x='132' y='8' width='20' height='14' rx='3'/>
+<text x='158' y='19'>rejected</text></g>
+<g class='key delayed'><rect x='256' y='8' width='20' height='14' rx='3'/>
+<text x='282' y='19'>delayed</text></g>
+<g class='key aborted'><rect x='380' y='8' width='20' height='14' rx='3'/>
+<text x='406' y='19'>aborted</text></g>
+<g class='key interrupted'><rect x='504' y='8' width='20' height='14' rx='3'/>
+<text x='530' y='19'>interrupted</text></g>
+<g class='key external'><rect x='628' y='8' width='20' height='14' rx='3'/>
+<text x='654' y='19'>external</text></g>
+<g class='key commit'><path d='M8 44v-6h20'/><path class='end' d='M28 38l4 5l8 -10'/>
+<text x='46' y='44'>attempt, commit</text></g>
+<g class='key abort'><path d='M168 44v-6h20'/><path class='end' d='M188 34l9 9m0 -9l-9 9'/>
+<text x='206' y='44'>abort, with its code</text></g>
+<g class='key arrow reject'><path d='M372 44v-4h8'/><path class='point' d='M380 37v6l5 -3z'/>
+<text x='392' y='44'>rejected by, with the line</text></g>
+<g class='key arrow abort'><path d='M572 44v-4h8'/><path class='point' d='M580 37v6l5 -3z'/>
+<text x='592' y='44'>aborts, with the line</text></g>
+<text x='8' y='64'>history: S an instruction, C a commit, A an abort, T a stored block,
+I a taken interruption; with the CPU</text>
 </g>
 </svg>
 ";
@@ -102,7 +112,7 @@ pub fn head(
     let mut text = String::new(alloc);
     writeln!(
         text,
-        "<svg xmlns='http://www.w3.org/2000/svg' width='{width}' height='{height}' viewBox='0 0 {width} {height}'>"
+        "<svg xmlns='http://www.w3.org/2000/svg' width='{width}' height='{height}'\n viewBox='0 0 {width} {height}'>"
     )?;
     text.push_str(STYLE)?;
     writeln!(

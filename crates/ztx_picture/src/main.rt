@@ -1,5 +1,5 @@
-//! The program: a listing on standard input, and the picture of its run, as an SVG, on standard output. The words
-//! are the options of `ztx run`, and `--from` and `--to`, the first and the last turn that are drawn.
+//! The program: a listing on standard input, and the picture of its run, as an SVG, on standard output. The
+//! words are the options of `ztx run`, and `--from` and `--to`, the first and the last turn that are drawn.
 #![tactic(auto)]
 
 mod answer;

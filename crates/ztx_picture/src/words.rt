@@ -66,7 +66,8 @@ fn plan_of(matches: &ArgMatches) -> Plan {
     }
 }
 
-/// The plan that the words say, the first of which is the program's name; None where they are no command line.
+/// The plan that the words say, the first of which is the program's name; None where they are no command
+/// line.
 pub fn read(alloc: Global, words: &[String]) -> Result<Option<Plan>, AllocError> {
     match command(alloc)?.try_get_matches_from(words) {
         Ok(matches) => Ok(Some(plan_of(&matches))),

@@ -37,8 +37,8 @@ loop-column-preserved c =
     record {
       replays =
           subst (λ n. Replays machine n c.watch.new.replay) next
-          (replays_on machine k c.loop-column.replay c.loop-column.invariant.replays c.event_at.result within at
-          c.watch.new.replay c.in_ok-watch.ensures.machine c.in_ok-watch.ensures.state);
+          (replays_on machine k c.loop-column.replay c.loop-column.invariant.replays c.event_at.result within
+          at c.watch.new.replay c.in_ok-watch.ensures.machine c.in_ok-watch.ensures.state);
       marks = omega (arith, c.in_ok-watch.ensures.marks, c.loop-column.invariant.marks);
       entries = omega (arith, c.in_ok-watch.ensures.entries, c.loop-column.invariant.entries);
       more = omega (arith, c.in_ok-watch.ensures.more, c.loop-column.invariant.more);
@@ -55,7 +55,8 @@ returns-clause-entries c =
     c.start-start.ensures.value ∙ ap (start_of c.args.window) recorded in
     let turns : c.turns-column-end.result ≡ turns_in c.args.window n =
     c.turns-column-end.ensures.value ∙ ap (turns_in c.args.window) recorded in
-    let there : c.start-start.result + c.loop-column.column ≡ start_of c.args.window n + turns_in c.args.window n =
+    let there : c.start-start.result + c.loop-column.column
+    ≡ start_of c.args.window n + turns_in c.args.window n =
     ap₂ (λ x y. x + y) start (last ∙ turns) in
     gained _ _ _ _ (entries_behind m events (start_of c.args.window n))
     (entries_behind m events (start_of c.args.window n + turns_in c.args.window n))
