@@ -33,8 +33,8 @@ module _ (machine : Seen) (k : ℕ) (replay : Seen) (replays : Replays machine k
     pub replays_on : (next : Seen) → next ≡ after replay e → state_of next ≡ (event_of replay e).state
         → Replays machine (k + 1) next
     replays_on next next_is state_is =
-        let f =
-        follows_on (setting_of machine) machine.events k e within is_there replay follows next next_is state_is in
+        let m = setting_of machine in
+        let f = follows_on m machine.events k e within is_there replay follows next next_is state_is in
         record { setting = f.setting; recorded = f.recorded; state = f.state }
 
     -- an interruption from outside may still come

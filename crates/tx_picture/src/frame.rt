@@ -110,10 +110,11 @@ pub fn head(
     let entries = picture.entries.len();
     let (turns, made) = recorded;
     let mut text = String::new(alloc);
-    writeln!(
+    write!(
         text,
-        "<svg xmlns='http://www.w3.org/2000/svg' width='{width}' height='{height}'\n viewBox='0 0 {width} {height}'>"
+        "<svg xmlns='http://www.w3.org/2000/svg' width='{width}' height='{height}'"
     )?;
+    writeln!(text, " viewBox='0 0 {width} {height}'>")?;
     text.push_str(STYLE)?;
     writeln!(
         text,
