@@ -1,0 +1,2 @@
+-- A run that is made once more.
+pub mod Replaying
