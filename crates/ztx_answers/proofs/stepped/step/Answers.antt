@@ -1,0 +1,20 @@
+use Rattle.std.proofs.Common.{subst}
+use Rattle.z_assemble.specs.Whole.{FirstFault, HasFault}
+use Rattle.ztx_answers.proofs.Stepped.{step_answered, step_refused}
+use Rattle.ztx_answers.proofs.stepped.step.Goals as goal
+
+pub returns-in-Ok-clause-due : goal.returns-in-Ok-clause-due
+returns-in-Ok-clause-due c =
+    let parts = c.part-parts.result in
+    step_answered c.args.turns c.args.tick c.args.seed c.args.input.now parts.listing.now parts.commands.now
+    c.requires.short c.part-parts.ensures c.answer_commands.result c.in-Ok.image c.in-Ok.ensures.image
+    c.answer_commands.ensures.due
+
+pub returns-in-Err-Listing-clause-due : goal.returns-in-Err-Listing-clause-due
+returns-in-Err-Listing-clause-due c =
+    let parts = c.part-parts.result in
+    let first : FirstFault parts.listing.now c.in-Err-Listing.fault =
+    subst (HasFault parts.listing.now) c.in-Err-Listing.field-0-is c.in-Err-Listing.ensures.fault in
+    step_refused c.args.turns c.args.tick c.args.seed c.args.input.now parts.listing.now parts.commands.now
+    c.requires.short c.part-parts.ensures c.refuse.result c.in-Err-Listing.fault first c.refuse.ensures.status
+    c.refuse.ensures.text
