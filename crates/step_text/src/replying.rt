@@ -7,7 +7,9 @@ ghost use Rattle.step_words.specs.Commands.{AreBytes, IsKnown};
 
 use crate::bytes::TraceBytes;
 use crate::moving::follow;
-use report_text::{Attempt, add_bytes_text, add_image, add_labelled, add_number_line, add_progress};
+use report_text::{
+    Attempt, add_bytes_text, add_image, add_labelled, add_number_line, add_progress,
+};
 use std::alloc::{AllocError, Global};
 use step_words::StepCommand;
 use tx_step::Trace;
@@ -56,8 +58,9 @@ fn add_reply(text: &mut Vec<u8>, trace: &Trace, command: StepCommand) -> Result<
     ensures { OnOk result (text.new.items ≡ text.old.items ++ reply_at command trace.now) }
 {
     match command {
-        StepCommand::Forward(_) | StepCommand::Back(_) | StepCommand::Go(_) =>
-            add_position(text, trace),
+        StepCommand::Forward(_) | StepCommand::Back(_) | StepCommand::Go(_) => add_position(
+            text, trace,
+        ),
         StepCommand::Cpu(cpu) => add_cpu(text, trace, cpu),
         StepCommand::Bytes { first, count } => add_bytes(text, trace, first, count),
         StepCommand::History => add_history(text, trace),
