@@ -30,17 +30,6 @@ nothing_replied start commands = record { told = refl; same = refl }
 
 module _ (start : Traced) (commands : List StepCommand) (i : ℕ) (t : Traced) (text : List ℕ)
     (r : Replied start commands i t text) where
-  -- the CPUs that a command names are there
-  pub still_known : (d : StepCommand) → i < length commands
-      → All (IsKnown (length start.image.cpus)) commands → (next : Traced)
-      → next ≡ target_of (get_or commands i d) t → IsKnown (length next.image.cpus) (get_or commands i d)
-  still_known d within known next is =
-      let c = get_or commands i d in
-      let here = All-get_or (IsKnown (length start.image.cpus)) commands i d within known in
-      subst (λ n. IsKnown n c)
-      (sym (ap (λ (n : Traced). length n.image.cpus) is
-      ∙ ap (λ (x : Content). length x.cpus) (image_kept c t) ∙ r.same)) here
-
   one_reply : (d : StepCommand) → i < length commands → let c = get_or commands i d in
       replies_from t (drop i commands)
       ≡ reply_at c (target_of c t) ++ replies_from (target_of c t) (drop (i + 1) commands)

@@ -14,7 +14,7 @@ use Rattle.z_deck.specs.Reading.{FirstFault as CardFault}
 use Rattle.z_deck.specs.declared.fault.Kind.TheVariants as kinds
 use Rattle.ztx_answers.specs.Decks.{IsDeckRefusal, IsDueToDeck, long_deck_line}
 use Rattle.ztx_answers.proofs.Decked.{one_read, one_written, read, written}
-use Rattle.ztx_answers.proofs.Stepped.{long_step_ok, one_step, some_step}
+use Rattle.ztx_answers.proofs.Steps.{long_step_ok, one_step, some_step}
 
 -- something is due
 pub some_due : (r : Request) (input : List ℕ) → IsAllowed r → IsSome (IsDue r input)

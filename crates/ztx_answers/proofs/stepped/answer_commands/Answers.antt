@@ -1,6 +1,6 @@
 use Rattle.std.proofs.Common.{subst}
 use Rattle.step_words.specs.Commands.{AreCommands, IsFirstBad}
-use Rattle.ztx_answers.proofs.Stepped.{replied, command_refused}
+use Rattle.ztx_answers.proofs.Steps.{replied, command_refused}
 use Rattle.ztx_answers.proofs.stepped.answer_commands.Goals as goal
 
 pub returns-in-Ok-clause-due : goal.returns-in-Ok-clause-due

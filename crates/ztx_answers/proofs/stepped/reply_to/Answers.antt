@@ -1,5 +1,5 @@
 use Rattle.ztx_answers.proofs.Ran.{is_status}
-use Rattle.ztx_answers.proofs.Stepped.{replies_due}
+use Rattle.ztx_answers.proofs.Steps.{replies_due}
 use Rattle.ztx_answers.proofs.stepped.reply_to.Goals as goal
 
 pub returns-in-Ok-clause-due : goal.returns-in-Ok-clause-due

@@ -1,6 +1,6 @@
 use Rattle.std.proofs.Common.{subst}
 use Rattle.z_assemble.specs.Whole.{FirstFault, HasFault}
-use Rattle.ztx_answers.proofs.Stepped.{step_answered, step_refused}
+use Rattle.ztx_answers.proofs.Steps.{step_answered, step_refused}
 use Rattle.ztx_answers.proofs.stepped.step.Goals as goal
 
 pub returns-in-Ok-clause-due : goal.returns-in-Ok-clause-due
