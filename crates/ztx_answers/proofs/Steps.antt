@@ -69,6 +69,17 @@ replies_due image turns tick seed before after trace commands status out is ran 
 
 -- ---- answers that are there, unless memory ran out
 
+step_is : (turns tick : ℕ) (seed : Option ℕ) (input listing text : List ℕ) → length input ≤ 16777216
+    → IsParted input listing text → (status : ℕ) (out : List ℕ)
+    → IsDueToParts turns tick seed listing text status out → IsDueToStep turns tick seed input status out
+step_is turns tick seed input listing text short parted status out due = inr record {
+  short = short;
+  listing = listing;
+  text = text;
+  parted = parted;
+  is_due = due;
+}
+
 module _ {E : Type 0} (turns tick : ℕ) (seed : Option ℕ) where
   pub replied : (r : Result Answer E) (image : Content) (text : List ℕ) (commands : List StepCommand)
       → AreCommands (length image.cpus) text commands
@@ -98,28 +109,19 @@ module _ {E : Type 0} (turns tick : ℕ) (seed : Option ℕ) where
 
   module _ (input listing text : List ℕ) (short : length input ≤ 16777216)
       (parted : IsParted input listing text) where
-    step_is : (status : ℕ) (out : List ℕ) → IsDueToParts turns tick seed listing text status out
-        → IsDueToStep turns tick seed input status out
-    step_is status out due = inr record {
-      short = short;
-      listing = listing;
-      text = text;
-      parted = parted;
-      is_due = due;
-    }
-
     pub step_answered : (r : Result Answer E) (image : Content) → Stands listing image
         → IfOk r (λ a. (listing : List ℕ) → Stands listing image
         → IsDueToParts turns tick seed listing text a.status a.text.items)
         → IfOk r (λ a. IsDueToStep turns tick seed input a.status a.text.items)
-    step_answered (Ok a) image stands due = step_is a.status a.text.items (due listing stands)
+    step_answered (Ok a) image stands due =
+        step_is turns tick seed input listing text short parted a.status a.text.items (due listing stands)
     step_answered (Err e) image stands due = tt
 
     pub step_refused : (r : Result Answer E) (fault : ListingFault) → FirstFault listing fault
         → IfOk r (λ a. a.status ≡ 5) → IfOk r (λ a. a.text.items ≡ fault_line fault)
         → IfOk r (λ a. IsDueToStep turns tick seed input a.status a.text.items)
     step_refused (Ok a) fault first s t =
-        step_is a.status a.text.items
+        step_is turns tick seed input listing text short parted a.status a.text.items
         (inl (record { fault = fault; first = first; status_is = s; text_is = t }))
     step_refused (Err e) fault first s t = tt
 
