@@ -1,10 +1,8 @@
 -- Commands one after the other: where each leads, and what it shows.
-use Rattle.std.proofs.Common.{◌≡◌, ℕ, ◌+◌, ◌<◌, ◌≤◌, List, [], ◌++◌, length, drop, get_or, refl, sym, ap, subst, ◌∙◌}
-use Rattle.std.proofs.Common.{All, append_assoc}
+use Rattle.std.proofs.Common.{◌≡◌, ℕ, ◌+◌, ◌<◌, ◌≤◌, List, [], ◌++◌, length, drop, get_or, refl, sym, ap, ◌∙◌}
+use Rattle.std.proofs.Common.{append_assoc}
 use Rattle.std.proofs.lemmas.List.{append-nil, at_drop_more, at_drop_all}
-use Rattle.std.proofs.lemmas.List.Elements.{All-get_or}
 use Rattle.step_text.specs.Replies.{target_of, reply_at, replies_from}
-use Rattle.step_words.specs.Commands.{IsKnown}
 use Rattle.step_words.specs.declared.command.StepCommand.{StepCommand}
 use Rattle.step_words.specs.declared.command.StepCommand.TheVariants.{Forward, Back, Go, Cpu, Bytes, History}
 use Rattle.tx_journal.specs.Content.{Content}

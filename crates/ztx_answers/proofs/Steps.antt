@@ -25,10 +25,10 @@ use Rattle.z_assemble.specs.declared.fault.ListingFault.{ListingFault}
 use Rattle.z_assemble.proofs.Images.{stands_for_image}
 use Rattle.z_assemble.proofs.Says.{one_holds, both_fail, same_image}
 use Rattle.ztx_answers.specs.declared.answer.Answer.{Answer}
-use Rattle.ztx_answers.specs.Due.{IsRefusal, long_fault}
+use Rattle.ztx_answers.specs.Due.{long_fault}
 use Rattle.ztx_answers.specs.One.{IsSome, IsOnly}
-use Rattle.ztx_answers.specs.Runs.{AreLimits, running}
-use Rattle.ztx_answers.specs.Steps.{run_of, AreReplies, IsBadCommand, IsLongStep, IsDueToParts, IsStep, IsDueToStep}
+use Rattle.ztx_answers.specs.Runs.{running}
+use Rattle.ztx_answers.specs.Steps.{run_of, AreReplies, IsBadCommand, IsDueToParts, IsDueToStep}
 use Rattle.ztx_answers.proofs.Answered.{same_refusal, refusal}
 use Rattle.ztx_answers.proofs.Ran.{IsOpened, ran_status}
 
