@@ -10,8 +10,10 @@ mod storage;
 mod totals;
 mod whole;
 
+pub use digits::{add_labelled, add_number_line};
 pub use laws::a_block_shows_what_ended_the_attempt;
+pub use lines::{add_image, add_progress};
 pub use processors::{Attempt, Counts, Processor};
-pub use storage::SharedBytes;
+pub use storage::{SharedBytes, add_bytes_text};
 pub use totals::summary;
 pub use whole::{report, status};

@@ -124,7 +124,7 @@ fn add_access_lines(text: &mut Vec<u8>, access: &[u32; 16]) -> Result<(), AllocE
 
 /// Adds the registers and the state of a CPU.
 #[tactic(auto, unfolding(crate::specs::Processor::image_lines))]
-fn add_image(text: &mut Vec<u8>, number: u64, image: &CpuImage) -> Result<(), AllocError>
+pub fn add_image(text: &mut Vec<u8>, number: u64, image: &CpuImage) -> Result<(), AllocError>
     ensures { OnOk result (text.new.items ≡ text.old.items ++ image_lines number (cpu_of image.now)) }
 {
     add_state_line(text, number, image.state)?;
@@ -184,7 +184,7 @@ fn add_counts(text: &mut Vec<u8>, counts: Counts) -> Result<(), AllocError>
 
 /// Adds what a CPU has under way.
 #[tactic(auto, unfolding(crate::specs::Processor::progress_lines))]
-fn add_progress(
+pub fn add_progress(
     text: &mut Vec<u8>,
     attempt: Option<Attempt>,
     pending: Option<u64>,

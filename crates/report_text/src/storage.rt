@@ -69,7 +69,7 @@ fn add_line<S: SharedBytes>(
 }
 
 /// Adds the lines of bytes, sixteen to a line.
-fn add_lines<S: SharedBytes>(
+pub fn add_bytes_text<S: SharedBytes>(
     text: &mut Vec<u8>,
     storage: &S,
     first: u32,
@@ -98,7 +98,7 @@ fn add_show<S: SharedBytes>(text: &mut Vec<u8>, storage: &S, show: Show) -> Resu
         copy(storage, show.first, &mut block);
         return add_block(text, show.first, &block);
     }
-    add_lines(text, storage, show.first, show.length)
+    add_bytes_text(text, storage, show.first, show.length)
 }
 
 /// Adds what is shown of storage, in order.

@@ -27,7 +27,7 @@ use Rattle.ztx_answers.proofs.Serials.{serial_run}
 
 -- ---- only one
 
-same_refusal : (input : List ℕ) → IsOnly (IsRefusal input)
+pub same_refusal : (input : List ℕ) → IsOnly (IsRefusal input)
 same_refusal input s t xs ys r q =
     let faults = same_fault input r.fault q.fault r.first q.first in
     record {
@@ -124,7 +124,7 @@ reports turns tick seed limits input image s =
       serial = serial_run m (may_run image turns tick is limits) (planned m seed) (planned_known m seed is);
     }
 
-refusal : (input : List ℕ) (f : ListingFault) → FirstFault input f → IsRefusal input 5 (fault_line f)
+pub refusal : (input : List ℕ) (f : ListingFault) → FirstFault input f → IsRefusal input 5 (fault_line f)
 refusal input f first = record { fault = f; first = first; status_is = refl; text_is = refl }
 
 some_list : (input : List ℕ)

@@ -10,3 +10,4 @@ pub mod RaceReports
 pub mod Asked
 pub mod Decked
 pub mod DecksGiven
+pub mod Steps

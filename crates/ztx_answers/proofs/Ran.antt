@@ -50,7 +50,7 @@ module _ (m : Setting) (after : Seen) (events : List Event) (setting : setting_o
   means : meaning (setting_of after) after.events ≡ meaning (setting_of after) events
   means = state ∙ ap (λ (s : Setting). meaning s events) (sym setting)
 
-  ran_status : status_of (setting_of after) after.events ≡ status_of m events
+  pub ran_status : status_of (setting_of after) after.events ≡ status_of m events
   ran_status =
       status_same (setting_of after) after.events events means
       ∙ ap (λ (s : Setting). status_of s events) setting

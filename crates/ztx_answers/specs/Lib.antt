@@ -4,6 +4,7 @@ pub mod Serial
 pub mod Runs
 pub mod Due
 pub mod Decks
+pub mod Steps
 pub mod One
 pub mod Races
 pub mod Requests

@@ -10,6 +10,7 @@ mod listed;
 mod machine;
 mod raced;
 mod requests;
+mod stepped;
 
 pub use answer::{Answer, NoMemory};
 pub use generated::{generate, summary};

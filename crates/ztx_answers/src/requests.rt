@@ -6,6 +6,7 @@ ghost use Rattle.ztx_answers.specs.Requests.{IsAllowed, IsDue, most_of};
 use crate::answer::{Answer, NoMemory};
 use crate::decks::{read_deck_of, refuse_long_deck, write_deck_of};
 use crate::listed::{list, refuse_long_listing, run};
+use crate::stepped::step;
 use std::alloc::Global;
 use z_assemble::MOST_BYTES;
 
@@ -28,6 +29,12 @@ pub enum Request {
     ReadDeck {
         origin: u32,
     },
+    /// What commands behind a listing show of its run, forward and back. The numbers are those of a run.
+    Step {
+        turns: u32,
+        tick: u32,
+        seed: Option<u64>,
+    },
 }
 
 /// How many bytes an input of the request may have.
@@ -35,8 +42,11 @@ pub fn most_bytes(request: Request) -> usize
     ensures { result ≡ most_of request }
 {
     match request {
-        Request::List | Request::Run { .. } | Request::Deck | Request::ReadDeck { .. } =>
-            MOST_BYTES,
+        Request::List
+        | Request::Run { .. }
+        | Request::Deck
+        | Request::ReadDeck { .. }
+        | Request::Step { .. } => MOST_BYTES,
     }
 }
 
@@ -52,6 +62,7 @@ pub fn answer_to(alloc: Global, request: Request, input: &[u8]) -> Result<Answer
         Request::Run { turns, tick, seed } => run(alloc, input, turns, tick, seed),
         Request::Deck => write_deck_of(alloc, input),
         Request::ReadDeck { origin } => read_deck_of(alloc, origin, input),
+        Request::Step { turns, tick, seed } => step(alloc, input, turns, tick, seed),
     }
 }
 

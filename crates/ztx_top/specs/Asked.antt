@@ -24,7 +24,7 @@ errand_of (Some command.Check) = errand.Nothing
 errand_of (Some (command.Heat turns tick seed)) = errand.Nothing
 errand_of (Some (command.Deck true origin)) = errand.Input (request.ReadDeck origin)
 errand_of (Some (command.Deck false origin)) = errand.Input request.Deck
-errand_of (Some (command.Step turns tick seed)) = errand.Nothing
+errand_of (Some (command.Step turns tick seed)) = errand.Input (request.Step turns tick seed)
 
 -- what the words ask for
 abbrev pub asked : List Text → Errand

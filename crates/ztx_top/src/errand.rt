@@ -45,6 +45,11 @@ pub fn errand_of(command: Option<Command>) -> Errand
         Some(Command::Deck { read: true, origin }) => Errand::Input(Request::ReadDeck {
             origin: origin as u32,
         }),
+        Some(Command::Step { turns, tick, seed }) => Errand::Input(Request::Step {
+            turns: turns as u32,
+            tick: tick as u32,
+            seed,
+        }),
         _ => Errand::Nothing,
     }
 }

@@ -98,7 +98,7 @@ struct Case {
     text: &'static str,
 }
 
-const CASES: [Case; 15] = [
+const CASES: [Case; 17] = [
     Case {
         words: "list",
         input: " CPU START\nSTART LGHI 1,5\n SVC 0\n",
@@ -188,6 +188,18 @@ const CASES: [Case; 15] = [
         input: "",
         status: 5,
         text: "ztx: card 1: no END\n",
+    },
+    Case {
+        words: "step",
+        input: " CPU START\nSTART LGHI 1,5\n SVC 0\nZTX STEP\nF 9\nB 1\nH\n",
+        status: 0,
+        text: "AT 2 OF 2\nAT 1 OF 2\nHISTORY 1\n",
+    },
+    Case {
+        words: "step",
+        input: " CPU START\nSTART LGHI 1,5\n SVC 0\nZTX STEP\nF 9\n\nC 1\n",
+        status: 5,
+        text: "ztx: step line 3: bad command\n",
     },
 ];
 

@@ -1,6 +1,6 @@
 use Rattle.std.proofs.Common.{◌≡◌, ◌++◌}
 use Rattle.report_text.specs.Storage.{bytes_lines}
-use Rattle.report_text.proofs.storage.add_lines.Given as goal
+use Rattle.report_text.proofs.storage.add_bytes_text.Given as goal
 
 abbrev pub invariant-loop-row : goal.invariant-loop-row
 invariant-loop-row g l =

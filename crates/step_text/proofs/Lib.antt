@@ -1,0 +1,2 @@
+-- Commands one after the other.
+pub mod Following

@@ -1,0 +1,2 @@
+-- What commands show of a run.
+pub mod Replies

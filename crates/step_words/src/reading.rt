@@ -1,0 +1,135 @@
+//! Lines read as commands.
+ghost use Rattle.std.specs.Prelude.{◌≡◌, ◌≢◌, ℕ, ◌<◌, List, ◌∷◌, ◌++◌, ◌↔◌, IsTrue, IfSome, IfNone, IfOk, IfErr};
+ghost use Rattle.std.specs.Fmt.{decimal};
+ghost use Rattle.step_words.specs.Commands.{AreBytes, AreCommands, IsCommand, Tells};
+ghost use Rattle.step_words.specs.Faults.{Adds, IsBadLine, IsRefused};
+
+use crate::command::StepCommand;
+use crate::cutting::cut;
+use crate::fault::CommandFault;
+use std::alloc::Global;
+use tx_journal::read_number;
+
+/// The command that is a letter alone.
+const BARE: &[u8] = b"H";
+
+/// The letter of a line, and what stands behind the blank that follows it; None exactly where there is none.
+fn opened(line: &[u8]) -> Option<(u8, &[u8])>
+    ensures some { IfSome result (λ parts. line.now ≡ parts.0 ∷ 32 ∷ parts.1.now) }
+    ensures none { IfNone result ((letter : ℕ) (rest : List ℕ) → line.now ≢ letter ∷ 32 ∷ rest) }
+{
+    match line {
+        [letter, b' ', rest @ ..] => Some((*letter, rest)),
+        _ => None,
+    }
+}
+
+/// The number of a CPU that is there; None exactly where a text is none.
+fn read_cpu(text: &[u8], cpus: u32) -> Option<u32>
+    ensures some { IfSome result (λ cpu. (text.now ≡ decimal cpu) × (cpu < cpus)) }
+    ensures none { IfNone result ((cpu : ℕ) → cpu < cpus → text.now ≢ decimal cpu) }
+{
+    let cpu = read_number(text)?;
+    if cpu < u64::from(cpus) {
+        return Some(cpu as u32);
+    }
+    None
+}
+
+/// Whether so many bytes from an address on can be looked at.
+fn can_be_seen(first: u64, count: u64) -> bool
+    ensures { IsTrue result ↔ AreBytes first count }
+{
+    if count < 1 {
+        return false;
+    }
+    if 256 < count {
+        return false;
+    }
+    if first < 8192 {
+        return false;
+    }
+    first <= 1_048_576 - count
+}
+
+/// An address and a number of bytes that can be looked at; None exactly where a text is none.
+fn read_bytes(text: &[u8]) -> Option<(u32, u32)>
+    ensures some { IfSome result (λ r. (text.now ≡ decimal r.0 ++ 32 ∷ decimal r.1) × AreBytes r.0 r.1) }
+    ensures none { IfNone result ((first count : ℕ) → AreBytes first count
+        → text.now ≢ decimal first ++ 32 ∷ decimal count) }
+{
+    let (first, count) = cut(text, b' ')?;
+    let first = read_number(first)?;
+    let count = read_number(count)?;
+    if !can_be_seen(first, count) {
+        return None;
+    }
+    Some((first as u32, count as u32))
+}
+
+/// The command that a line is, of a machine with so many CPUs; None exactly where it is none.
+fn read_command(line: &[u8], cpus: u32) -> Option<StepCommand>
+    ensures some { IfSome result (λ command. Tells cpus line.now command) }
+    ensures none { IfNone result (¬ IsCommand cpus line.now) }
+{
+    if line == BARE {
+        return Some(StepCommand::History);
+    }
+    let (letter, rest) = opened(line)?;
+    match letter {
+        b'F' => Some(StepCommand::Forward(read_number(rest)?)),
+        b'B' => Some(StepCommand::Back(read_number(rest)?)),
+        b'G' => Some(StepCommand::Go(read_number(rest)?)),
+        b'C' => Some(StepCommand::Cpu(read_cpu(rest, cpus)?)),
+        b'M' => {
+            let (first, count) = read_bytes(rest)?;
+            Some(StepCommand::Bytes { first, count })
+        }
+        _ => None,
+    }
+}
+
+/// Adds the command that a line with this number is; an empty line says nothing. The error is want of memory, or
+/// that the line is neither.
+fn add_line(
+    commands: &mut Vec<StepCommand>,
+    number: u64,
+    line: &[u8],
+    cpus: u32,
+) -> Result<(), CommandFault>
+    ensures added { IfOk result (λ _. Adds cpus line.now commands.old.items commands.new.items) }
+    ensures fault { IfErr result (λ fault. IsBadLine cpus line.now number fault) }
+{
+    if line.is_empty() {
+        return Ok(());
+    }
+    match read_command(line, cpus) {
+        None => Err(CommandFault::Line(number)),
+        Some(command) => match commands.push(command) {
+            Ok(()) => Ok(()),
+            Err(_) => Err(CommandFault::Memory),
+        },
+    }
+}
+
+/// The commands that the lines of a text are, of a machine with so many CPUs. An empty line says nothing. The
+/// error is want of memory, or the first line that is neither empty nor a command.
+pub fn read_commands(
+    alloc: Global,
+    text: &[u8],
+    cpus: u32,
+) -> Result<Vec<StepCommand>, CommandFault>
+    ensures commands { IfOk result (λ commands. AreCommands cpus text.now commands.items) }
+    ensures fault { IfErr result (λ fault. IsRefused cpus text.now fault) }
+{
+    let mut commands = Vec::new(alloc);
+    let mut number = 1;
+    let mut from = 0;
+    while let Some((line, _)) = cut(&text[from..], b'\n') {
+        add_line(&mut commands, number, line, cpus)?;
+        number += 1;
+        from += line.len() + 1;
+    }
+    add_line(&mut commands, number, &text[from..], cpus)?;
+    Ok(commands)
+}

@@ -1,0 +1,122 @@
+//! What is due to a listing with commands that look at its run.
+ghost use Rattle.std.specs.Prelude.{◌≡◌, ◌≤◌, ℕ, All, List, IfOk, length};
+ghost use Rattle.step_words.specs.Commands.{AreCommands, IsKnown};
+ghost use Rattle.step_words.specs.Words as words;
+ghost use Rattle.tx_step.specs.Traces.{at_start};
+ghost use Rattle.z_assemble.specs.Whole.{Stands};
+ghost use Rattle.ztx_answers.specs.Due.{IsStatus};
+ghost use Rattle.ztx_answers.specs.Runs.{AreLimits};
+ghost use Rattle.ztx_answers.specs.Steps.{AreReplies, IsDueToParts, IsDueToStep};
+
+use crate::answer::{Answer, NoMemory};
+use crate::listed::refuse;
+use crate::machine::open;
+use std::alloc::Global;
+use step_text::replies;
+use step_words::{CommandFault, StepCommand, fault_line, part, read_commands};
+use tx_journal::Image;
+use tx_machine::machine::Machine;
+use tx_report::status;
+use tx_schedule::run_planned;
+use tx_step::Trace;
+use z_assemble::{AssembleFault, assemble};
+
+/// The line of a line that is no command.
+fn refuse_command(alloc: Global, number: u64) -> Result<Answer, NoMemory>
+    ensures status { IfOk result (λ answer. answer.status ≡ 5) }
+    ensures text { IfOk result (λ answer. answer.text.items ≡ words.fault_line number) }
+{
+    let line = fault_line(alloc, number)?;
+    Ok(Answer {
+        status: 5,
+        text: line.into_bytes(),
+    })
+}
+
+/// The run of a machine, from its start.
+fn trace_of(alloc: Global, machine: &Machine) -> Result<Trace, NoMemory>
+    ensures { IfOk result (λ trace.
+        trace ≡ at_start machine.now.image machine.now.limits machine.now.events) }
+{
+    let Ok(image) = machine.shared_image() else {
+        return Err(NoMemory);
+    };
+    let _left = machine.externals_left();
+    match Trace::open(alloc, image, machine.limits(), machine.events()) {
+        Ok(trace) => Ok(trace),
+        Err(_) => Err(NoMemory),
+    }
+}
+
+/// What commands show of the run of an image.
+fn reply_to(
+    alloc: Global,
+    image: Image,
+    turns: u32,
+    tick: u32,
+    seed: Option<u64>,
+    commands: &[StepCommand],
+) -> Result<Answer, NoMemory>
+    requires limits { AreLimits turns tick }
+    requires known { All (IsKnown (length image.cpus)) commands.now }
+    ensures due { IfOk result (λ answer. (listing text : List ℕ) → Stands listing image
+        → AreCommands (length image.cpus) text commands.now
+        → AreReplies turns tick seed listing text answer.status answer.text.items) }
+    ensures statuses { IfOk result (λ answer. IsStatus answer.status) }
+{
+    let mut machine = open(alloc, image, turns, tick)?;
+    run_planned(&mut machine, seed);
+    let mut trace = trace_of(alloc, &machine)?;
+    match replies(alloc, &mut trace, commands) {
+        Ok(text) => Ok(Answer {
+            status: status(&machine),
+            text,
+        }),
+        Err(_) => Err(NoMemory),
+    }
+}
+
+/// What is due to the text of commands behind the listing of an image.
+fn answer_commands(
+    alloc: Global,
+    image: Image,
+    turns: u32,
+    tick: u32,
+    seed: Option<u64>,
+    text: &[u8],
+) -> Result<Answer, NoMemory>
+    requires { AreLimits turns tick }
+    ensures due { IfOk result (λ answer. (listing : List ℕ) → Stands listing image
+        → IsDueToParts turns tick seed listing text.now answer.status answer.text.items) }
+    ensures statuses { IfOk result (λ answer. IsStatus answer.status) }
+{
+    match read_commands(alloc, text, image.cpu_count()) {
+        Ok(commands) => reply_to(alloc, image, turns, tick, seed, &commands),
+        Err(CommandFault::Memory) => Err(NoMemory),
+        Err(CommandFault::Line(number)) => refuse_command(alloc, number),
+    }
+}
+
+/// What `step` answers to an input that is not too long: a listing, and behind the first line that is `ZTX STEP`
+/// commands. It is what these show of the run that `run` would report, its first fault, or the first line that is no
+/// command. The limits and the seed are those of a run.
+pub fn step(
+    alloc: Global,
+    input: &[u8],
+    turns: u32,
+    tick: u32,
+    seed: Option<u64>,
+) -> Result<Answer, NoMemory>
+    requires limits { AreLimits turns tick }
+    requires short { length input.now ≤ 16777216 }
+    ensures due { IfOk result (λ answer.
+        IsDueToStep turns tick seed input.now answer.status answer.text.items) }
+    ensures statuses { IfOk result (λ answer. IsStatus answer.status) }
+{
+    let parts = part(input);
+    match assemble(alloc, parts.listing) {
+        Ok(image) => answer_commands(alloc, image, turns, tick, seed, parts.commands),
+        Err(AssembleFault::Memory) => Err(NoMemory),
+        Err(AssembleFault::Listing(fault)) => refuse(alloc, fault),
+    }
+}
