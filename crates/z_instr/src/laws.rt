@@ -4,7 +4,7 @@ ghost use Rattle.std.specs.Prelude.{◌≡◌, ◌<◌, ℕ, List, length, get_o
 ghost use Rattle.std.specs.Prelude.{◌↔◌, Some, None};
 ghost use Rattle.std.specs.List.{list_any};
 ghost use Rattle.z_instr.specs.Operands.{Span, IsSmall, pieces, spans, HoldsByteOf};
-ghost use Rattle.z_instr.specs.Table.{entry_at};
+ghost use Rattle.z_instr.specs.Table.{table, entry_at};
 ghost use Rattle.z_instr.specs.Layout.{length_by, format_length, place, room};
 ghost use Rattle.z_instr.specs.Facts.{has_fitting_name, is_refused_alike, has_two_lists, is_service, is_begin};
 ghost use Rattle.z_instr.specs.Ranges.{is_within, bounds};
@@ -13,6 +13,12 @@ ghost use Rattle.z_instr.specs.Reading.{AreBytes, AreSame, Reads};
 ghost use Rattle.z_instr.specs.Computing.{reading_of};
 ghost use Rattle.z_instr.specs.declared.instr.Instr.{Instr};
 ghost use Rattle.z_instr.specs.declared.table.TheConstants.{ROWS};
+
+/// The code's number of rows is that of the defined table, which has 188.
+pub fn rows_are_counted()
+    ensures all { ROWS ≡ length table }
+    ensures number { length table ≡ 188 }
+{}
 
 /// No two rows have one name, and no bytes have the opcodes of two rows in their places.
 pub fn rows_are_distinct()

@@ -6,7 +6,8 @@ ghost use Rattle.z_regs.specs.declared.ranges.Range.{Range};
 ghost use Rattle.z_regs.specs.declared.image.RunState.TheVariants.{Running};
 ghost use Rattle.z_regs.specs.Cpu.{Cpu};
 ghost use Rattle.z_regs.specs.Psw.{HasFields, psw_of, loaded};
-ghost use Rattle.z_regs.specs.Prefix.{storage_size, is_prefix, absolute_of};
+ghost use Rattle.z_regs.specs.Prefix.{storage_size, area_size, is_prefix, absolute_of};
+ghost use Rattle.z_regs.specs.declared.prefix.TheConstants.{STORAGE_SIZE, AREA_SIZE};
 ghost use Rattle.z_regs.specs.Seen.{seen_by};
 ghost use Rattle.z_regs.specs.Absolute.{IsAccessible, absolute_range, addresses_of};
 
@@ -46,4 +47,10 @@ pub fn a_psw_loads_back()
     ensures { (c d : Cpu) → HasFields d →
         loaded (psw_of d) c ≡
         record c { condition = d.condition; mask = d.mask; address = d.address; state = Running } }
+{}
+
+/// The numbers of the code are those of the definitions.
+pub fn sizes_are_the_defined_ones()
+    ensures storage { STORAGE_SIZE ≡ storage_size }
+    ensures area { AREA_SIZE ≡ area_size }
 {}
