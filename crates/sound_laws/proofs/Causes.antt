@@ -1,7 +1,7 @@
 -- An attempt ends by causes that a machine finds.
-use Rattle.std.proofs.Common.{◌≡◌, ℕ, ◌<◌, ◌^◌, Bool, true, false, List, Option, Some, None, refl, sym, subst}
+use Rattle.std.proofs.Common.{◌≡◌, ℕ, ◌<◌, true, List, Option, Some, None, refl, subst}
 use Rattle.std.proofs.Common.{arith, lit<}
-use Rattle.std.specs.Prelude.{◌&&◌, ◌||◌, not}
+use Rattle.std.specs.Prelude.{◌&&◌, not}
 use Rattle.std.proofs.lemmas.Bool.{and_parts, or_cases}
 use borrow.Enum.Arm.{by_way}
 use Rattle.z_regs.specs.Prefix.{is_prefix}
@@ -114,4 +114,5 @@ fitting_is text f i n why ok h =
     let p = run f i n in
     by_way (or_cases (is_cause (ending text p) why) (is_open p.mark && comes_from_outside text p why) h)
     (λ own. same_is (ending text p) why (own_is text p) own)
-    (λ other. outside_is text f i n why ok (and_parts (is_open p.mark) (comes_from_outside text p why) other).1)
+    (λ other. outside_is text f i n why ok
+    (and_parts (is_open p.mark) (comes_from_outside text p why) other).1)

@@ -1,6 +1,6 @@
 -- An instruction that is executed completes one instruction more of its attempt at most.
-use Rattle.std.proofs.Common.{◌≡◌, ℕ, ◌+◌, ◌<◌, ◌≤◌, Bool, true, false, List, [], ◌∷◌, Option, Some, None}
-use Rattle.std.proofs.Common.{refl, arith}
+use Rattle.std.proofs.Common.{ℕ, ◌+◌, ◌≤◌, Bool, true, false, List, [], ◌∷◌, Option, Some, None}
+use Rattle.std.proofs.Common.{arith}
 use Rattle.std.specs.Prelude.{nat_lt, if◌then◌else◌}
 use Rattle.z_regs.specs.declared.image.RunState.{RunState}
 use Rattle.z_regs.specs.declared.image.RunState.TheVariants.{Running, Halted, Interrupted}
@@ -14,8 +14,8 @@ use Rattle.z_effect.specs.Outcome as outcome
 use Rattle.z_effect.specs.TransactionEffect.{delay_given}
 use Rattle.tx_control.specs.declared.begins.Begin.{Begin}
 use Rattle.tx_progress.specs.Doing.{Executed, executed, executed_where, inside, outside, opened, closed_by}
-use Rattle.tx_progress.specs.Doing.{told_of, stores_of, done_outside}
-use Rattle.tx_progress.specs.Local.{Local, Beside, block_stored, interruption_taken, taken_by}
+use Rattle.tx_progress.specs.Doing.{told_of, stores_of}
+use Rattle.tx_progress.specs.Local.{Beside, block_stored, interruption_taken, taken_by}
 use Rattle.tx_progress.specs.Progress.{Progress, is_live, advanced}
 use Rattle.tx_progress.specs.Trial.{outcome_by}
 use Rattle.tx_progress.specs.declared.done.Done.{Done}

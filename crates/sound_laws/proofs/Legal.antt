@@ -1,6 +1,6 @@
 -- Entries of legal histories are of CPUs that there are, and abort for causes that a machine finds.
 use Rattle.std.proofs.Common.{◌≡◌, ◌≢◌, ℕ, zero, suc, ◌<◌, ◌≤◌, Bool, true, false, List, [], ◌∷◌, length}
-use Rattle.std.proofs.Common.{Option, Some, None, refl, sym, ap, subst, ◌∙◌, arith}
+use Rattle.std.proofs.Common.{Option, Some, None, refl, sym, ap, ◌∙◌, arith}
 use Rattle.std.specs.Prelude.{◌&&◌, All, nat_lt, is_none}
 use Rattle.std.proofs.lemmas.Bool.{and_parts, cases_lt, true≢false}
 use Rattle.std.proofs.lemmas.List.Elements.{All-nil, All-cons, All-weaker}
@@ -73,8 +73,8 @@ no_interruption f i None None after none h = absurd cc
 no_interruption f i None (Some w) after none h = absurd cc
 
 -- so no entry of a CPU that is not there fits
-fits_not : {P : Type 0} (f after : FlatState) (e : Entry) → apply f e ≡ Some after → IsAbsent f (cpu_of_entry e)
-    → P
+fits_not : {P : Type 0} (f after : FlatState) (e : Entry) → apply f e ≡ Some after
+    → IsAbsent f (cpu_of_entry e) → P
 unfolding apply
 fits_not f after (Step i) h absent = acts_not f i absent (passed (may_act f i) _ after h)
 fits_not f after (Commit i n) h absent = acts_not f i absent (passed (may_act f i) _ after h)
@@ -90,7 +90,8 @@ unfolding apply
 cause_fits f after (Abort i n why) kept h =
     let all = passed (may_act f i && (nat_lt 0 n && fits f.text (run f i n) why)) _ after h in
     let acts = and_parts (may_act f i) (nat_lt 0 n && fits f.text (run f i n) why) all in
-    fitting_is f.text f i n why (kept.prefixes i) (and_parts (nat_lt 0 n) (fits f.text (run f i n) why) acts.1).1
+    fitting_is f.text f i n why (kept.prefixes i)
+    (and_parts (nat_lt 0 n) (fits f.text (run f i n) why) acts.1).1
 cause_fits f after (Step i) kept h = tt
 cause_fits f after (Commit i n) kept h = tt
 cause_fits f after (Tdb i) kept h = tt
@@ -100,13 +101,13 @@ cause_fits f after (Interrupt i) kept h = tt
 abbrev IsFine : ℕ → Entry → Type 0
 IsFine cpus e = (cpu_of_entry e < cpus) × HasCause e
 
-fine_one : (cpus : ℕ) (f after : FlatState) (e : Entry) → Holds cpus f → apply f e ≡ Some after → IsFine cpus e
-fine_one cpus f after e holds h =
-    (
-      by_way (cases_lt (cpu_of_entry e) cpus) (λ lt. lt)
+fine_one : (cpus : ℕ) (f after : FlatState) (e : Entry) → Holds cpus f → apply f e ≡ Some after
+    → IsFine cpus e
+fine_one cpus f after e holds h = (
+  by_way (cases_lt (cpu_of_entry e) cpus) (λ lt. lt)
       (λ far. fits_not f after e h (holds.absent (cpu_of_entry e) far)),
-      cause_fits f after e holds.kept h,
-    )
+  cause_fits f after e holds.kept h,
+)
 
 holds_on : (cpus : ℕ) (f after : FlatState) (e : Entry) → Holds cpus f → apply f e ≡ Some after
     → Holds cpus after
@@ -134,7 +135,8 @@ fine_next : (cpus : ℕ) (f : FlatState) (e : Entry) (rest : List Entry) (o : Op
 fine_next cpus f e rest None g none h holds go =
     absurd (let stuck : None ≡ Some g = sym (replay_none rest) ∙ h in cc)
 fine_next cpus f e rest (Some next) g is h holds go =
-    All-cons (IsFine cpus) e rest (fine_one cpus f next e holds is) (go next (holds_on cpus f next e holds is) h)
+    All-cons (IsFine cpus) e rest (fine_one cpus f next e holds is)
+    (go next (holds_on cpus f next e holds is) h)
 
 fine_all : (cpus : ℕ) (entries : List Entry) (f g : FlatState) → Holds cpus f
     → replay_from entries (Some f) ≡ Some g → All (IsFine cpus) entries

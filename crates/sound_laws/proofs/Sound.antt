@@ -1,7 +1,6 @@
 -- Every entry of a machine's history is sound, so no other history of the image has its text.
-use Rattle.std.proofs.Common.{◌≡◌, ℕ, ◌<◌, ◌≤◌, ◌^◌, List, get_or, refl, sym, subst, arith, length}
+use Rattle.std.proofs.Common.{◌≡◌, ℕ, ◌<◌, ◌≤◌, List, get_or, subst, arith, length}
 use Rattle.std.specs.Prelude.{All}
-use Rattle.tx_control.specs.declared.causes.Why.{Why}
 use Rattle.tx_journal.specs.Content.{Content}
 use Rattle.tx_journal.specs.Lines.{history_text}
 use Rattle.tx_journal.specs.Sound.{IsSound}
@@ -23,7 +22,8 @@ use Rattle.sound_laws.proofs.Turns.{took_turns}
 joined : (e : Entry) (cpus most : ℕ) → cpus ≤ 16 → most ≤ turn_limit → cpu_of_entry e < cpus → HasCause e
     → HasAtMost most e → IsSound e
 joined (Step i) cpus most few low there cause count = omega (arith, few, there)
-joined (Commit i n) cpus most few low there cause count = (omega (arith, few, there), omega (arith, low, count))
+joined (Commit i n) cpus most few low there cause count =
+    (omega (arith, few, there), omega (arith, low, count))
 joined (Abort i n why) cpus most few low there cause count =
     (omega (arith, few, there), omega (arith, low, count), cause)
 joined (Tdb i) cpus most few low there cause count = omega (arith, few, there)

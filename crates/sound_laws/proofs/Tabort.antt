@@ -1,8 +1,9 @@
--- Only TABORT aborts its own transaction. Its code is the address of its operand: above 255, since a test has asked
--- for that, and below 2 ^ 64, as every address.
-use Rattle.std.proofs.Common.{◌≡◌, ℕ, ◌+◌, ◌*◌, ◌<◌, ◌≤◌, ◌^◌, Bool, true, false, List, [], Option, Some, None}
-use Rattle.std.proofs.Common.{refl, sym, subst, ◌∙◌, Result, Ok, Err, not, arith, lit<, length}
-use Rattle.std.specs.Prelude.{◌&&◌, ◌||◌, nat_eq, nat_le, nat_lt, cond, if◌then◌else◌}
+-- Only TABORT aborts its own transaction. Its code is the address of its operand: above 255, since a test has
+-- asked for that, and below 2 ^ 64, as every address.
+use Rattle.std.proofs.Common.{◌≡◌, ℕ, ◌+◌, ◌*◌, ◌<◌, ◌≤◌, ◌^◌, Bool, true, false, List, [], Option, Some}
+use Rattle.std.proofs.Common.{None}
+use Rattle.std.proofs.Common.{refl, sym, subst, Result, Ok, Err, not, arith, lit<, length}
+use Rattle.std.specs.Prelude.{◌&&◌, ◌||◌, nat_eq, nat_le, nat_lt, if◌then◌else◌}
 use Rattle.std.proofs.lemmas.Bool.{true≢false, ltb-false}
 use Rattle.z_arith.specs.declared.Width.{Width}
 use Rattle.z_arith.specs.declared.Width.TheVariants.{Word, Double}
@@ -210,7 +211,8 @@ tabort_code text p i ranges code goes is =
     let pass = passes text p i ranges goes in
     let nothing = tests_find_nothing text p i pass.passed in
     let by : (demands_code e.demand ≡ true) × (code ≡ first_address i general) =
-    subst (AbortsBy (demands_code e.demand) (first_address i general)) is (one_by i p.cpu (length p.nest) _) in
+    subst (AbortsBy (demands_code e.demand) (first_address i general)) is
+    (one_by i p.cpu (length p.nest) _) in
     let high = high_code e.demand e.operands i general (length p.nest) by.0
     (not_excepted i _ nothing.specified) in
     let low : first_address i general < 2 ^ 64 = modulo_below 64 _ (lit< tt) in

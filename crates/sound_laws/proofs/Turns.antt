@@ -1,10 +1,9 @@
 -- What the machine that keeps counts of an attempt took as many turns, over all events.
-use Rattle.std.proofs.Common.{◌≡◌, ◌≢◌, ℕ, ◌+◌, ◌-◌, ◌<◌, ◌≤◌, Bool, true, false, List, [], ◌∷◌, ◌++◌, Option}
+use Rattle.std.proofs.Common.{◌≡◌, ℕ, ◌+◌, ◌-◌, ◌<◌, ◌≤◌, Bool, true, false, List, [], ◌∷◌, ◌++◌, Option}
 use Rattle.std.proofs.Common.{Some, None, refl, sym, ap, subst, ◌∙◌, arith}
 use Rattle.std.specs.Prelude.{◌&&◌, nat_lt, if◌then◌else◌, All}
-use Rattle.std.proofs.lemmas.Bool.{cases_eq, leb-false}
+use Rattle.std.proofs.lemmas.Bool.{leb-false}
 use Rattle.std.proofs.lemmas.List.Elements.{All-nil, All-push}
-use borrow.Enum.Arm.{by_way}
 use Rattle.z_regs.specs.declared.ranges.Range.{Range}
 use Rattle.z_regs.specs.declared.waiting.Waiting.{Waiting}
 use Rattle.z_instr.specs.declared.instr.Instr.{Instr}
@@ -15,7 +14,6 @@ use Rattle.tx_journal.specs.declared.entries.Entry.{Entry}
 use Rattle.tx_journal.specs.declared.entries.Entry.TheVariants as entry
 use Rattle.tx_journal.specs.declared.events.Event.{Event}
 use Rattle.tx_journal.specs.declared.events.Event.TheVariants as event
-use Rattle.line_table.specs.Holders.{Holders}
 use Rattle.tx_serial.specs.Fate.{Fate, Goes, Ends, Stops}
 use Rattle.tx_serial.specs.Flat.{Pending, at_put}
 use Rattle.tx_progress.specs.Doing.{Executed, executed, stopped}
@@ -31,20 +29,22 @@ use Rattle.tx_meaning.specs.Limits.{Setting}
 use Rattle.tx_meaning.specs.Meaning.{IsSetting, meaning}
 use Rattle.tx_meaning.specs.Needs.{operand_needs, block_needs, interruption_needs}
 use Rattle.tx_meaning.specs.State.{Numbers, State, is_live}
-use Rattle.tx_meaning.specs.Changes.{with_numbers, with_entry, with_event, counting_turn, waiting_turn, delaying}
-use Rattle.tx_meaning.specs.Changes.{starting, continuing, committing, aborting, leaving, without_attempt}
-use Rattle.tx_meaning.specs.Changes.{after_cause, asking, rejecting_one, rejected_once}
+use Rattle.tx_meaning.specs.Changes.{with_numbers, with_event, counting_turn, waiting_turn, delaying}
+use Rattle.tx_meaning.specs.Changes.{committing, aborting, without_attempt}
+use Rattle.tx_meaning.specs.Changes.{rejecting_one}
 use Rattle.tx_meaning.specs.Idle.{is_spent, kept_back}
 use Rattle.tx_meaning.specs.Turn.{is_tick}
 use Rattle.tx_meaning.specs.Views.{AreKnown}
 use Rattle.tx_meaning.proofs.Walk.{at_put_case, at_put_kept, cause_case, leaving_case, conflict_on}
 use Rattle.tx_keeping.specs.Asking.{k_get_lines}
-use Rattle.tx_keeping.specs.Keeping.{keeping, keeping_from}
-use Rattle.tx_keeping.specs.Kept.{Kept, kept_beginning, kept_finished, text_of, with_state, with_beside, beside}
+use Rattle.tx_keeping.specs.Keeping.{keeping_from}
+use Rattle.tx_keeping.specs.Kept.{Kept, kept_beginning, kept_finished, text_of, with_state}
+use Rattle.tx_keeping.specs.Kept.{with_beside, beside}
 use Rattle.tx_keeping.specs.Moves.{k_asking, k_rejecting, k_rejected, k_aborting, k_starting, k_continuing}
 use Rattle.tx_keeping.specs.Moves.{k_committing, k_stepping, k_storing, k_taking}
 use Rattle.tx_keeping.specs.Turn.{KTurned, k_ends_by, k_refused_turn, k_once_given, k_with_lines, k_inside}
-use Rattle.tx_keeping.specs.Turn.{k_outside, k_done, k_executing, k_attempting, k_acting, k_to_tail, k_external}
+use Rattle.tx_keeping.specs.Turn.{k_outside, k_done, k_executing, k_attempting, k_acting, k_to_tail}
+use Rattle.tx_keeping.specs.Turn.{k_external}
 use Rattle.tx_keeping.specs.Turn.{k_interrupting, k_by_rules, k_counted_turn, k_idle, k_turn_where, k_turn}
 use Rattle.tx_keeping.specs.Turn.{k_happen, next_address}
 use Rattle.tx_keeping.proofs.Events.{keeping_is}
@@ -81,7 +81,7 @@ abort_turns i st n w s j =
 -- ---- what is kept
 
 module _ (most : ℕ) where
-  -- each attempt took as many turns as it has completed instructions, no CPU has had more turns than that, and
+  -- each attempt took as many turns as it has completed instructions, no CPU has had more than so many, and
   -- neither has an attempt of the history completed more instructions
   record Spends (k : Kept) : Type 0 where
     counts : (j : ℕ) → count_at k j ≤ turns_in k.state j
@@ -128,11 +128,12 @@ module _ (most : ℕ) where
 
   -- ---- an abort
 
-  aborted_counts : (i : ℕ) (w : Why) (at : ℕ) (k : Kept) (j : ℕ) → count_at (k_aborting i w at k) j ≤ count_at k j
+  aborted_counts : (i : ℕ) (w : Why) (at : ℕ) (k : Kept) (j : ℕ)
+      → count_at (k_aborting i w at k) j ≤ count_at k j
   unfolding k_aborting aborted
   aborted_counts i w at k j =
-      at_put_case (λ (l : Local). l.attempt.count ≤ count_at k j) k.locals i (aborted w at (beside k i)).local j
-      (λ e. omega arith) (λ ne. omega arith)
+      at_put_case (λ (l : Local). l.attempt.count ≤ count_at k j) k.locals i
+      (aborted w at (beside k i)).local j (λ e. omega arith) (λ ne. omega arith)
 
   aborted_turns : (i : ℕ) (w : Why) (at : ℕ) (k : Kept) (j : ℕ)
       → turns_in (k_aborting i w at k).state j ≡ turns_in k.state j
@@ -163,16 +164,18 @@ module _ (most : ℕ) where
   asks : (i : ℕ) → Asks i (Acts i) Spends
   asks i = record {
     asks = λ k a. restated_acts i k (k_asking i k) (λ j. refl)
-        (same_turns i (record (k.state.numbers i) { asked = (k.state.numbers i).asked + 1 }) k.state refl) refl a;
-    holds = λ k held a. restated_acts i k (with_state (record k.state { held = held }) k) (λ j. refl) (λ j. refl)
-        refl a;
+        (same_turns i (record (k.state.numbers i) { asked = (k.state.numbers i).asked + 1 }) k.state refl) refl
+        a;
+    holds = λ k held a.
+        restated_acts i k (with_state (record k.state { held = held }) k) (λ j. refl) (λ j. refl) refl a;
     rejects = λ k j other live head a.
         let s = k.state in
         let t = rejecting_one j (k.standings j) s in
         let r = k_rejecting j k in
         let refused = if is_live t i then (rejected (r.standings i)).requests_rejected
         else (t.numbers i).refused in
-        let one = same_turns j (record (s.numbers j) { given = (rejecting (k.standings j)).rejects_given }) s refl in
+        let given = (rejecting (k.standings j)).rejects_given in
+        let one = same_turns j (record (s.numbers j) { given = given }) s refl in
         let two = same_turns i (record (t.numbers i) {
           rejected = (t.numbers i).rejected + 1;
           refused = refused;
@@ -243,8 +246,8 @@ module _ (most : ℕ) where
   unfolding k_ends_by
   inside_so i at after k done.Stepped a less few =
       left_so i k after (k_continuing i after k) a less (λ j. refl)
-      (same_turns i (record (k.state.numbers i) { completed = (k.state.numbers i).completed + 1 }) k.state refl)
-      a.spends.history
+      (same_turns i (record (k.state.numbers i) { completed = (k.state.numbers i).completed + 1 }) k.state
+      refl) a.spends.history
   inside_so i at after k (done.Committed n) a less few = committed_so i n k after a less few
   inside_so i at after k (done.Ended w) a less few =
       abort_spends i w at (with_beside i after k)
@@ -331,7 +334,8 @@ module _ (most : ℕ) where
       lines_so m i (block_needs (k.locals i).attempt.cpu.prefix b) k _ a (stored_so i)
   acted_so m i k None (Some w) a =
       lines_so m i (interruption_needs (k.locals i).attempt.cpu.prefix w) k _ a (taken_so i)
-  acted_so m i k None None a = attempted_so m i k (fate_by_progress (text_of m) k.storage (k.locals i).attempt) a
+  acted_so m i k None None a =
+      attempted_so m i k (fate_by_progress (text_of m) k.storage (k.locals i).attempt) a
 
   interrupted_by : (b : Bool) (i : ℕ) (k : Kept) → Spends k → Spends (k_interrupting b i k).kept
   interrupted_by true i k s =
@@ -387,7 +391,8 @@ turned_so m i (Some o) k left s = s
 turned_so m i None k left s =
     let t = with_state (with_event (event.Turn i) (counting_turn i k.state)) k in
     let n = t.state.numbers i in
-    ruled_so m.limits.turns (is_tick m.limits n.turns) (nat_lt 0 n.delay) m i t (counted_acts m i k (left refl) s)
+    ruled_so m.limits.turns (is_tick m.limits n.turns) (nat_lt 0 n.delay) m i t
+    (counted_acts m i k (left refl) s)
 
 -- a turn that is neither finished nor spent
 spared : (finished spent : Bool) (o : Option Outcome)
@@ -398,7 +403,8 @@ spared false true o h = absurd cc
 spared false false o h = refl
 
 -- a CPU whose turn is not idle has one left
-turn_left : (m : Setting) (k : Kept) (i : ℕ) → k_idle m k i ≡ None → (k.state.numbers i).turns < m.limits.turns
+turn_left : (m : Setting) (k : Kept) (i : ℕ) → k_idle m k i ≡ None
+    → (k.state.numbers i).turns < m.limits.turns
 unfolding k_idle
 turn_left m k i none =
     leb-false m.limits.turns (k.state.numbers i).turns
@@ -410,7 +416,8 @@ unfolding k_happen k_turn
 happened_so m (event.Turn i) k s = turned_so m i (k_idle m k i) k (turn_left m k i) s
 happened_so m (event.External i) k s =
     let t = with_event (event.External i) k.state in
-    interrupted_so m.limits.turns i (with_state t k) (restated m.limits.turns k (with_state t k) (λ j. refl) (λ j. refl) refl s)
+    interrupted_so m.limits.turns i (with_state t k)
+    (restated m.limits.turns k (with_state t k) (λ j. refl) (λ j. refl) refl s)
 
 -- ---- over events
 
