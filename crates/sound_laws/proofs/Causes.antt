@@ -47,6 +47,7 @@ small_is Restricted h = tt
 small_is Depth h = tt
 small_is Starved h = tt
 
+-- so is an exception with a small code
 excepted_is : (nest : List Begin) (e : Exception) → e.code < 256 → IsCause (cause_in nest e)
 excepted_is nest e h = small_is (cause_in nest e) (cause_small nest e h)
 
@@ -55,6 +56,7 @@ abbrev CauseIn : Option Why → Type 0
 CauseIn None = Unit {0}
 CauseIn (Some why) = IsCause why
 
+-- an instruction that goes ends an attempt by a division or by TABORT
 outcome_is : (text : List ℕ) (p : Run) (i : Instr) (ranges : List Range) (o : Outcome)
     → fate text p ≡ Goes i ranges → outcome_of i ranges p ≡ o → CauseIn (outcome_cause p.nest i o)
 outcome_is text p i ranges (Did c bytes) goes is = tt
@@ -63,28 +65,33 @@ outcome_is text p i ranges Divides goes is =
     excepted_is p.nest (exception fixed_point_divide_code (length_of i)) (lit< tt)
 outcome_is text p i ranges (Aborts code) goes is = tabort_code text p i ranges code goes is
 
+-- the next instruction, whether it goes or not
 fate_is : (text : List ℕ) (p : Run) (o : Fate) → fate text p ≡ o → SmallEnd o → CauseIn (fate_cause p o)
 fate_is text p (Goes i ranges) goes h = outcome_is text p i ranges (outcome_of i ranges p) goes refl
 fate_is text p (Ends why) goes h = small_is why h
 fate_is text p (Stops e) goes h = tt
 
+-- the overflow of the last instruction
 overflow_is : (nest : List Begin) (o : Option Step) → CauseIn (overflow_cause nest o)
 overflow_is nest None = tt
 overflow_is nest (Some s) =
     excepted_is nest (exception fixed_point_overflow_code (length_of s.instruction)) (lit< tt)
 
+-- by the mark of the run
 ending_is : (m : Mark) (text : List ℕ) (p : Run) → CauseIn (ending_of m text p)
 ending_is Open text p = fate_is text p (fate text p) refl (fate_small text p)
 ending_is Committed text p = tt
 ending_is Overflowed text p = overflow_is p.nest (last_step p.steps)
 ending_is Missing text p = tt
 
+-- whatever an attempt ends by itself with is such a cause
 own_is : (text : List ℕ) (p : Run) → CauseIn (ending text p)
 unfolding ending
 own_is text p = ending_is p.mark text p
 
 -- ---- from outside
 
+-- and so is whatever comes from outside
 outside_is : (text : List ℕ) (f : FlatState) (i n : ℕ) (why : Why) → is_prefix (f.cpus i).prefix ≡ true
     → comes_from_outside text (run f i n) why ≡ true → IsCause why
 outside_is text f i n External ok h = tt
@@ -103,10 +110,12 @@ outside_is text f i n (Tabort code) ok h = absurd cc
 
 -- ---- either way
 
+-- a cause that is the same as such a one
 same_is : (o : Option Why) (why : Why) → CauseIn o → is_cause o why ≡ true → IsCause why
 same_is None why h is = absurd cc
 same_is (Some cause) why h is = subst IsCause (same_cause cause why is) h
 
+-- every cause that fits a run is one that a machine finds
 pub fitting_is : (text : List ℕ) (f : FlatState) (i n : ℕ) (why : Why) → is_prefix (f.cpus i).prefix ≡ true
     → fits text (run f i n) why ≡ true → IsCause why
 unfolding fits

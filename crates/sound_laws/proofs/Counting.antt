@@ -39,6 +39,7 @@ pub record OneMore (n : ℕ) (e : Executed) : Type 0 where
   pub after : count_in e.after ≤ n + 1
   pub told : TellsAtMost (n + 1) e.told
 
+-- outside transactions no commit is told of
 told_any : (most : ℕ) (state : RunState) (delay : ℕ) → TellsAtMost most (told_of state delay)
 told_any most (Interrupted code) delay = tt
 told_any most Running delay = by (nat_lt 0 delay)
@@ -52,11 +53,13 @@ told_any most Halted delay = by (nat_lt 0 delay)
     by true = tt
     by false = tt
 
+-- a transaction that goes on, or is committed
 closed_one : (n : ℕ) (q : Progress) (nest : List Begin) (b : Beside) → q.count ≤ n + 1
     → OneMore n (closed_by q nest b)
 closed_one n q [] b h = record { after = omega arith; told = h }
 closed_one n q (outermost ∷ inner) b h = record { after = h; told = tt }
 
+-- an instruction inside a transaction
 inside_one : (i : Instr) (ranges : List Range) (b : Beside) (o : Outcome)
     → OneMore (count_in b) (inside i ranges b o)
 inside_one i ranges b (Did c bytes) =
@@ -67,6 +70,7 @@ inside_one i ranges b (outcome.Overflowed c bytes) = record { after = omega arit
 inside_one i ranges b Divides = record { after = omega arith; told = tt }
 inside_one i ranges b (Aborts code) = record { after = omega arith; told = tt }
 
+-- a begin outside transactions
 opened_one : (i : Instr) (ranges : List Range) (b : Beside) (o : Outcome)
     → count_in (opened i ranges b o) ≤ count_in b + 1
 opened_one i ranges b (Did c bytes) = omega arith
@@ -74,6 +78,7 @@ opened_one i ranges b (outcome.Overflowed c bytes) = omega arith
 opened_one i ranges b Divides = omega arith
 opened_one i ranges b (Aborts code) = omega arith
 
+-- another instruction outside transactions
 outside_one : (i : Instr) (ranges : List Range) (b : Beside) (o : Outcome)
     → count_in (outside i ranges b o) ≤ count_in b + 1
 outside_one i ranges b (Did c bytes) = omega arith
@@ -81,6 +86,7 @@ outside_one i ranges b (outcome.Overflowed c bytes) = omega arith
 outside_one i ranges b Divides = omega arith
 outside_one i ranges b (Aborts code) = omega arith
 
+-- each of the three
 where_one : (live begin : Bool) (i : Instr) (ranges : List Range) (b : Beside) (o : Outcome)
     → OneMore (count_in b) (executed_where live begin i ranges b o)
 where_one true begin i ranges b o = inside_one i ranges b o
@@ -90,6 +96,7 @@ where_one false false i ranges b o = record {
   told = told_any (count_in b + 1) (outside i ranges b o).local.cpu.state (delay_given i b.local.cpu);
 }
 
+-- an instruction that goes
 pub executed_one : (i : Instr) (ranges : List Range) (b : Beside) → OneMore (count_in b) (executed i ranges b)
 unfolding executed
 executed_one i ranges b =
@@ -101,6 +108,7 @@ pub block_none : (b : Beside) → count_in (block_stored b) ≤ count_in b
 unfolding block_stored
 block_none b = omega arith
 
+-- nor does an interruption that is taken
 pub interruption_none : (b : Beside) → count_in (interruption_taken b) ≤ count_in b
 unfolding interruption_taken
 interruption_none b = by b.local.waiting

@@ -37,11 +37,13 @@ record Holds (cpus : ℕ) (f : FlatState) : Type 0 where
   kept : IsKept f
   absent : (i : ℕ) → cpus ≤ i → IsAbsent f i
 
+-- behind the last CPU of an image none runs
 far_rests : (cpus : List Cpu) (i : ℕ) → length cpus ≤ i → is_running (cpu_at cpus i).state ≡ false
 far_rests [] i far = refl
 far_rests (c ∷ cs) zero far = absurd (omega (arith, far))
 far_rests (c ∷ cs) (suc i) far = far_rests cs i (omega (arith, far))
 
+-- an image starts so
 starts_so : (image : Content) → IsImage image → Holds (length image.cpus) (start_of image)
 unfolding start_of
 starts_so image is = record {
@@ -51,6 +53,7 @@ starts_so image is = record {
 
 -- ---- one entry
 
+-- where an entry fits, its test has passed
 passed : {A : Type 0} (b : Bool) (o : Option A) (x : A) → only_where b o ≡ Some x → b ≡ true
 passed true o x h = refl
 passed false o x h = absurd cc
@@ -61,11 +64,13 @@ acts_not f i absent acts =
     absurd (true≢false (sym (and_parts (is_running (f.cpus i).state) (is_none (f.pending i)) acts).0
     ∙ absent.rests))
 
+-- no block is stored where none is pending
 no_block : {P : Type 0} (f : FlatState) (i : ℕ) (o : Option Pending) (after : FlatState) → o ≡ None
     → after_block f i o ≡ Some after → P
 no_block f i None after none h = absurd cc
 no_block f i (Some b) after none h = absurd cc
 
+-- no interruption is taken where none waits
 no_interruption : {P : Type 0} (f : FlatState) (i : ℕ) (o : Option Pending) (w : Option Waiting)
     (after : FlatState) → w ≡ None → after_interruption f i o w ≡ Some after → P
 no_interruption f i (Some b) w after none h = absurd cc
@@ -85,6 +90,7 @@ fits_not f after (Tdb i) h absent = no_block f i (f.pending i) after absent.sett
 fits_not f after (Interrupt i) h absent =
     no_interruption f i (f.pending i) (f.waiting i) after absent.quiet h
 
+-- an abort that fits is for a cause that a machine finds
 cause_fits : (f after : FlatState) (e : Entry) → IsKept f → apply f e ≡ Some after → HasCause e
 unfolding apply
 cause_fits f after (Abort i n why) kept h =
@@ -101,6 +107,7 @@ cause_fits f after (Interrupt i) kept h = tt
 abbrev IsFine : ℕ → Entry → Type 0
 IsFine cpus e = (cpu_of_entry e < cpus) × HasCause e
 
+-- of an entry that fits
 fine_one : (cpus : ℕ) (f after : FlatState) (e : Entry) → Holds cpus f → apply f e ≡ Some after
     → IsFine cpus e
 fine_one cpus f after e holds h = (
@@ -109,6 +116,7 @@ fine_one cpus f after e holds h = (
   cause_fits f after e holds.kept h,
 )
 
+-- an entry that fits keeps what holds of the state
 holds_on : (cpus : ℕ) (f after : FlatState) (e : Entry) → Holds cpus f → apply f e ≡ Some after
     → Holds cpus after
 holds_on cpus f after e holds h =
@@ -128,6 +136,7 @@ holds_on cpus f after e holds h =
 
 -- ---- histories
 
+-- the first entry and the others
 fine_next : (cpus : ℕ) (f : FlatState) (e : Entry) (rest : List Entry) (o : Option FlatState) (g : FlatState)
     → apply f e ≡ o → replay_from rest o ≡ Some g → Holds cpus f
     → ((next : FlatState) → Holds cpus next → replay_from rest (Some next) ≡ Some g → All (IsFine cpus) rest)
@@ -138,6 +147,7 @@ fine_next cpus f e rest (Some next) g is h holds go =
     All-cons (IsFine cpus) e rest (fine_one cpus f next e holds is)
     (go next (holds_on cpus f next e holds is) h)
 
+-- all entries of a history that is replayed to its end
 fine_all : (cpus : ℕ) (entries : List Entry) (f g : FlatState) → Holds cpus f
     → replay_from entries (Some f) ≡ Some g → All (IsFine cpus) entries
 unfolding replay_from
@@ -145,17 +155,20 @@ fine_all cpus [] f g holds h = All-nil (IsFine cpus)
 fine_all cpus (e ∷ rest) f g holds h =
     fine_next cpus f e rest (apply f e) g refl h holds (λ next good is. fine_all cpus rest next g good is)
 
+-- all entries of a legal history
 fine : (image : Content) (history : List Entry) → IsImage image → IsLegal image history
     → All (IsFine (length image.cpus)) history
 fine image history is legal =
     fine_all (length image.cpus) history (start_of image) legal.after (starts_so image is) legal.replayed
 
+-- their CPUs are there
 pub known_cpus : (image : Content) (history : List Entry) → IsImage image → IsLegal image history
     → All (λ e. cpu_of_entry e < length image.cpus) history
 known_cpus image history is legal =
     All-weaker (IsFine (length image.cpus)) (λ e. cpu_of_entry e < length image.cpus) (λ e h. h.0) history
     (fine image history is legal)
 
+-- their causes are those that a machine finds
 pub sound_causes : (image : Content) (history : List Entry) → IsImage image → IsLegal image history
     → All HasCause history
 sound_causes image history is legal =

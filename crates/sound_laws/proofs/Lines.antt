@@ -30,6 +30,7 @@ use Rattle.tx_flat.proofs.Inside.{in_storage}
 abbrev IsInside : Run → Type 0
 IsInside p = All IsInStorage p.touched
 
+-- an instruction adds its operands, or nothing
 inside_after : (p : Run) (i : Instr) (ranges : List Range) (o : Outcome)
     → All IsInStorage (absolute_ranges p.cpu.prefix ranges) → IsInside p → IsInside (after i ranges p o)
 inside_after p i ranges (Did c bytes) new old =
@@ -39,6 +40,7 @@ inside_after p i ranges (outcome.Overflowed c bytes) new old =
 inside_after p i ranges Divides new old = old
 inside_after p i ranges (Aborts code) new old = old
 
+-- where it may follow
 inside_where : (p : Run) (b : Bool) (i : Instr) (ranges : List Range)
     → All IsInStorage (absolute_ranges p.cpu.prefix ranges) → IsInside p → IsInside (after_where b i ranges p)
 inside_where p true i ranges new old = inside_after p i ranges (outcome_of i ranges p) new old
@@ -52,6 +54,7 @@ goes_inside text p i ranges ok goes =
     subst (λ rs. All IsInStorage (absolute_ranges p.cpu.prefix rs)) (sym pass.touches)
     (in_storage text p i ok (no_operand_refusal text p i pass.passed))
 
+-- by the fate of the next instruction
 inside_fate : (text : List ℕ) (p : Run) (o : Fate) → fate text p ≡ o → is_prefix p.cpu.prefix ≡ true
     → IsInside p → IsInside (after_fate o p)
 inside_fate text p (Goes i ranges) e ok old =
@@ -59,6 +62,7 @@ inside_fate text p (Goes i ranges) e ok old =
 inside_fate text p (Ends why) e ok old = old
 inside_fate text p (Stops x) e ok old = old
 
+-- one instruction more
 inside_more : (text : List ℕ) (p : Run) (m : Mark) → is_prefix p.cpu.prefix ≡ true → IsInside p
     → IsInside (more_of m text p)
 inside_more text p Open ok old = inside_fate text p (fate text p) refl ok old
@@ -66,6 +70,7 @@ inside_more text p Committed ok old = old
 inside_more text p Overflowed ok old = old
 inside_more text p Missing ok old = old
 
+-- any number of instructions
 run_inside : (f : FlatState) (i k : ℕ) → is_prefix (f.cpus i).prefix ≡ true → IsInside (run f i k)
 unfolding run more
 run_inside f i zero ok = All-nil IsInStorage
@@ -93,10 +98,12 @@ any_line counts (r ∷ rs) line inside h =
     (and_parts (counts r) (has_place line_size r line) here).1)
     (λ later. any_line counts rs line (All-tail IsInStorage r rs inside) later)
 
+-- the lines that a run has stored into
 pub stored_below : (f : FlatState) (i k line : ℕ) → is_prefix (f.cpus i).prefix ≡ true
     → (footprint (run f i k)).stored line ≡ true → line < 4096
 stored_below f i k line ok h = any_line (λ r. r.store) (run f i k).touched line (run_inside f i k ok) h
 
+-- and those that it has fetched from
 pub fetched_below : (f : FlatState) (i k line : ℕ) → is_prefix (f.cpus i).prefix ≡ true
     → (footprint (run f i k)).fetched line ≡ true → line < 4096
 fetched_below f i k line ok h = any_line (λ r. not r.store) (run f i k).touched line (run_inside f i k ok) h

@@ -29,6 +29,7 @@ joined (Abort i n why) cpus most few low there cause count =
 joined (Tdb i) cpus most few low there cause count = omega (arith, few, there)
 joined (Interrupt i) cpus most few low there cause count = omega (arith, few, there)
 
+-- every entry of the history is sound
 pub all_sound : (m : Setting) (events : List Event) → IsSetting m → AreKnown m events
     → All IsSound (meaning m events).history
 all_sound m events setting known =

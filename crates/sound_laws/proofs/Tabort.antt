@@ -59,10 +59,12 @@ AbortsBy may a (outcome.Overflowed c bytes) = Unit {0}
 AbortsBy may a Divides = Unit {0}
 AbortsBy may a (Aborts code) = (may ≡ true) × (code ≡ a)
 
+-- TABORT among the instructions of transactions
 abbrev is_abort : Transaction → Bool
 is_abort transaction.Abort = true
 is_abort _ = false
 
+-- and among all
 abbrev aborts_itself : Kind → Bool
 aborts_itself (kind.Transaction t) = is_abort t
 aborts_itself _ = false
@@ -144,6 +146,7 @@ unfolding transaction_effect
 transaction_by may transaction.Abort n i c depth h = (h refl, refl)
 transaction_by may t n i c depth h = tt
 
+-- any instruction, by what it does
 effect_by : (may : Bool) (k : Kind) (n : ℕ) (i : Instr) (c : Cpu) (depth : ℕ) (bytes : List ℕ)
     → (aborts_itself k ≡ true → may ≡ true)
     → AbortsBy may (first_address i c.general) (effect k n i c depth bytes)
@@ -154,6 +157,7 @@ effect_by may (kind.Transaction t) n i c depth bytes h = transaction_by may t n 
 
 -- ---- its operand is tested
 
+-- a code above 255 is asked for
 abbrev demands_code : Demand → Bool
 demands_code demand.AbortCode = true
 demands_code _ = false
@@ -162,14 +166,17 @@ demands_code _ = false
 abbrev tests_code : Entry → Bool
 tests_code e = not (aborts_itself (kind_named e.name)) || demands_code e.demand
 
+-- that is so of each row of the table
 code_rows : (n : ℕ) → tests_code (entry_at n) ≡ true
 unfolding kind_named
 code_rows = any_row tests_code refl refl
 
+-- of an implication that holds
 second_so : (a b : Bool) → (not a || b) ≡ true → a ≡ true → b ≡ true
 second_so true b h e = h
 second_so false b h e = absurd (true≢false (sym e))
 
+-- what an instruction does aborts only where a code is asked for
 one_by : (i : Instr) (c : Cpu) (depth : ℕ) (bytes : List ℕ)
     → AbortsBy (demands_code (entry_at i.op.number).demand) (first_address i c.general) (one i c depth bytes)
 unfolding kind_at
@@ -184,6 +191,7 @@ neither_wrong true b h = absurd cc
 neither_wrong false true h = absurd cc
 neither_wrong false false h = refl
 
+-- where that test finds nothing, the address is above 255
 high_code : (d : Demand) (o : Operands) (i : Instr) (general : List ℕ) (depth : ℕ) → demands_code d ≡ true
     → unspecified_in d o i general depth ≡ None → 256 ≤ first_address i general
 unfolding unspecified_in
@@ -197,12 +205,14 @@ high_code demand.Begin o i general depth is h = absurd (true≢false (sym is))
 high_code demand.BeginConstrained o i general depth is h = absurd (true≢false (sym is))
 high_code demand.ServiceZero o i general depth is h = absurd (true≢false (sym is))
 
+-- where there is no exception there is no code of one
 not_excepted : (i : Instr) (o : Option ℕ) → excepted i o ≡ None → o ≡ None
 not_excepted i None h = refl
 not_excepted i (Some code) h = absurd cc
 
 -- ---- the code of an instruction that goes
 
+-- an instruction that goes and aborts has a code above 255, below 2 ^ 64
 pub tabort_code : (text : List ℕ) (p : Run) (i : Instr) (ranges : List Range) (code : ℕ)
     → fate text p ≡ Goes i ranges → outcome_of i ranges p ≡ Aborts code → (255 < code) × (code < 2 ^ 64)
 tabort_code text p i ranges code goes is =

@@ -103,6 +103,7 @@ module _ (most : ℕ) where
     history = history;
   }
 
+  -- and the attempt may still complete one more
   fewer_acts : (i : ℕ) (k t : Kept) → ((j : ℕ) → count_at t j ≤ count_at k j)
       → ((j : ℕ) → turns_in t.state j ≡ turns_in k.state j) → All (HasAtMost most) t.state.history → Acts i k
       → Acts i t
@@ -119,6 +120,7 @@ module _ (most : ℕ) where
       fewer k t (λ j. let c = counts j in omega (arith, c)) turns
       (subst (All (HasAtMost most)) (sym same) s.history) s
 
+  -- the same, while the attempt may complete one more
   restated_acts : (i : ℕ) (k t : Kept) → ((j : ℕ) → count_at t j ≡ count_at k j)
       → ((j : ℕ) → turns_in t.state j ≡ turns_in k.state j) → t.state.history ≡ k.state.history → Acts i k
       → Acts i t
@@ -128,6 +130,7 @@ module _ (most : ℕ) where
 
   -- ---- an abort
 
+  -- nothing is completed of the attempt any more
   aborted_counts : (i : ℕ) (w : Why) (at : ℕ) (k : Kept) (j : ℕ)
       → count_at (k_aborting i w at k) j ≤ count_at k j
   unfolding k_aborting aborted
@@ -135,11 +138,13 @@ module _ (most : ℕ) where
       at_put_case (λ (l : Local). l.attempt.count ≤ count_at k j) k.locals i
       (aborted w at (beside k i)).local j (λ e. omega arith) (λ ne. omega arith)
 
+  -- no turn is counted
   aborted_turns : (i : ℕ) (w : Why) (at : ℕ) (k : Kept) (j : ℕ)
       → turns_in (k_aborting i w at k).state j ≡ turns_in k.state j
   unfolding k_aborting
   aborted_turns i w at k j = abort_turns i (k.standings i) (count_at k i) w k.state j
 
+  -- the entry has the instructions of the attempt, for each of which there was a turn
   aborted_entries : (i : ℕ) (w : Why) (at : ℕ) (k : Kept) → Spends k
       → All (HasAtMost most) (k_aborting i w at k).state.history
   unfolding k_aborting
@@ -149,11 +154,13 @@ module _ (most : ℕ) where
       subst (All (HasAtMost most)) (sym (aborted_history i (k.standings i) (count_at k i) w k.state))
       (All-push (HasAtMost most) k.state.history (entry.Abort i (count_at k i) w) s.history few)
 
+  -- so an abort keeps what holds
   abort_spends : (i : ℕ) (w : Why) (at : ℕ) (k : Kept) → Spends k → Spends (k_aborting i w at k)
   abort_spends i w at k s =
       fewer k (k_aborting i w at k) (aborted_counts i w at k) (aborted_turns i w at k)
       (aborted_entries i w at k s) s
 
+  -- and another CPU may go on
   abort_acts : (i j : ℕ) (w : Why) (at : ℕ) (k : Kept) → Acts i k → Acts i (k_aborting j w at k)
   abort_acts i j w at k a =
       fewer_acts i k (k_aborting j w at k) (aborted_counts j w at k) (aborted_turns j w at k)
@@ -161,11 +168,13 @@ module _ (most : ℕ) where
 
   -- ---- questions
 
+  -- all that happens while a CPU asks for lines
   asks : (i : ℕ) → Asks i (Acts i) Spends
   asks i = record {
-    asks = λ k a. restated_acts i k (k_asking i k) (λ j. refl)
-        (same_turns i (record (k.state.numbers i) { asked = (k.state.numbers i).asked + 1 }) k.state refl) refl
-        a;
+    asks = λ k a.
+        let n = k.state.numbers i in
+        restated_acts i k (k_asking i k) (λ j. refl)
+        (same_turns i (record n { asked = n.asked + 1 }) k.state refl) refl a;
     holds = λ k held a.
         restated_acts i k (with_state (record k.state { held = held }) k) (λ j. refl) (λ j. refl) refl a;
     rejects = λ k j other live head a.
@@ -205,16 +214,19 @@ module _ (most : ℕ) where
     history = history;
   }
 
+  -- one entry more
   one_entry : (k : Kept) (e : Entry) → HasAtMost most e → Spends k
       → All (HasAtMost most) (k.state.history ++ e ∷ [])
   one_entry k e h s = All-push (HasAtMost most) k.state.history e s.history h
 
+  -- an instruction outside transactions
   stepped_so : (i : ℕ) (k : Kept) (after : Beside) → Acts i k → count_in after ≤ count_at k i + 1
       → Spends (k_stepping i after k)
   stepped_so i k after a less =
       left_so i k after (k_stepping i after k) a less (λ j. refl) (λ j. refl)
       (one_entry k (entry.Step i) tt a.spends)
 
+  -- a commit counts no turn
   commit_turns : (i : ℕ) (constrained : Bool) (n : ℕ) (s : State) (j : ℕ)
       → turns_in (committing i constrained n s) j ≡ turns_in s j
   commit_turns i constrained n s j =
@@ -222,12 +234,14 @@ module _ (most : ℕ) where
       let base = same_turns i (record (s.numbers i) { completed = 0 }) s refl j in
       leaving_case (λ r. turns_in r j ≡ turns_in s j) i constrained t base base
 
+  -- and writes one entry
   commit_history : (i : ℕ) (constrained : Bool) (n : ℕ) (s : State)
       → (committing i constrained n s).history ≡ s.history ++ entry.Commit i n ∷ []
   commit_history i constrained n s =
       ap (λ h. h ++ entry.Commit i n ∷ [])
       (leaving_case (λ r. r.history ≡ s.history) i constrained (without_attempt i s) refl refl)
 
+  -- a commit
   committed_so : (i n : ℕ) (k : Kept) (after : Beside) → Acts i k → count_in after ≤ count_at k i + 1
       → n ≤ count_at k i + 1 → Spends (k_committing i n after k)
   committed_so i n k after a less few =
@@ -240,6 +254,7 @@ module _ (most : ℕ) where
 
   -- ---- an instruction, when its lines are there
 
+  -- an instruction inside a transaction
   inside_so : (i at : ℕ) (after : Beside) (k : Kept) (told : Done) → Acts i k
       → count_in after ≤ count_at k i + 1 → TellsAtMost (count_at k i + 1) told
       → Spends (k_inside i at after k told).kept
@@ -256,6 +271,7 @@ module _ (most : ℕ) where
   inside_so i at after k (done.Paused turns) a less few = a.spends
   inside_so i at after k (done.Interrupted code) a less few = a.spends
 
+  -- an instruction outside transactions, or a begin
   outside_so : (i : ℕ) (after : Beside) (k : Kept) (told : Done) → Acts i k
       → count_in after ≤ count_at k i + 1 → Spends (k_outside i after k told).kept
   outside_so i after k done.Began a less =
@@ -274,12 +290,14 @@ module _ (most : ℕ) where
   outside_so i after k (done.Committed n) a less = a.spends
   outside_so i after k (done.Ended w) a less = a.spends
 
+  -- either
   done_so : (live : Bool) (i : ℕ) (e : Executed) (k : Kept) → Acts i k
       → count_in e.after ≤ count_at k i + 1 → TellsAtMost (count_at k i + 1) e.told
       → Spends (k_done live i e k).kept
   done_so true i e k a less few = inside_so i (next_address k i) e.after k e.told a less few
   done_so false i e k a less few = outside_so i e.after k e.told a less
 
+  -- an instruction that goes
   executed_so : (i : ℕ) (instr : Instr) (ranges : List Range) (k : Kept) → Acts i k
       → Spends (k_executing i instr ranges k).kept
   unfolding k_executing
@@ -289,16 +307,19 @@ module _ (most : ℕ) where
 
   -- ---- lines first
 
+  -- a reject, which may starve the attempt
   refused_so : (b : Bool) (i : ℕ) (r : Reject) (k : Kept) → Spends k → Spends (k_refused_turn b i r k).kept
   unfolding k_ends_by
   refused_so false i r k s = s
   refused_so true i r k s = abort_spends i why.Starved (next_address k i) k s
 
+  -- behind the questions
   given_so : (i : ℕ) (o : Option Reject) (k : Kept) (next : Kept → KTurned) → Behind (Acts i) Spends o k
       → ((t : Kept) → Acts i t → Spends (next t).kept) → Spends (k_once_given i o k next).kept
   given_so i None k next a go = go k a
   given_so i (Some r) k next s go = refused_so (is_live k.state i && is_starved (k.standings i)) i r k s
 
+  -- lines are asked for, and what follows happens
   lines_so : (m : Setting) (i : ℕ) (needs : List Need) (k : Kept) (next : Kept → KTurned) → Acts i k
       → ((t : Kept) → Acts i t → Spends (next t).kept) → Spends (k_with_lines m i needs k next).kept
   lines_so m i needs k next a go =
@@ -307,6 +328,7 @@ module _ (most : ℕ) where
 
   -- ---- a turn
 
+  -- the next instruction, by its fate
   attempted_so : (m : Setting) (i : ℕ) (k : Kept) (f : Fate) → Acts i k → Spends (k_attempting m i k f).kept
   unfolding k_ends_by stopped
   attempted_so m i k (Goes instr ranges) a =
@@ -316,18 +338,21 @@ module _ (most : ℕ) where
   attempted_so m i k (Stops e) a =
       stepped_so i k (record { local = stopped e (k.locals i); storage = k.storage }) a (omega arith)
 
+  -- a block is stored
   stored_so : (i : ℕ) (k : Kept) → Acts i k → Spends (k_storing i k)
   stored_so i k a =
       let none = block_none (beside k i) in
       left_so i k (block_stored (beside k i)) (k_storing i k) a (omega (arith, none)) (λ j. refl)
       (λ j. refl) (one_entry k (entry.Tdb i) tt a.spends)
 
+  -- an interruption is taken
   taken_so : (i : ℕ) (k : Kept) → Acts i k → Spends (k_taking i k)
   taken_so i k a =
       let none = interruption_none (beside k i) in
       left_so i k (interruption_taken (beside k i)) (k_taking i k) a (omega (arith, none)) (λ j. refl)
       (λ j. refl) (one_entry k (entry.Interrupt i) tt a.spends)
 
+  -- what a CPU does in its turn
   acted_so : (m : Setting) (i : ℕ) (k : Kept) (block : Option Pending) (waiting : Option Waiting) → Acts i k
       → Spends (k_acting m i k block waiting).kept
   acted_so m i k (Some b) waiting a =
@@ -337,6 +362,7 @@ module _ (most : ℕ) where
   acted_so m i k None None a =
       attempted_so m i k (fate_by_progress (text_of m) k.storage (k.locals i).attempt) a
 
+  -- an interruption from outside, with or without a live attempt
   interrupted_by : (b : Bool) (i : ℕ) (k : Kept) → Spends k → Spends (k_interrupting b i k).kept
   interrupted_by true i k s =
       let t = k_aborting i why.External (next_address k i) k in
@@ -344,10 +370,12 @@ module _ (most : ℕ) where
       restated t (k_to_tail i t) (λ j. refl) (λ j. refl) refl ended
   interrupted_by false i k s = restated k (k_to_tail i k) (λ j. refl) (λ j. refl) refl s
 
+  -- an interruption from outside
   interrupted_so : (i : ℕ) (k : Kept) → Spends k → Spends (k_external i k).kept
   unfolding k_external
   interrupted_so i k s = interrupted_by (is_live k.state i) i k s
 
+  -- a tick, a turn of a delay, or what the CPU does
   ruled_so : (tick waits : Bool) (m : Setting) (i : ℕ) (k : Kept) → Acts i k
       → Spends (k_by_rules tick waits m i k).kept
   ruled_so true waits m i k a = interrupted_so i k a.spends
@@ -383,6 +411,7 @@ counted_acts m i k left s =
           (λ e. omega (arith, counts)) (λ ne. absurd (ne refl));
     }
 
+-- a turn, idle or not
 turned_so : (m : Setting) (i : ℕ) (o : Option Outcome) (k : Kept)
     → (o ≡ None → (k.state.numbers i).turns < m.limits.turns) → Spends m.limits.turns k
     → Spends m.limits.turns (k_turn_where o m i k).kept
@@ -410,6 +439,7 @@ turn_left m k i none =
     leb-false m.limits.turns (k.state.numbers i).turns
     (spared (kept_finished k i) (is_spent m.limits (k.state.numbers i)) (kept_back k.state.queue i) none)
 
+-- an event
 happened_so : (m : Setting) (e : Event) (k : Kept) → Spends m.limits.turns k
     → Spends m.limits.turns (k_happen m e k).kept
 unfolding k_happen k_turn
@@ -421,6 +451,7 @@ happened_so m (event.External i) k s =
 
 -- ---- over events
 
+-- before any event
 begins_so : (m : Setting) → Spends m.limits.turns (kept_beginning m)
 unfolding kept_beginning
 begins_so m = record {
@@ -429,12 +460,14 @@ begins_so m = record {
   history = All-nil (HasAtMost m.limits.turns);
 }
 
+-- after all events
 all_so : (m : Setting) (events : List Event) (k : Kept) → Spends m.limits.turns k
     → Spends m.limits.turns (keeping_from m events k)
 unfolding keeping_from
 all_so m [] k s = s
 all_so m (e ∷ rest) k s = all_so m rest (k_happen m e k).kept (happened_so m e k s)
 
+-- no attempt of the history has completed more instructions than a CPU may have turns
 pub took_turns : (m : Setting) (events : List Event) → IsSetting m → AreKnown m events
     → All (HasAtMost m.limits.turns) (meaning m events).history
 took_turns m events setting known =
