@@ -26,6 +26,7 @@ use Rattle.tx_control.specs.Nesting.{effective_pifc, is_constrained}
 use Rattle.tx_control.specs.declared.begins.Begin as open_begin
 use Rattle.tx_control.specs.declared.causes.Why.{Why}
 use Rattle.tx_control.specs.declared.causes.Why.TheVariants.{Program, Filtered, Restricted, Depth}
+use Rattle.tx_control.specs.declared.causes.Why.TheVariants.{FetchConflict, StoreConflict, Tabort}
 use Rattle.tx_control.specs.Codes.{fixed_point_overflow_code, fixed_point_divide_code}
 use Rattle.tx_control.specs.declared.exceptions.Exception.{Exception}
 use Rattle.tx_constraint.specs.Constraints.{Step, Attempt, with_step, text_breach, operand_breach}
@@ -51,6 +52,15 @@ use Rattle.tx_flat.specs.Left.{HasRoom}
 abbrev SmallCode : Option ℕ → Type 0
 SmallCode None = Unit {0}
 SmallCode (Some code) = code < 256
+
+-- a cause that a test can find: none from outside, none of TABORT's, and an exception has a small code
+abbrev pub SmallCause : Why → Type 0
+SmallCause (Program e) = e.code < 256
+SmallCause (Filtered e) = e.code < 256
+SmallCause (FetchConflict line) = ⊥
+SmallCause (StoreConflict line) = ⊥
+SmallCause (Tabort code) = ⊥
+SmallCause _ = Unit {0}
 
 wrong_code : (b : Bool) (code : ℕ) (rest : Option ℕ) → code < 256 → SmallCode rest
     → SmallCode (where_wrong b code rest)
@@ -102,7 +112,7 @@ fetch_code accessible text a n =
 abbrev SmallRefusal : Option Refusal → Type 0
 SmallRefusal None = Unit {0}
 SmallRefusal (Some (Excepts e)) = e.code < 256
-SmallRefusal (Some (Because why)) = HasRoom why
+SmallRefusal (Some (Because why)) = SmallCause why
 
 excepted_small : (i : Instr) (o : Option ℕ) → SmallCode o → SmallRefusal (excepted i o)
 excepted_small i None h = tt
@@ -173,66 +183,76 @@ tests_small text p i =
 
 -- ---- the cause by which an attempt ends
 
-cause_room : (nest : List open_begin.Begin) (e : Exception) → e.code < 256 → HasRoom (cause_in nest e)
+-- a transaction aborts by an exception with a small code
+pub cause_small : (nest : List open_begin.Begin) (e : Exception) → e.code < 256 → SmallCause (cause_in nest e)
 unfolding cause_in
-cause_room nest e h = by (filters (effective_pifc nest) (class e.code e.fetch))
+cause_small nest e h = by (filters (effective_pifc nest) (class e.code e.fetch))
   where
-    by : (b : Bool) → HasRoom (if b then Filtered e else Program e)
-    by true = tt
-    by false = omega (arith, h)
+    by : (b : Bool) → SmallCause (if b then Filtered e else Program e)
+    by true = h
+    by false = h
+
+-- of an instruction that does not go
+abbrev pub SmallEnd : Fate → Type 0
+SmallEnd (Goes i ranges) = Unit {0}
+SmallEnd (Ends why) = SmallCause why
+SmallEnd (Stops e) = Unit {0}
+
+refusal_small : (nest : List open_begin.Begin) (r : Refusal) → SmallRefusal (Some r)
+    → SmallEnd (fate_after nest r)
+refusal_small [] (Excepts e) h = tt
+refusal_small (outermost ∷ inner) (Excepts e) h = cause_small (outermost ∷ inner) e h
+refusal_small [] (Because why) h = h
+refusal_small (outermost ∷ inner) (Because why) h = h
+
+tried_small : (p : Run) (i : Instr) (o : Option Refusal) → SmallRefusal o → SmallEnd (fate_by_tests p i o)
+tried_small p i None h = tt
+tried_small p i (Some r) h = refusal_small p.nest r h
+
+reading_small : (text : List ℕ) (p : Run) (o : Option ℕ) (i : Option Instr) → SmallCode o
+    → SmallEnd (fate_by text p o i)
+reading_small text p (Some code) i h = refusal_small p.nest (Excepts (at_fetch code)) h
+reading_small text p None None h = refusal_small p.nest (Excepts (unreadable p)) (lit< tt)
+reading_small text p None (Some i) h =
+    tried_small p i (first_refusal (tests text p i)) (first_small (tests text p i) (tests_small text p i))
+
+pub fate_small : (text : List ℕ) (p : Run) → SmallEnd (fate text p)
+unfolding fate
+fate_small text p =
+    reading_small text p (fetch_refusal text p) (instruction_at p)
+    (fetch_code (accessible_pages p.cpu.prefix) (text_pages p.cpu.prefix text) p.cpu.address (length_at p))
+
+-- ---- room for one bit more
+
+small_has_room : (why : Why) → SmallCause why → HasRoom why
+small_has_room (Program e) h = omega (arith, h)
+small_has_room why h = tt
 
 abbrev pub RoomIn : Option Why → Type 0
 RoomIn None = Unit {0}
 RoomIn (Some why) = HasRoom why
 
--- of an instruction that does not go
-abbrev EndRoom : Fate → Type 0
-EndRoom (Goes i ranges) = Unit {0}
-EndRoom (Ends why) = HasRoom why
-EndRoom (Stops e) = Unit {0}
-
-refusal_room : (nest : List open_begin.Begin) (r : Refusal) → SmallRefusal (Some r)
-    → EndRoom (fate_after nest r)
-refusal_room [] (Excepts e) h = tt
-refusal_room (outermost ∷ inner) (Excepts e) h = cause_room (outermost ∷ inner) e h
-refusal_room [] (Because why) h = h
-refusal_room (outermost ∷ inner) (Because why) h = h
-
-tests_room : (p : Run) (i : Instr) (o : Option Refusal) → SmallRefusal o → EndRoom (fate_by_tests p i o)
-tests_room p i None h = tt
-tests_room p i (Some r) h = refusal_room p.nest r h
-
-reading_room : (text : List ℕ) (p : Run) (o : Option ℕ) (i : Option Instr) → SmallCode o
-    → EndRoom (fate_by text p o i)
-reading_room text p (Some code) i h = refusal_room p.nest (Excepts (at_fetch code)) h
-reading_room text p None None h = refusal_room p.nest (Excepts (unreadable p)) (lit< tt)
-reading_room text p None (Some i) h =
-    tests_room p i (first_refusal (tests text p i)) (first_small (tests text p i) (tests_small text p i))
-
-fate_room : (text : List ℕ) (p : Run) → EndRoom (fate text p)
-unfolding fate
-fate_room text p =
-    reading_room text p (fetch_refusal text p) (instruction_at p)
-    (fetch_code (accessible_pages p.cpu.prefix) (text_pages p.cpu.prefix text) p.cpu.address (length_at p))
+excepted_room : (nest : List open_begin.Begin) (e : Exception) → e.code < 256 → HasRoom (cause_in nest e)
+excepted_room nest e h = small_has_room (cause_in nest e) (cause_small nest e h)
 
 outcome_room : (nest : List open_begin.Begin) (i : Instr) (o : Outcome) → RoomIn (outcome_cause nest i o)
 outcome_room nest i (Did c bytes) = tt
 outcome_room nest i (outcome.Overflowed c bytes) = tt
-outcome_room nest i Divides = cause_room nest (exception fixed_point_divide_code (length_of i)) (lit< tt)
+outcome_room nest i Divides = excepted_room nest (exception fixed_point_divide_code (length_of i)) (lit< tt)
 outcome_room nest i (Aborts code) = tt
 
-next_room : (p : Run) (o : Fate) → EndRoom o → RoomIn (fate_cause p o)
+next_room : (p : Run) (o : Fate) → SmallEnd o → RoomIn (fate_cause p o)
 next_room p (Goes i ranges) h = outcome_room p.nest i (outcome_of i ranges p)
-next_room p (Ends why) h = h
+next_room p (Ends why) h = small_has_room why h
 next_room p (Stops e) h = tt
 
 overflow_room : (nest : List open_begin.Begin) (o : Option Step) → RoomIn (overflow_cause nest o)
 overflow_room nest None = tt
 overflow_room nest (Some s) =
-    cause_room nest (exception fixed_point_overflow_code (length_of s.instruction)) (lit< tt)
+    excepted_room nest (exception fixed_point_overflow_code (length_of s.instruction)) (lit< tt)
 
 ending_room : (m : Mark) (text : List ℕ) (p : Run) → RoomIn (ending_of m text p)
-ending_room Open text p = next_room p (fate text p) (fate_room text p)
+ending_room Open text p = next_room p (fate text p) (fate_small text p)
 ending_room Committed text p = tt
 ending_room Overflowed text p = overflow_room p.nest (last_step p.steps)
 ending_room Missing text p = tt

@@ -1,0 +1,2 @@
+-- What is sound in an entry, taken apart.
+pub mod Parts
