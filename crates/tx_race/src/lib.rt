@@ -6,6 +6,7 @@ mod board;
 mod finish;
 mod gate;
 mod racing;
+mod start;
 mod turns;
 mod workers;
 

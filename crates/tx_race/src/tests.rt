@@ -1,5 +1,5 @@
-//! Races of listings: that threads overlap, that each CPU gets its turns, and that a second machine which is
-//! given the recorded events comes to the same.
+//! Races of listings: that threads overlap, that each CPU gets its turns, and that all races end. That `run` on the
+//! printed schedule gives the same report is tried through the built program, by examples/check.
 ghost use Rattle.std.specs.Prelude.{◌≡◌, ◌≤◌, [], IfOk};
 
 use crate::{Gate, OpenGate, Raced, race};
@@ -9,7 +9,7 @@ use std::sync::atomic::{AtomicBool, Ordering};
 use std::sync::{Arc, Wait};
 use std::test::Fail;
 use std::thread::Threads;
-use tx_journal::{Entry, Event, Image};
+use tx_journal::{Entry, Image};
 use tx_machine::Machine;
 use tx_meaning::Limits;
 use z_assemble::assemble;
@@ -132,22 +132,6 @@ fn counted<R: Threads + Wait + Sync>(
     Ok(race(rt, alloc, machine, &OpenGate).ok().ok_or("no memory")?)
 }
 
-/// One turn again, of a CPU that the machine has.
-fn make_again(machine: &mut Machine, event: Event) {
-    if let Event::Turn(cpu) = event {
-        if cpu < machine.image().cpu_count() {
-            machine.event(Event::Turn(cpu));
-        }
-    }
-}
-
-/// The turns of another machine.
-fn replay(machine: &mut Machine, events: &[Event]) {
-    for event in events {
-        make_again(machine, *event);
-    }
-}
-
 #[test]
 fn both_pass(rt: HostRuntime) -> Result<(), Fail> {
     let gate = Meeting::new();
@@ -163,17 +147,12 @@ fn both_pass(rt: HostRuntime) -> Result<(), Fail> {
 }
 
 #[test]
-fn four_count_and_the_events_give_the_same_again(rt: HostRuntime) -> Result<(), Fail> {
+fn four_count(rt: HostRuntime) -> Result<(), Fail> {
     let raced = counted(&rt, rt.alloc(), 4, 100)?;
     assert_eq!(rt; count_in(&raced.machine), 400);
     for cpu in 0..4u32 {
         assert_eq!(rt; commits_of(raced.machine.journal(), cpu), 100);
     }
-    let mut again = machine_for(rt.alloc(), 4, 100)?;
-    replay(&mut again, raced.machine.events());
-    assert!(rt; again.events() == raced.machine.events());
-    assert!(rt; again.journal() == raced.machine.journal());
-    assert_eq!(rt; count_in(&again), 400);
     Ok(())
 }
 
