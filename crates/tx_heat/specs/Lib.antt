@@ -1,0 +1,5 @@
+-- Conflicts of a run by line of storage, and their text.
+pub mod Octowords
+pub mod Conflicts
+pub mod Heats
+pub mod Text
