@@ -1,12 +1,12 @@
 -- Conflicts counted by line, one conflict more.
 use Rattle.std.proofs.Common.{◌≡◌, ◌≢◌, ℕ, ◌+◌, ◌<◌, Bool, true, false, cond, List, [], ◌∷◌, ◌++◌, length, get_or}
-use Rattle.std.proofs.Common.{set, refl, sym, ap, ap₂, ◌∙◌, subst, arith, eqb, Some, ◌*◌, ◌^◌, ◌≤◌}
+use Rattle.std.proofs.Common.{set, refl, sym, ap, ap₂, ◌∙◌, subst, arith, eqb, Some, ◌^◌, ◌≤◌}
 use Rattle.std.proofs.Common.{take, append-nil}
 use Rattle.std.specs.List.{range_with_len, flat_map}
 use Rattle.std.proofs.lemmas.List.{take_more}
 use Rattle.std.proofs.lemmas.Grind.{flat_map-append}
 use Rattle.tx_journal.specs.declared.entries.Entry.{Entry}
-use Rattle.std.specs.Prelude.{◌&&◌, not, count_by, slice_get, slice_set, Option}
+use Rattle.std.specs.Prelude.{◌&&◌, not, count_by, slice_get}
 use Rattle.std.proofs.lemmas.Bool.{cases_eq, eq-eqb, ne_eqb}
 use Rattle.std.proofs.lemmas.List.{get_or-set_same, get_or-set_other, length-set, length-map}
 use Rattle.std.proofs.lemmas.List.{same_lists}

@@ -1,29 +1,25 @@
 -- How many conflicts there are: in an event not more than it adds to the history and to the recorded events.
-use Rattle.std.proofs.Common.{◌≡◌, ℕ, ◌+◌, ◌-◌, ◌*◌, ◌<◌, ◌≤◌, ◌^◌, Bool, true, false, List, [], ◌∷◌, ◌++◌, Option, Some}
-use Rattle.std.proofs.Common.{None, refl, sym, ap, ◌∙◌, subst, arith, length, drop, length-append, append-nil, append_assoc}
-use Rattle.std.specs.Prelude.{All, count_by, sum_by}
+use Rattle.std.proofs.Common.{◌≡◌, ℕ, ◌+◌, ◌-◌, ◌<◌, ◌≤◌, ◌^◌, Bool, true, false, List, [], ◌∷◌, ◌++◌, Option, Some}
+use Rattle.std.proofs.Common.{None, refl, sym, ap, ◌∙◌, subst, arith, length, length-append, append-nil, append_assoc}
+use Rattle.std.specs.Prelude.{count_by}
 use Rattle.std.specs.List.{flat_map}
 use Rattle.std.proofs.Math.Nat.{mul-le-mul_left}
 use Rattle.std.proofs.lemmas.List.{length-drop}
-use Rattle.std.proofs.lemmas.List.Concat.{length-flat_map}
-use Rattle.tx_journal.specs.Image.{cpu_of_event}
 use Rattle.tx_journal.specs.declared.entries.Entry.{Entry}
 use Rattle.tx_journal.specs.declared.events.Event.{Event}
 use Rattle.tx_journal.specs.declared.events.Event.TheVariants as event
 use Rattle.tx_meaning.specs.declared.asking.Reject.{Reject}
-use Rattle.tx_meaning.specs.declared.outcome.Outcome.{Outcome}
 use Rattle.tx_meaning.specs.Idle.{idle}
 use Rattle.tx_meaning.specs.Limits.{Setting}
 use Rattle.tx_meaning.specs.Meaning.{IsSetting, meaning, meaning_from, is_external}
-use Rattle.tx_meaning.specs.State.{State, is_live, cpus_of, beginning}
+use Rattle.tx_meaning.specs.State.{State, is_live, beginning}
 use Rattle.tx_meaning.specs.Turn.{Turned, happen, turn, turn_where, external, interrupting}
-use Rattle.tx_meaning.specs.Views.{AreKnown, GoesOnWith}
+use Rattle.tx_meaning.specs.Views.{AreKnown}
 use Rattle.tx_meaning.proofs.Books.{turn_booked, external_booked, idle_or_not}
 use Rattle.tx_meaning.specs.Changes.{with_event}
-use Rattle.tx_machine.specs.Machine.{most_events}
 use Rattle.tx_machine.proofs.Most.{at_most, entries_at_most}
-use Rattle.tx_heat.specs.Conflicts.{Conflict, conflict_where, abort_of, aborts_by, rejects_by, entries_in}
-use Rattle.tx_heat.specs.Conflicts.{conflicts_in, conflicts_from, conflicts, reject_of}
+use Rattle.tx_heat.specs.Conflicts.{conflict_where, abort_of, aborts_by, rejects_by, entries_in}
+use Rattle.tx_heat.specs.Conflicts.{conflicts_in, conflicts_from, conflicts}
 
 -- ---- one event
 

@@ -1,7 +1,7 @@
 -- A run whose conflicts are counted, event after event.
-use Rattle.std.proofs.Common.{◌≡◌, ℕ, ◌+◌, ◌<◌, ◌≤◌, ◌^◌, List, [], ◌∷◌, ◌++◌, true, refl, sym, ap, ap₂, ◌∙◌, subst, arith}
+use Rattle.std.proofs.Common.{◌≡◌, ℕ, ◌+◌, ◌<◌, ◌≤◌, ◌^◌, List, [], ◌∷◌, ◌++◌, refl, sym, ap, ap₂, ◌∙◌, subst, arith}
 use Rattle.std.proofs.Common.{length, take, drop, cond, get_or, length-append, append-nil}
-use Rattle.std.specs.Prelude.{All, count_by}
+use Rattle.std.specs.Prelude.{count_by}
 use Rattle.std.proofs.lemmas.List.{take_more, take_all, drop_all, take-append-drop}
 use Rattle.std.proofs.lemmas.List.Elements.{All-take}
 use Rattle.std.proofs.lemmas.List.Sums.{sum_by-append}
@@ -11,11 +11,10 @@ use Rattle.tx_journal.specs.declared.events.Event.{Event}
 use Rattle.tx_meaning.specs.Limits.{Setting, RunLimits}
 use Rattle.tx_meaning.specs.Meaning.{IsSetting, meaning, meaning_from, is_external}
 use Rattle.tx_meaning.specs.State.{State, beginning, cpus_of}
-use Rattle.tx_meaning.specs.Turn.{happen}
 use Rattle.tx_meaning.specs.Views.{AreKnown, GoesOnWith}
 use Rattle.tx_machine.specs.Machine.{Seen, setting_of, state_of, event_of, after, opened}
 use Rattle.tx_step.proofs.Followed.{Follows, begins_following, follows_on}
-use Rattle.tx_heat.specs.Conflicts.{Conflict, conflicts, conflicts_in}
+use Rattle.tx_heat.specs.Conflicts.{conflicts, conflicts_in}
 use Rattle.tx_heat.specs.Marks.{Marks}
 use Rattle.tx_heat.specs.Watched.{AreTracks, AreCounted, IsReached, HasRoom}
 use Rattle.tx_heat.specs.declared.counting.LineHeat.{LineHeat}

@@ -1,7 +1,7 @@
 -- Conflicts that are aborts are counted in the history.
 use Rattle.std.proofs.Common.{◌≡◌, ℕ, ◌+◌, ◌<◌, true, false, Bool, List, [], ◌∷◌, ◌++◌, length, drop, cond, refl, sym}
 use Rattle.std.proofs.Common.{ap, ◌∙◌, subst, arith, Some, None, is_some}
-use Rattle.std.specs.Prelude.{count_by, not, sum_by, Option}
+use Rattle.std.specs.Prelude.{count_by, not, Option}
 use Rattle.std.specs.List.{flat_map}
 use Rattle.std.proofs.lemmas.List.{drop-append-le}
 use Rattle.std.proofs.Math.Seq.{drop-length}
@@ -10,15 +10,13 @@ use Rattle.std.proofs.lemmas.List.Sums.{sum_by-append}
 use Rattle.tx_journal.specs.Image.{cpu_of_event}
 use Rattle.tx_journal.specs.declared.entries.Entry.{Entry}
 use Rattle.tx_journal.specs.declared.events.Event.{Event}
-use Rattle.tx_meaning.specs.declared.asking.Reject.{Reject}
 use Rattle.tx_meaning.specs.Limits.{Setting}
 use Rattle.tx_meaning.specs.Meaning.{IsSetting, meaning, meaning_from}
-use Rattle.tx_meaning.specs.State.{State, beginning, cpus_of}
+use Rattle.tx_meaning.specs.State.{State, cpus_of}
 use Rattle.tx_meaning.specs.Turn.{happen}
-use Rattle.tx_meaning.specs.Views.{AreKnown, GoesOnWith}
+use Rattle.tx_meaning.specs.Views.{AreKnown}
 use Rattle.tx_keeping.specs.Kept.{Kept, kept_beginning}
 use Rattle.tx_keeping.specs.Turn.{k_happen}
-use Rattle.tx_keeping.proofs.Asking.{Grows}
 use Rattle.tx_keeping.proofs.Events.{begins_good}
 use Rattle.tx_keeping.proofs.Moves.{IsGood}
 use Rattle.tx_keeping.proofs.Turning.{happen_ok}

@@ -1,8 +1,7 @@
 -- What the attempts have touched behind an event, by what they had touched before it.
-use Rattle.std.proofs.Common.{◌≡◌, ◌≢◌, ℕ, suc, ◌+◌, ◌<◌, Bool, true, false, List, [], ◌∷◌, ◌++◌, Option, Some, None}
-use Rattle.std.proofs.Common.{refl, sym, ap, ap₂, ◌∙◌, subst, arith, add-one}
-use Rattle.std.specs.Prelude.{◌⊎◌, nat_lt}
-use Rattle.std.proofs.lemmas.Bool.{cases_eq}
+use Rattle.std.proofs.Common.{◌≡◌, ◌≢◌, ℕ, suc, ◌+◌, ◌<◌, Bool, true, false, List, [], ◌++◌, Option, Some, None}
+use Rattle.std.proofs.Common.{refl, sym, ap, ap₂, ◌∙◌, add-one}
+use Rattle.std.specs.Prelude.{nat_lt}
 use borrow.Enum.Arm.{by_way}
 use Rattle.z_regs.specs.Absolute.{absolute_ranges}
 use Rattle.z_regs.specs.declared.ranges.Range.{Range}
@@ -20,9 +19,6 @@ use Rattle.tx_serial.specs.Flat.{FlatState, Pending}
 use Rattle.tx_serial.specs.History.{replay}
 use Rattle.tx_serial.specs.Run.{run, more, more_of, after, after_fate, after_where, may_follow, outcome_of}
 use Rattle.tx_progress.specs.Local.{Local}
-use Rattle.tx_progress.specs.Progress.{Progress}
-use Rattle.tx_progress.specs.Reached.{progress_of}
-use Rattle.tx_progress.specs.Trial.{fate_by_progress}
 use Rattle.tx_progress.proofs.Parts.{followed_fate, not_live}
 use Rattle.tx_meaning.specs.Limits.{Setting}
 use Rattle.tx_meaning.specs.Meaning.{IsSetting, meaning}
@@ -32,9 +28,7 @@ use Rattle.tx_meaning.specs.Views.{AreKnown}
 use Rattle.tx_keeping.specs.Kept.{Kept, kept_flat, text_of}
 use Rattle.tx_keeping.specs.Keeping.{keeping}
 use Rattle.tx_keeping.specs.Turn.{k_happen}
-use Rattle.tx_keeping.proofs.Asking.{Keeps}
 use Rattle.tx_keeping.proofs.Events.{keeping_is, keeping_good, views_kept}
-use Rattle.tx_keeping.proofs.Moves.{IsGood}
 use Rattle.tx_keeping.proofs.Truth.{Truth, flat_is, attempt_is}
 use Rattle.tx_keeping.proofs.Turning.{own_stays, own_fate, happen_ok}
 use Rattle.tx_opacity.proofs.Others.{Left, others_turn, others_interruption}

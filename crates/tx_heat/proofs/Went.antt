@@ -5,7 +5,6 @@ use Rattle.std.specs.Prelude.{◌&&◌, nat_lt}
 use Rattle.z_regs.specs.declared.ranges.Range.{Range}
 use Rattle.z_regs.specs.declared.waiting.Waiting.{Waiting}
 use Rattle.z_instr.specs.declared.instr.Instr.{Instr}
-use Rattle.tx_control.specs.declared.causes.Why.{Why}
 use Rattle.tx_control.specs.declared.causes.Why.TheVariants as why
 use Rattle.tx_ladder.specs.Rungs.{is_starved}
 use Rattle.tx_journal.specs.declared.events.Event.TheVariants as event
@@ -27,12 +26,11 @@ use Rattle.tx_meaning.specs.Changes.{with_event, counting_turn}
 use Rattle.tx_meaning.specs.Turn.{is_tick}
 use Rattle.tx_keeping.specs.Kept.{Kept, text_of, with_state, with_beside, beside}
 use Rattle.tx_keeping.specs.Asking.{k_get_lines}
-use Rattle.tx_keeping.specs.Moves.{k_stepping}
 use Rattle.tx_keeping.specs.Turn.{KTurned, k_ends_by, k_once_given, k_refused_turn, k_inside, k_outside, k_done}
 use Rattle.tx_keeping.specs.Turn.{k_executing, k_with_lines, k_attempting, k_acting, k_external, k_interrupting}
 use Rattle.tx_keeping.specs.Turn.{k_by_rules, k_counted_turn, k_turn, k_turn_where, k_idle, k_happen, next_address}
 use Rattle.tx_keeping.proofs.Truth.{Truth}
-use Rattle.tx_keeping.proofs.Moves.{IsGood, restated, same_numbers, one_number}
+use Rattle.tx_keeping.proofs.Moves.{IsGood, restated, one_number}
 use Rattle.tx_keeping.proofs.Asking.{Keeps, keeps_then, keeps_restated}
 use Rattle.tx_keeping.proofs.Getting.{lines_got}
 use Rattle.tx_bounds.proofs.OtherTurns.{aborted_dead}

@@ -13,7 +13,7 @@ use Rattle.tx_journal.specs.declared.entries.Entry.TheVariants.{Step, Commit, Ab
 use Rattle.tx_journal.specs.declared.events.Event.{Event}
 use Rattle.tx_meaning.specs.Limits.{Setting}
 use Rattle.tx_meaning.specs.State.{State, beginning, attempt_of}
-use Rattle.tx_meaning.specs.Turn.{Turned, happen}
+use Rattle.tx_meaning.specs.Turn.{happen}
 use Rattle.tx_meaning.specs.declared.asking.Reject.{Reject}
 use Rattle.tx_machine.specs.Wanted.{wanted}
 use Rattle.tx_heat.specs.Octowords.{are_apart}

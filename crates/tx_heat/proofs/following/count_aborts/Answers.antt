@@ -1,11 +1,11 @@
 -- One entry more.
-use Rattle.std.proofs.Common.{◌≡◌, ◌+◌, ◌++◌, List, take, sym, ap, ◌∙◌, subst, arith, false, append_assoc}
+use Rattle.std.proofs.Common.{◌≡◌, ◌+◌, ◌++◌, take, sym, ap, ◌∙◌, subst, arith, false, append_assoc}
 use Rattle.std.specs.List.{flat_map}
 use Rattle.std.proofs.lemmas.List.{take_all, get_or_default}
 use Rattle.std.proofs.Common.{get_or}
 use Rattle.tx_journal.specs.declared.entries.Entry.TheVariants.{Step}
 use Rattle.tx_journal.specs.declared.entries.Entry.{Entry}
-use Rattle.tx_heat.specs.Conflicts.{Conflict, aborts_by, conflict_where}
+use Rattle.tx_heat.specs.Conflicts.{aborts_by, conflict_where}
 use Rattle.tx_heat.specs.Watched.{AreCounted, HasRoom}
 use Rattle.tx_heat.proofs.Counted.{aborts_more}
 use Rattle.tx_heat.proofs.following.count_aborts.Goals as goal

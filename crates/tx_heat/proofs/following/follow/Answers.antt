@@ -7,7 +7,6 @@ use Rattle.tx_meaning.specs.State.{State}
 use Rattle.tx_machine.specs.Machine.{Seen}
 use Rattle.tx_machine.specs.Wanted.{wanted}
 use Rattle.tx_heat.specs.Conflicts.{aborts_by, reject_of}
-use Rattle.tx_meaning.specs.Limits.{Setting}
 use Rattle.tx_machine.specs.Machine.{setting_of, state_of}
 use Rattle.tx_heat.specs.Watched.{AreTracks, HasRoom}
 use Rattle.tx_heat.proofs.Followed.{passes_as, counts_as, not_shorter, room_behind}

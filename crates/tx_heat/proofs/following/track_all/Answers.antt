@@ -1,9 +1,9 @@
 -- The marks of one CPU more are those behind the event.
-use Rattle.std.proofs.Common.{◌≡◌, ◌≢◌, ◌+◌, ◌<◌, ◌≤◌, ◌∙◌, sym, ap, subst, length, arith, Some}
+use Rattle.std.proofs.Common.{◌≡◌, ◌≢◌, ◌<◌, ◌≤◌, ◌∙◌, sym, ap, subst, length, arith}
 use Rattle.std.proofs.lemmas.List.{length-set}
 use Rattle.std.proofs.lemmas.Option.{slice_get_within}
 use Rattle.tx_journal.specs.Content.{Content}
-use Rattle.tx_meaning.specs.State.{State, attempt_of}
+use Rattle.tx_meaning.specs.State.{attempt_of}
 use Rattle.tx_machine.specs.Machine.{setting_of, state_of}
 use Rattle.tx_heat.specs.Marks.{AreMarksOf}
 use Rattle.tx_heat.proofs.Tracks.{still_ahead, old_at, here_or_before, no_one_beyond}

@@ -1,5 +1,5 @@
 -- One line of storage more.
-use Rattle.std.proofs.Common.{take, ◌+◌, sym, get_or}
+use Rattle.std.proofs.Common.{take, ◌+◌, get_or}
 use Rattle.std.proofs.lemmas.List.{get_or_default}
 use Rattle.tx_heat.specs.declared.counting.LineHeat.{LineHeat}
 use Rattle.report_text.proofs.Pieces.{one_more}
