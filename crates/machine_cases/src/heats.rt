@@ -114,7 +114,10 @@ fn conflicts_as_text(rt: HostRuntime) -> Result<(), Fail> {
     for (listing, wanted) in &HEATS {
         let heat = heated(rt.alloc(), listing)?;
         let text = heat.text(rt.alloc()).ok().ok_or("no memory")?;
-        assert_eq!(rt; str::from_utf8(text.as_slice()).ok().ok_or("no text")?, *wanted);
+        assert_eq!(rt;
+            str::from_utf8(text.as_slice()).ok().ok_or("no text")?,
+            *wanted
+        );
     }
     Ok(())
 }
