@@ -1,0 +1,2 @@
+-- What a history read back from its lines is.
+pub mod Replay
