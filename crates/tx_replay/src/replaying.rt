@@ -6,8 +6,10 @@ ghost use Rattle.tx_serial.specs.History.{IsLegal, replay as replay_of};
 ghost use Rattle.tx_flat.specs.Machine.{state_of};
 ghost use Rattle.tx_replay.specs.Replay.{IsRefused};
 
+use crate::entries::apply_line;
 use std::alloc::Global;
 use tx_flat::Flat;
+use tx_flat::slot::ApplyFault;
 use tx_journal::{Entry, Image};
 
 /// A history that was read back, and the machine behind it.
@@ -41,5 +43,20 @@ pub fn replay(alloc: Global, image: &Image, lines: &[&[u8]]) -> Result<Replayed,
     ensures cpus { IfOk result (λ r. length r.flat.slots ≡ length image.now.cpus) }
     ensures fault { IfErr result (λ f. IsRefused image.now (map (λ l. l.now) lines.now) f) }
 {
-    Err(ReplayFault::Memory)
+    let Ok(mut flat) = Flat::open(alloc, image) else {
+        return Err(ReplayFault::Memory);
+    };
+    let mut entries = Vec::new(alloc);
+    for (k, line) in lines.iter().enumerate() {
+        match apply_line(&mut flat, alloc, *line) {
+            Err(ApplyFault::Memory) => return Err(ReplayFault::Memory),
+            Err(ApplyFault::Misfit) => return Err(ReplayFault::Entry(k as u64 + 1)),
+            Ok(entry) => {
+                let Ok(_) = entries.push(entry) else {
+                    return Err(ReplayFault::Memory);
+                };
+            }
+        }
+    }
+    Ok(Replayed { flat, entries })
 }
