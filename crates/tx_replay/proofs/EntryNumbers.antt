@@ -17,8 +17,8 @@ kinds : {t u : EntryText} → t ≡ u → t.kind ≡ u.kind
 kinds is = ap (λ (t : EntryText). t.kind) is
 
 -- an entry that has the line has its numbers
-pub numbers_told : (e : Entry) (text : List ℕ) (t : EntryText) → IsSound e → Spells text t → entry_text e ≡ text
-    → TellsEntry e t
+pub numbers_told : (e : Entry) (text : List ℕ) (t : EntryText) → IsSound e → Spells text t
+    → entry_text e ≡ text → TellsEntry e t
 numbers_told e text t sound spells is =
     sym (read_exactly e t sound (subst (λ x. Spells x t) (sym is) spells))
 
@@ -68,7 +68,10 @@ the_abort (entry.Abort i n why) t is kind =
     record {
       why = why;
       is = λ j. entry.Abort (cpus j) (counts j) why;
-      tells = record { code_is = ap (λ (u : EntryText). u.code) is; detail_is = ap (λ (u : EntryText). u.detail) is };
+      tells = record {
+        code_is = ap (λ (u : EntryText). u.code) is;
+        detail_is = ap (λ (u : EntryText). u.detail) is;
+      };
     }
 the_abort (entry.Tdb i) t is kind = absurd (omega (arith, kinds is, kind))
 the_abort (entry.Interrupt i) t is kind = absurd (omega (arith, kinds is, kind))
@@ -91,7 +94,8 @@ abort_by t (Some why) = Some (entry.Abort t.cpu t.count why)
 
 -- where no other cause fits, no other abort does
 pub abort_only : (f : FlatState) (t : EntryText) (o : Option Why) → t.kind ≡ 65
-    → ((why : Why) → IsCause why → Tells why t.code t.detail → Fits f (entry.Abort t.cpu t.count why) → o ≡ Some why)
+    → ((why : Why) → IsCause why → Tells why t.code t.detail → Fits f (entry.Abort t.cpu t.count why)
+    → o ≡ Some why)
     → (e : Entry) → IsSound e → TellsEntry e t → Fits f e → abort_by t o ≡ Some e
 abort_only f t o kind only e sound tells fits =
     let a = the_abort e t tells kind in

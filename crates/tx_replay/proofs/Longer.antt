@@ -1,6 +1,6 @@
 -- Histories of one entry more.
-use Rattle.std.proofs.Common.{◌≡◌, ℕ, suc, ◌+◌, ◌<◌, List, [], ◌∷◌, ◌++◌, length, Option, Some, None, refl, sym, ap, ap₂, ◌∙◌}
-use Rattle.std.proofs.Common.{get_or, subst, arith}
+use Rattle.std.proofs.Common.{◌≡◌, ℕ, suc, ◌<◌, List, [], ◌∷◌, ◌++◌, length, Some, refl, sym, ap, ap₂, ◌∙◌}
+use Rattle.std.proofs.Common.{get_or}
 use Rattle.std.specs.Prelude.{All, map, take}
 use Rattle.std.proofs.Math.Seq.{take-suc}
 use Rattle.std.proofs.lemmas.List.{map-append}
@@ -26,8 +26,8 @@ unfolding replay_from
 one_entry e f g h = h
 
 -- and one more
-pub one_more : (image : Content) (lines : List (List ℕ)) (k : ℕ) (es : List Entry) (f g : FlatState) (e : Entry)
-    → k < length lines → IsReplay image (take k lines) es f → IsSound e → entry_text e ≡ get_or lines k []
+pub one_more : (image : Content) (lines : List (List ℕ)) (k : ℕ) (es : List Entry) (f g : FlatState)
+    (e : Entry) → k < length lines → IsReplay image (take k lines) es f → IsSound e → entry_text e ≡ get_or lines k []
     → apply f e ≡ Some g → IsReplay image (take (suc k) lines) (es ++ e ∷ []) g
 one_more image lines k es f g e within before sound text fits = record {
   sound = All-append IsSound es (e ∷ []) before.sound (All-cons IsSound e [] sound (All-nil IsSound));

@@ -1,10 +1,9 @@
 -- Lines are those of one history, or one of them is the first that no entry has which fits.
-use Rattle.std.proofs.Common.{◌≡◌, ℕ, zero, suc, ◌+◌, ◌-◌, ◌<◌, ◌≤◌, List, [], ◌∷◌, ◌++◌, length, Option, Some, refl, sym, ap, ap₂}
-use Rattle.std.proofs.Common.{◌∙◌, get_or, subst, arith, inl, inr}
-use Rattle.std.specs.Prelude.{All, map, take, drop}
-use Rattle.std.proofs.Math.Seq.{take-suc, take-length}
+use Rattle.std.proofs.Common.{◌≡◌, ℕ, zero, suc, ◌+◌, ◌<◌, ◌≤◌, List, [], ◌∷◌, ◌++◌, length, Some, refl, sym}
+use Rattle.std.proofs.Common.{ap, ap₂, ◌∙◌, get_or, subst, arith, inl, inr}
+use Rattle.std.specs.Prelude.{All, map, take}
+use Rattle.std.proofs.Math.Seq.{take-length}
 use Rattle.std.proofs.lemmas.Bool.{cases_lt}
-use Rattle.std.proofs.lemmas.List.{length-map, length-take-le}
 use Rattle.std.proofs.lemmas.List.Elements.{All-head, All-tail}
 use Rattle.tx_journal.specs.Content.{Content}
 use Rattle.tx_journal.specs.Lines.{entry_text}
@@ -56,7 +55,8 @@ goes_on f (e ∷ es) (d ∷ ds) g h more a b s t is =
     let two = first f d ds h b in
     let text : entry_text e ≡ entry_text d = sym (heads _ _ _ _ is) in
     let same : e ≡ d =
-    one_fits f e d (All-head IsSound e es s) (All-head IsSound d ds t) (one.next, one.fits) (two.next, two.fits) text in
+    one_fits f e d (All-head IsSound e es s) (All-head IsSound d ds t) (one.next, one.fits)
+    (two.next, two.fits) text in
     let states : two.next ≡ one.next = some_same (sym two.fits ∙ ap (apply f) (sym same) ∙ one.fits) in
     let on =
     goes_on one.next es ds g h more one.rest
@@ -100,7 +100,8 @@ beyond image lines a b es ds g h less within some other none =
     let on =
     goes_on (start_of image) es ds g h (get_or lines a [] ∷ more.0) some.replayed other.replayed some.sound
     other.sound
-    (other.texts ∙ more.1 ∙ ap (λ (xs : List (List ℕ)). xs ++ (get_or lines a [] ∷ more.0)) (sym some.texts)) in
+    (other.texts ∙ more.1
+    ∙ ap (λ (xs : List (List ℕ)). xs ++ (get_or lines a [] ∷ more.0)) (sym some.texts)) in
     would_fit g h on.tail (get_or lines a []) more.0 on.sound on.texts on.rest none
 
 pub never_both : (image : Content) (lines : List (List ℕ)) (entries : List Entry) (f : FlatState) (number : ℕ)
@@ -115,13 +116,13 @@ one_misfit image lines m n some other =
     elim (cases_lt some.before other.before) [
       | inl low ↦
           let late = other.within in
-          absurd (beyond image lines some.before other.before some.entries other.entries some.after other.after low
-          (omega (arith, late)) some.replays other.replays some.none)
+          absurd (beyond image lines some.before other.before some.entries other.entries some.after
+          other.after low (omega (arith, late)) some.replays other.replays some.none)
       | inr high ↦ elim (cases_lt other.before some.before) [
         | inl low ↦
             let late = some.within in
-            absurd (beyond image lines other.before some.before other.entries some.entries other.after some.after low
-            (omega (arith, late)) other.replays some.replays other.none)
+            absurd (beyond image lines other.before some.before other.entries some.entries other.after
+            some.after low (omega (arith, late)) other.replays some.replays other.none)
         | inr least ↦
             let same : some.before ≡ other.before = omega (arith, high, least) in
             some.counted ∙ ap (λ k. k + 1) same ∙ sym other.counted

@@ -80,7 +80,8 @@ none_some x h = cc
 -- no abort fits of a CPU that is not there
 pub absent : (m : Parts) (i n : ℕ) (why : Why) → length m.slots ≤ i → Fits (state_of m) (Abort i n why) → ⊥
 absent m i n why past h =
-    let missing : get_or m.slots i (fresh no_cpu) ≡ fresh no_cpu = get_or-eq_default m.slots (fresh no_cpu) past in
+    let missing : get_or m.slots i (fresh no_cpu) ≡ fresh no_cpu =
+    get_or-eq_default m.slots (fresh no_cpu) past in
     let still : may_act (state_of m) i ≡ false =
     ap (λ (s : SlotParts). is_running s.cpu.state && is_none s.pending) missing in
     none_some h.0 (sym (may_not_abort (state_of m) i n why still) ∙ h.1)

@@ -10,20 +10,20 @@ use Rattle.history_laws.specs.Fitting.{Fits}
 use Rattle.tx_replay.specs.declared.replaying.ReplayFault.{ReplayFault}
 use Rattle.tx_replay.specs.declared.replaying.ReplayFault.TheVariants.{Memory, Entry as AtEntry}
 
--- these are entries that a machine can write, one line is the text of each, and applied in order from the image on
--- they leave the state
-pub record IsReplay (image : Content) (lines : List (List ℕ)) (entries : List Entry) (after : FlatState) : Type 0
-  where
-    pub sound : All IsSound entries
-    pub texts : map entry_text entries ≡ lines
-    pub replayed : replay image entries ≡ Some after
+-- these are entries that a machine can write, one line is the text of each, and applied in order from the
+-- image on they leave the state
+pub record IsReplay (image : Content) (lines : List (List ℕ)) (entries : List Entry) (after : FlatState)
+    : Type 0 where
+  pub sound : All IsSound entries
+  pub texts : map entry_text entries ≡ lines
+  pub replayed : replay image entries ≡ Some after
 
 -- the line is the text of no such entry that can come next
 abbrev pub NoneFits : FlatState → List ℕ → Type 0
 NoneFits f line = (entry : Entry) → IsSound entry → Fits f entry → entry_text entry ≢ line
 
--- the lines before the one with this number, counted from 1, are the texts of a legal history, behind which no
--- entry has that line
+-- the lines before the one with this number, counted from 1, are the texts of a legal history, behind which
+-- no entry has that line
 pub record IsFirstMisfit (image : Content) (lines : List (List ℕ)) (number : ℕ) : Type 0 where
   pub before : ℕ
   pub counted : number ≡ before + 1

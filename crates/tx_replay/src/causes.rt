@@ -97,8 +97,8 @@ fn says_exception(code: u64) -> bool
     matches!(code, PROGRAM_INTERRUPTION | FILTERED_EXCEPTION)
 }
 
-/// The exception that a line tells, by its numbers, where the attempt ends by itself in it. No other fits that has
-/// such a line.
+/// The exception that a line tells, by its numbers, where the attempt ends by itself in it. No other fits
+/// that has such a line.
 fn exception_of(flat: &Flat, alloc: Global, text: EntryText) -> Result<Option<Why>, NoMemory>
     requires { says_exception text.code ≡ true }
     ensures sound { IfOk result (λ o. IfSome o IsCause) }

@@ -62,7 +62,8 @@ fn with_line(alloc: Global, entry: Entry, line: &[u8]) -> Result<Option<Entry>, 
     Ok(Some(entry))
 }
 
-/// The entry that has this line, where one fits; it may be one that does not. None where no entry has the line.
+/// The entry that has this line, where one fits; it may be one that does not. None where no entry has the
+/// line.
 fn entry_with(flat: &Flat, alloc: Global, line: &[u8]) -> Result<Option<Entry>, NoMemory>
     ensures sound { IfOk result (λ o. IfSome o IsSound) }
     ensures text { IfOk result (λ o. IfSome o (λ e. entry_text e ≡ line.now)) }
@@ -82,8 +83,8 @@ fn entry_with(flat: &Flat, alloc: Global, line: &[u8]) -> Result<Option<Entry>, 
     }
 }
 
-/// Applies the entry that has this line, with its line feed, where one fits. `Misfit` comes exactly where none does,
-/// `Memory` for want of memory. After an error nothing has changed.
+/// Applies the entry that has this line, with its line feed, where one fits. `Misfit` comes exactly where
+/// none does, `Memory` for want of memory. After an error nothing has changed.
 pub fn apply_line(flat: &mut Flat, alloc: Global, line: &[u8]) -> Result<Entry, ApplyFault>
     ensures sound { IfOk result IsSound }
     ensures text { IfOk result (λ e. entry_text e ≡ line.now) }

@@ -30,11 +30,12 @@ pub enum ReplayFault {
     Entry(u64),
 }
 
-/// The history of an image that these lines tell, each with its line feed: the entries, and the machine behind them.
-/// A line does not tell all of an exception; the entry that fits is meant, and there is one at most.
+/// The history of an image that these lines tell, each with its line feed: the entries, and the machine
+/// behind them. A line does not tell all of an exception; the entry that fits is meant, and there is one at
+/// most.
 ///
-/// `Entry` comes exactly at the first line that is the text of no entry which can come next; no entry of a CPU that
-/// the image lacks can. `Memory` comes for want of memory.
+/// `Entry` comes exactly at the first line that is the text of no entry which can come next; no entry of a
+/// CPU that the image lacks can. `Memory` comes for want of memory.
 pub fn replay(alloc: Global, image: &Image, lines: &[&[u8]]) -> Result<Replayed, ReplayFault>
     ensures legal { IfOk result (λ r. IsLegal image.now r.entries.items) }
     ensures sound { IfOk result (λ r. All IsSound r.entries.items) }

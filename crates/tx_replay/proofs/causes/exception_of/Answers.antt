@@ -15,7 +15,8 @@ returns-then-text-cpu_count-clause-only c = λ why sound tells fits.
 
 pub returns-clause-only : goal.returns-clause-only
 returns-clause-only c = λ why sound tells fits.
-    let is : is_exception why ≡ true = said why c.args.text.code c.args.text.detail sound tells ∙ c.requires in
+    let is : is_exception why ≡ true =
+    said why c.args.text.code c.args.text.detail sound tells ∙ c.requires in
     c.told_exception.ensures.only why
     (c.in_ok-own.ensures.value
     ∙ own_exception (state_of c.args.flat.now) c.args.text.cpu c.args.text.count why is fits)
