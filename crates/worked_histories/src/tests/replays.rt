@@ -45,9 +45,17 @@ fn replays(rt: &impl Abort, alloc: Global, golden: &Golden) -> Result<(), Fail> 
     let lines = entry_lines(alloc, golden.report)?;
     let history = entries_of(alloc, golden.report, golden.length)?;
     let bytes = bytes_of_lines(alloc, lines.as_slice(), None)?;
-    let replayed = replay(alloc, &image, bytes.as_slice()).ok().ok_or("refused")?;
+    let replayed = replay(alloc, &image, bytes.as_slice())
+        .ok()
+        .ok_or("refused")?;
     assert!(rt; replayed.entries.as_slice() == history.as_slice());
-    let text = told(rt, alloc, &image, &replayed.flat, replayed.entries.as_slice())?;
+    let text = told(
+        rt,
+        alloc,
+        &image,
+        &replayed.flat,
+        replayed.entries.as_slice(),
+    )?;
     assert_eq!(rt; text.as_str(), golden.report);
     Ok(())
 }
@@ -110,7 +118,9 @@ fn one_step_too_many(rt: HostRuntime) -> Result<(), Fail> {
     )?;
     let four = entry_lines(alloc, "S 0\nS 0\nS 0\nS 0\n")?;
     let bytes = bytes_of_lines(alloc, four.as_slice(), None)?;
-    let replayed = replay(alloc, &image, bytes.as_slice()).ok().ok_or("refused")?;
+    let replayed = replay(alloc, &image, bytes.as_slice())
+        .ok()
+        .ok_or("refused")?;
     assert_eq!(rt; replayed.entries.len(), 4);
     refused_last(&rt, alloc, &image, four.as_slice(), "S 0\n")?;
     refused_last(&rt, alloc, &image, &[], "S 0")?;
