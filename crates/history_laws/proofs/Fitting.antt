@@ -39,7 +39,7 @@ same_exception d e h =
     λ i. record { code = code i; fetch = fetch i; length = length i }
 
 -- an exception is one by which the attempt ends by itself
-ends_so : (x y : Bool) → (x || (y && false)) ≡ true → x ≡ true
+pub ends_so : (x y : Bool) → (x || (y && false)) ≡ true → x ≡ true
 ends_so true y h = refl
 ends_so false true h = absurd cc
 ends_so false false h = absurd cc
@@ -111,7 +111,8 @@ passed : {A : Type 0} (b : Bool) (o : Option A) (x : A) → only_where b o ≡ S
 passed true o x h = refl
 passed false o x h = absurd cc
 
-cause_fits : (f : FlatState) (i n : ℕ) (why : Why) → Fits f (entry.Abort i n why)
+-- a cause that fits is one by which the attempt may end
+pub cause_fits : (f : FlatState) (i n : ℕ) (why : Why) → Fits f (entry.Abort i n why)
     → fits f.text (run f i n) why ≡ true
 unfolding apply
 cause_fits f i n why h =

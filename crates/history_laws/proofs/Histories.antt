@@ -22,12 +22,13 @@ unfolding replay_from
 stuck [] g is = absurd cc
 stuck (e ∷ es) g is = stuck es g is
 
-record First (f : FlatState) (e : Entry) (es : List Entry) (g : FlatState) : Type 0 where
-  next : FlatState
-  fits : apply f e ≡ Some next
-  rest : replay_from es (Some next) ≡ Some g
+-- the first entry fits, and the others are applied behind it
+pub record First (f : FlatState) (e : Entry) (es : List Entry) (g : FlatState) : Type 0 where
+  pub next : FlatState
+  pub fits : apply f e ≡ Some next
+  pub rest : replay_from es (Some next) ≡ Some g
 
-first : (f : FlatState) (e : Entry) (es : List Entry) (g : FlatState) → replay_from (e ∷ es) (Some f) ≡ Some g
+pub first : (f : FlatState) (e : Entry) (es : List Entry) (g : FlatState) → replay_from (e ∷ es) (Some f) ≡ Some g
     → First f e es g
 unfolding replay_from
 first f e es g is = by (apply f e) refl is

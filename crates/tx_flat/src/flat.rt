@@ -6,13 +6,17 @@ ghost use Rattle.z_regs.specs.Prefix.{storage_size};
 ghost use Rattle.tx_serial.specs.Changes.{cpu_of_entry as cpu_in};
 ghost use Rattle.tx_serial.specs.History.{start_of};
 ghost use Rattle.tx_flat.specs.Machine.{state_of, slot_parts, fresh, code_waiting, Applies};
+ghost use Rattle.tx_serial.specs.Ending.{ending};
 ghost use Rattle.tx_serial.specs.Flat.{address_of};
+ghost use Rattle.tx_serial.specs.Run.{run};
 
+use crate::causes::own_cause;
 use crate::dispatch::apply_to;
 use crate::interruption::code_of;
 use crate::slot::{ApplyFault, Slot};
 use std::alloc::Global;
 use std::marker::Model;
+use tx_control::Why;
 use tx_journal::{Entry, Image};
 use z_regs::{CpuImage, Guard, NoMemory, PAGES, Storage};
 
@@ -125,7 +129,9 @@ fn is_whole(storage: &Storage)
 impl Flat {
     ghost use Rattle.std.specs.Prelude.{◌≡◌, ◌<◌, IfOk, length};
     ghost use Rattle.tx_flat.specs.Machine.{state_of, code_waiting, Applies};
+    ghost use Rattle.tx_serial.specs.Ending.{ending};
     ghost use Rattle.tx_serial.specs.Flat.{address_of};
+    ghost use Rattle.tx_serial.specs.Run.{run};
 
     /// The machine as an image starts it. `NoMemory` comes for want of memory.
     pub fn open(alloc: Global, image: &Image) -> Result<Flat, NoMemory>
@@ -160,6 +166,18 @@ impl Flat {
                 Ok(())
             }
         }
+    }
+
+    /// The cause by which the attempt of so many instructions of a CPU that is there ends by itself, None exactly
+    /// where it does not. Nothing changes. `NoMemory` comes for want of memory.
+    pub fn own_cause(&self, alloc: Global, cpu: u32, count: u32) -> Result<Option<Why>, NoMemory>
+        requires { cpu < length self.now.slots }
+        ensures value { IfOk result (λ why. why
+            ≡ ending (state_of self.now).text (run (state_of self.now) cpu count)) }
+    {
+        is_whole(&self.storage);
+        let image = &self.slots[cpu as usize].image;
+        own_cause(alloc, &self.storage, image, &self.guard, count)
     }
 
     /// How many CPUs there are.

@@ -5,6 +5,7 @@
 pub mod abort;
 mod advance;
 pub mod attempt;
+pub mod causes;
 mod coming;
 mod dispatch;
 pub mod ending;

@@ -3,6 +3,7 @@ mod constrained;
 mod misfits;
 mod outside;
 mod plain;
+mod replays;
 
 use misfits::{MISFITS, Wrong};
 use report_text::{Counts, Processor, report};

@@ -1,0 +1,3 @@
+-- What a history read back from its lines is.
+pub mod Told
+pub mod Replay

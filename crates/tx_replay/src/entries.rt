@@ -1,0 +1,106 @@
+//! The entry that a line means, on a machine behind the entries before it.
+ghost use Rattle.std.specs.Prelude.{◌≡◌, IfSome, IfOk, IfErr, Some, Err, length};
+ghost use Rattle.tx_journal.specs.declared.entries.Entry.{Entry};
+ghost use Rattle.tx_journal.specs.Lines.{entry_text};
+ghost use Rattle.tx_journal.specs.Sound.{IsSound};
+ghost use Rattle.tx_serial.specs.Apply.{apply};
+ghost use Rattle.tx_flat.specs.Machine.{state_of};
+ghost use Rattle.tx_flat.specs.declared.slot.ApplyFault.TheVariants.{Misfit};
+ghost use Rattle.history_laws.specs.Fitting.{Fits};
+ghost use Rattle.tx_replay.specs.Replay.{NoneFits};
+ghost use Rattle.tx_replay.specs.Told.{TellsEntry};
+
+use crate::causes::cause_of;
+use std::alloc::Global;
+use tx_flat::Flat;
+use tx_flat::slot::ApplyFault;
+use tx_journal::{Entry, EntryText, entry_text, read_entry};
+use z_regs::NoMemory;
+
+/// An abort, by the numbers of its line. No other abort fits that has such a line.
+fn abort_of(flat: &Flat, alloc: Global, text: EntryText) -> Result<Option<Entry>, NoMemory>
+    requires { text.kind ≡ 65 }
+    ensures sound { IfOk result (λ o. IfSome o IsSound) }
+    ensures only { IfOk result (λ o. (e : Entry) → IsSound e → TellsEntry e text
+        → Fits (state_of flat.now) e → o ≡ Some e) }
+{
+    let why = cause_of(flat, alloc, text)?;
+    let Some(why) = why else {
+        return Ok(None);
+    };
+    Ok(Some(Entry::Abort(text.cpu, text.count, why)))
+}
+
+/// The entry that the numbers of a line mean. No other entry fits that has such a line.
+fn entry_of(flat: &Flat, alloc: Global, text: EntryText) -> Result<Option<Entry>, NoMemory>
+    ensures sound { IfOk result (λ o. IfSome o IsSound) }
+    ensures only { IfOk result (λ o. (e : Entry) → IsSound e → TellsEntry e text
+        → Fits (state_of flat.now) e → o ≡ Some e) }
+{
+    match text.kind {
+        b'S' => Ok(Some(Entry::Step(text.cpu))),
+        b'C' => Ok(Some(Entry::Commit(text.cpu, text.count))),
+        b'T' => Ok(Some(Entry::Tdb(text.cpu))),
+        b'I' => Ok(Some(Entry::Interrupt(text.cpu))),
+        b'A' => abort_of(flat, alloc, text),
+        _ => Ok(None),
+    }
+}
+
+/// The entry, where this is its line.
+fn with_line(alloc: Global, entry: Entry, line: &[u8]) -> Result<Option<Entry>, NoMemory>
+    ensures same { IfOk result (λ o. IfSome o (λ e. e ≡ entry)) }
+    ensures text { IfOk result (λ o. IfSome o (λ e. entry_text e ≡ line.now)) }
+    ensures only { IfOk result (λ o. entry_text entry ≡ line.now → o ≡ Some entry) }
+{
+    let Ok(own) = entry_text(alloc, &entry) else {
+        return Err(NoMemory);
+    };
+    if own.as_slice() != line {
+        return Ok(None);
+    }
+    Ok(Some(entry))
+}
+
+/// The entry that has this line, where one fits; it may be one that does not. None where no entry has the
+/// line.
+fn entry_with(flat: &Flat, alloc: Global, line: &[u8]) -> Result<Option<Entry>, NoMemory>
+    ensures sound { IfOk result (λ o. IfSome o IsSound) }
+    ensures text { IfOk result (λ o. IfSome o (λ e. entry_text e ≡ line.now)) }
+    ensures only { IfOk result (λ o. (e : Entry) → IsSound e → entry_text e ≡ line.now
+        → Fits (state_of flat.now) e → o ≡ Some e) }
+{
+    let Some(text) = read_entry(line) else {
+        return Ok(None);
+    };
+    let told = entry_of(flat, alloc, text)?;
+    match told {
+        None => Ok(None),
+        Some(entry) => {
+            let found = with_line(alloc, entry, line)?;
+            Ok(found)
+        }
+    }
+}
+
+/// Applies the entry that has this line, with its line feed, where one fits. `Misfit` comes exactly where
+/// none does, `Memory` for want of memory. After an error nothing has changed.
+pub fn apply_line(flat: &mut Flat, alloc: Global, line: &[u8]) -> Result<Entry, ApplyFault>
+    ensures sound { IfOk result IsSound }
+    ensures text { IfOk result (λ e. entry_text e ≡ line.now) }
+    ensures applied { IfOk result (λ e. apply (state_of flat.old) e ≡ Some (state_of flat.new)) }
+    ensures misfit { result ≡ Err Misfit → NoneFits (state_of flat.old) line.now }
+    ensures unchanged { IfErr result (λ f. flat.new ≡ flat.old) }
+    ensures cpus { length flat.new.slots ≡ length flat.old.slots }
+{
+    let Ok(entry) = entry_with(flat, alloc, line) else {
+        return Err(ApplyFault::Memory);
+    };
+    let Some(entry) = entry else {
+        return Err(ApplyFault::Misfit);
+    };
+    match flat.apply(alloc, entry) {
+        Ok(()) => Ok(entry),
+        Err(fault) => Err(fault),
+    }
+}
