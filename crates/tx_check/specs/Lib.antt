@@ -1,0 +1,5 @@
+-- Reports that are judged by their history.
+pub mod Lines
+pub mod Told
+pub mod Sound
+pub mod Answers

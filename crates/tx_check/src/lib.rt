@@ -1,0 +1,6 @@
+//! Reports that are judged by the history in them.
+#![tactic(auto)]
+
+mod checking;
+
+pub use checking::{CheckFault, check};
