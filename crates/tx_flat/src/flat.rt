@@ -9,7 +9,7 @@ ghost use Rattle.tx_flat.specs.Machine.{state_of, slot_parts, fresh, code_waitin
 ghost use Rattle.tx_flat.specs.Open.{IsOpen};
 ghost use Rattle.tx_serial.specs.Attempt.{Open};
 ghost use Rattle.tx_serial.specs.Ending.{ending};
-ghost use Rattle.tx_serial.specs.Flat.{address_of};
+ghost use Rattle.tx_serial.specs.Flat.{address_of, bytes_of};
 ghost use Rattle.tx_serial.specs.Run.{run};
 
 use crate::causes::own_cause;
@@ -136,7 +136,7 @@ impl Flat {
     ghost use Rattle.tx_serial.specs.Attempt.{Open};
     ghost use Rattle.z_regs.specs.Cpu.{cpu_of};
     ghost use Rattle.tx_serial.specs.Ending.{ending};
-    ghost use Rattle.tx_serial.specs.Flat.{address_of};
+    ghost use Rattle.tx_serial.specs.Flat.{address_of, bytes_of};
     ghost use Rattle.tx_serial.specs.Run.{run};
 
     /// The machine as an image starts it. `NoMemory` comes for want of memory.
@@ -220,6 +220,15 @@ impl Flat {
         ensures { result ≡ (state_of self.now).storage address }
     {
         self.storage.as_slice()[address as usize]
+    }
+
+    /// All of storage.
+    #[tactic(auto, using(crate::proofs::Laid::listed))]
+    pub fn storage(&self) -> &Storage
+        ensures { result.now ≡ bytes_of (state_of self.now).storage }
+    {
+        is_whole(&self.storage);
+        &self.storage
     }
 
     /// The real address of the block that is pending for a CPU, None exactly where none is.
