@@ -2,4 +2,6 @@
 pub mod Lines
 pub mod Told
 pub mod Sound
+pub mod Claims
+pub mod Seen
 pub mod Answers

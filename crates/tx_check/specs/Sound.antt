@@ -1,5 +1,6 @@
 -- Sound reports, and the report that is expected in place of one that may not be sound.
-use Rattle.std.specs.Prelude.{◌≡◌, ℕ, ◌+◌, ◌*◌, List, ◌++◌, take, drop, map, codes, slice_get, Option, Some, None}
+use Rattle.std.specs.Prelude.{◌≡◌, ℕ, ◌+◌, ◌*◌, ◌<◌, ◌^◌, ◌⊎◌, List, ◌++◌, take, drop, map, codes, slice_get}
+use Rattle.std.specs.Prelude.{Option, Some, None}
 use Rattle.std.specs.List.{flat_map}
 use Rattle.tx_journal.specs.Content.{Content}
 use Rattle.tx_journal.specs.Lines.{entry_text}
@@ -29,16 +30,28 @@ pub record IsSound (image : Content) (report : List ℕ) (entries : ℕ) : Type 
 -- ---- the report that is expected
 
 -- of an attempt that a line claims, what is expected: the attempt where the CPU can have it, else none
-pub data Believes (f : FlatState) (i : ℕ) : Option Attempt → Option Attempt → Type 0 where
-  nothing : Believes f i None None
-  live : (a : Attempt) → IsLive f i a → Believes f i (Some a) (Some a)
-  impossible : (a : Attempt) → ¬ IsLive f i a → Believes f i (Some a) None
+abbrev pub Believes : FlatState → ℕ → Option Attempt → Option Attempt → Type 0
+Believes f i None expected = expected ≡ None
+Believes f i (Some a) expected =
+    ((expected ≡ Some a) × IsLive f i a) ⊎ ((expected ≡ None) × (¬ IsLive f i a))
+
+-- numbers of 64 bits
+pub record AreSmall (c : Counts) : Type 0 where
+  pub turns : c.turns < 2 ^ 64
+  pub asked : c.asked < 2 ^ 64
+  pub rejected : c.rejected < 2 ^ 64
+
+abbrev pub IsSmall : Option Attempt → Type 0
+IsSmall None = Unit {0}
+IsSmall (Some a) = (a.depth < 2 ^ 64) × (a.completed < 2 ^ 64)
 
 -- the lines of the CPU begin at this place, and these are its attempt and its counts there
 pub record IsPrinted (lines : List (List ℕ)) (place : ℕ) (attempt : Option Attempt) (counts : Counts) : Type 0
   where
     pub claimed : slice_get lines (place + 8) ≡ Some (attempt_line attempt)
     pub counted : slice_get lines (place + 10) ≡ Some (counts_line counts)
+    pub small : IsSmall attempt
+    pub small_counts : AreSmall counts
 
 -- of a CPU, whose lines begin at this place, what is taken from them: its attempt where it can have it, its turns
 -- and what it asked

@@ -19,7 +19,7 @@ use Rattle.report_text.specs.declared.processors.Attempt.{Attempt}
 pub record IsLive (f : FlatState) (i : ℕ) (a : Attempt) : Type 0 where
   pub acts : may_act f i ≡ true
   pub some : 1 ≤ a.completed
-  pub open : (run f i a.completed).mark ≡ Open
+  pub mark : (run f i a.completed).mark ≡ Open
   pub deep : length (run f i a.completed).nest ≡ a.depth
 
 -- a CPU as its program sees it: in an attempt, as its run has it

@@ -2,5 +2,9 @@
 #![tactic(auto)]
 
 mod checking;
+mod claims;
+mod lines;
+mod telling;
+mod writing;
 
 pub use checking::{CheckFault, check};
