@@ -15,7 +15,8 @@ enumerate_more n (y ∷ xs) x =
     let last = enumerate_more (n + 1) xs x ∙ ap (λ m. enumerate_from (n + 1) xs ++ (m, x) ∷ []) next in
     ap (λ rest. (n, y) ∷ rest) last
 
-text_more : (xs : List ShownCpu) (x : ShownCpu)
+-- a CPU behind the others
+pub text_more : (xs : List ShownCpu) (x : ShownCpu)
     → cpus_text (xs ++ x ∷ []) ≡ cpus_text xs ++ cpu_lines (length xs) x
 text_more xs x =
     ap (λ numbered. flat_map (λ p. cpu_lines p.0 p.1) numbered) (enumerate_more 0 xs x)

@@ -14,6 +14,6 @@ pub use digits::{add_labelled, add_number_line};
 pub use laws::a_block_shows_what_ended_the_attempt;
 pub use lines::{add_image, add_progress};
 pub use processors::{Attempt, Counts, Processor};
-pub use storage::{SharedBytes, add_bytes_text};
+pub use storage::{SharedBytes, add_bytes_text, add_shows};
 pub use totals::summary;
 pub use whole::{report, status};

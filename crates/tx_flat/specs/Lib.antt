@@ -10,3 +10,4 @@ pub mod Slots
 pub mod Left
 pub mod Outside
 pub mod Machine
+pub mod Open

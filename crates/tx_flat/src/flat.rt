@@ -6,13 +6,16 @@ ghost use Rattle.z_regs.specs.Prefix.{storage_size};
 ghost use Rattle.tx_serial.specs.Changes.{cpu_of_entry as cpu_in};
 ghost use Rattle.tx_serial.specs.History.{start_of};
 ghost use Rattle.tx_flat.specs.Machine.{state_of, slot_parts, fresh, code_waiting, Applies};
+ghost use Rattle.tx_flat.specs.Open.{IsOpen};
+ghost use Rattle.tx_serial.specs.Attempt.{Open};
 ghost use Rattle.tx_serial.specs.Ending.{ending};
-ghost use Rattle.tx_serial.specs.Flat.{address_of};
+ghost use Rattle.tx_serial.specs.Flat.{address_of, bytes_of};
 ghost use Rattle.tx_serial.specs.Run.{run};
 
 use crate::causes::own_cause;
 use crate::dispatch::apply_to;
 use crate::interruption::code_of;
+use crate::showing::{OpenRun, open_run};
 use crate::slot::{ApplyFault, Slot};
 use std::alloc::Global;
 use std::marker::Model;
@@ -127,10 +130,13 @@ fn is_whole(storage: &Storage)
 }
 
 impl Flat {
-    ghost use Rattle.std.specs.Prelude.{◌≡◌, ◌<◌, IfOk, length};
+    ghost use Rattle.std.specs.Prelude.{◌≡◌, ◌≢◌, ◌<◌, IfOk, IfSome, IfNone, length};
     ghost use Rattle.tx_flat.specs.Machine.{state_of, code_waiting, Applies};
+    ghost use Rattle.tx_flat.specs.Open.{IsOpen};
+    ghost use Rattle.tx_serial.specs.Attempt.{Open};
+    ghost use Rattle.z_regs.specs.Cpu.{cpu_of};
     ghost use Rattle.tx_serial.specs.Ending.{ending};
-    ghost use Rattle.tx_serial.specs.Flat.{address_of};
+    ghost use Rattle.tx_serial.specs.Flat.{address_of, bytes_of};
     ghost use Rattle.tx_serial.specs.Run.{run};
 
     /// The machine as an image starts it. `NoMemory` comes for want of memory.
@@ -180,6 +186,19 @@ impl Flat {
         own_cause(alloc, &self.storage, image, &self.guard, count)
     }
 
+    /// The run of so many instructions of a CPU that is there, None exactly where it is not open. Nothing changes.
+    /// `NoMemory` comes for want of memory.
+    pub fn open_run(&self, alloc: Global, cpu: u32, count: u32) -> Result<Option<OpenRun>, NoMemory>
+        requires { cpu < length self.now.slots }
+        ensures open { IfOk result (λ o. IfSome o (λ r.
+            IsOpen (run (state_of self.now) cpu count) (cpu_of r.image) r.depth)) }
+        ensures none { IfOk result (λ o. IfNone o ((run (state_of self.now) cpu count).mark ≢ Open)) }
+    {
+        is_whole(&self.storage);
+        let image = &self.slots[cpu as usize].image;
+        open_run(alloc, &self.storage, image, &self.guard, count)
+    }
+
     /// How many CPUs there are.
     pub fn cpu_count(&self) -> u32
         ensures { result ≡ length self.now.slots }
@@ -201,6 +220,15 @@ impl Flat {
         ensures { result ≡ (state_of self.now).storage address }
     {
         self.storage.as_slice()[address as usize]
+    }
+
+    /// All of storage.
+    #[tactic(auto, using(crate::proofs::Laid::listed))]
+    pub fn storage(&self) -> &Storage
+        ensures { result.now ≡ bytes_of (state_of self.now).storage }
+    {
+        is_whole(&self.storage);
+        &self.storage
     }
 
     /// The real address of the block that is pending for a CPU, None exactly where none is.

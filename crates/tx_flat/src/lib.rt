@@ -17,6 +17,7 @@ pub mod outside;
 mod reading;
 mod refusals;
 pub mod running;
+pub mod showing;
 pub mod slot;
 mod storing;
 

@@ -1,0 +1,127 @@
+-- What a CPU can have, and what is told of it.
+use Rattle.std.proofs.Common.{◌≡◌, ◌≢◌, ◌∙◌, ap, ap₂, sym, refl, subst, ℕ, ◌+◌, ◌*◌, ◌<◌, ◌≤◌, arith, Bool, true, false}
+use Rattle.std.proofs.Common.{List, length, map, get_or, take, drop, [], Option, Some, None, ◌++◌, ◌∷◌, zero, suc}
+use Rattle.std.specs.Prelude.{is_none, ◌&&◌, slice_get}
+use Rattle.std.specs.List.{take-map, drop-map}
+use Rattle.std.proofs.Common.{◌-◌}
+use Rattle.std.proofs.lemmas.List.{length-drop, take_all}
+use Rattle.tx_journal.specs.declared.image.Show.{Show}
+use Rattle.report_text.specs.Report.{state_part}
+use Rattle.tx_check.specs.Seen.{shown_seen}
+use Rattle.std.proofs.lemmas.Option.{slice_get_within, get_or_from_slice_get}
+use Rattle.tx_journal.specs.Content.{Content}
+use Rattle.tx_serial.specs.Apply.{may_act, is_running}
+use Rattle.tx_serial.specs.Flat.{FlatState, Pending, address_of}
+use Rattle.tx_serial.specs.Attempt.{Open}
+use Rattle.tx_serial.specs.Run.{run}
+use Rattle.z_regs.specs.Cpu.{Cpu}
+use Rattle.z_regs.specs.declared.image.RunState.{RunState}
+use Rattle.tx_flat.specs.Open.{IsOpen}
+use Rattle.report_form.specs.Sheet.{IsSheet, last_of}
+use Rattle.report_form.specs.declared.sheet.Sheet.{Sheet}
+use Rattle.report_form.specs.declared.rows.Row.{Row}
+use Rattle.report_form.specs.declared.rows.Row.TheVariants as row
+use Rattle.report_form.specs.Rows.{IsRow}
+use Rattle.report_text.specs.Processor.{attempt_line, counts_line}
+use Rattle.report_text.specs.declared.processors.Attempt.{Attempt}
+use Rattle.report_text.specs.declared.processors.Counts.{Counts}
+use Rattle.tx_check.specs.declared.writing.Seen.{Seen}
+use Rattle.tx_check.specs.Told.{IsLive}
+use denote.Ref.{Bor}
+use Rattle.tx_check.specs.Sound.{IsPrinted, cpu_place, joined}
+use Rattle.tx_check.proofs.FormLines.{HasRow, cpu_line}
+
+none_of : (b : Option Pending) → is_none (address_of b) ≡ is_none b
+none_of None = refl
+none_of (Some b) = refl
+
+pub may_act_by : (f : FlatState) (i : ℕ) (c : Cpu) (o : Option ℕ) → c ≡ f.cpus i → o ≡ address_of (f.pending i)
+    → (is_running c.state && is_none o) ≡ may_act f i
+may_act_by f i c o is at =
+    ap₂ (λ (s : RunState) (b : Bool). is_running s && b) (ap (λ (x : Cpu). x.state) is)
+    (ap is_none at ∙ none_of (f.pending i))
+
+-- the run is open and so deep
+pub is_live : (f : FlatState) (i depth completed claimed : ℕ) (c : Cpu) → may_act f i ≡ true → 1 ≤ completed
+    → IsOpen (run f i completed) c depth → depth ≡ claimed
+    → IsLive f i (record { depth = claimed; completed = completed })
+is_live f i depth completed claimed c acts some still same = record {
+  acts = acts;
+  some = some;
+  mark = still.mark;
+  deep = still.deep ∙ same;
+}
+
+-- ---- the lines of a CPU
+
+-- the lines of the attempt and of the counts of a CPU stand at their places
+pub record HasLines (lines : List (List ℕ)) (place : ℕ) : Type 0 where
+  pub attempt_there : place + 8 < length lines
+  pub attempt_row : IsRow 0 row.Attempt (get_or lines (place + 8) [])
+  pub counts_there : place + 10 < length lines
+  pub counts_row : IsRow 0 row.Counts (get_or lines (place + 10) [])
+
+any_attempt : (last : ℕ) (line : List ℕ) → IsRow last row.Attempt line → IsRow 0 row.Attempt line
+unfolding IsRow
+any_attempt last line h = h
+
+any_counts : (last : ℕ) (line : List ℕ) → IsRow last row.Counts line → IsRow 0 row.Counts line
+unfolding IsRow
+any_counts last line h = h
+
+pub has_lines : (image : Content) (lines : List (List ℕ)) (s : Sheet) (i : ℕ) → IsSheet image lines s
+    → i < length image.cpus → HasLines lines (cpu_place i)
+has_lines image lines s i sheet below =
+    let a : HasRow (last_of image) row.Attempt lines (cpu_place i + 8) =
+    cpu_line image lines s.entries sheet.events i 8 row.Attempt sheet.form below refl in
+    let c : HasRow (last_of image) row.Counts lines (cpu_place i + 10) =
+    cpu_line image lines s.entries sheet.events i 10 row.Counts sheet.form below refl in
+    record {
+      attempt_there = slice_get_within lines (cpu_place i + 8) a.line a.there;
+      attempt_row =
+          any_attempt (last_of image) _
+          (subst (IsRow (last_of image) row.Attempt) (sym (get_or_from_slice_get lines (cpu_place i + 8) a.line [] a.there))
+          a.row);
+      counts_there = slice_get_within lines (cpu_place i + 10) c.line c.there;
+      counts_row =
+          any_counts (last_of image) _
+          (subst (IsRow (last_of image) row.Counts) (sym (get_or_from_slice_get lines (cpu_place i + 10) c.line [] c.there))
+          c.row);
+    }
+
+-- ---- CPUs one after the other
+
+-- what holds of each holds of one more
+pub each_more : (P : ℕ → Seen → Type 0) (xs : List Seen) (x : Seen)
+    → ((i : ℕ) (s : Seen) → slice_get xs i ≡ Some s → P i s) → P (length xs) x
+    → (i : ℕ) (s : Seen) → slice_get (xs ++ x ∷ []) i ≡ Some s → P i s
+each_more P [] x each here zero s at = subst (P 0) (let e : x ≡ s = cc in e) here
+each_more P [] x each here (suc i) s at = absurd cc
+each_more P (y ∷ ys) x each here zero s at = each 0 s at
+each_more P (y ∷ ys) x each here (suc i) s at =
+    each_more (λ k. P (suc k)) ys x (λ k. each (suc k)) here i s at
+
+-- ---- a part of the lines
+
+pub part_of : (lines : List (Bor (List ℕ))) (texts : List (List ℕ)) (from count size place : ℕ)
+    → texts ≡ map (λ (l : Bor (List ℕ)). l.now) (take count (drop from lines)) → count ≡ size → from ≡ place
+    → texts ≡ take size (drop place (map (λ (l : Bor (List ℕ)). l.now) lines))
+part_of lines texts from count size place is many begins =
+    is ∙ sym (take-map (λ (l : Bor (List ℕ)). l.now) count (drop from lines))
+    ∙ ap (take count) (sym (drop-map (λ (l : Bor (List ℕ)). l.now) from lines))
+    ∙ ap₂ (λ n a. take n (drop a (map (λ (l : Bor (List ℕ)). l.now) lines))) many begins
+
+pub behind_of : (lines : List (Bor (List ℕ))) (place : ℕ)
+    → map (λ (l : Bor (List ℕ)). l.now) (take (length lines - place) (drop place lines))
+    ≡ drop place (map (λ (l : Bor (List ℕ)). l.now) lines)
+behind_of lines place =
+    let all = length-drop place lines in
+    ap (map (λ (l : Bor (List ℕ)). l.now)) (take_all (length lines - place) (drop place lines) (omega (arith, all)))
+    ∙ sym (drop-map (λ (l : Bor (List ℕ)). l.now) place lines)
+
+-- the text, by what it is written of
+pub written_as : (text : List ℕ) (cs cpus : List Seen) (shows : List Show) (st bytes : List ℕ) (ls rest : List (List ℕ))
+    → text ≡ state_part (map shown_seen cs) shows st ++ joined ls → cs ≡ cpus → st ≡ bytes → ls ≡ rest
+    → text ≡ state_part (map shown_seen cpus) shows bytes ++ joined rest
+written_as text cs cpus shows st bytes ls rest is a b d =
+    is ∙ (λ k. state_part (map shown_seen (a k)) shows (b k) ++ joined (d k))

@@ -1,0 +1,10 @@
+-- Lines, words and claims; where lines stand by the form, and what stands behind the state; what is expected.
+pub mod LineLemmas
+pub mod Written
+pub mod WordsRead
+pub mod ClaimLines
+pub mod EventLines
+pub mod FormLines
+pub mod CpuLines
+pub mod Due
+pub mod Bounds

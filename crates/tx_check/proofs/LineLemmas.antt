@@ -1,0 +1,127 @@
+-- Lines of a text, the first one and the others.
+use Rattle.std.proofs.Common.{◌≡◌, ◌≢◌, ◌∙◌, ap, sym, refl, subst, ℕ, zero, suc, ◌+◌, ◌-◌, ◌<◌, ◌≤◌, arith}
+use Rattle.std.proofs.Common.{List, [], ◌∷◌, ◌++◌, map, length, take, drop, append_assoc, Bool, true, false}
+use Rattle.std.proofs.Common.{ap₂, get_or, append-nil, length-append, Some, None}
+use Rattle.std.specs.Prelude.{◌==◌, if◌then◌else◌}
+use Rattle.std.proofs.lemmas.List.{take_all, take_more, drop_all}
+use Rattle.std.proofs.lemmas.Option.{slice_get-get_or, slice_get_past}
+use Rattle.std.proofs.Math.Seq.{drop-append_seam, take-append_seam, drop-length}
+use Rattle.tx_journal.specs.Numbers.{Lacks}
+use Rattle.tx_journal.proofs.Decimals.{lacks_rest}
+use Rattle.tx_check.specs.Lines.{lines_of, in_front, FirstDifference}
+use Rattle.tx_check.specs.Sound.{joined}
+
+front_joined : (byte : ℕ) (ls : List (List ℕ)) → joined (in_front byte ls) ≡ byte ∷ joined ls
+front_joined byte [] = refl
+front_joined byte (l ∷ ls) = refl
+
+more_joined : (byte : ℕ) (ls : List (List ℕ)) (rest : List ℕ) → joined ls ≡ rest → (b : Bool)
+    → joined (if b then (byte ∷ []) ∷ ls else in_front byte ls) ≡ byte ∷ rest
+more_joined byte ls rest is true = ap (λ t. byte ∷ t) is
+more_joined byte ls rest is false = front_joined byte ls ∙ ap (λ t. byte ∷ t) is
+
+-- the lines, joined, are the text
+pub joined_lines : (text : List ℕ) → joined (lines_of text) ≡ text
+unfolding lines_of
+joined_lines [] = refl
+joined_lines (byte ∷ rest) = more_joined byte (lines_of rest) rest (joined_lines rest) (byte == 10)
+
+-- texts with the same lines are the same
+pub same_lines : (some others : List ℕ) → lines_of some ≡ lines_of others → some ≡ others
+same_lines some others is = sym (joined_lines some) ∙ ap joined is ∙ joined_lines others
+
+other_byte : (b : ℕ) → b ≢ 10 → (b == 10) ≡ false
+other_byte b other = grind (arith, other)
+
+-- a line with its line feed, and what stands behind it
+ended_front : (front rest : List ℕ) → Lacks 10 front
+    → lines_of (front ++ 10 ∷ rest) ≡ (front ++ 10 ∷ []) ∷ lines_of rest
+unfolding lines_of
+ended_front [] rest lacks = refl
+ended_front (b ∷ bs) rest lacks =
+    ap (λ (t : Bool). if t then (b ∷ []) ∷ lines_of (bs ++ 10 ∷ rest) else in_front b (lines_of (bs ++ 10 ∷ rest)))
+    (other_byte b (lacks 0 (omega arith)))
+    ∙ ap (in_front b) (ended_front bs rest (lacks_rest 10 b bs lacks))
+
+pub ended_first : (text front rest : List ℕ) (size : ℕ) → text ≡ front ++ 10 ∷ rest → Lacks 10 front
+    → size ≡ length front + 1 → lines_of text ≡ take size text ∷ lines_of (drop size text)
+ended_first text front rest size cut lacks is =
+    let whole : text ≡ (front ++ 10 ∷ []) ++ rest = cut ∙ sym (append_assoc front (10 ∷ []) rest) in
+    let many : size ≡ length (front ++ 10 ∷ []) = let l = length-append front (10 ∷ []) in omega (arith, is, l) in
+    let first : take size text ≡ front ++ 10 ∷ [] =
+    ap (take size) whole ∙ ap (λ n. take n ((front ++ 10 ∷ []) ++ rest)) many
+    ∙ take-append_seam (front ++ 10 ∷ []) rest in
+    let behind : drop size text ≡ rest =
+    ap (drop size) whole ∙ ap (λ n. drop n ((front ++ 10 ∷ []) ++ rest)) many
+    ∙ drop-append_seam (front ++ 10 ∷ []) rest in
+    ap lines_of cut ∙ ended_front front rest lacks
+    ∙ sym (ap₂ (λ l r. l ∷ lines_of r) first behind)
+
+-- a text without a line feed is one line
+unended_line : (b : ℕ) (bs : List ℕ) → Lacks 10 (b ∷ bs) → lines_of (b ∷ bs) ≡ (b ∷ bs) ∷ []
+unfolding lines_of
+unended_line b [] lacks =
+    ap (λ (t : Bool). if t then (b ∷ []) ∷ lines_of [] else in_front b (lines_of []))
+    (other_byte b (lacks 0 (omega arith)))
+unended_line b (n ∷ bs) lacks =
+    ap (λ (t : Bool). if t then (b ∷ []) ∷ lines_of (n ∷ bs) else in_front b (lines_of (n ∷ bs)))
+    (other_byte b (lacks 0 (omega arith)))
+    ∙ ap (in_front b) (unended_line n bs (lacks_rest 10 b (n ∷ bs) lacks))
+
+no_lines : lines_of [] ≡ []
+unfolding lines_of
+no_lines = refl
+
+pub unended_first : (text : List ℕ) → 0 < length text → Lacks 10 text
+    → lines_of text ≡ take (length text) text ∷ lines_of (drop (length text) text)
+unended_first [] some lacks = absurd (omega arith)
+unended_first (b ∷ bs) some lacks =
+    unended_line b bs lacks
+    ∙ sym (ap₂ (λ l r. l ∷ r) (take_all (length (b ∷ bs)) (b ∷ bs) (omega arith))
+    (ap lines_of (drop-length (b ∷ bs)) ∙ no_lines))
+
+-- lines that end with the text are all of it
+pub all_lines : (text : List ℕ) (lines : List (List ℕ)) (from : ℕ) → length text ≤ from
+    → lines ++ lines_of (drop from text) ≡ lines_of text → lines ≡ lines_of text
+all_lines text lines from past so_far =
+    sym (append-nil lines) ∙ ap (λ ls. lines ++ ls) (sym (ap lines_of (drop_all from text past) ∙ no_lines)) ∙ so_far
+
+-- ---- where texts differ
+
+some_same : (x y : List ℕ) → Some x ≡ Some y → x ≡ y
+some_same x y is = cc
+
+some_none : (x : List ℕ) → Some x ≡ None → ⊥
+some_none x is = cc
+
+pub differ_here : (xs ys : List (List ℕ)) (k : ℕ) → k < length xs → k < length ys → take k xs ≡ take k ys
+    → get_or xs k [] ≢ get_or ys k [] → FirstDifference xs ys (k + 1)
+differ_here xs ys k here there same other = record {
+  before = k;
+  counted = refl;
+  same = same;
+  differs = λ is. other (some_same _ _ (sym (slice_get-get_or xs k [] here) ∙ is ∙ slice_get-get_or ys k [] there));
+}
+
+pub first_longer : (xs ys : List (List ℕ)) (k : ℕ) → k < length xs → length ys ≤ k → take k xs ≡ take k ys
+    → FirstDifference xs ys (k + 1)
+first_longer xs ys k here past same = record {
+  before = k;
+  counted = refl;
+  same = same;
+  differs = λ is. some_none _ (sym (slice_get-get_or xs k [] here) ∙ is ∙ slice_get_past ys k past);
+}
+
+pub first_shorter : (xs ys : List (List ℕ)) (k : ℕ) → length xs ≤ k → k < length ys → take k xs ≡ take k ys
+    → FirstDifference xs ys (k + 1)
+first_shorter xs ys k past there same = record {
+  before = k;
+  counted = refl;
+  same = same;
+  differs = λ is. some_none _ (sym (slice_get-get_or ys k [] there) ∙ sym is ∙ slice_get_past xs k past);
+}
+
+pub same_more : (xs ys : List (List ℕ)) (k : ℕ) → k < length xs → k < length ys → take k xs ≡ take k ys
+    → get_or xs k [] ≡ get_or ys k [] → take (k + 1) xs ≡ take (k + 1) ys
+same_more xs ys k here there same is =
+    take_more xs k [] here ∙ ap₂ (λ a b. a ++ b ∷ []) same is ∙ sym (take_more ys k [] there)

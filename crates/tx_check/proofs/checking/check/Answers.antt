@@ -1,0 +1,63 @@
+use Rattle.std.proofs.Common.{◌≡◌, ◌≤◌, ◌∙◌, ap, sym, subst, arith, length}
+use Rattle.report_form.specs.Sheet.{IsSheet}
+use Rattle.report_form.proofs.Walks.{seen, length_seen}
+use Rattle.tx_check.specs.Lines.{lines_of}
+use Rattle.tx_check.specs.Answers.{IsDueText}
+use Rattle.tx_check.proofs.Bounds.{few_read, few_entries}
+use Rattle.tx_check.proofs.Due.{accepted}
+use Rattle.tx_check.proofs.checking.check.Goals as goal
+
+pub sheet_of-requires : goal.sheet_of-requires
+sheet_of-requires c =
+    let low = few_read c.in-Ok.lines.items c.args.report.now c.in-Ok.ensures in
+    let size = ap length c.deref.ensures.value in
+    omega (arith, low, size, c.requires.few)
+
+pub history_of-requires-clause-few : goal.history_of-requires-clause-few
+history_of-requires-clause-few c =
+    let low = few_read c.in-Ok.lines.items c.args.report.now c.in-Ok.ensures in
+    let size = ap length c.deref-2.ensures.value in
+    omega (arith, low, size, c.requires.few)
+
+pub overflow_cast-result : goal.overflow_cast-result
+overflow_cast-result c =
+    let low = few_read c.in-Ok.lines.items c.args.report.now c.in-Ok.ensures in
+    let size = ap length c.deref-5.ensures.value in
+    let within = c.in-Some.ensures.within in
+    omega (arith, low, size, within, c.requires.few)
+
+pub overflow_add-result : goal.overflow_add-result
+overflow_add-result c =
+    let low = few_read c.in-Ok.lines.items c.args.report.now c.in-Ok.ensures in
+    let size = ap length c.deref-5.ensures.value in
+    let within = c.in-Some.ensures.within in
+    omega (arith, low, size, within, c.requires.few)
+
+pub overflow_cast-result-in-None : goal.overflow_cast-result-in-None
+overflow_cast-result-in-None c =
+    let low = few_read c.in-Ok.lines.items c.args.report.now c.in-Ok.ensures in
+    let size = ap length c.deref.ensures.value in
+    let sheet = c.in_ok-sheet.ensures.sheet in
+    let many = few_entries c.args.image.now (seen c.deref.result.now) c.in_ok-sheet.sheet.entries sheet.events sheet.form in
+    let same = length_seen c.deref.result.now in
+    omega (arith, low, size, many, same, c.requires.few)
+
+pub returns-clause-sound : goal.returns-clause-sound
+returns-clause-sound c =
+    let s = c.in_ok-sheet.sheet in
+    let text = c.in-Ok-expected.text.items in
+    (accepted c.args.image.now c.args.report.now text (seen c.in-Ok.lines.items) (seen c.in-Ok-cut_lines.due.items) s
+    c.in-Ok.ensures (c.in-Ok-cut_lines.ensures ∙ ap lines_of c.deref-4.ensures.value)
+    (subst (λ ls. IsSheet c.args.image.now (seen ls) s) c.deref.ensures.value c.in_ok-sheet.ensures.sheet)
+    (subst (λ ls. IsDueText c.args.image.now (seen ls) s.entries text) c.deref-3.ensures.value c.in-Ok-expected.ensures)
+    (ap seen (sym c.deref-5.ensures.value) ∙ c.in-None.ensures.none ∙ ap seen c.deref-6.ensures.value)).0
+
+pub returns-clause-accepted : goal.returns-clause-accepted
+returns-clause-accepted c =
+    let s = c.in_ok-sheet.sheet in
+    let text = c.in-Ok-expected.text.items in
+    (accepted c.args.image.now c.args.report.now text (seen c.in-Ok.lines.items) (seen c.in-Ok-cut_lines.due.items) s
+    c.in-Ok.ensures (c.in-Ok-cut_lines.ensures ∙ ap lines_of c.deref-4.ensures.value)
+    (subst (λ ls. IsSheet c.args.image.now (seen ls) s) c.deref.ensures.value c.in_ok-sheet.ensures.sheet)
+    (subst (λ ls. IsDueText c.args.image.now (seen ls) s.entries text) c.deref-3.ensures.value c.in-Ok-expected.ensures)
+    (ap seen (sym c.deref-5.ensures.value) ∙ c.in-None.ensures.none ∙ ap seen c.deref-6.ensures.value)).1

@@ -1,0 +1,140 @@
+//! Whether a report is sound, and else where it first is not.
+ghost use Rattle.std.specs.Prelude.{◌≡◌, ◌<◌, ◌≤◌, ◌+◌, ◌-◌, ◌^◌, ◌++◌, IfOk, IfErr, length, map, take, drop};
+ghost use Rattle.tx_journal.specs.Lines.{entry_text};
+ghost use Rattle.report_form.specs.Sheet.{HasForm, IsSheet, history_at};
+ghost use Rattle.z_regs.specs.Prefix.{storage_size};
+ghost use Rattle.report_text.specs.Report.{state_part};
+ghost use Rattle.tx_flat.specs.Machine.{state_of};
+ghost use Rattle.tx_check.specs.Seen.{shown_seen};
+ghost use Rattle.tx_check.specs.Sound.{joined};
+ghost use Rattle.tx_replay.specs.Replay.{IsReplay};
+ghost use Rattle.tx_check.specs.Lines.{lines_of};
+ghost use Rattle.tx_check.specs.Sound.{IsSound};
+ghost use Rattle.tx_check.specs.Answers.{IsRefused, IsAccepted, IsDueText, HasNoForm, HasNoHistory};
+
+use crate::lines::{add_lines, cut_lines, first_difference};
+use crate::telling::seen_cpus;
+use crate::writing::{Seen, add_state};
+use report_form::{FormFault, Sheet, read};
+use std::alloc::{AllocError, Global};
+use tx_journal::Image;
+use tx_replay::{ReplayFault, Replayed, replay};
+use z_regs::{NoMemory, Storage};
+
+/// Why a report is refused. Lines and entries are counted from 1.
+#[derive(Clone, Copy, Debug, PartialEq, Eq)]
+pub enum CheckFault {
+    /// There was no memory.
+    Memory,
+    /// The first line that is missing, of another form or too many.
+    Form(u32),
+    /// The form is right, and this is the first entry whose line no entry has that could come there.
+    Entry(u32),
+    /// Form and history are right, and this is the first line that is not what the history leaves.
+    State(u32),
+}
+
+/// Where the entries of a report stand, by its lines; or the first line that leaves the form.
+fn sheet_of(alloc: Global, image: &Image, lines: &[&[u8]]) -> Result<Sheet, CheckFault>
+    requires { length lines.now < 2 ^ 32 - 1 }
+    ensures sheet { IfOk result (λ s. IsSheet image.now (map (λ l. l.now) lines.now) s) }
+    ensures fault { IfErr result (λ fault. HasNoForm image.now (map (λ l. l.now) lines.now) fault) }
+{
+    match read(alloc, image, lines) {
+        Ok(sheet) => Ok(sheet),
+        Err(FormFault::Memory) => Err(CheckFault::Memory),
+        Err(FormFault::Line(number)) => Err(CheckFault::Form(number as u32)),
+    }
+}
+
+/// The history in a report's lines, and what it leaves; or the first entry that does not fit.
+fn history_of(
+    alloc: Global,
+    image: &Image,
+    lines: &[&[u8]],
+    sheet: Sheet,
+) -> Result<Replayed, CheckFault>
+    requires few { length lines.now < 2 ^ 32 - 1 }
+    requires sheet { IsSheet image.now (map (λ l. l.now) lines.now) sheet }
+    ensures replay { IfOk result (λ r. IsReplay image.now
+        (take sheet.entries (drop (history_at image.now + 1) (map (λ l. l.now) lines.now))) r.entries.items
+        (state_of r.flat)) }
+    ensures cpus { IfOk result (λ r. length r.flat.slots ≡ length image.now.cpus) }
+    ensures fault { IfErr result (λ fault. HasNoHistory image.now (map (λ l. l.now) lines.now) fault) }
+{
+    let end = sheet.history + sheet.entries as usize;
+    match replay(alloc, image, &lines[sheet.history..end]) {
+        Ok(replayed) => Ok(replayed),
+        Err(ReplayFault::Memory) => Err(CheckFault::Memory),
+        Err(ReplayFault::Entry(number)) => Err(CheckFault::Entry(number as u32)),
+    }
+}
+
+/// The state, and lines behind it.
+fn written(
+    alloc: Global,
+    image: &Image,
+    cpus: &[Seen],
+    storage: &Storage,
+    behind: &[&[u8]],
+) -> Result<Vec<u8>, AllocError>
+    requires { length storage.now ≡ storage_size }
+    ensures { IfOk result (λ text. text.items ≡ state_part (map shown_seen cpus.now) image.now.shows storage.now
+        ++ joined (map (λ l. l.now) behind.now)) }
+{
+    let _count = image.cpu_count();
+    let mut text = Vec::new(alloc);
+    add_state(&mut text, cpus, image.shows.as_slice(), storage)?;
+    add_lines(&mut text, behind)?;
+    Ok(text)
+}
+
+/// The report that is expected in place of one with these lines.
+fn expected(
+    alloc: Global,
+    image: &Image,
+    lines: &[&[u8]],
+    sheet: Sheet,
+    replayed: &Replayed,
+) -> Result<Vec<u8>, NoMemory>
+    requires sheet { IsSheet image.now (map (λ l. l.now) lines.now) sheet }
+    requires replay { IsReplay image.now
+        (take sheet.entries (drop (history_at image.now + 1) (map (λ l. l.now) lines.now)))
+        replayed.now.entries.items (state_of replayed.now.flat) }
+    requires cpus { length replayed.now.flat.slots ≡ length image.now.cpus }
+    ensures { IfOk result (λ text. IsDueText image.now (map (λ l. l.now) lines.now) sheet.entries text.items) }
+{
+    let cpus = seen_cpus(alloc, image, lines, sheet, replayed)?;
+    let storage = replayed.flat.storage();
+    let Ok(text) = written(alloc, image, cpus.as_slice(), storage, &lines[sheet.history - 1..]) else {
+        return Err(NoMemory);
+    };
+    Ok(text)
+}
+
+/// The number of entries of a report that is sound: it has the form of a report of the image, its entries are a
+/// legal history, and all else that it tells is what this history leaves, but for turns, questions, rejects and the
+/// recorded events, which may be any. `Form`, `Entry` and `State` come in this order, each at the first place; and
+/// `Memory` for want of memory.
+pub fn check(alloc: Global, image: &Image, report: &[u8]) -> Result<u32, CheckFault>
+    requires few { length report.now < 2 ^ 32 - 1 }
+    ensures sound { IfOk result (λ entries. IsSound image.now report.now entries) }
+    ensures accepted { IfOk result (λ entries. IsAccepted image.now report.now entries) }
+    ensures fault { IfErr result (λ fault. IsRefused image.now report.now fault) }
+{
+    let Ok(lines) = cut_lines(alloc, report) else {
+        return Err(CheckFault::Memory);
+    };
+    let sheet = sheet_of(alloc, image, &lines)?;
+    let replayed = history_of(alloc, image, &lines, sheet)?;
+    let Ok(text) = expected(alloc, image, &lines, sheet, &replayed) else {
+        return Err(CheckFault::Memory);
+    };
+    let Ok(due) = cut_lines(alloc, &text) else {
+        return Err(CheckFault::Memory);
+    };
+    match first_difference(&lines, &due) {
+        Some(place) => Err(CheckFault::State(place as u32 + 1)),
+        None => Ok(sheet.entries as u32),
+    }
+}

@@ -1,0 +1,83 @@
+//! Texts as lines, and where two texts first differ.
+ghost use Rattle.std.specs.Prelude.{◌≡◌, ◌<◌, ◌≤◌, ◌+◌, ◌∷◌, ◌++◌, OnOk, IfOk, IfSome, IfNone, length, map, take};
+ghost use Rattle.std.specs.Prelude.{drop, get_or, IsTrue, ◌↔◌, []};
+ghost use Rattle.tx_check.specs.Lines.{lines_of, FirstDifference};
+ghost use Rattle.tx_check.specs.Sound.{joined};
+
+use crate::claims::cut;
+use std::alloc::{AllocError, Global};
+
+/// How many bytes the first line of a text has, with its line feed.
+fn first_size(text: &[u8]) -> usize
+    requires { 0 < length text.now }
+    ensures some { 0 < result }
+    ensures within { result ≤ length text.now }
+    ensures cut { lines_of text.now ≡ take result text.now ∷ lines_of (drop result text.now) }
+{
+    let Some((front, rest)) = cut(text, b'\n') else {
+        return text.len();
+    };
+    front.len() + 1
+}
+
+/// The lines of a text, each with its line feed.
+pub(crate) fn cut_lines(alloc: Global, text: &[u8]) -> Result<Vec<&[u8]>, AllocError>
+    ensures { IfOk result (λ lines. map (λ l. l.now) lines.items ≡ lines_of text.now) }
+{
+    let mut lines = Vec::new(alloc);
+    let mut from = 0;
+    while from < text.len() {
+        let size = first_size(&text[from..]);
+        lines.push(&text[from..from + size])?;
+        from += size;
+    }
+    Ok(lines)
+}
+
+/// Adds lines to a text, one after the other.
+pub(crate) fn add_lines(text: &mut Vec<u8>, lines: &[&[u8]]) -> Result<(), AllocError>
+    ensures { OnOk result (text.new.items ≡ text.old.items ++ joined (map (λ l. l.now) lines.now)) }
+{
+    for line in lines {
+        text.extend_from_slice(*line)?;
+    }
+    Ok(())
+}
+
+/// Whether two lines are the same.
+fn is_same(one: &[u8], other: &[u8]) -> bool
+    ensures { IsTrue result ↔ (one.now ≡ other.now) }
+{
+    one == other
+}
+
+/// Whether two texts have the same line at a place that both have.
+fn same_at(some: &[&[u8]], others: &[&[u8]], place: usize) -> bool
+    requires here { place < length some.now }
+    requires there { place < length others.now }
+    ensures { IsTrue result ↔ (get_or (map (λ l. l.now) some.now) place []
+        ≡ get_or (map (λ l. l.now) others.now) place []) }
+{
+    is_same(some[place], others[place])
+}
+
+/// The number, counted from 0, of the first line at which texts differ; None exactly where they are the same.
+pub(crate) fn first_difference(some: &[&[u8]], others: &[&[u8]]) -> Option<usize>
+    ensures some { IfSome result (λ k. FirstDifference (map (λ l. l.now) some.now) (map (λ l. l.now) others.now)
+        (k + 1)) }
+    ensures within { IfSome result (λ k. k ≤ length some.now) }
+    ensures none { IfNone result (map (λ l. l.now) some.now ≡ map (λ l. l.now) others.now) }
+{
+    for k in 0..some.len() {
+        if k >= others.len() {
+            return Some(k);
+        }
+        if !same_at(some, others, k) {
+            return Some(k);
+        }
+    }
+    if some.len() < others.len() {
+        return Some(some.len());
+    }
+    None
+}

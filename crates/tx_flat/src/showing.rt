@@ -1,0 +1,56 @@
+//! Private runs that are open, as they show themselves.
+ghost use Rattle.std.specs.Prelude.{◌≡◌, ◌≢◌, ◌↔◌, ℕ, IsTrue, IfOk, IfSome, IfNone, length};
+ghost use Rattle.std.specs.FinSet.{items};
+ghost use Rattle.z_regs.specs.Cpu.{cpu_of};
+ghost use Rattle.z_regs.specs.Prefix.{storage_size};
+ghost use Rattle.tx_serial.specs.Attempt as run;
+ghost use Rattle.tx_serial.specs.Flat.{FlatState};
+ghost use Rattle.tx_serial.specs.Run.{run as run_of};
+ghost use Rattle.tx_flat.specs.Bytes.{function_of};
+ghost use Rattle.tx_flat.specs.Open.{IsOpen};
+ghost use Rattle.tx_flat.specs.Shows.{mark_of};
+
+use crate::attempt::Mark;
+use crate::running::run;
+use std::alloc::Global;
+use z_regs::{CpuImage, Guard, NoMemory, Storage};
+
+/// A run that is open: the CPU as its program sees it, and how many begins are open.
+#[derive(Clone, Copy)]
+pub struct OpenRun {
+    pub image: CpuImage,
+    pub depth: u32,
+}
+
+/// Whether a run is open.
+fn is_open(mark: Mark) -> bool
+    ensures { IsTrue result ↔ (mark_of mark ≡ run.Open) }
+{
+    matches!(mark, Mark::Open)
+}
+
+/// The run of so many instructions of a CPU alone, None exactly where it is not open. `guard` has the text pages.
+/// `NoMemory` comes for want of memory.
+pub fn open_run(
+    alloc: Global,
+    storage: &Storage,
+    image: &CpuImage,
+    guard: &Guard,
+    n: u32,
+) -> Result<Option<OpenRun>, NoMemory>
+    requires { length storage.now ≡ storage_size }
+    ensures open { IfOk result (λ o. IfSome o (λ r. (f : FlatState) (i : ℕ) → f.storage ≡ function_of storage.now
+        → f.text ≡ items guard.now → f.cpus i ≡ cpu_of image.now
+        → IsOpen (run_of f i n) (cpu_of r.image) r.depth)) }
+    ensures none { IfOk result (λ o. IfNone o ((f : FlatState) (i : ℕ) → f.storage ≡ function_of storage.now
+        → f.text ≡ items guard.now → f.cpus i ≡ cpu_of image.now → (run_of f i n).mark ≢ run.Open)) }
+{
+    let a = run(alloc, storage, image, guard, n)?;
+    if !is_open(a.mark) {
+        return Ok(None);
+    }
+    Ok(Some(OpenRun {
+        image: a.image,
+        depth: a.nest.depth(),
+    }))
+}
