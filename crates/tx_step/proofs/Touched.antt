@@ -3,7 +3,6 @@ use Rattle.std.proofs.Common.{◌≡◌, ℕ, ◌*◌, ◌/◌, ◌<◌, true, f
 use Rattle.std.proofs.lemmas.Bool.{cases_Bool, or_right}
 use borrow.Enum.Arm.{by_way}
 use Rattle.z_regs.specs.Absolute.{absolute_ranges}
-use Rattle.z_regs.specs.declared.ranges.Range.{Range}
 use Rattle.tx_footprint.specs.Places.{stores}
 use Rattle.tx_footprint.specs.Touched.{Sets}
 use Rattle.tx_journal.specs.Image.{cpu_of_event}

@@ -130,7 +130,14 @@ impl Trace {
         let mut stored = StoredLines::none(alloc);
         let mut steps = Vec::with_capacity(alloc, most.min(events.len()))?;
         for event in events {
-            follow(alloc, &mut machine, &mut view, &mut stored, &mut steps, *event)?;
+            follow(
+                alloc,
+                &mut machine,
+                &mut view,
+                &mut stored,
+                &mut steps,
+                *event,
+            )?;
         }
         let position = steps.len();
         let mut trace = Trace {

@@ -1,5 +1,5 @@
 -- The change that is noted leads on.
-use Rattle.std.proofs.Common.{◌≡◌, List, [], ◌∷◌, ◌++◌, sym, ap₂, subst, ◌∙◌}
+use Rattle.std.proofs.Common.{◌≡◌, [], ◌∷◌, ◌++◌, sym, ap₂, subst, ◌∙◌}
 use Rattle.std.specs.Prelude.{slice_set}
 use Rattle.tx_step.specs.Sights.{CpuSeen}
 use Rattle.tx_step.specs.Changes.{Leads}

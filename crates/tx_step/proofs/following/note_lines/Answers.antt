@@ -1,7 +1,7 @@
 -- Line by line every byte is that of the machine.
-use Rattle.std.proofs.Common.{◌≡◌, ℕ, ◌/◌, ◌<◌, ◌∙◌, true, false, sym, ap, subst, arith, get_or, take, length}
+use Rattle.std.proofs.Common.{◌≡◌, ◌/◌, ◌<◌, ◌∙◌, true, false, sym, ap, subst, arith, get_or, take, length}
 use Rattle.std.proofs.lemmas.Bool.{or_cases, eqb-true}
-use Rattle.std.proofs.lemmas.List.{take_all, get_or_default}
+use Rattle.std.proofs.lemmas.List.{take_all}
 use Rattle.std.proofs.lemmas.List.Folds.{list_any_more}
 use Rattle.std.specs.Prelude.{◌==◌}
 use borrow.Enum.Arm.{by_way}

@@ -1,5 +1,5 @@
 -- What the machine shows is followed, and a step is more.
-use Rattle.std.proofs.Common.{◌≡◌, ◌⊎◌, ℕ, ◌/◌, ◌<◌, true, All, List, length, get_or, sym, ap, subst, ◌∙◌}
+use Rattle.std.proofs.Common.{◌≡◌, ◌⊎◌, ℕ, ◌/◌, ◌<◌, true, All, length, get_or, sym, ap, subst, ◌∙◌}
 use Rattle.tx_footprint.specs.Places.{stores}
 use Rattle.tx_journal.specs.Image.{cpu_of_event}
 use Rattle.tx_meaning.specs.State.{flat_of}
@@ -68,6 +68,7 @@ returns-clause-covers c =
     next_covers c.args.machine.now next c.args.e lines c.requires.setting known c.requires.known
     c.event-outcome-2.ensures.machine c.event-outcome-2.ensures.state covers wants c.if-step.stored
     (elim c.if-step.branch [
-      then-step w ↦ λ j line live there. subst (λ l. has l j line ≡ true) (sym w.stored-is)
+      | then-step w ↦ λ j line live there. subst (λ l. has l j line ≡ true) (sym w.stored-is)
           (w.keep_live.ensures j line live there)
-    | else-step w ↦ λ j line live there. subst (λ l. has l j line ≡ true) (sym w.stored-is) there ])
+      | else-step w ↦ λ j line live there. subst (λ l. has l j line ≡ true) (sym w.stored-is) there
+    ])

@@ -1,5 +1,5 @@
 -- The lines of the addresses of a range are those between its first and its last.
-use Rattle.std.proofs.Common.{◌≡◌, ℕ, ◌+◌, ◌/◌, ◌<◌, ◌≤◌, arith}
+use Rattle.std.proofs.Common.{◌≡◌, ◌+◌, ◌/◌, ◌<◌, ◌≤◌, arith}
 use Rattle.std.proofs.lemmas.Bool.{and_parts}
 use Rattle.tx_footprint.specs.Places.{has_place}
 use Rattle.tx_footprint.proofs.Spans.{address_of}

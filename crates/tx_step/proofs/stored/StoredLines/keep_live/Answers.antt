@@ -1,5 +1,5 @@
 -- The lines of a live attempt pass the test.
-use Rattle.std.proofs.Common.{rules, ◌≡◌, ◌∙◌, ◌||◌, not, nat_lt, length, sym, ap}
+use Rattle.std.proofs.Common.{rules, ◌∙◌, ◌||◌, not, nat_lt, length, ap}
 use Rattle.std.proofs.lemmas.Bool.{or_right}
 use Rattle.std.proofs.lemmas.Fn.{filter_same}
 use Rattle.tx_machine.specs.Machine.{setting_of, state_of}

@@ -1,5 +1,5 @@
 -- The events happen one after the other.
-use Rattle.std.proofs.Common.{◌≡◌, ◌<◌, get_or, length, arith, sym, subst}
+use Rattle.std.proofs.Common.{◌<◌, get_or, length, arith, sym, subst}
 use Rattle.std.specs.Arc.{arc_value}
 use Rattle.std.proofs.lemmas.List.{get_or_default}
 use Rattle.tx_journal.specs.declared.events.Event.{Event}
