@@ -11,51 +11,49 @@ use Rattle.z_regs.specs.declared.waiting.Waiting.{Waiting}
 use Rattle.z_instr.specs.declared.instr.Instr.{Instr}
 use Rattle.tx_control.specs.declared.causes.Why.{Why}
 use Rattle.tx_control.specs.declared.causes.Why.TheVariants as why
-use Rattle.tx_control.specs.declared.exceptions.Exception.{Exception}
 use Rattle.tx_footprint.specs.Sizes.{line_size}
 use Rattle.tx_footprint.specs.Places.{stores}
 use Rattle.interrogate.specs.declared.kinds.Answer.{Answer}
 use Rattle.interrogate.specs.declared.kinds.Answer.TheVariants.{Yields, Rejects, Aborts}
 use Rattle.line_table.specs.Holders.{against}
 use Rattle.tx_serial.specs.Fate.{Fate, Goes, Ends, Stops}
-use Rattle.tx_serial.specs.Flat.{Pending, Storage}
+use Rattle.tx_serial.specs.Flat.{Pending}
 use Rattle.tx_progress.specs.Local.{Local, Beside, aborted, block_stored, interruption_taken, taken_by}
 use Rattle.tx_progress.specs.Doing.{Executed, executed, stopped}
-use Rattle.tx_progress.specs.Progress.{Progress, resting, seen_through}
+use Rattle.tx_progress.specs.Progress.{seen_through}
 use Rattle.tx_progress.specs.Trial.{fate_by_progress}
 use Rattle.tx_progress.specs.declared.done.Done.{Done}
 use Rattle.tx_progress.specs.declared.done.Done.TheVariants as done
 use Rattle.tx_progress.proofs.Facts.{lasting_line, keeps_prefix}
 use Rattle.tx_meaning.specs.Limits.{Setting}
 use Rattle.tx_meaning.specs.Meaning.{IsSetting}
-use Rattle.tx_meaning.specs.Needs.{operand_needs, stored, interruption_ranges}
+use Rattle.tx_meaning.specs.Needs.{stored, interruption_ranges}
 use Rattle.tx_meaning.specs.State.{State, is_live, cpus_of}
 use Rattle.tx_meaning.specs.declared.asking.Need.{Need}
 use Rattle.tx_meaning.specs.declared.outcome.Outcome.{Outcome}
 use Rattle.tx_machine.specs.Wanted.{real_ranges, operands_of, wanted_by}
 use Rattle.tx_meaning.specs.declared.asking.Reject.{Reject}
 use Rattle.tx_meaning.specs.Asking.{is_there}
-use Rattle.tx_meaning.specs.Turn.{is_tick}
-use Rattle.tx_meaning.specs.Changes.{with_event, counting_turn, with_entry}
+use Rattle.tx_meaning.specs.Changes.{with_event, counting_turn}
 use Rattle.tx_ladder.specs.Rungs.{is_starved}
 use Rattle.tx_journal.specs.Image.{cpu_of_event}
 use Rattle.tx_journal.specs.declared.events.Event.{Event}
 use Rattle.tx_journal.specs.declared.events.Event.TheVariants as event
-use Rattle.tx_keeping.specs.Kept.{Kept, kept_flat, text_of, with_state, with_beside, with_standing, beside}
+use Rattle.tx_keeping.specs.Kept.{Kept, kept_flat, text_of, with_state, with_beside, beside}
 use Rattle.tx_keeping.specs.Moves.{k_asking, k_aborting}
 use Rattle.tx_keeping.specs.Asking.{KAsked, k_by_answer, k_reply, k_ask_one, k_ask_each, k_unless_rejected}
 use Rattle.tx_keeping.specs.Asking.{k_granting, k_get_unless, k_get_line, k_get_each, k_get_lines}
 use Rattle.tx_keeping.specs.Turn.{KTurned, k_ends_by, k_refused_turn, k_once_given, k_with_lines, k_inside}
 use Rattle.tx_keeping.specs.Turn.{k_outside, k_done, k_executing, k_attempting, k_acting, k_interrupting, k_external}
-use Rattle.tx_keeping.specs.Turn.{k_storing_block, k_taking_interruption, k_stopping}
+use Rattle.tx_keeping.specs.Turn.{k_storing_block, k_taking_interruption}
 use Rattle.tx_keeping.specs.Turn.{k_by_rules, k_counted_turn, k_turn_where, k_turn, k_happen, k_idle, next_address}
 use Rattle.tx_keeping.proofs.Asking.{Keeps}
-use Rattle.tx_keeping.proofs.Endings.{aborting_after, aborting_is, ended_by}
+use Rattle.tx_keeping.proofs.Endings.{aborting_after, ended_by}
 use Rattle.tx_keeping.proofs.Getting.{lines_got}
-use Rattle.tx_keeping.proofs.Moves.{IsGood, at_put_case, restated, one_number, same_numbers}
+use Rattle.tx_keeping.proofs.Moves.{IsGood, at_put_case, restated, one_number}
 use Rattle.tx_keeping.proofs.Needed.{TouchesMore, executed_touches, block_changes, taking_changes}
 use Rattle.tx_keeping.proofs.Truth.{Truth, kept_is}
-use Rattle.tx_keeping.proofs.Turning.{own_fate, pending_rests, waiting_rests}
+use Rattle.tx_keeping.proofs.Turning.{own_fate}
 
 both_off : (x y : Bool) → x ≡ false → y ≡ false → (x || y) ≡ false
 both_off true y first second = let n : true ≡ false = first in cc

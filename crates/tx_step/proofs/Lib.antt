@@ -6,3 +6,5 @@ pub mod Followed
 pub mod Moved
 pub mod Framed
 pub mod Touched
+pub mod Lined
+pub mod Due

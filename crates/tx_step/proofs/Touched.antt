@@ -1,7 +1,8 @@
 -- The same by what events mean.
-use Rattle.std.proofs.Common.{◌≡◌, ℕ, ◌*◌, ◌/◌, ◌<◌, false, List, Option, arith, refl, sym, ap, ◌∙◌, subst}
+use Rattle.std.proofs.Common.{◌≡◌, ℕ, ◌*◌, ◌/◌, ◌<◌, true, false, List, Option, arith, refl, sym, ap, ◌∙◌, subst}
+use Rattle.std.proofs.lemmas.Bool.{cases_Bool, or_right}
+use borrow.Enum.Arm.{by_way}
 use Rattle.z_regs.specs.Absolute.{absolute_ranges}
-use Rattle.z_regs.specs.declared.ranges.Range.{Range}
 use Rattle.tx_footprint.specs.Places.{stores}
 use Rattle.tx_footprint.specs.Touched.{Sets}
 use Rattle.tx_journal.specs.Image.{cpu_of_event}
@@ -11,11 +12,12 @@ use Rattle.tx_serial.specs.Fate.{Fate, fate}
 use Rattle.tx_serial.specs.Flat.{FlatState}
 use Rattle.tx_serial.specs.Run.{run}
 use Rattle.tx_progress.specs.Progress.{Progress}
+use Rattle.tx_progress.specs.Progress as progress
 use Rattle.tx_progress.specs.Reached.{progress_of}
-use Rattle.tx_progress.proofs.Parts.{followed_fate}
+use Rattle.tx_progress.proofs.Parts.{followed_fate, rests}
 use Rattle.tx_meaning.specs.Limits.{Setting}
 use Rattle.tx_meaning.specs.Meaning.{IsSetting, meaning}
-use Rattle.tx_meaning.specs.State.{State, cpus_of, flat_of, footprint_of, cpu_of, attempt_of}
+use Rattle.tx_meaning.specs.State.{State, cpus_of, flat_of, footprint_of, cpu_of, attempt_of, is_live}
 use Rattle.tx_meaning.specs.Turn.{Turned, happen}
 use Rattle.tx_meaning.specs.Views.{AreKnown}
 use Rattle.tx_keeping.specs.Kept.{Kept, kept_flat, text_of}
@@ -23,7 +25,7 @@ use Rattle.tx_keeping.specs.Keeping.{keeping}
 use Rattle.tx_keeping.specs.Turn.{k_happen}
 use Rattle.tx_keeping.proofs.Events.{keeping_is, keeping_good, happens_alike}
 use Rattle.tx_keeping.proofs.Moves.{IsGood}
-use Rattle.tx_keeping.proofs.Truth.{Truth, flat_is, attempt_is, footprint_is}
+use Rattle.tx_keeping.proofs.Truth.{Truth, flat_is, attempt_is, footprint_is, live_is}
 use Rattle.tx_keeping.proofs.Turning.{happen_ok}
 use Rattle.tx_machine.specs.Wanted.{wanted, wanted_by, real_ranges}
 use Rattle.tx_step.proofs.Framed.{happens_same, Same}
@@ -43,6 +45,19 @@ wanted_is m k truth i =
     (run (kept_flat m k) i l.attempt.count)))) (ap (λ (q : Progress). q.cpu.prefix) followed.attempt)
     ∙ ap (λ (f : Fate). absolute_ranges l.attempt.cpu.prefix (real_ranges l.pending l.waiting f))
     (followed_fate (kept_flat m k) i l followed)
+
+-- what a CPU has stored into is that of a live attempt
+live_stores : (m : Setting) (k : Kept) → Truth m k → (j line : ℕ)
+    → (footprint_of m k.state j).stored line ≡ true → is_live k.state j ≡ true
+live_stores m k truth j line is =
+    let q = (k.locals j).attempt in
+    let there : q.footprint.stored line ≡ true =
+    sym (ap (λ (t : Sets). t.stored line) (footprint_is m k truth j)) ∙ is in
+    by_way (cases_Bool (progress.is_live q))
+    (λ live. live_is m k truth j ∙ live)
+    (λ off. absurd (let x : false ≡ true =
+    sym (ap (λ (r : Progress). r.footprint.stored line)
+    (rests (kept_flat m k) j (k.locals j) (truth.each j).followed off)) ∙ there in cc))
 
 module _ (m : Setting) (s : IsSetting m) (events : List Event) (known : AreKnown m events) (e : Event)
     (within : cpu_of_event e < cpus_of m) where
@@ -102,3 +117,30 @@ module _ (m : Setting) (s : IsSetting m) (events : List Event) (known : AreKnown
       ∙ ap (λ (t : Sets). t.stored (a / 256))
       (ap (λ (t : State). footprint_of m t j) is_next ∙ footprint_is m next next_good.truth j)
       ∙ same.stored j refl
+
+  -- an attempt that has completed as many instructions as before keeps the bytes of the lines it has stored into
+  pub attempts_keep : (j a : ℕ) → is_live (meaning m events) j ≡ true
+      → ((happen m e (meaning m events)).state.numbers j).completed ≡ ((meaning m events).numbers j).completed
+      → (footprint_of m (meaning m events) j).stored (a / 256) ≡ true
+      → (flat_of m (happen m e (meaning m events)).state).storage a ≡ (flat_of m (meaning m events)).storage a
+  attempts_keep j a live same is =
+      let keeps = (happen_ok m s e now good within).keeps j
+      (ap (λ (t : State). is_live t j) (sym is_now) ∙ live)
+      (ap (λ (t : State). (t.numbers j).completed) (sym is_next) ∙ same
+      ∙ ap (λ (t : State). (t.numbers j).completed) is_now) in
+      let there : (now.locals j).attempt.footprint.stored (a / 256) ≡ true =
+      sym (ap (λ (t : Sets). t.stored (a / 256))
+      (ap (λ (t : State). footprint_of m t j) is_now ∙ footprint_is m now good.truth j)) ∙ is in
+      ap (λ (t : State). (flat_of m t).storage a) is_next
+      ∙ ap (λ (f : FlatState). f.storage a) (flat_is m next next_good.truth)
+      ∙ keeps.bytes a (or_right ((now.locals j).attempt.footprint.fetched (a / 256)) _ there)
+      ∙ sym (ap (λ (t : State). (flat_of m t).storage a) is_now
+      ∙ ap (λ (f : FlatState). f.storage a) (flat_is m now good.truth))
+
+  -- what is stored into afterwards is stored into by a live attempt
+  pub live_afterwards : (j line : ℕ) → (footprint_of m (happen m e (meaning m events)).state j).stored line ≡ true
+      → is_live (happen m e (meaning m events)).state j ≡ true
+  live_afterwards j line is =
+      ap (λ (t : State). is_live t j) is_next
+      ∙ live_stores m next next_good.truth j line
+      (ap (λ (t : State). (footprint_of m t j).stored line) (sym is_next) ∙ is)

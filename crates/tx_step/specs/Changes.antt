@@ -1,5 +1,5 @@
 -- Changes of a table, made one after the other and taken back.
-use Rattle.std.specs.Prelude.{◌≡◌, ℕ, List, [], ◌∷◌, slice_set}
+use Rattle.std.specs.Prelude.{◌≡◌, List, [], ◌∷◌, slice_set}
 use Rattle.tx_step.specs.declared.changes.Change.{Change}
 
 -- the changes are made, the first one first: each place has its new value

@@ -1,5 +1,6 @@
 -- What is shown of a machine, what changes of it, and a run that is looked at.
 pub mod Sights
+pub mod Stored
 pub mod Changes
 pub mod Traces
 pub mod Moves

@@ -1,5 +1,5 @@
 -- A run that is looked at behind each of its recorded events.
-use Rattle.std.specs.Prelude.{◌≡◌, ℕ, ◌+◌, ◌-◌, ◌<◌, ◌≤◌, List, [], ◌∷◌, length, take, min, get_or, refl}
+use Rattle.std.specs.Prelude.{◌≡◌, ℕ, ◌+◌, ◌-◌, ◌<◌, ◌≤◌, List, length, take, min, get_or, refl}
 use Rattle.std.specs.Coded.{Coded, code_by, coded×, coded_ℕ, coded_list}
 use Rattle.tx_journal.specs.contracts.events.Event as event
 use Rattle.tx_journal.specs.Content.{Content, content_code}
@@ -9,7 +9,7 @@ use Rattle.tx_meaning.specs.Meaning.{meaning}
 use Rattle.tx_meaning.specs.State.{State}
 use Rattle.tx_machine.specs.Machine.{Seen, setting_of}
 use Rattle.tx_step.specs.Changes.{redo, undo}
-use Rattle.tx_step.specs.Sights.{Sight, CpuSeen, sight_of}
+use Rattle.tx_step.specs.Sights.{Sight, sight_of}
 use Rattle.tx_step.specs.declared.following.Step.{Step}
 
 -- its image, its limits, the recorded events, and how many of them are behind

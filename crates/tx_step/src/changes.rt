@@ -1,10 +1,12 @@
 //! Changes of a table, which are made and taken back.
 ghost use Rattle.std.specs.Prelude.{◌≡◌, ◌<◌, List, ℕ, IfOk, length, slice_set};
-ghost use Rattle.tx_step.specs.Sights.{CpuSeen};
+ghost use Rattle.tx_machine.specs.Machine.{setting_of, state_of};
+ghost use Rattle.tx_step.specs.Sights.{CpuSeen, cpu_seen};
 ghost use Rattle.tx_step.specs.Changes.{redo, undo, Leads};
 
 use crate::seen::CpuSight;
 use std::alloc::AllocError;
+use tx_machine::machine::Machine;
 
 /// One place of a table has a new value.
 #[derive(Drop)]
@@ -84,20 +86,24 @@ pub fn note_byte(
     Ok(())
 }
 
-/// Writes what is seen of a CPU, and notes the change where it is one. The error is want of memory.
+/// Writes what a machine shows of a CPU, and notes the change where it is one. The error is want of memory.
 pub fn note_cpu(
+    machine: &Machine,
     table: &mut [CpuSight],
     changes: &mut Vec<Change<CpuSight>>,
     at: u32,
-    new: CpuSight,
 ) -> Result<(), AllocError>
-    requires { at < length table.old }
-    ensures value { IfOk result (λ _. table.new ≡ slice_set table.old at new) }
+    requires size { length table.old ≡ length machine.now.image.cpus }
+    requires known { at < length table.old }
+    ensures value { IfOk result (λ _. table.new
+        ≡ slice_set table.old at (cpu_seen (setting_of machine.now) (state_of machine.now) at)) }
     ensures leads { IfOk result (λ _. (from : List CpuSeen) → Leads from changes.old.items table.old
         → Leads from changes.new.items table.new) }
 {
-    let old = table[at as usize].again();
-    if !old.is_same(&new) {
+    let seen = &table[at as usize];
+    if !seen.is_shown(machine, at) {
+        let old = seen.again();
+        let new = CpuSight::of(machine, at);
         changes.push(Change {
             at,
             old,

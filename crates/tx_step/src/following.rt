@@ -1,5 +1,5 @@
 //! What an event changes of all that is shown.
-ghost use Rattle.std.specs.Prelude.{◌≡◌, ℕ, ◌+◌, ◌*◌, ◌<◌, ◌≤◌, false, IfOk, List, length, slice_index};
+ghost use Rattle.std.specs.Prelude.{◌≡◌, ◌≢◌, ◌⊎◌, ℕ, ◌/◌, ◌<◌, true, IfOk, List, length, slice_index};
 ghost use Rattle.std.specs.Prelude.{slice_index_or};
 ghost use Rattle.z_regs.specs.Prefix.{storage_size};
 ghost use Rattle.tx_meaning.specs.State.{flat_of};
@@ -8,9 +8,11 @@ ghost use Rattle.tx_machine.specs.Machine.{setting_of, state_of};
 ghost use Rattle.tx_step.specs.Sights.{cpus_seen, sight_of};
 ghost use Rattle.tx_step.specs.Changes.{Leads};
 ghost use Rattle.tx_step.specs.Traces.{forward_by, back_by};
+ghost use Rattle.tx_step.specs.Stored.{due_lines, may_change, is_among};
 
 use crate::changes::{Change, note_byte, note_cpu, redo_bytes, redo_cpus, undo_bytes, undo_cpus};
 use crate::seen::CpuSight;
+use crate::stored::StoredLines;
 use std::alloc::{AllocError, Global};
 use std::marker::Model;
 use tx_machine::machine::Machine;
@@ -18,11 +20,11 @@ use tx_machine::machine::Machine;
 /// The bytes of storage.
 const STORAGE: u32 = 1_048_576;
 
-/// The bytes of a block.
-const BLOCK: u32 = 128;
+/// The bytes of a line.
+const LINE: u32 = 256;
 
-/// The blocks of storage.
-const BLOCKS: u32 = 8192;
+/// The lines of storage.
+const LINES: u32 = 4096;
 
 /// All that is shown behind some of the events. Contracts see it as data.
 #[derive(Drop)]
@@ -89,74 +91,57 @@ fn note_cpus(
 {
     let mut changes = Vec::with_capacity(alloc, 1)?;
     for cpu in 0..machine.image().cpu_count() {
-        note_cpu(cpus, &mut changes, cpu, CpuSight::of(machine, cpu))?;
+        note_cpu(machine, cpus, &mut changes, cpu)?;
     }
     Ok(changes)
 }
 
-/// Makes the bytes of a block those of a machine, and adds what that changes.
-fn note_block(
+/// Makes the bytes of a line those of a machine, and adds what that changes.
+fn note_line(
     machine: &Machine,
     bytes: &mut [u8],
     changes: &mut Vec<Change<u8>>,
-    block: u32,
+    line: u32,
 ) -> Result<(), AllocError>
-    requires size { length bytes.old ≡ storage_size }
-    requires block { block < 8192 }
-    ensures inside { IfOk result (λ _. (a : ℕ) → 128 * block ≤ a → a < 128 * block + 128
+    requires { length bytes.old ≡ storage_size }
+    ensures there { IfOk result (λ _. (a : ℕ) → a < storage_size → a / 256 ≡ line
         → slice_index bytes.new a ≡ (flat_of (setting_of machine.now) (state_of machine.now)).storage a) }
-    ensures below { IfOk result (λ _. (a : ℕ) → a < 128 * block
-        → slice_index bytes.new a ≡ slice_index bytes.old a) }
-    ensures above { IfOk result (λ _. (a : ℕ) → 128 * block + 128 ≤ a
-        → slice_index bytes.new a ≡ slice_index bytes.old a) }
+    ensures others { IfOk result (λ _. (a : ℕ)
+        → slice_index bytes.old a ≡ (flat_of (setting_of machine.now) (state_of machine.now)).storage a
+        → slice_index bytes.new a ≡ (flat_of (setting_of machine.now) (state_of machine.now)).storage a) }
     ensures leads { IfOk result (λ _. (from : List ℕ) → Leads from changes.old.items bytes.old
         → Leads from changes.new.items bytes.new) }
 {
-    let first = BLOCK * block;
-    for place in 0..BLOCK {
+    if line >= LINES {
+        return Ok(());
+    }
+    let first = LINE * line;
+    for place in 0..LINE {
         let address = first + place;
         note_byte(bytes, changes, address, machine.byte(address))?;
     }
     Ok(())
 }
 
-/// Makes all bytes those of a machine, and gives what that changes.
-fn note_bytes(
+/// Makes the bytes of some lines those of a machine, and gives what that changes; all other bytes are so already.
+fn note_lines(
     alloc: Global,
     machine: &Machine,
     bytes: &mut [u8],
+    lines: &[u32],
 ) -> Result<Vec<Change<u8>>, AllocError>
-    requires { length bytes.old ≡ storage_size }
+    requires size { length bytes.old ≡ storage_size }
+    requires others { (a : ℕ) → a < storage_size → (is_among lines.now (a / 256) ≡ true)
+        ⊎ (slice_index bytes.old a ≡ (flat_of (setting_of machine.now) (state_of machine.now)).storage a) }
     ensures value { IfOk result (λ _. bytes.new
         ≡ bytes_of (flat_of (setting_of machine.now) (state_of machine.now)).storage) }
     ensures leads { IfOk result (λ changes. Leads bytes.old changes.items bytes.new) }
 {
     let mut changes = Vec::new(alloc);
-    for block in 0..BLOCKS {
-        note_block(machine, bytes, &mut changes, block)?;
+    for line in lines {
+        note_line(machine, bytes, &mut changes, *line)?;
     }
     Ok(changes)
-}
-
-/// Makes all bytes those of a machine, and gives what that changes. Where they are these already, as where the
-/// history has not grown, none is looked at.
-fn note_grown(
-    alloc: Global,
-    machine: &Machine,
-    bytes: &mut [u8],
-    grown: bool,
-) -> Result<Vec<Change<u8>>, AllocError>
-    requires size { length bytes.old ≡ storage_size }
-    requires same { grown ≡ false
-        → bytes.old ≡ bytes_of (flat_of (setting_of machine.now) (state_of machine.now)).storage }
-    ensures value { IfOk result (λ _. bytes.new
-        ≡ bytes_of (flat_of (setting_of machine.now) (state_of machine.now)).storage) }
-    ensures leads { IfOk result (λ changes. Leads bytes.old changes.items bytes.new) }
-{
-    if !grown {
-        return Ok(Vec::new(alloc));
-    }
-    note_bytes(alloc, machine, bytes)
 }
 
 impl View {
@@ -171,21 +156,53 @@ impl View {
         })
     }
 
-    /// Makes this what a machine shows, and gives what that changes. Where the history is as long as before, the
-    /// bytes are the same.
-    pub fn follow(&mut self, alloc: Global, machine: &Machine) -> Result<Step, AllocError>
+    /// The lines that may have changed in an event of a CPU: none where the history is as long as before. The
+    /// error is want of memory.
+    fn lines_due(
+        &self,
+        alloc: Global,
+        machine: &Machine,
+        stored: &StoredLines,
+        cpu: u32,
+    ) -> Result<Vec<u32>, AllocError>
+        requires { length self.now.cpus ≡ length machine.now.image.cpus }
+        ensures { IfOk result (λ lines. self.now.entries ≢ length (state_of machine.now).history
+            → lines.items
+            ≡ due_lines self.now.cpus (setting_of machine.now) (state_of machine.now) cpu stored.now) }
+    {
+        if self.entries == machine.journal().len() as u64 {
+            return Ok(Vec::new(alloc));
+        }
+        stored.changed(alloc, machine, &self.cpus, cpu)
+    }
+
+    /// Makes this what a machine shows behind an event of a CPU, and gives what that changes. Bytes are looked at
+    /// where the history has grown, in the lines that may have changed.
+    pub fn follow(
+        &mut self,
+        alloc: Global,
+        machine: &Machine,
+        stored: &StoredLines,
+        cpu: u32,
+    ) -> Result<Step, AllocError>
         requires cpus { length self.old.cpus ≡ length machine.now.image.cpus }
         requires size { length self.old.bytes ≡ storage_size }
         requires same { self.old.entries ≡ length (state_of machine.now).history
             → self.old.bytes ≡ bytes_of (flat_of (setting_of machine.now) (state_of machine.now)).storage }
+        requires others { (a : ℕ) → a < storage_size
+            → (may_change self.old.cpus (setting_of machine.now) (state_of machine.now) cpu stored.now (a / 256)
+            ≡ true) ⊎ (slice_index self.old.bytes a
+            ≡ (flat_of (setting_of machine.now) (state_of machine.now)).storage a) }
         ensures value { IfOk result (λ _. self.new ≡ sight_of (setting_of machine.now) (state_of machine.now)) }
         ensures forward { IfOk result (λ step. forward_by step self.old ≡ self.new) }
         ensures back { IfOk result (λ step. back_by step self.new ≡ self.old) }
+        ensures grown { IfOk result (λ step. (step.before ≡ self.old.entries) × (step.after ≡ self.new.entries)) }
     {
         let before = self.entries;
         let after = machine.journal().len() as u64;
+        let lines = self.lines_due(alloc, machine, stored, cpu)?;
+        let bytes = note_lines(alloc, machine, &mut self.bytes, &lines)?;
         let cpus = note_cpus(alloc, machine, &mut self.cpus)?;
-        let bytes = note_grown(alloc, machine, &mut self.bytes, before != after)?;
         self.entries = after;
         Ok(Step {
             cpus,

@@ -5,6 +5,7 @@ pub mod changes;
 pub mod following;
 pub mod laws;
 pub mod seen;
+pub mod stored;
 pub mod trace;
 
 pub use trace::{NoMemory, Trace};

@@ -62,13 +62,14 @@ impl CpuSight {
         }
     }
 
-    /// Whether both are the same.
-    pub fn is_same(&self, other: &CpuSight) -> bool
-        ensures { IsTrue result → self.now ≡ other.now }
+    /// Whether it is what a machine shows of a CPU.
+    pub fn is_shown(&self, machine: &Machine, cpu: u32) -> bool
+        requires { cpu < length machine.now.image.cpus }
+        ensures { IsTrue result → self.now ≡ cpu_seen (setting_of machine.now) (state_of machine.now) cpu }
     {
-        is_same_image(&self.image, &other.image)
-            && self.live == other.live
-            && self.pending == other.pending
+        self.live == machine.live(cpu)
+            && self.pending == machine.pending(cpu)
+            && is_same_image(&self.image, machine.cpu(cpu))
     }
 
     /// What the CPU holds.

@@ -6,14 +6,16 @@ ghost use Rattle.z_regs.specs.Cpu.{cpu_of};
 ghost use Rattle.z_regs.specs.Prefix.{storage_size};
 ghost use Rattle.tx_serial.specs.Flat.{address_of};
 ghost use Rattle.tx_journal.specs.Image.{cpu_of_event};
-ghost use Rattle.tx_meaning.specs.Meaning.{is_external};
+ghost use Rattle.tx_meaning.specs.Meaning.{IsSetting, is_external};
 ghost use Rattle.tx_meaning.specs.State as meant;
 ghost use Rattle.tx_machine.specs.Machine.{setting_of, state_of, event_of, after};
 ghost use Rattle.tx_meaning.specs.Shown.{levels_at};
 ghost use Rattle.tx_step.specs.Traces.{Traced, IsTraced, setting_in, state_at, at_start, moved_to};
 ghost use Rattle.tx_step.specs.Traces.{forward_from, back_from};
+ghost use Rattle.tx_step.specs.Stored.{Covers};
 
 use crate::following::{Step, View};
+use crate::stored::StoredLines;
 use std::alloc::{AllocError, Global};
 use std::marker::Model;
 use std::sync::Arc;
@@ -64,28 +66,47 @@ fn is_recorded(machine: &Machine, e: Event) -> bool
     }
 }
 
-/// One event more, and what it changes.
+/// The CPU of an event.
+fn cpu_in(e: Event) -> u32
+    ensures { result ≡ cpu_of_event e }
+{
+    match e {
+        Event::Turn(cpu) | Event::External(cpu) => cpu,
+    }
+}
+
+/// One event more, and what it changes; the lines are those that live attempts may have stored into.
 fn follow(
     alloc: Global,
     machine: &mut Machine,
     view: &mut View,
+    stored: &mut StoredLines,
     steps: &mut Vec<Step>,
     e: Event,
 ) -> Result<(), AllocError>
+    requires setting { IsSetting (setting_of machine.old) }
     requires known { cpu_of_event e < length machine.old.image.cpus }
     requires external { is_external e ≡ true
         → count_by is_external machine.old.events < machine.old.limits.externals }
     requires traced { IsTraced machine.old view.old steps.old.items (length steps.old.items) }
+    requires covers { Covers (setting_of machine.old) (state_of machine.old) stored.old }
     ensures machine { IfOk result (λ _. machine.new ≡ after machine.old e) }
     ensures state { IfOk result (λ _. state_of machine.new ≡ (event_of machine.old e).state) }
     ensures traced { IfOk result (λ _. IsTraced machine.new view.new steps.new.items (length steps.new.items)) }
+    ensures covers { IfOk result (λ _. Covers (setting_of machine.new) (state_of machine.new) stored.new) }
 {
+    let _events = machine.events();
     if !is_recorded(machine, e) {
         let _outcome = machine.event(e);
         return Ok(());
     }
+    let cpu = cpu_in(e);
+    stored.add_touches(cpu, &machine.wanted(cpu))?;
     let _outcome = machine.event(e);
-    let step = view.follow(alloc, machine)?;
+    let step = view.follow(alloc, machine, stored, cpu)?;
+    if step.before != step.after {
+        stored.keep_live(machine);
+    }
     steps.push(step)?;
     Ok(())
 }
@@ -103,11 +124,20 @@ impl Trace {
         requires externals { count_by is_external events.now ≤ limits.externals }
         ensures { IfOk result (λ trace. trace ≡ at_start (arc_value image) limits events.now) }
     {
+        let most = image.cpu_count() as usize * limits.turns as usize + limits.externals as usize;
         let mut machine = Machine::open(alloc, image, limits)?;
         let mut view = View::of(alloc, &machine)?;
-        let mut steps = Vec::new(alloc);
+        let mut stored = StoredLines::none(alloc);
+        let mut steps = Vec::with_capacity(alloc, most.min(events.len()))?;
         for event in events {
-            follow(alloc, &mut machine, &mut view, &mut steps, *event)?;
+            follow(
+                alloc,
+                &mut machine,
+                &mut view,
+                &mut stored,
+                &mut steps,
+                *event,
+            )?;
         }
         let position = steps.len();
         let mut trace = Trace {

@@ -1,5 +1,5 @@
 -- The change that is noted leads on.
-use Rattle.std.proofs.Common.{◌≡◌, List, ℕ, get_or, sym, ap, subst, arith}
+use Rattle.std.proofs.Common.{ℕ, get_or, sym, subst, arith}
 use Rattle.std.specs.Prelude.{slice_set}
 use Rattle.std.proofs.lemmas.List.{get_or_default}
 use Rattle.tx_step.specs.Changes.{Leads}

@@ -1,5 +1,5 @@
 -- The change that is noted leads on.
-use Rattle.std.proofs.Common.{◌≡◌, List, [], ◌∷◌, ◌++◌, sym, ap₂, subst, ◌∙◌}
+use Rattle.std.proofs.Common.{◌≡◌, [], ◌∷◌, ◌++◌, sym, ap₂, subst, ◌∙◌}
 use Rattle.std.specs.Prelude.{slice_set}
 use Rattle.tx_step.specs.Sights.{CpuSeen}
 use Rattle.tx_step.specs.Changes.{Leads}
@@ -12,10 +12,11 @@ returns-in_ok-push-clause-leads c from leads =
     let table = c.args.table.now in
     let at = c.args.at in
     let old = c.index-table-at.result in
-    let change : Change CpuSeen = record { at = at; old = old; new = c.args.new } in
+    let new = c.of-new.result in
+    let change : Change CpuSeen = record { at = at; old = old; new = new } in
     let items : c.push.new.self.items ≡ c.args.changes.now.items ++ change ∷ [] =
     c.in_ok-push.ensures.items
     ∙ ap₂ (λ (a b : CpuSeen). c.args.changes.now.items ++ record { at = at; old = a; new = b } ∷ [])
     (c.again-old.ensures ∙ sym c.index-table-at.is) c.again.ensures in
-    subst (λ items. Leads from items (slice_set table at c.args.new)) (sym items)
+    subst (λ items. Leads from items (slice_set table at new)) (sym items)
     (leads_more from c.args.changes.now.items table change (sym c.index-table-at.is) leads)

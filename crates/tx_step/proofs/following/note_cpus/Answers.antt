@@ -1,5 +1,5 @@
 -- One CPU more is that of the machine.
-use Rattle.std.proofs.Common.{◌≡◌, ◌+◌, ◌<◌, ◌≤◌, ◌∙◌, sym, ap, subst, length, arith}
+use Rattle.std.proofs.Common.{◌≡◌, sym, ap, subst, length, arith}
 use Rattle.tx_journal.specs.Content.{Content}
 use Rattle.tx_machine.specs.Machine.{setting_of, state_of}
 use Rattle.tx_step.specs.Changes.{Leads}

@@ -1,5 +1,5 @@
 -- Every event is recorded but a turn that is idle.
-use Rattle.std.proofs.Common.{◌≡◌, true, false, [], ◌∷◌, ◌++◌, sym, ap, subst, ◌∙◌}
+use Rattle.std.proofs.Common.{◌≡◌, [], ◌∷◌, ◌++◌, sym, subst, ◌∙◌}
 use Rattle.tx_journal.specs.declared.events.Event.{Event}
 use Rattle.tx_machine.specs.Machine.{event_of}
 use Rattle.tx_step.proofs.Followed.{ready_recorded, idle_unrecorded, external_recorded}

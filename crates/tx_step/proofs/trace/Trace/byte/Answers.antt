@@ -1,8 +1,7 @@
 -- The byte is that of what is shown.
 use Rattle.std.proofs.Common.{◌<◌, get_or, length, sym, ap, subst, ◌∙◌}
 use Rattle.tx_meaning.specs.Meaning.{meaning}
-use Rattle.tx_meaning.specs.State.{State, flat_of}
-use Rattle.tx_serial.specs.Flat.{Storage}
+use Rattle.tx_meaning.specs.State.{flat_of}
 use Rattle.std.specs.Prelude.{take}
 use Rattle.tx_machine.specs.Machine.{setting_of}
 use Rattle.tx_step.specs.Sights.{Sight}

@@ -2,7 +2,7 @@
 use Rattle.std.proofs.Common.{◌≡◌, ◌<◌, get_or, length, take, sym, ap, subst, ◌∙◌}
 use Rattle.tx_meaning.specs.Meaning.{meaning}
 use Rattle.tx_meaning.specs.Shown.{levels_at}
-use Rattle.tx_machine.specs.Machine.{Seen, setting_of}
+use Rattle.tx_machine.specs.Machine.{setting_of}
 use Rattle.tx_step.specs.Sights.{Sight, CpuSeen, cpu_seen}
 use Rattle.tx_step.specs.Traces.{Traced, setting_in, state_at}
 use Rattle.tx_step.proofs.Listed.{cpus_size, cpu_at}

@@ -1,15 +1,15 @@
--- So many bytes of the block are those of the machine, and the others stay.
+-- So many bytes of the line are those of the machine, and those that were so before are so still.
 use Rattle.std.proofs.Common.{◌≡◌, ℕ, ◌+◌, ◌*◌, ◌<◌, ◌≤◌, List, get_or}
 use Rattle.tx_meaning.specs.State.{flat_of}
 use Rattle.tx_machine.specs.Machine.{setting_of, state_of}
 use Rattle.tx_step.specs.Changes.{Leads}
-use Rattle.tx_step.proofs.following.note_block.Given as goal
+use Rattle.tx_step.proofs.following.note_line.Given as goal
 
 abbrev pub invariant-loop-place : goal.invariant-loop-place
 invariant-loop-place l = record {
-  inside : (a : ℕ) → 128 * l.block ≤ a → a < 128 * l.block + l.place
+  there : (a : ℕ) → 256 * l.line ≤ a → a < 256 * l.line + l.place
       → get_or l.bytes a 0 ≡ (flat_of (setting_of l.machine) (state_of l.machine)).storage a;
-  below : (a : ℕ) → a < 128 * l.block → get_or l.bytes a 0 ≡ get_or l.fn.bytes a 0;
-  above : (a : ℕ) → 128 * l.block + l.place ≤ a → get_or l.bytes a 0 ≡ get_or l.fn.bytes a 0;
+  others : (a : ℕ) → get_or l.fn.bytes a 0 ≡ (flat_of (setting_of l.machine) (state_of l.machine)).storage a
+      → get_or l.bytes a 0 ≡ (flat_of (setting_of l.machine) (state_of l.machine)).storage a;
   leads : (from : List ℕ) → Leads from l.fn.changes.items l.fn.bytes → Leads from l.changes.items l.bytes;
 }

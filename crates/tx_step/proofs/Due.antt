@@ -1,0 +1,257 @@
+-- A byte is others only in a line that may have changed, and the lines that are kept stay those stored into.
+use Rattle.std.proofs.Common.{◌≡◌, ◌≢◌, ℕ, ◌/◌, ◌<◌, Bool, true, false, List, [], Some, None, length, get_or}
+use Rattle.std.proofs.Common.{refl, sym, ap, subst, ◌∙◌, ◌⊎◌, inl, inr}
+use Rattle.std.specs.Prelude.{◌&&◌, ◌||◌, ◌==◌, not, nat_lt, slice_get, if◌then◌else◌}
+use Rattle.std.specs.List.{list_any}
+use Rattle.std.proofs.lemmas.Bool.{cases_Bool, and_from, and_parts, and_cases, or_parts, not-false, eqb-true}
+use Rattle.std.proofs.lemmas.Bool.{cases_eq, eq-eqb, both_ways, false_from_ne_true, true_from_ne_false}
+use Rattle.std.proofs.lemmas.List.Folds.{Any-from_list_any}
+use Rattle.std.proofs.lemmas.Option.{slice_get_cases}
+use borrow.Enum.Arm.{by_way}
+use Rattle.tx_footprint.specs.Places.{stores}
+use Rattle.tx_journal.specs.Image.{cpu_of_event}
+use Rattle.tx_journal.specs.declared.events.Event.{Event}
+use Rattle.tx_progress.proofs.Parts.{not_live}
+use Rattle.tx_journal.specs.Content.{Content}
+use Rattle.tx_serial.specs.Flat.{bytes_of}
+use Rattle.tx_serial.specs.Run.{run}
+use Rattle.tx_meaning.specs.Limits.{Setting, RunLimits}
+use Rattle.tx_meaning.specs.Meaning.{IsSetting, meaning, meaning_from}
+use Rattle.tx_meaning.specs.Shown.{levels_at}
+use Rattle.tx_meaning.specs.State.{State, beginning, cpus_of, flat_of, footprint_of, is_live}
+use Rattle.tx_meaning.specs.Turn.{happen}
+use Rattle.tx_meaning.specs.Views.{AreKnown}
+use Rattle.tx_machine.specs.Machine.{Seen, setting_of, state_of, event_of, opened}
+use Rattle.tx_machine.specs.Machine.{after as after_event}
+use Rattle.tx_machine.specs.Wanted.{wanted}
+use Rattle.tx_step.specs.Sights.{CpuSeen, Sight, cpus_seen}
+use Rattle.tx_step.specs.Traces.{IsTraced}
+use Rattle.tx_step.specs.declared.following.Step.{Step}
+use Rattle.tx_step.specs.Stored.{has, Covers, completed_in, completed_of, is_where_it_was}
+use Rattle.tx_step.specs.Stored.{is_due, due_lines, may_change, is_among}
+use Rattle.tx_step.specs.declared.stored.StoredLine.{StoredLine}
+use Rattle.tx_step.proofs.Lined.{none_passes, passing_listed}
+use Rattle.tx_step.proofs.Listed.{cpus_size, cpu_at, byte_at}
+use Rattle.tx_step.proofs.Stepped.{shown_now}
+use Rattle.tx_step.proofs.Touched.{bytes_stay, lines_stay, attempts_keep, live_afterwards}
+
+-- what is shown of an attempt has how many instructions it has completed
+completed_by : (b : Bool) (n levels : ℕ) → nat_lt 0 n ≡ b
+    → completed_in (if b then Some (levels, n) else None) ≡ n
+completed_by true n levels live = refl
+completed_by false n levels off = sym (not_live n off)
+
+pub completed_is : (m : Setting) (s : State) (i : ℕ) → completed_in (levels_at m s i) ≡ (s.numbers i).completed
+completed_is m s i = completed_by (is_live s i) (s.numbers i).completed _ refl
+
+-- a CPU that was seen with a live attempt is one that there is
+seen_by : (m : Setting) (s : State) (i : ℕ) → nat_lt 0 (completed_of (slice_get (cpus_seen m s) i)) ≡ true
+    → completed_of (slice_get (cpus_seen m s) i) ≡ (s.numbers i).completed
+seen_by m s i live = by_way (slice_get_cases (cpus_seen m s) i).1
+    (λ there.
+    let x = there.0 in
+    let low : i < cpus_of m = subst (λ n. i < n) (cpus_size m s) there.1 in
+    ap completed_of there.2
+    ∙ ap (λ (c : CpuSeen). completed_in c.live) (sym there.3 ∙ cpu_at m s i x low)
+    ∙ completed_is m s i)
+    (λ past. absurd (let x : false ≡ true = sym (ap (λ o. nat_lt 0 (completed_of o)) past.1) ∙ live in cc))
+
+-- an attempt that is where it was is live, and has completed as many instructions as before
+record Rests (before after : State) (j : ℕ) : Type 0 where
+  live : is_live before j ≡ true
+  same : (after.numbers j).completed ≡ (before.numbers j).completed
+
+rests_there : (m : Setting) (before after : State) (j : ℕ)
+    → is_where_it_was (cpus_seen m before) m after j ≡ true → Rests before after j
+rests_there m before after j is =
+    let n = completed_of (slice_get (cpus_seen m before) j) in
+    let both = and_parts (nat_lt 0 n) (completed_in (levels_at m after j) == n) is in
+    let here = seen_by m before j both.0 in
+    record {
+      live = ap (nat_lt 0) (sym here) ∙ both.0;
+      same =
+          sym (completed_is m after j) ∙ eqb-true (completed_in (levels_at m after j)) n both.1 ∙ here;
+    }
+
+module _ (m : Setting) (s : IsSetting m) (events : List Event) (known : AreKnown m events) (e : Event)
+    (within : cpu_of_event e < cpus_of m) (lines : List StoredLine) (covers : Covers m (meaning m events) lines)
+    (wants : (line : ℕ) → stores (wanted m (meaning m events) (cpu_of_event e)) line ≡ true
+    → has lines (cpu_of_event e) line ≡ true) where
+  abbrev before : State
+  before = meaning m events
+
+  abbrev after : State
+  after = (happen m e before).state
+
+  abbrev cpus : List CpuSeen
+  cpus = cpus_seen m before
+
+  -- a CPU with a line that has not changed is another one, and its attempt is where it was
+  record Quiet (j : ℕ) : Type 0 where
+    apart : (j == cpu_of_event e) ≡ false
+    rests : is_where_it_was cpus m after j ≡ true
+
+  quiet_at : (line : ℕ) (l : StoredLine) → (l.line == line) ≡ true
+      → (l.line == line && (l.cpu == cpu_of_event e || not (is_where_it_was cpus m after l.cpu))) ≡ false
+      → Quiet l.cpu
+  quiet_at line l here off =
+      let i = cpu_of_event e in
+      let w = is_where_it_was cpus m after l.cpu in
+      by_way (and_cases (l.line == line) (l.cpu == i || not w) off)
+      (λ elsewhere. absurd (both_ways (l.line == line) elsewhere here))
+      (λ none. let parts = or_parts (l.cpu == i) (not w) none in
+      record { apart = parts.0; rests = not-false w parts.1 })
+
+  quiet_of : (j line : ℕ) → may_change cpus m after (cpu_of_event e) lines line ≡ false
+      → has lines j line ≡ true → Quiet j
+  quiet_of j line off there =
+      let at = Any-from_list_any (λ (l : StoredLine). l.cpu == j && l.line == line) lines there in
+      let l : StoredLine = at.1 in
+      let both = and_parts (l.cpu == j) (l.line == line) at.4 in
+      subst Quiet (eqb-true l.cpu j both.0)
+      (quiet_at line l both.1 (none_passes
+      (λ (x : StoredLine). x.line == line && is_due cpus m after (cpu_of_event e) x) lines at.0 l off at.2 at.3))
+
+  -- one of them has stored into the line
+  abbrev stored_by : ℕ → StoredLine → Bool
+  stored_by line l = l.line == line && (footprint_of m before l.cpu).stored line
+
+  none_stored : (line j : ℕ) → list_any (stored_by line) lines ≡ false
+      → (footprint_of m before j).stored line ≡ false
+  none_stored line j none = false_from_ne_true ((footprint_of m before j).stored line) (λ is.
+      let at = Any-from_list_any (λ (l : StoredLine). l.cpu == j && l.line == line) lines (covers j line is) in
+      let l : StoredLine = at.1 in
+      let both = and_parts (l.cpu == j) (l.line == line) at.4 in
+      both_ways (stored_by line l) (none_passes (stored_by line) lines at.0 l none at.2 at.3)
+      (and_from (l.line == line) _ both.1
+      (ap (λ x. (footprint_of m before x).stored line) (eqb-true l.cpu j both.0) ∙ is)))
+
+  abbrev Stays : ℕ → Type 0
+  Stays a = (flat_of m after).storage a ≡ (flat_of m before).storage a
+
+  -- where the line has not changed, an attempt that has stored into it keeps it, or nothing stores into it
+  stays_where : (a : ℕ) → may_change cpus m after (cpu_of_event e) lines (a / 256) ≡ false → Stays a
+  stays_where a off = by_way (cases_Bool (list_any (stored_by (a / 256)) lines))
+      (λ some.
+      let at = Any-from_list_any (stored_by (a / 256)) lines some in
+      let l : StoredLine = at.1 in
+      let both = and_parts (l.line == a / 256) _ at.4 in
+      let quiet = quiet_of l.cpu (a / 256) off (covers l.cpu (a / 256) both.1) in
+      let rests = rests_there m before after l.cpu quiet.rests in
+      attempts_keep m s events known e within l.cpu a rests.live rests.same both.1)
+      (λ none.
+      bytes_stay m s events known e within a (λ j. none_stored (a / 256) j none)
+      (false_from_ne_true (stores (wanted m before (cpu_of_event e)) (a / 256)) (λ is.
+      both_ways (cpu_of_event e == cpu_of_event e)
+      (quiet_of (cpu_of_event e) (a / 256) off (wants (a / 256) is)).apart
+      (eq-eqb (cpu_of_event e) (cpu_of_event e) refl))))
+
+  -- a byte is the same, or its line may have changed
+  pub changed_or_same : (a : ℕ) → (may_change cpus m after (cpu_of_event e) lines (a / 256) ≡ true) ⊎ Stays a
+  changed_or_same a = by_way (cases_Bool (may_change cpus m after (cpu_of_event e) lines (a / 256)))
+      (λ on. inl on) (λ off. inr (stays_where a off))
+
+  -- what is stored into afterwards was among the lines, and is that of a live attempt
+  covered_by : (j line : ℕ) → (footprint_of m after j).stored line ≡ true → has lines j line ≡ true
+  covered_by j line is = true_from_ne_false (has lines j line) (λ off.
+      both_ways ((footprint_of m after j).stored line)
+      (lines_stay m s events known e within j line
+      (false_from_ne_true ((footprint_of m before j).stored line) (λ there.
+      both_ways (has lines j line) off (covers j line there)))
+      (λ own. false_from_ne_true (stores (wanted m before j) line) (λ there.
+      both_ways (has lines j line) off
+      (subst (λ x. has lines x line ≡ true) (sym own)
+      (wants line (subst (λ x. stores (wanted m before x) line ≡ true) own there))))))
+      is)
+
+  pub still_covers : Covers m after lines
+  still_covers j line is = covered_by j line is
+
+  pub covers_live : (kept : List StoredLine)
+      → ((j line : ℕ) → is_live after j ≡ true → has lines j line ≡ true → has kept j line ≡ true)
+      → Covers m after kept
+  covers_live kept keeps j line is =
+      keeps j line (live_afterwards m s events known e within j line is) (covered_by j line is)
+
+-- ---- lines that are looked at
+
+-- where the history is as long as before nothing is others, else what is others lies in lines that are looked at
+pub looked_at : (m : Setting) (s : State) (view : Sight) (i : ℕ) (stored : List StoredLine) (lines : List ℕ)
+    → (view.entries ≡ length s.history → view.bytes ≡ bytes_of (flat_of m s).storage)
+    → ((a : ℕ) → a < 1048576
+    → (may_change view.cpus m s i stored (a / 256) ≡ true) ⊎ (get_or view.bytes a 0 ≡ (flat_of m s).storage a))
+    → (view.entries ≢ length s.history → lines ≡ due_lines view.cpus m s i stored) → (a : ℕ) → a < 1048576
+    → (is_among lines (a / 256) ≡ true) ⊎ (get_or view.bytes a 0 ≡ (flat_of m s).storage a)
+looked_at m s view i stored lines none others are a low = by_way (cases_eq view.entries (length s.history))
+    (λ same. inr (ap (λ l. get_or l a 0) (none same) ∙ byte_at (flat_of m s).storage a low))
+    (λ grown. by_way (others a low)
+    (λ on. inl (ap (λ l. is_among l (a / 256)) (are grown)
+    ∙ passing_listed (is_due view.cpus m s i) stored (a / 256) on))
+    (λ same. inr same))
+
+-- ---- by what is seen of a machine
+
+-- at the start nothing is stored into
+starts_bare : (m : Setting) (j line : ℕ) → (footprint_of m beginning j).stored line ≡ false
+unfolding run
+starts_bare m j line = refl
+
+none_happened : (m : Setting) → meaning m [] ≡ beginning
+unfolding meaning_from
+none_happened m = refl
+
+pub begins_covered : (image : Content) (limits : RunLimits) (machine : Seen) (lines : List StoredLine)
+    → machine ≡ opened image limits → Covers (setting_of machine) (state_of machine) lines
+begins_covered image limits machine lines is =
+    let m : Setting = record { image = image; limits = limits } in
+    subst (λ (s : Seen). Covers (setting_of s) (state_of s) lines) (sym is)
+    (λ j line there. absurd (both_ways ((footprint_of m beginning j).stored line) (starts_bare m j line)
+    (ap (λ (t : State). (footprint_of m t j).stored line) (sym (none_happened m)) ∙ there)))
+
+-- a turn that is idle leaves what is covered
+pub idle_covers : (before next : Seen) (e : Event) (lines : List StoredLine) → next ≡ after_event before e
+    → (event_of before e).state.events ≡ before.events → Covers (setting_of before) (state_of before) lines
+    → Covers (setting_of next) (state_of next) lines
+idle_covers before next e lines is same covers =
+    subst (λ (s : Seen). Covers (setting_of s) (state_of s) lines) (sym is)
+    (subst (λ events. Covers (setting_of before) (meaning (setting_of before) events) lines) (sym same) covers)
+
+-- an event that is recorded, between what is seen of a machine before it and behind it
+module _ (before next : Seen) (e : Event) (lines : List StoredLine) (s : IsSetting (setting_of before))
+    (known : AreKnown (setting_of before) before.events) (within : cpu_of_event e < cpus_of (setting_of before))
+    (is : next ≡ after_event before e) (state_is : state_of next ≡ (event_of before e).state)
+    (covers : Covers (setting_of before) (state_of before) lines)
+    (wants : (line : ℕ) → stores (wanted (setting_of before) (state_of before) (cpu_of_event e)) line ≡ true
+    → has lines (cpu_of_event e) line ≡ true) where
+  abbrev m : Setting
+  m = setting_of before
+
+  setting : setting_of next ≡ m
+  setting = ap setting_of is
+
+  -- what is shown has the bytes that the machine has, but in lines that may have changed
+  pub due_or_same : (sight : Sight) (steps : List Step) → IsTraced before sight steps (length steps) → (a : ℕ)
+      → a < 1048576 → (may_change sight.cpus (setting_of next) (state_of next) (cpu_of_event e) lines (a / 256) ≡ true)
+      ⊎ (get_or sight.bytes a 0 ≡ (flat_of (setting_of next) (state_of next)).storage a)
+  due_or_same sight steps traced a low =
+      let shown = shown_now before sight steps traced in
+      let i = cpu_of_event e in
+      let cpus = cpus_seen m (state_of before) in
+      by_way (changed_or_same m s before.events known e within lines covers wants a)
+      (λ on. inl (ap (λ (v : Sight). may_change v.cpus (setting_of next) (state_of next) i lines (a / 256)) shown
+      ∙ ap (λ n. may_change cpus n (state_of next) i lines (a / 256)) setting
+      ∙ ap (λ t. may_change cpus m t i lines (a / 256)) state_is ∙ on))
+      (λ same. inr (ap (λ (v : Sight). get_or v.bytes a 0) shown
+      ∙ byte_at (flat_of m (state_of before)).storage a low ∙ sym same
+      ∙ sym (ap (λ n. (flat_of n (state_of next)).storage a) setting
+      ∙ ap (λ t. (flat_of m t).storage a) state_is)))
+
+  -- lines of which those of live attempts are kept cover what is stored into
+  pub next_covers : (kept : List StoredLine)
+      → ((j line : ℕ) → is_live (state_of next) j ≡ true → has lines j line ≡ true → has kept j line ≡ true)
+      → Covers (setting_of next) (state_of next) kept
+  next_covers kept keeps =
+      subst (λ n. Covers n (state_of next) kept) (sym setting)
+      (subst (λ t. Covers m t kept) (sym state_is)
+      (covers_live m s before.events known e within lines covers wants kept
+      (λ j line live. keeps j line (ap (λ t. is_live t j) state_is ∙ live))))

@@ -1,0 +1,167 @@
+//! The lines that live attempts may have stored into. Only in these do bytes of storage change.
+ghost use Rattle.std.specs.Prelude.{◌≡◌, ℕ, ◌+◌, ◌≤◌, ◌&&◌, ◌||◌, not, nat_lt, All, IfOk, [], true, length};
+ghost use Rattle.std.specs.Prelude.{slice_get};
+ghost use Rattle.tx_meaning.specs.Shown.{levels_at};
+ghost use Rattle.z_regs.specs.Prefix.{storage_size};
+ghost use Rattle.tx_footprint.specs.Places.{has_place, stores};
+ghost use Rattle.tx_machine.specs.Machine.{setting_of, state_of};
+ghost use Rattle.tx_meaning.specs.State.{is_live};
+ghost use Rattle.tx_step.specs.Stored.{has, completed_in, completed_of, is_where_it_was, due_lines};
+
+use crate::seen::CpuSight;
+use std::alloc::{AllocError, Global};
+use std::marker::Model;
+use tx_machine::machine::Machine;
+use z_regs::{Range, Touches};
+
+/// The bytes of a line.
+const LINE: u64 = 256;
+
+/// A line that the live attempt of a CPU may have stored into.
+#[derive(Clone, Copy)]
+pub struct StoredLine {
+    /// The CPU.
+    pub cpu: u32,
+    /// The line.
+    pub line: u32,
+}
+
+/// Lines that live attempts may have stored into. Contracts see their list.
+#[derive(Drop)]
+pub struct StoredLines {
+    lines: Vec<StoredLine>,
+}
+
+impl Model for StoredLines {
+    ghost use Rattle.std.specs.Prelude.{List};
+    ghost use Rattle.tx_step.specs.declared.stored.StoredLine.{StoredLine};
+
+    ghost Value = { List StoredLine };
+
+    ghost view = { λ s. s.lines.items };
+}
+
+/// How many instructions an attempt has completed; 0 where none is live.
+fn completed(live: Option<(u32, u32)>) -> u32
+    ensures { result ≡ completed_in live }
+{
+    match live {
+        None => 0,
+        Some(levels) => levels.1,
+    }
+}
+
+/// The same of a CPU that was seen; 0 where there is no such CPU.
+fn completed_before(cpus: &[CpuSight], cpu: u32) -> u32
+    ensures { result ≡ completed_of (slice_get cpus.now cpu) }
+{
+    match cpus.get(cpu as usize) {
+        None => 0,
+        Some(sight) => completed(sight.live()),
+    }
+}
+
+/// Whether the attempt of a CPU is where it was seen.
+fn is_where_it_was(cpus: &[CpuSight], machine: &Machine, cpu: u32) -> bool
+    requires { length cpus.now ≡ length machine.now.image.cpus }
+    ensures { result ≡ is_where_it_was cpus.now (setting_of machine.now) (state_of machine.now) cpu }
+{
+    let before = completed_before(cpus, cpu);
+    before > 0 && completed(machine.live(cpu)) == before
+}
+
+/// Whether a CPU may have a live attempt.
+fn may_be_live(machine: &Machine, cpu: u32) -> bool
+    ensures { result ≡ (not (nat_lt cpu (length machine.now.image.cpus))
+        || nat_lt 0 (completed_in (levels_at (setting_of machine.now) (state_of machine.now) cpu))) }
+{
+    cpu >= machine.image().cpu_count() || completed(machine.live(cpu)) > 0
+}
+
+impl StoredLines {
+    /// None.
+    pub fn none(alloc: Global) -> StoredLines
+        ensures { result ≡ [] }
+    {
+        StoredLines {
+            lines: Vec::new(alloc),
+        }
+    }
+
+    /// Whether a line is among those of a CPU.
+    fn has(&self, cpu: u32, line: u32) -> bool
+        ensures { result ≡ has self.now cpu line }
+    {
+        self.lines.iter().any(|l| l.cpu == cpu && l.line == line)
+    }
+
+    /// One line more, where it is not there. The error is want of memory.
+    fn add(&mut self, cpu: u32, line: u32) -> Result<(), AllocError>
+        ensures there { IfOk result (λ _. has self.new cpu line ≡ true) }
+        ensures others { IfOk result (λ _. (i n : ℕ) → has self.old i n ≡ true → has self.new i n ≡ true) }
+    {
+        if self.has(cpu, line) {
+            return Ok(());
+        }
+        self.lines.push(StoredLine { cpu, line })?;
+        Ok(())
+    }
+
+    /// The lines that a CPU stores into by a range. The error is want of memory.
+    fn add_range(&mut self, cpu: u32, range: Range) -> Result<(), AllocError>
+        requires { range.first + range.length ≤ storage_size }
+        ensures there { IfOk result (λ _. (n : ℕ) → (range.store && has_place 256 range n) ≡ true
+            → has self.new cpu n ≡ true) }
+        ensures others { IfOk result (λ _. (i n : ℕ) → has self.old i n ≡ true → has self.new i n ≡ true) }
+    {
+        if !range.store {
+            return Ok(());
+        }
+        let first = (range.first / LINE) as u32;
+        let end = ((range.first + u64::from(range.length) + 255) / LINE) as u32;
+        for line in first..end {
+            self.add(cpu, line)?;
+        }
+        Ok(())
+    }
+
+    /// The lines that a CPU stores into by ranges of storage. The error is want of memory.
+    pub fn add_touches(&mut self, cpu: u32, touches: &Touches) -> Result<(), AllocError>
+        requires { All (λ r. r.first + r.length ≤ storage_size) touches.now }
+        ensures there { IfOk result (λ _. (n : ℕ) → stores touches.now n ≡ true → has self.new cpu n ≡ true) }
+        ensures others { IfOk result (λ _. (i n : ℕ) → has self.old i n ≡ true → has self.new i n ≡ true) }
+    {
+        for i in 0..touches.count() {
+            self.add_range(cpu, touches.at(i))?;
+        }
+        Ok(())
+    }
+
+    /// Only lines of CPUs with live attempts are kept.
+    pub fn keep_live(&mut self, machine: &Machine)
+        ensures { (i n : ℕ) → is_live (state_of machine.now) i ≡ true
+            → has self.old i n ≡ true → has self.new i n ≡ true }
+    {
+        self.lines.retain(|l| may_be_live(machine, l.cpu));
+    }
+
+    /// The lines that may have changed in an event of a CPU, since the CPUs were seen so. The error is want of
+    /// memory.
+    pub fn changed(
+        &self,
+        alloc: Global,
+        machine: &Machine,
+        cpus: &[CpuSight],
+        cpu: u32,
+    ) -> Result<Vec<u32>, AllocError>
+        requires { length cpus.now ≡ length machine.now.image.cpus }
+        ensures { IfOk result (λ lines. lines.items
+            ≡ due_lines cpus.now (setting_of machine.now) (state_of machine.now) cpu self.now) }
+    {
+        self.lines
+            .iter()
+            .filter(|l| l.cpu == cpu || !is_where_it_was(cpus, machine, l.cpu))
+            .map(|l| l.line)
+            .collect(alloc)
+    }
+}
