@@ -2,6 +2,8 @@
 #![tactic(auto)]
 
 #[cfg(test)]
+mod heats;
+#[cfg(test)]
 mod reports;
 #[cfg(test)]
 mod schedules;

@@ -1,7 +1,7 @@
 -- The conflicts of a run. A CPU asks the holders of the lines that its turn needs; each request that a holder
 -- rejects is a conflict, whether the asker is starved by it or not, and so is each abort of a holder's attempt by
 -- such a request, whose code is 9 or 10.
-use Rattle.std.specs.Prelude.{ℕ, Bool, true, false, List, [], ◌∷◌, ◌++◌, length, drop, Option, Some, None}
+use Rattle.std.specs.Prelude.{ℕ, Bool, true, false, List, [], ◌∷◌, ◌++◌, length, drop, Option, Some, None, is_some}
 use Rattle.std.specs.List.{flat_map}
 use Rattle.tx_control.specs.declared.causes.Why.{Why}
 use Rattle.tx_control.specs.declared.causes.Why.TheVariants.{External, Program, FetchConflict}
@@ -13,7 +13,7 @@ use Rattle.tx_journal.specs.declared.entries.Entry.TheVariants.{Step, Commit, Ab
 use Rattle.tx_journal.specs.declared.events.Event.{Event}
 use Rattle.tx_meaning.specs.Limits.{Setting}
 use Rattle.tx_meaning.specs.State.{State, beginning, attempt_of}
-use Rattle.tx_meaning.specs.Turn.{Turned, happen}
+use Rattle.tx_meaning.specs.Turn.{happen}
 use Rattle.tx_meaning.specs.declared.asking.Reject.{Reject}
 use Rattle.tx_machine.specs.Wanted.{wanted}
 use Rattle.tx_heat.specs.Octowords.{are_apart}
@@ -56,22 +56,39 @@ line_of_cause Depth = None
 line_of_cause Starved = None
 line_of_cause (Tabort code) = None
 
-abbrev pub abort_where : Setting → State → Event → ℕ → Option ℕ → List Conflict
-abort_where m s e holder None = []
-abort_where m s e holder (Some line) = conflict m s e holder line false ∷ []
+-- the holder and the line of an abort that an entry tells of
+abbrev pub abort_where : ℕ → Option ℕ → Option (ℕ × ℕ)
+abort_where holder None = None
+abort_where holder (Some line) = Some (holder, line)
 
-abbrev pub aborts_by : Setting → State → Event → Entry → List Conflict
-aborts_by m s e (Abort holder n why) = abort_where m s e holder (line_of_cause why)
-aborts_by m s e (Step i) = []
-aborts_by m s e (Commit i n) = []
-aborts_by m s e (Tdb i) = []
-aborts_by m s e (Interrupt i) = []
+abbrev pub abort_of : Entry → Option (ℕ × ℕ)
+abort_of (Abort holder n why) = abort_where holder (line_of_cause why)
+abort_of (Step i) = None
+abort_of (Commit i n) = None
+abort_of (Tdb i) = None
+abort_of (Interrupt i) = None
+
+-- an entry tells of such an abort
+abbrev pub is_conflict_abort : Entry → Bool
+is_conflict_abort entry = is_some (abort_of entry)
 
 -- ---- rejects
 
+abbrev pub reject_of : Option Reject → Option (ℕ × ℕ)
+reject_of None = None
+reject_of (Some r) = Some (r.by, r.line)
+
+-- ---- either
+
+abbrev pub conflict_where : Setting → State → Event → Bool → Option (ℕ × ℕ) → List Conflict
+conflict_where m s e rejected None = []
+conflict_where m s e rejected (Some at) = conflict m s e at.0 at.1 rejected ∷ []
+
+abbrev pub aborts_by : Setting → State → Event → Entry → List Conflict
+aborts_by m s e entry = conflict_where m s e false (abort_of entry)
+
 abbrev pub rejects_by : Setting → State → Event → Option Reject → List Conflict
-rejects_by m s e None = []
-rejects_by m s e (Some r) = conflict m s e r.by r.line true ∷ []
+rejects_by m s e reject = conflict_where m s e true (reject_of reject)
 
 -- ---- events
 

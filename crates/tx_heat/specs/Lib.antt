@@ -3,3 +3,5 @@ pub mod Octowords
 pub mod Conflicts
 pub mod Heats
 pub mod Text
+pub mod Marks
+pub mod Watched

@@ -1,5 +1,5 @@
 -- Octowords of storage: which a turn asks for, which an attempt has touched, and whether these lie apart in a line.
-use Rattle.std.specs.Prelude.{ℕ, ◌*◌, Bool, ◌&&◌, ◌||◌, not, List}
+use Rattle.std.specs.Prelude.{ℕ, ◌*◌, Bool, ◌&&◌, ◌||◌, not, false, List}
 use Rattle.std.specs.List.{list_any, range_with_len}
 use Rattle.z_regs.specs.declared.ranges.Range.{Range}
 use Rattle.tx_footprint.specs.Places.{has_place, stores}
@@ -34,3 +34,7 @@ unfoldable pub are_apart : List Range → List Range → ℕ → Bool
 are_apart asked touched line =
     not (list_any (λ octoword. asks asked octoword && meets (stores asked line) touched octoword)
     (octowords_of line))
+
+-- a range that is fetched
+abbrev pub fetched : ℕ → ℕ → Range
+fetched first length = record { first = first; length = length; store = false }

@@ -1,5 +1,5 @@
 -- Conflicts by line as text.
-use Rattle.std.specs.Prelude.{ℕ, ◌+◌, ◌*◌, ◌||◌, nat_lt, if◌then◌else◌, List, [], ◌++◌, codes, sum_by}
+use Rattle.std.specs.Prelude.{ℕ, ◌+◌, ◌*◌, nat_lt, if◌then◌else◌, List, [], ◌++◌, codes, sum_by}
 use Rattle.std.specs.List.{enumerate_from, flat_map}
 use Rattle.report_text.specs.Digits.{labelled, number_line, word_text}
 use Rattle.tx_heat.specs.declared.counting.LineHeat.{LineHeat}

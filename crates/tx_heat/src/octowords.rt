@@ -1,1 +1,231 @@
-//! Nothing yet.
+//! Octowords of storage: which of them ranges have, and which an attempt has touched.
+ghost use Rattle.std.specs.Prelude.{◌≡◌, ℕ, ◌+◌, ◌-◌, ◌*◌, ◌/◌, ◌<◌, ◌≤◌, ◌++◌, ◌||◌, ◌&&◌, [], All, List, IfOk, length, true, false};
+ghost use Rattle.z_regs.specs.Prefix.{storage_size};
+ghost use Rattle.z_regs.specs.declared.ranges.Range.{Range};
+ghost use Rattle.line_table.specs.Sizes.{storage_lines};
+ghost use Rattle.tx_footprint.specs.Places.{has_place, stores, lies_in};
+ghost use Rattle.tx_heat.specs.Marks.{AreMarksOf, is_marked};
+ghost use Rattle.tx_heat.specs.Octowords.{storage_octowords, octoword_size, asks, meets, are_apart};
+
+use bit_set::BitSet;
+use std::alloc::{AllocError, Global};
+use std::marker::Model;
+use z_regs::{Range, Touches};
+
+/// The bytes of an octoword.
+const OCTOWORD: u64 = 32;
+
+/// The bytes of a line.
+const LINE: u64 = 256;
+
+/// The octowords of a line.
+const IN_LINE: u32 = 8;
+
+/// The words of a set of all octowords of storage.
+const WORDS: usize = 512;
+
+/// The octowords that an attempt has touched, and those of them that it has stored into: a bit for each octoword of
+/// storage. Contracts see marks.
+#[derive(Drop)]
+pub struct Octowords {
+    touched: BitSet,
+    stored: BitSet,
+    some: bool,
+}
+
+impl Model for Octowords {
+    ghost use Rattle.tx_heat.specs.Marks.{Marks};
+
+    ghost Value = { Marks };
+
+    ghost use Rattle.tx_heat.specs.Octowords.{storage_octowords};
+    ghost use Rattle.tx_heat.specs.Marks.{AreMarksOf};
+    ghost use Rattle.std.specs.Prelude.{◌≡◌, length, false, []};
+
+    ghost view = { λ o. record { touched = o.touched; stored = o.stored } };
+
+    ghost invariant = { λ o. (length o.touched ≡ storage_octowords) × (length o.stored ≡ storage_octowords)
+        × (o.some ≡ false → AreMarksOf (record { touched = o.touched; stored = o.stored }) []) };
+}
+
+/// The numbers from `first` on and below `end`.
+#[derive(Clone, Copy)]
+struct Span {
+    first: usize,
+    end: usize,
+}
+
+/// The places of this size that a range with bytes has.
+fn span_of(range: Range, size: u64) -> Span
+    requires size { 0 < size }
+    requires bytes { 0 < range.length }
+    requires inside { range.first + range.length ≤ storage_size }
+    ensures places { (k : ℕ) → lies_in result.first result.end k ≡ has_place size range k }
+    ensures order { result.first ≤ result.end }
+    ensures end { result.end ≡ (range.first + range.length - 1) / size + 1 }
+{
+    let last = range.first + u64::from(range.length) - 1;
+    Span {
+        first: (range.first / size) as usize,
+        end: (last / size) as usize + 1,
+    }
+}
+
+/// Whether the range has a byte of the place of this size.
+fn reaches(range: Range, size: u64, place: u32) -> bool
+    requires size { 0 < size }
+    requires inside { range.first + range.length ≤ storage_size }
+    ensures { result ≡ has_place size range place }
+{
+    if range.length == 0 {
+        return false;
+    }
+    let span = span_of(range, size);
+    let at = place as usize;
+    span.first <= at && at < span.end
+}
+
+/// Whether one of the ranges has a byte of the octoword.
+fn is_asked(ranges: &Touches, octoword: u32) -> bool
+    requires { All (λ r. r.first + r.length ≤ storage_size) ranges.now }
+    ensures { result ≡ asks ranges.now octoword }
+{
+    for i in 0..ranges.count() {
+        if reaches(ranges.at(i), OCTOWORD, octoword) {
+            return true;
+        }
+    }
+    false
+}
+
+/// Whether the range is stored into, and has a byte of the line.
+fn stores_line(range: Range, line: u32) -> bool
+    requires { range.first + range.length ≤ storage_size }
+    ensures { result ≡ (range.store && has_place 256 range line) }
+{
+    range.store && reaches(range, LINE, line)
+}
+
+/// Whether one of the ranges is stored into, and has a byte of the line.
+fn is_stored(ranges: &Touches, line: u32) -> bool
+    requires { All (λ r. r.first + r.length ≤ storage_size) ranges.now }
+    ensures { result ≡ stores ranges.now line }
+{
+    for i in 0..ranges.count() {
+        if stores_line(ranges.at(i), line) {
+            return true;
+        }
+    }
+    false
+}
+
+/// Adds the numbers of a span to the set.
+fn mark_span(set: &mut BitSet, span: Span)
+    requires order { span.first ≤ span.end }
+    requires within { span.end ≤ length set.old }
+    ensures size { length set.new ≡ length set.old }
+    ensures marks { (k : ℕ) → is_marked set.new k ≡ (is_marked set.old k || lies_in span.first span.end k) }
+{
+    for at in span.first..span.end {
+        set.insert(at);
+    }
+}
+
+/// Adds the octowords of a range to the set, where all are meant or it is stored into.
+fn mark_range(set: &mut BitSet, range: Range, all: bool)
+    requires size { length set.old ≡ storage_octowords }
+    requires inside { range.first + range.length ≤ storage_size }
+    ensures size { length set.new ≡ storage_octowords }
+    ensures marks { (k : ℕ) → is_marked set.new k
+        ≡ (is_marked set.old k || ((all || range.store) && has_place octoword_size range k)) }
+{
+    if range.length == 0 {
+        return;
+    }
+    if !all && !range.store {
+        return;
+    }
+    mark_span(set, span_of(range, OCTOWORD));
+}
+
+/// Adds the octowords of ranges to the set, all of them or those that are stored into.
+fn mark(set: &mut BitSet, ranges: &Touches, all: bool)
+    requires size { length set.old ≡ storage_octowords }
+    requires inside { All (λ r. r.first + r.length ≤ storage_size) ranges.now }
+    ensures size { length set.new ≡ storage_octowords }
+    ensures marks { (k : ℕ) → is_marked set.new k ≡ (is_marked set.old k || meets all ranges.now k) }
+{
+    for i in 0..ranges.count() {
+        mark_range(set, ranges.at(i), all);
+    }
+}
+
+/// Whether an octoword of the line is both asked for and in the set.
+fn is_shared(asked: &Touches, set: &BitSet, line: u32) -> bool
+    requires inside { All (λ r. r.first + r.length ≤ storage_size) asked.now }
+    requires size { length set.now ≡ storage_octowords }
+    requires line { line < storage_lines }
+    ensures found { result ≡ true → (k : ℕ) × (k < 8) × (asks asked.now (8 * line + k) ≡ true)
+        × (is_marked set.now (8 * line + k) ≡ true) }
+    ensures none { result ≡ false → (k : ℕ) → k < 8
+        → (asks asked.now (8 * line + k) && is_marked set.now (8 * line + k)) ≡ false }
+{
+    for at in 0..IN_LINE {
+        let octoword = IN_LINE * line + at;
+        if set.has(octoword as usize) && is_asked(asked, octoword) {
+            return true;
+        }
+    }
+    false
+}
+
+impl Octowords {
+    /// None. The error is want of memory.
+    pub fn none(alloc: Global) -> Result<Octowords, AllocError>
+        ensures { IfOk result (λ marks. AreMarksOf marks []) }
+    {
+        let touched = BitSet::open(alloc, WORDS)?;
+        let stored = BitSet::open(alloc, WORDS)?;
+        Ok(Octowords {
+            touched,
+            stored,
+            some: false,
+        })
+    }
+
+    /// Takes all away.
+    pub fn clear(&mut self)
+        ensures { AreMarksOf self.new [] }
+    {
+        if self.some {
+            self.touched.clear();
+            self.stored.clear();
+            self.some = false;
+        }
+    }
+
+    /// Adds those of ranges.
+    pub fn add(&mut self, ranges: &Touches)
+        requires { All (λ r. r.first + r.length ≤ storage_size) ranges.now }
+        ensures { (past : List Range) → AreMarksOf self.old past → AreMarksOf self.new (past ++ ranges.now) }
+    {
+        if ranges.count() > 0 {
+            mark(&mut self.touched, ranges, true);
+            mark(&mut self.stored, ranges, false);
+            self.some = true;
+        }
+    }
+
+    /// Whether what is asked for lies apart, in the line, from what stands against it: all of these octowords where
+    /// the line is asked for exclusively, else those that were stored into.
+    pub fn are_apart(&self, asked: &Touches, line: u32) -> bool
+        requires inside { All (λ r. r.first + r.length ≤ storage_size) asked.now }
+        requires line { line < storage_lines }
+        ensures { (past : List Range) → AreMarksOf self.now past → result ≡ are_apart asked.now past line }
+    {
+        if is_stored(asked, line) {
+            return !is_shared(asked, &self.touched, line);
+        }
+        !is_shared(asked, &self.stored, line)
+    }
+}

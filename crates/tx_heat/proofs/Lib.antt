@@ -1,0 +1,12 @@
+-- What events make of what attempts have touched, and marks, counts and texts of it.
+pub mod Went
+pub mod Tracked
+pub mod Ranges
+pub mod Marked
+pub mod Counted
+pub mod Written
+pub mod Few
+pub mod Followed
+pub mod Totals
+pub mod Measured
+pub mod Tracks

@@ -1,0 +1,12 @@
+-- More is marked.
+use Rattle.std.proofs.Common.{sym, subst}
+use Rattle.tx_heat.specs.Marks.{Marks, AreMarksOf}
+use Rattle.tx_heat.proofs.Marked.{more_marked}
+use Rattle.tx_heat.proofs.octowords.Octowords.add.Goals as goal
+
+pub returns-then-count-gt0 : goal.returns-then-count-gt0
+returns-then-count-gt0 c = λ past marks.
+    let old : Marks = record { touched = c.self.inside.touched; stored = c.self.inside.stored } in
+    let new : Marks = record { touched = c.mark.new.set; stored = c.mark-then-count-gt0.new.set } in
+    more_marked old new past c.args.ranges.now c.mark.ensures.marks c.mark-then-count-gt0.ensures.marks
+    (subst (λ (v : Marks). AreMarksOf v past) (sym c.self.view_is) marks)
