@@ -14,6 +14,8 @@ use Rattle.z_deck.specs.Reading.{FirstFault as CardFault}
 use Rattle.z_deck.specs.declared.fault.Kind.TheVariants as kinds
 use Rattle.ztx_answers.specs.Decks.{IsDeckRefusal, IsDueToDeck, long_deck_line}
 use Rattle.ztx_answers.proofs.Decked.{one_read, one_written, read, written}
+use Rattle.ztx_answers.specs.Heats.{IsDueToHeat}
+use Rattle.ztx_answers.proofs.Heats.{one_heat, some_heat}
 use Rattle.ztx_answers.proofs.Steps.{long_step_ok, one_step, some_step}
 
 -- something is due
@@ -23,6 +25,7 @@ some_due (request.Run turns tick seed) input allowed = reported turns tick seed 
 some_due request.Deck input allowed = written input
 some_due (request.ReadDeck origin) input allowed = read origin input
 some_due (request.Step turns tick seed) input allowed = some_step turns tick seed input
+some_due (request.Heat turns tick seed) input allowed = some_heat turns tick seed input
 
 -- only one thing is
 pub one_due : (r : Request) (input : List ℕ) → IsOnly (IsDue r input)
@@ -31,6 +34,7 @@ one_due (request.Run turns tick seed) input = one_report turns tick seed input
 one_due request.Deck input = one_written input
 one_due (request.ReadDeck origin) input = one_read origin input
 one_due (request.Step turns tick seed) input = one_step turns tick seed input
+one_due (request.Heat turns tick seed) input = one_heat turns tick seed input
 
 -- a text with too many bytes for a listing has that fault first
 pub long_listing : (input : List ℕ) (status : ℕ) (text : List ℕ) → 16777216 < length input → status ≡ 5
@@ -63,6 +67,8 @@ module _ {E : Type 0} (r : Result Answer E) (s : IfOk r (λ a. a.status ≡ 5))
       long_ok r IsDueToDeck (λ input status text refused. inl refused) s t
   long_due (request.ReadDeck origin) no_deck = absurd (no_deck origin refl)
   long_due (request.Step turns tick seed) no_deck = long_step_ok turns tick seed r s t
+  long_due (request.Heat turns tick seed) no_deck =
+      long_ok r (IsDueToHeat turns tick seed) (λ input status text refused. inl refused) s t
 
 -- bytes that are too many for a deck have that fault first
 long_deck : (origin : ℕ) (input : List ℕ) (status : ℕ) (text : List ℕ) → 16777216 < length input

@@ -1,5 +1,5 @@
 -- One answer is due to the command that writes and reads decks, and only one.
-use Rattle.std.proofs.Common.{◌≡◌, ℕ, ◌<◌, ◌⊎◌, List, length, Option, sym, ap, ap₂, ◌∙◌, inl, inr, refl}
+use Rattle.std.proofs.Common.{ℕ, ◌<◌, ◌⊎◌, List, length, sym, ap, ap₂, ◌∙◌, inl, inr, refl}
 use Rattle.tx_journal.specs.Content.{Content}
 use Rattle.z_assemble.specs.Whole.{Stands, FirstFault}
 use Rattle.z_assemble.specs.Words.{fault_line}

@@ -11,3 +11,4 @@ pub mod Asked
 pub mod Decked
 pub mod DecksGiven
 pub mod Steps
+pub mod Heats

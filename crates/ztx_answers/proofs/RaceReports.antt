@@ -1,10 +1,9 @@
 -- What a machine that has raced gives: the report of the events that it has recorded.
-use Rattle.std.proofs.Common.{◌≡◌, ℕ, ◌<◌, List, [], length, refl, sym, ap, ◌∙◌, subst, arith, inl, Result, IfOk}
+use Rattle.std.proofs.Common.{◌≡◌, ℕ, ◌<◌, List, [], length, sym, ap, ◌∙◌, subst, arith, inl, Result, IfOk}
 use Rattle.std.specs.Prelude.{All, count_by}
 use Rattle.std.proofs.lemmas.Result.{IfOk-weaker}
 use Rattle.tx_journal.specs.Content.{Content}
 use Rattle.tx_journal.specs.Image.{IsImage, cpu_of_event}
-use Rattle.tx_journal.specs.declared.events.Event.{Event}
 use Rattle.tx_machine.specs.Machine.{Seen, setting_of, state_of, opened}
 use Rattle.tx_meaning.specs.Limits.{Setting}
 use Rattle.tx_meaning.specs.Meaning.{IsSetting, meaning, is_external}

@@ -6,7 +6,7 @@ use Rattle.tx_serial.specs.History.{IsLegal, replay}
 use Rattle.tx_serial.specs.Run.{run}
 use Rattle.tx_progress.proofs.Parts.{not_live}
 use Rattle.tx_meaning.specs.Limits.{Setting}
-use Rattle.tx_meaning.specs.State.{State, is_live, flat_of, flat_where, cpu_of}
+use Rattle.tx_meaning.specs.State.{State, flat_of, flat_where}
 use Rattle.ztx_answers.specs.Replayed.{IsReplayed}
 
 -- a CPU that has completed nothing is at rest

@@ -1,5 +1,5 @@
 -- Whatever the events, what happens is one serial history.
-use Rattle.std.proofs.Common.{◌<◌, List, [], ◌∷◌, ◌++◌, subst, arith}
+use Rattle.std.proofs.Common.{◌<◌, List, [], ◌∷◌, ◌++◌, subst}
 use Rattle.std.specs.Prelude.{All}
 use Rattle.std.proofs.lemmas.List.Elements.{All-nil, All-cons, All-head, All-push}
 use Rattle.tx_journal.specs.Image.{cpu_of_event}

@@ -5,6 +5,7 @@ pub mod Runs
 pub mod Due
 pub mod Decks
 pub mod Steps
+pub mod Heats
 pub mod One
 pub mod Races
 pub mod Requests

@@ -4,6 +4,7 @@ use Rattle.ztx_answers.specs.declared.requests.Request.{Request}
 use Rattle.ztx_answers.specs.declared.requests.Request.TheVariants as request
 use Rattle.ztx_answers.specs.Decks.{IsDueToDeck, IsDueToReadDeck}
 use Rattle.ztx_answers.specs.Due.{IsDueToList, IsDueToRun}
+use Rattle.ztx_answers.specs.Heats.{IsDueToHeat}
 use Rattle.ztx_answers.specs.Runs.{AreLimits}
 use Rattle.ztx_answers.specs.Steps.{IsDueToStep}
 
@@ -14,6 +15,7 @@ most_of (request.Run turns tick seed) = 16777216
 most_of request.Deck = 16777216
 most_of (request.ReadDeck origin) = 16777216
 most_of (request.Step turns tick seed) = 16777216
+most_of (request.Heat turns tick seed) = 16777216
 
 -- the numbers of the request are in their ranges
 abbrev pub IsAllowed : Request → Type 0
@@ -22,6 +24,7 @@ IsAllowed (request.Run turns tick seed) = AreLimits turns tick
 IsAllowed request.Deck = Unit {0}
 IsAllowed (request.ReadDeck origin) = origin ≤ 1040384
 IsAllowed (request.Step turns tick seed) = AreLimits turns tick
+IsAllowed (request.Heat turns tick seed) = AreLimits turns tick
 
 -- what is due to the request and an input: a status with a text
 abbrev pub IsDue : Request → List ℕ → ℕ → List ℕ → Type 0
@@ -30,3 +33,4 @@ IsDue (request.Run turns tick seed) input = IsDueToRun turns tick seed input
 IsDue request.Deck input = IsDueToDeck input
 IsDue (request.ReadDeck origin) input = IsDueToReadDeck origin input
 IsDue (request.Step turns tick seed) input = IsDueToStep turns tick seed input
+IsDue (request.Heat turns tick seed) input = IsDueToHeat turns tick seed input

@@ -6,7 +6,6 @@ use Rattle.step_words.specs.Parts.{IsParted}
 use Rattle.step_words.specs.Words as words
 use Rattle.step_words.specs.declared.command.StepCommand.{StepCommand}
 use Rattle.tx_journal.specs.Content.{Content}
-use Rattle.tx_meaning.specs.Limits.{Setting}
 use Rattle.tx_meaning.specs.Schedules.{planned}
 use Rattle.tx_report.specs.Report.{status_of}
 use Rattle.tx_step.specs.Traces.{Traced, at_start}

@@ -5,6 +5,7 @@
 mod answer;
 mod decks;
 mod generated;
+mod heated;
 pub mod laws;
 mod listed;
 mod machine;

@@ -5,6 +5,7 @@ ghost use Rattle.ztx_answers.specs.Requests.{IsAllowed, IsDue, most_of};
 
 use crate::answer::{Answer, NoMemory};
 use crate::decks::{read_deck_of, refuse_long_deck, write_deck_of};
+use crate::heated::heat_listing;
 use crate::listed::{list, refuse_long_listing, run};
 use crate::stepped::step;
 use std::alloc::Global;
@@ -35,6 +36,12 @@ pub enum Request {
         tick: u32,
         seed: Option<u64>,
     },
+    /// The conflicts of a listing's run, line by line. The numbers are those of a run.
+    Heat {
+        turns: u32,
+        tick: u32,
+        seed: Option<u64>,
+    },
 }
 
 /// How many bytes an input of the request may have.
@@ -46,7 +53,8 @@ pub fn most_bytes(request: Request) -> usize
         | Request::Run { .. }
         | Request::Deck
         | Request::ReadDeck { .. }
-        | Request::Step { .. } => MOST_BYTES,
+        | Request::Step { .. }
+        | Request::Heat { .. } => MOST_BYTES,
     }
 }
 
@@ -63,6 +71,7 @@ pub fn answer_to(alloc: Global, request: Request, input: &[u8]) -> Result<Answer
         Request::Deck => write_deck_of(alloc, input),
         Request::ReadDeck { origin } => read_deck_of(alloc, origin, input),
         Request::Step { turns, tick, seed } => step(alloc, input, turns, tick, seed),
+        Request::Heat { turns, tick, seed } => heat_listing(alloc, input, turns, tick, seed),
     }
 }
 

@@ -50,6 +50,11 @@ pub fn errand_of(command: Option<Command>) -> Errand
             tick: tick as u32,
             seed,
         }),
+        Some(Command::Heat { turns, tick, seed }) => Errand::Input(Request::Heat {
+            turns: turns as u32,
+            tick: tick as u32,
+            seed,
+        }),
         _ => Errand::Nothing,
     }
 }

@@ -85,6 +85,14 @@ SCHEDULE 2
 END
 ";
 
+/// The same model's heat of it: eight rejects and an abort for one line, both CPUs at the same doubleword.
+const HEAT: &str = "HEAT
+LINE 00009000 CONFLICTS 9 REJECTS 8 ABORTS 1 FALSE 0
+TOTAL CONFLICTS 9 REJECTS 8 ABORTS 1 FALSE 0
+STATUS 0
+END
+";
+
 /// The calls that a reading of the listing takes, and a writing of the report, in pieces of 16 bytes.
 const READS: u64 = 13;
 
@@ -98,7 +106,7 @@ struct Case {
     text: &'static str,
 }
 
-const CASES: [Case; 17] = [
+const CASES: [Case; 19] = [
     Case {
         words: "list",
         input: " CPU START\nSTART LGHI 1,5\n SVC 0\n",
@@ -200,6 +208,18 @@ const CASES: [Case; 17] = [
         input: " CPU START\nSTART LGHI 1,5\n SVC 0\nZTX STEP\nF 9\n\nC 1\n",
         status: 5,
         text: "ztx: step line 3: bad command\n",
+    },
+    Case {
+        words: "heat --turns 20",
+        input: CONFLICT,
+        status: 0,
+        text: HEAT,
+    },
+    Case {
+        words: "heat",
+        input: " CP",
+        status: 5,
+        text: "ztx: line 1: unknown mnemonic\n",
     },
 ];
 

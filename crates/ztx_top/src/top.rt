@@ -100,23 +100,23 @@ fn answer<R: Threads + Wait + Sync, S: Source, K: Sink, G: Gate>(
 /// Answers the words and the bytes of the source, and gives the exit status.
 ///
 /// The words are those of the command line, without the program's name: `list`, `run` with `--turns`,
-/// `--tick` and `--seed`, `step` with the same, `race` with the first two, `deck` with `--read` and `--origin`,
-/// `generate` and `summary` with a number. Everything is written to the sink. `race` makes its threads and waits
-/// for them by `rt`; its workers pass the gate.
+/// `--tick` and `--seed`, `step` and `heat` with the same, `race` with the first two, `deck` with `--read` and
+/// `--origin`, `generate` and `summary` with a number. Everything is written to the sink. `race` makes its threads
+/// and waits for them by `rt`; its workers pass the gate.
 ///
 /// | Status | Comes | Written |
 /// |---|---|---|
-/// | 0 | the command is done; in `run`, `race`, `summary` and `step` every CPU is finished | the whole text |
+/// | 0 | the command is done; in `run`, `race`, `summary`, `step` and `heat` every CPU is finished | the whole text |
 /// | 1 | for want of memory | a beginning of what is due, perhaps nothing |
 /// | 2 | only where the source's count of faults rose | nothing |
 /// | 3 | only where the sink's count of faults rose | a beginning of what is due |
 /// | 4 | the words are no command line, or ask for what is not built | `ztx: bad words` |
 /// | 5 | the input is no listing, no deck, or for `step` has a bad command | the line of its first fault |
-/// | 6 | `run`, `race`, `summary` or `step`, and some CPU is not finished | the whole text |
+/// | 6 | `run`, `race`, `summary`, `step` or `heat`, and some CPU is not finished | the whole text |
 ///
-/// The words are looked at first, then `list`, `run`, `race`, `deck` and `step` read the source to its end, and
-/// writing comes last; the first that fails gives the status, so 0, 4, 5 and 6 come where the writing succeeded.
-/// Two races of one listing may give two reports; each is that of the events that it prints.
+/// The words are looked at first, then `list`, `run`, `race`, `deck`, `step` and `heat` read the source to its
+/// end, and writing comes last; the first that fails gives the status, so 0, 4, 5 and 6 come where the writing
+/// succeeded. Two races of one listing may give two reports; each is that of the events that it prints.
 pub fn ztx_top<R: Threads + Wait + Sync, S: Source, K: Sink, G: Gate>(
     rt: &R,
     alloc: Global,

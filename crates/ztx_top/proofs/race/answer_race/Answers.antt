@@ -1,6 +1,5 @@
-use Rattle.std.proofs.Common.{inl, inr, ◌⊎◌}
+use Rattle.std.proofs.Common.{inl, inr}
 use Rattle.std.proofs.lemmas.Result.{IfOk-weaker}
-use Rattle.ztx_answers.specs.Due.{IsRefusal}
 use Rattle.ztx_top.proofs.race.answer_race.Goals as goal
 
 pub returns-in-Ok-clause-due : goal.returns-in-Ok-clause-due

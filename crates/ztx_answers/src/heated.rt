@@ -1,0 +1,80 @@
+//! What is due to a listing whose conflicts are counted, line by line.
+ghost use Rattle.std.specs.Prelude.{◌≡◌, ℕ, List, IfOk};
+ghost use Rattle.tx_heat.specs.Heats.{heat_of};
+ghost use Rattle.z_assemble.specs.Whole.{Stands};
+ghost use Rattle.ztx_answers.specs.Due.{IsStatus};
+ghost use Rattle.ztx_answers.specs.Heats.{IsDueToHeat, IsHeat};
+ghost use Rattle.ztx_answers.specs.Runs.{AreLimits};
+
+use crate::answer::{Answer, NoMemory};
+use crate::listed::refuse;
+use crate::machine::open;
+use std::alloc::Global;
+use tx_heat::Heat;
+use tx_heat::measuring::heat;
+use tx_journal::Image;
+use tx_machine::machine::Machine;
+use tx_report::status;
+use tx_schedule::run_planned;
+use z_assemble::{AssembleFault, assemble};
+
+/// The conflicts of the run of a machine, from its start.
+fn heat_of_run(alloc: Global, machine: &Machine) -> Result<Heat, NoMemory>
+    ensures { IfOk result (λ heat.
+        heat ≡ heat_of machine.now.image machine.now.limits machine.now.events) }
+{
+    let Ok(image) = machine.shared_image() else {
+        return Err(NoMemory);
+    };
+    let _left = machine.externals_left();
+    match heat(alloc, image, machine.limits(), machine.events()) {
+        Ok(heat) => Ok(heat),
+        Err(_) => Err(NoMemory),
+    }
+}
+
+/// The conflicts of an image that is run by its schedule, by one that is drawn, or in the round.
+fn heat_image(
+    alloc: Global,
+    image: Image,
+    turns: u32,
+    tick: u32,
+    seed: Option<u64>,
+) -> Result<Answer, NoMemory>
+    requires { AreLimits turns tick }
+    ensures due { IfOk result (λ answer. (input : List ℕ) → Stands input image
+        → IsHeat turns tick seed input answer.status answer.text.items) }
+    ensures statuses { IfOk result (λ answer. IsStatus answer.status) }
+{
+    let mut machine = open(alloc, image, turns, tick)?;
+    run_planned(&mut machine, seed);
+    let heat = heat_of_run(alloc, &machine)?;
+    match heat.text(alloc) {
+        Ok(text) => Ok(Answer {
+            status: status(&machine),
+            text,
+        }),
+        Err(_) => Err(NoMemory),
+    }
+}
+
+/// What `heat` answers to the bytes of a listing: the conflicts of the run that `run` would report with these numbers,
+/// line by line, or its first fault.
+pub fn heat_listing(
+    alloc: Global,
+    input: &[u8],
+    turns: u32,
+    tick: u32,
+    seed: Option<u64>,
+) -> Result<Answer, NoMemory>
+    requires { AreLimits turns tick }
+    ensures due { IfOk result (λ answer.
+        IsDueToHeat turns tick seed input.now answer.status answer.text.items) }
+    ensures statuses { IfOk result (λ answer. IsStatus answer.status) }
+{
+    match assemble(alloc, input) {
+        Ok(image) => heat_image(alloc, image, turns, tick, seed),
+        Err(AssembleFault::Memory) => Err(NoMemory),
+        Err(AssembleFault::Listing(fault)) => refuse(alloc, fault),
+    }
+}
