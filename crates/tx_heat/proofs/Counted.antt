@@ -1,5 +1,6 @@
 -- Conflicts counted by line, one conflict more.
-use Rattle.std.proofs.Common.{◌≡◌, ◌≢◌, ℕ, ◌+◌, ◌<◌, Bool, true, false, cond, List, [], ◌∷◌, ◌++◌, length, get_or}
+use Rattle.std.proofs.Common.{◌≡◌, ◌≢◌, ℕ, ◌+◌, ◌<◌, Bool, true, false, cond, List, [], ◌∷◌, ◌++◌, length}
+use Rattle.std.proofs.Common.{get_or}
 use Rattle.std.proofs.Common.{set, refl, sym, ap, ap₂, ◌∙◌, subst, arith, eqb, Some, ◌^◌, ◌≤◌}
 use Rattle.std.proofs.Common.{take, append-nil}
 use Rattle.std.specs.List.{range_with_len, flat_map}

@@ -10,3 +10,4 @@ pub mod Followed
 pub mod Totals
 pub mod Measured
 pub mod Tracks
+pub mod Rejects

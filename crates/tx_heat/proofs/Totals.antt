@@ -1,5 +1,6 @@
 -- Conflicts that are aborts are counted in the history.
-use Rattle.std.proofs.Common.{◌≡◌, ℕ, ◌+◌, ◌<◌, true, false, Bool, List, [], ◌∷◌, ◌++◌, length, drop, cond, refl, sym}
+use Rattle.std.proofs.Common.{◌≡◌, ℕ, ◌+◌, ◌<◌, true, false, Bool, List, [], ◌∷◌, ◌++◌, length, drop, cond}
+use Rattle.std.proofs.Common.{refl, sym}
 use Rattle.std.proofs.Common.{ap, ◌∙◌, subst, arith, Some, None, is_some}
 use Rattle.std.specs.Prelude.{count_by, not, Option}
 use Rattle.std.specs.List.{flat_map}
@@ -21,7 +22,8 @@ use Rattle.tx_keeping.proofs.Events.{begins_good}
 use Rattle.tx_keeping.proofs.Moves.{IsGood}
 use Rattle.tx_keeping.proofs.Turning.{happen_ok}
 use Rattle.tx_meaning.specs.Turn.{Turned}
-use Rattle.tx_heat.specs.Conflicts.{Conflict, conflict_where, abort_of, aborts_by, rejects_by, entries_in, reject_of}
+use Rattle.tx_heat.specs.Conflicts.{Conflict, conflict_where, abort_of, aborts_by, rejects_by, entries_in}
+use Rattle.tx_heat.specs.Conflicts.{reject_of}
 use Rattle.tx_heat.specs.Conflicts.{conflicts_in, conflicts_from, conflicts, is_conflict_abort}
 
 abbrev is_abort : Conflict → Bool

@@ -1,5 +1,6 @@
 -- What the attempts have touched behind an event, by what they had touched before it.
-use Rattle.std.proofs.Common.{◌≡◌, ◌≢◌, ℕ, suc, ◌+◌, ◌<◌, Bool, true, false, List, [], ◌++◌, Option, Some, None}
+use Rattle.std.proofs.Common.{◌≡◌, ◌≢◌, ℕ, suc, ◌+◌, ◌<◌, Bool, true, false, List, [], ◌++◌, Option, Some}
+use Rattle.std.proofs.Common.{None}
 use Rattle.std.proofs.Common.{refl, sym, ap, ap₂, ◌∙◌, add-one}
 use Rattle.std.specs.Prelude.{nat_lt}
 use borrow.Enum.Arm.{by_way}

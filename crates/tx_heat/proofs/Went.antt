@@ -1,6 +1,8 @@
--- What an event leaves of the attempt of the CPU that it is of: it is over, it has completed as many instructions
+-- What an event leaves of the attempt of the CPU that it is of: it is over, it has completed as many
+-- instructions
 -- as before, or one more, behind the lines that it asked for.
-use Rattle.std.proofs.Common.{◌≡◌, ℕ, ◌+◌, ◌<◌, Bool, true, false, List, Option, Some, None, refl, sym, ap, ◌∙◌}
+use Rattle.std.proofs.Common.{◌≡◌, ℕ, ◌+◌, ◌<◌, Bool, true, false, List, Option, Some, None, refl, sym, ap}
+use Rattle.std.proofs.Common.{◌∙◌}
 use Rattle.std.specs.Prelude.{◌&&◌, nat_lt}
 use Rattle.z_regs.specs.declared.ranges.Range.{Range}
 use Rattle.z_regs.specs.declared.waiting.Waiting.{Waiting}
@@ -26,9 +28,12 @@ use Rattle.tx_meaning.specs.Changes.{with_event, counting_turn}
 use Rattle.tx_meaning.specs.Turn.{is_tick}
 use Rattle.tx_keeping.specs.Kept.{Kept, text_of, with_state, with_beside, beside}
 use Rattle.tx_keeping.specs.Asking.{k_get_lines}
-use Rattle.tx_keeping.specs.Turn.{KTurned, k_ends_by, k_once_given, k_refused_turn, k_inside, k_outside, k_done}
-use Rattle.tx_keeping.specs.Turn.{k_executing, k_with_lines, k_attempting, k_acting, k_external, k_interrupting}
-use Rattle.tx_keeping.specs.Turn.{k_by_rules, k_counted_turn, k_turn, k_turn_where, k_idle, k_happen, next_address}
+use Rattle.tx_keeping.specs.Turn.{KTurned, k_ends_by, k_once_given, k_refused_turn, k_inside, k_outside}
+use Rattle.tx_keeping.specs.Turn.{k_done}
+use Rattle.tx_keeping.specs.Turn.{k_executing, k_with_lines, k_attempting, k_acting, k_external}
+use Rattle.tx_keeping.specs.Turn.{k_interrupting}
+use Rattle.tx_keeping.specs.Turn.{k_by_rules, k_counted_turn, k_turn, k_turn_where, k_idle, k_happen}
+use Rattle.tx_keeping.specs.Turn.{next_address}
 use Rattle.tx_keeping.proofs.Truth.{Truth}
 use Rattle.tx_keeping.proofs.Moves.{IsGood, restated, one_number}
 use Rattle.tx_keeping.proofs.Asking.{Keeps, keeps_then, keeps_restated}

@@ -1,7 +1,9 @@
 -- The conflicts of a run. A CPU asks the holders of the lines that its turn needs; each request that a holder
--- rejects is a conflict, whether the asker is starved by it or not, and so is each abort of a holder's attempt by
+-- rejects is a conflict, whether the asker is starved by it or not, and so is each abort of a holder's
+-- attempt by
 -- such a request, whose code is 9 or 10.
-use Rattle.std.specs.Prelude.{ℕ, Bool, true, false, List, [], ◌∷◌, ◌++◌, length, drop, Option, Some, None, is_some}
+use Rattle.std.specs.Prelude.{ℕ, Bool, true, false, List, [], ◌∷◌, ◌++◌, length, drop, Option, Some, None}
+use Rattle.std.specs.Prelude.{is_some}
 use Rattle.std.specs.List.{flat_map}
 use Rattle.tx_control.specs.declared.causes.Why.{Why}
 use Rattle.tx_control.specs.declared.causes.Why.TheVariants.{External, Program, FetchConflict}
@@ -18,7 +20,8 @@ use Rattle.tx_meaning.specs.declared.asking.Reject.{Reject}
 use Rattle.tx_machine.specs.Wanted.{wanted}
 use Rattle.tx_heat.specs.Octowords.{are_apart}
 
--- The CPU that asks, the CPU that holds, and the line; whether the request was rejected, else the holder's attempt
+-- The CPU that asks, the CPU that holds, and the line; whether the request was rejected, else the holder's
+-- attempt
 -- was aborted; and whether what is asked for and what the holder has touched lie apart in the line.
 pub record Conflict : Type 0 where
   pub asker : ℕ
@@ -41,7 +44,8 @@ conflict m s e holder line rejected =
 
 -- ---- aborts
 
--- the line of a cause that another CPU's request is: of the causes with code 9, a fetch conflict, and with code 10,
+-- the line of a cause that another CPU's request is: of the causes with code 9, a fetch conflict, and with
+-- code 10,
 -- a store conflict
 abbrev pub line_of_cause : Why → Option ℕ
 line_of_cause (FetchConflict line) = Some line

@@ -5,3 +5,4 @@ pub mod Heats
 pub mod Text
 pub mod Marks
 pub mod Watched
+pub mod Sums

@@ -1,4 +1,5 @@
--- Octowords of storage: which a turn asks for, which an attempt has touched, and whether these lie apart in a line.
+-- Octowords of storage: which a turn asks for, which an attempt has touched, and whether these lie apart in
+-- a line.
 use Rattle.std.specs.Prelude.{ℕ, ◌*◌, Bool, ◌&&◌, ◌||◌, not, false, List}
 use Rattle.std.specs.List.{list_any, range_with_len}
 use Rattle.z_regs.specs.declared.ranges.Range.{Range}

@@ -1,5 +1,7 @@
--- What is kept while a run is watched: the octowords of live attempts, and the lines with what was counted so far.
-use Rattle.std.specs.Prelude.{◌≡◌, ◌≢◌, ℕ, ◌+◌, ◌^◌, ◌<◌, ◌≤◌, ◌++◌, true, false, List, [], length, Some, slice_get}
+-- What is kept while a run is watched: the octowords of live attempts, and the lines with what was counted
+-- so far.
+use Rattle.std.specs.Prelude.{◌≡◌, ◌≢◌, ℕ, ◌+◌, ◌^◌, ◌<◌, ◌≤◌, ◌++◌, true, false, List, [], length, Some}
+use Rattle.std.specs.Prelude.{slice_get}
 use Rattle.z_regs.specs.declared.ranges.Range.{Range}
 use Rattle.line_table.specs.Sizes.{storage_lines}
 use Rattle.tx_journal.specs.declared.events.Event.{Event}
@@ -38,7 +40,8 @@ pub record IsBelow (h : LineHeat) (more : ℕ) : Type 0 where
 pub record HasRoom (lines : List LineHeat) (more : ℕ) : Type 0 where
   pub each : (k : ℕ) (h : LineHeat) → slice_get lines k ≡ Some h → IsBelow h more
 
--- what a CPU's attempt has touched behind an event, by what it had touched before it and what the event's CPU asked
+-- what a CPU's attempt has touched behind an event, by what it had touched before it and what the event's
+-- CPU asked
 -- for
 pub record Passes (m : Setting) (before after : State) (cpu : ℕ) (asked : List Range) (j : ℕ) : Type 0 where
   pub over : is_live after j ≡ false → (attempt_of m after j).touched ≡ []

@@ -5,8 +5,10 @@ ghost use Rattle.tx_journal.specs.declared.events.Event.{Event};
 ghost use Rattle.tx_meaning.specs.Limits.{Setting};
 ghost use Rattle.tx_meaning.specs.Meaning.{IsSetting, meaning};
 ghost use Rattle.tx_meaning.specs.Needs.{stored};
+ghost use Rattle.tx_meaning.specs.State.{cpus_of};
 ghost use Rattle.tx_meaning.specs.Views.{AreKnown};
 ghost use Rattle.tx_heat.specs.Conflicts.{Conflict, conflicts, is_conflict_abort};
+ghost use Rattle.tx_heat.specs.Sums.{sum_below};
 ghost use Rattle.tx_heat.specs.Octowords.{are_apart, fetched};
 
 /// Conflicts that are no rejects are the aborts of the history with code 9 or 10, each once.
@@ -14,6 +16,13 @@ pub fn aborts_are_those_of_the_history()
     ensures { (m : Setting) (events : List Event) → IsSetting m → AreKnown m events
         → count_by (λ (c : Conflict). not c.rejected) (conflicts m events)
         ≡ count_by is_conflict_abort (meaning m events).history }
+{}
+
+/// Conflicts that are rejects are as many as the CPUs have counted, those of all CPUs together.
+pub fn rejects_are_those_that_the_cpus_count()
+    ensures { (m : Setting) (events : List Event) → AreKnown m events
+        → count_by (λ (c : Conflict). c.rejected) (conflicts m events)
+        ≡ sum_below (cpus_of m) (λ i. ((meaning m events).numbers i).rejected) }
 {}
 
 /// In the line of addresses 9000 to 90ff hex, which is line 144: a store and a load of other octowords lie apart,

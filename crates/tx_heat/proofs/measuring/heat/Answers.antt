@@ -1,5 +1,6 @@
 -- The events happen one after the other.
-use Rattle.std.proofs.Common.{◌≡◌, ◌+◌, ◌^◌, ◌<◌, ◌≤◌, ◌++◌, ◌∙◌, List, Bool, sym, ap, ap₂, subst, get_or, length, take, drop, arith, rules}
+use Rattle.std.proofs.Common.{◌≡◌, ◌+◌, ◌^◌, ◌<◌, ◌≤◌, ◌++◌, ◌∙◌, List, Bool, sym, ap, ap₂, subst, get_or}
+use Rattle.std.proofs.Common.{length, take, drop, arith, rules}
 use Rattle.std.specs.Arc.{arc_value}
 use Rattle.std.proofs.lemmas.List.{get_or_default, take_all}
 use Rattle.tx_journal.specs.Content.{Content}
