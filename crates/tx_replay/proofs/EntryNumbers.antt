@@ -1,12 +1,12 @@
 -- Entries and the numbers of their lines.
-use Rattle.std.proofs.Common.{◌≡◌, ◌≢◌, ℕ, List, Option, Some, None, sym, ap, ap₂, ◌∙◌, arith, subst}
+use Rattle.std.proofs.Common.{◌≡◌, ℕ, List, Option, Some, None, sym, ap, ap₂, ◌∙◌, arith, subst}
 use Rattle.tx_control.specs.declared.causes.Why.{Why}
 use Rattle.tx_journal.specs.declared.entries.Entry.{Entry}
 use Rattle.tx_journal.specs.declared.entries.Entry.TheVariants as entry
 use Rattle.tx_journal.specs.declared.entries.EntryText.{EntryText}
-use Rattle.tx_journal.specs.Lines.{IsLine, Spells, entry_text, line_of, line_text}
+use Rattle.tx_journal.specs.Lines.{Spells, entry_text}
 use Rattle.tx_journal.specs.Sound.{IsSound, IsCause}
-use Rattle.tx_journal.proofs.ToldEntries.{spelled, read_exactly}
+use Rattle.tx_journal.proofs.ToldEntries.{read_exactly}
 use Rattle.tx_serial.specs.Apply.{apply}
 use Rattle.tx_serial.specs.Flat.{FlatState}
 use Rattle.history_laws.specs.Fitting.{Fits}

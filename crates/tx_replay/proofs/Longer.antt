@@ -1,7 +1,7 @@
 -- Histories of one entry more.
 use Rattle.std.proofs.Common.{◌≡◌, ℕ, suc, ◌<◌, List, [], ◌∷◌, ◌++◌, length, Some, refl, sym, ap, ap₂, ◌∙◌}
 use Rattle.std.proofs.Common.{get_or}
-use Rattle.std.specs.Prelude.{All, map, take}
+use Rattle.std.specs.Prelude.{take}
 use Rattle.std.proofs.Math.Seq.{take-suc}
 use Rattle.std.proofs.lemmas.List.{map-append}
 use Rattle.std.proofs.lemmas.List.Elements.{All-append, All-cons, All-nil}
@@ -11,7 +11,7 @@ use Rattle.tx_journal.specs.Sound.{IsSound}
 use Rattle.tx_journal.specs.declared.entries.Entry.{Entry}
 use Rattle.tx_serial.specs.Apply.{apply}
 use Rattle.tx_serial.specs.Flat.{FlatState}
-use Rattle.tx_serial.specs.History.{replay_from, replay, start_of}
+use Rattle.tx_serial.specs.History.{replay_from, start_of}
 use Rattle.tx_serial.proofs.Entries.{replay_twice}
 use Rattle.tx_replay.specs.Replay.{IsReplay}
 

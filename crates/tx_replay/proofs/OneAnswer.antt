@@ -11,7 +11,7 @@ use Rattle.tx_journal.specs.Sound.{IsSound}
 use Rattle.tx_journal.specs.declared.entries.Entry.{Entry}
 use Rattle.tx_serial.specs.Apply.{apply}
 use Rattle.tx_serial.specs.Flat.{FlatState}
-use Rattle.tx_serial.specs.History.{replay_from, replay, start_of}
+use Rattle.tx_serial.specs.History.{replay_from, start_of}
 use Rattle.history_laws.proofs.Fitting.{one_fits}
 use Rattle.history_laws.proofs.Histories.{first}
 use Rattle.tx_replay.specs.Replay.{IsReplay, NoneFits, IsFirstMisfit}

@@ -1,7 +1,7 @@
 -- Causes of aborts that a line tells, and exceptions that fit.
-use Rattle.std.proofs.Common.{◌≡◌, ℕ, ◌*◌, ◌/◌, ◌<◌, ◌≤◌, Bool, true, false, nat_eq, Option, Some, None}
-use Rattle.std.proofs.Common.{refl, sym, ap, ap₂, ◌∙◌, arith, length, get_or}
-use Rattle.std.specs.Prelude.{if◌then◌else◌, is_none, ◌&&◌}
+use Rattle.std.proofs.Common.{◌≡◌, ℕ, ◌<◌, ◌≤◌, true, false, Option, Some, None}
+use Rattle.std.proofs.Common.{refl, sym, ap, ◌∙◌, arith, length, get_or}
+use Rattle.std.specs.Prelude.{is_none, ◌&&◌}
 use Rattle.std.proofs.lemmas.Bool.{true≢false}
 use Rattle.std.proofs.lemmas.Bool.Decides.{nat_tests}
 use Rattle.std.proofs.Math.ListN.{get_or-eq_default}
@@ -11,9 +11,9 @@ use Rattle.tx_control.specs.declared.causes.Why.TheVariants.{External, Program, 
 use Rattle.tx_control.specs.declared.causes.Why.TheVariants.{FetchOverflow, StoreOverflow, Restricted}
 use Rattle.tx_control.specs.declared.causes.Why.TheVariants.{Filtered, Depth, Starved, Tabort}
 use Rattle.tx_journal.specs.declared.entries.Entry.TheVariants.{Abort}
-use Rattle.tx_journal.specs.Lines.{says_exception, detail_of, detail_value}
+use Rattle.tx_journal.specs.Lines.{says_exception}
 use Rattle.tx_journal.specs.Sound.{IsCause}
-use Rattle.tx_serial.specs.Apply.{apply, may_act, is_running}
+use Rattle.tx_serial.specs.Apply.{may_act, is_running}
 use Rattle.tx_serial.specs.Ending.{fits, ending, is_cause, is_open}
 use Rattle.tx_serial.specs.Flat.{FlatState}
 use Rattle.tx_serial.specs.History.{no_cpu}
