@@ -1,5 +1,5 @@
 -- Conflicts that are rejects are counted with the CPUs that asked.
-use Rattle.std.proofs.Common.{◌≡◌, ◌≢◌, ℕ, zero, suc, ◌+◌, ◌<◌, ◌≤◌, Bool, true, false, List, [], ◌∷◌, ◌++◌}
+use Rattle.std.proofs.Common.{◌≡◌, ◌≢◌, ℕ, zero, suc, ◌+◌, ◌<◌, false, List, [], ◌∷◌}
 use Rattle.std.proofs.Common.{Option, Some}
 use Rattle.std.proofs.Common.{None, cond, refl, sym, ap, ◌∙◌, subst, arith}
 use Rattle.std.specs.Prelude.{count_by, if◌then◌else◌}
@@ -9,19 +9,17 @@ use Rattle.std.proofs.lemmas.List.Sums.{sum_by-append}
 use Rattle.tx_control.specs.declared.causes.Why.{Why}
 use Rattle.tx_control.specs.declared.causes.Why.TheVariants.{External, Starved}
 use Rattle.tx_ladder.specs.Rungs.{Standing, rejecting, rejected}
-use Rattle.line_table.specs.Holders.{Holders}
 use Rattle.tx_journal.specs.Image.{cpu_of_event}
 use Rattle.tx_journal.specs.declared.entries.Entry.{Entry}
 use Rattle.tx_journal.specs.declared.events.Event.{Event}
 use Rattle.tx_journal.specs.declared.events.Event.TheVariants as event
 use Rattle.tx_meaning.specs.declared.asking.Reject.{Reject}
-use Rattle.tx_meaning.specs.declared.outcome.Outcome.{Outcome}
 use Rattle.tx_meaning.specs.Idle.{idle}
 use Rattle.tx_meaning.specs.Limits.{Setting}
 use Rattle.tx_meaning.specs.Meaning.{meaning, meaning_from}
 use Rattle.tx_meaning.specs.State.{Numbers, State, beginning, is_live, standing_of, cpus_of}
 use Rattle.tx_meaning.specs.Changes.{with_numbers, with_event, without_attempt, aborting, rejecting_one}
-use Rattle.tx_meaning.specs.Turn.{Turned, happen, turn, turn_where, external}
+use Rattle.tx_meaning.specs.Turn.{happen, turn, turn_where, external}
 use Rattle.tx_meaning.specs.Views.{AreKnown}
 use Rattle.tx_meaning.proofs.Books.{idle_or_not}
 use Rattle.std.proofs.lemmas.Bool.{cases_eq}
@@ -30,7 +28,6 @@ use Rattle.tx_heat.specs.Sums.{sum_below}
 use Rattle.tx_meaning.proofs.Walk.{Walk, at_put_case, at_put_kept, in_a_turn, externally, cause_case}
 use Rattle.tx_meaning.proofs.Walk.{conflict_on}
 use Rattle.tx_heat.specs.Conflicts.{Conflict, conflict_where, abort_of, aborts_by, rejects_by, entries_in}
-use Rattle.tx_heat.specs.Conflicts.{reject_of}
 use Rattle.tx_heat.specs.Conflicts.{conflicts_in, conflicts_from, conflicts}
 
 total_same : (n : ℕ) (f g : ℕ → ℕ) → ((x : ℕ) → x < n → g x ≡ f x) → sum_below n g ≡ sum_below n f
