@@ -184,6 +184,7 @@ pub accepted : (image : Content) (report text : List ℕ) (lines due : List (Lis
 accepted image report text lines due s are others sheet expected same =
     let form = subst (λ ls. HasForm image ls s.entries sheet.events) are sheet.form in
     let e = subst (λ ls. IsDueText image ls s.entries text) are expected in
-    let equal = sym are ∙ same ∙ others in
-    (sound_text image report text s.entries sheet.events form e equal,
-    accepted_text image report text s.entries sheet.events form e equal)
+    let equal = sym are ∙ same ∙ others in (
+      sound_text image report text s.entries sheet.events form e equal,
+      accepted_text image report text s.entries sheet.events form e equal,
+    )

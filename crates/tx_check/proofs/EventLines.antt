@@ -134,6 +134,7 @@ line_before count line lines one more =
           (sym (ap (rows_text all) rows ∙ first_row ((length more.events + 15) / 16) all
           ∙ ap₂ (λ (a b : List Event). row_text a ++ rows_text b ((length more.events + 15) / 16)) front behind));
     }
+
 end_line : (last : ℕ) (line : List ℕ) → IsRow last row.End line → line ≡ codes "END\n"
 unfolding IsRow Spelled
 end_line last line h = h.cut ∙ ap₂ (λ f r. f ++ 10 ∷ r) h.is_word h.goes_on
@@ -174,6 +175,7 @@ last_line last n (l ∷ (m ∷ [])) few size fit =
           ∙ ap (λ t. t ++ codes "END\n")
           (sym (ap (rows_text one.events) rows ∙ ap row_text whole));
     }
+
 -- ---- all lines behind the count of events
 
 abbrev rest_rows : ℕ → List Row

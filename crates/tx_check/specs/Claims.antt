@@ -34,10 +34,10 @@ pub record Named (n : Name) (next : Word) (others : List Word) (text rest : List
 
 -- the text begins with this number and a blank, and goes on so
 pub record Numbered (limit : ℕ) (next : Word) (others : List Word) (text : List ℕ) (number : ℕ) (rest : List ℕ)
-  : Type 0 where
-    pub cut : text ≡ decimal number ++ 32 ∷ rest
-    pub within : number ≤ limit
-    pub goes_on : Spelled (next ∷ others) rest
+    : Type 0 where
+  pub cut : text ≡ decimal number ++ 32 ∷ rest
+  pub within : number ≤ limit
+  pub goes_on : Spelled (next ∷ others) rest
 
 -- the text is this number and the end of the line
 pub record Ends (limit : ℕ) (text : List ℕ) (number : ℕ) : Type 0 where
@@ -46,10 +46,10 @@ pub record Ends (limit : ℕ) (text : List ℕ) (number : ℕ) : Type 0 where
 
 -- a name, a blank, a number and a blank, and the text goes on so
 pub record IsLabelled (n : Name) (limit : ℕ) (next : Word) (others : List Word) (text : List ℕ) (number : ℕ)
-  (rest : List ℕ) : Type 0 where
-    pub cut : text ≡ name_text n ++ 32 ∷ (decimal number ++ 32 ∷ rest)
-    pub within : number ≤ limit
-    pub goes_on : Spelled (next ∷ others) rest
+    (rest : List ℕ) : Type 0 where
+  pub cut : text ≡ name_text n ++ 32 ∷ (decimal number ++ 32 ∷ rest)
+  pub within : number ≤ limit
+  pub goes_on : Spelled (next ∷ others) rest
 
 -- a name, a blank, a number and the end of the line
 pub record IsLabelledEnd (n : Name) (limit : ℕ) (text : List ℕ) (number : ℕ) : Type 0 where

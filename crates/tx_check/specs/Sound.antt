@@ -74,8 +74,8 @@ joined lines = flat_map (λ (line : List ℕ). line) lines
 -- the report of lines that have the form, with so many entries, should tell this: what the history in its lines
 -- leaves, and beside it what the lines say of attempts, turns, questions, rejects and events
 pub record IsExpected (image : Content) (lines : List (List ℕ)) (entries : ℕ) (s : Shown) (after : FlatState)
-  : Type 0 where
-    pub history : map entry_text s.history ≡ take entries (drop (history_at image + 1) lines)
-    pub left : IsLeft image s after
-    pub taken : (i : ℕ) (c : ShownCpu) → slice_get s.cpus i ≡ Some c → IsTaken lines (cpu_place i) after i c
-    pub events : joined (drop (schedule_at image entries) lines) ≡ schedule_lines s.events ++ codes "END\n"
+    : Type 0 where
+  pub history : map entry_text s.history ≡ take entries (drop (history_at image + 1) lines)
+  pub left : IsLeft image s after
+  pub taken : (i : ℕ) (c : ShownCpu) → slice_get s.cpus i ≡ Some c → IsTaken lines (cpu_place i) after i c
+  pub events : joined (drop (schedule_at image entries) lines) ≡ schedule_lines s.events ++ codes "END\n"

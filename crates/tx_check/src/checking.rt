@@ -106,7 +106,13 @@ fn expected(
 {
     let cpus = seen_cpus(alloc, image, lines, sheet, replayed)?;
     let storage = replayed.flat.storage();
-    let Ok(text) = written(alloc, image, cpus.as_slice(), storage, &lines[sheet.history - 1..]) else {
+    let Ok(text) = written(
+        alloc,
+        image,
+        cpus.as_slice(),
+        storage,
+        &lines[sheet.history - 1..],
+    ) else {
         return Err(NoMemory);
     };
     Ok(text)

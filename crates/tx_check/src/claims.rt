@@ -78,10 +78,16 @@ fn number_before(text: &[u8]) -> FirstNumber<'_>
         → Numbered limit next others text.now result.number result.rest.now }
 {
     let Some((front, rest)) = cut(text, b' ') else {
-        return FirstNumber { number: 0, rest: text };
+        return FirstNumber {
+            number: 0,
+            rest: text,
+        };
     };
     let Some(number) = number_in(front) else {
-        return FirstNumber { number: 0, rest: text };
+        return FirstNumber {
+            number: 0,
+            rest: text,
+        };
     };
     FirstNumber { number, rest }
 }

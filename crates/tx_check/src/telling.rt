@@ -30,7 +30,9 @@ const HEAD_LINES: usize = 2;
 
 /// Lines of a CPU, and which of them tell its attempt and its counts.
 const CPU_LINES: usize = 11;
+
 const ATTEMPT_LINE: usize = 8;
+
 const COUNTS_LINE: usize = 10;
 
 /// How many commits and aborts of a CPU are in a history.
@@ -107,8 +109,14 @@ fn ends_of(history: &[Entry], cpu: u32) -> Ends
     ensures aborts { result.aborts ≡ count_by (aborts_of cpu) history.now }
 {
     Ends {
-        commits: history.iter().filter(|entry| is_commit(**entry, cpu)).count() as u64,
-        aborts: history.iter().filter(|entry| is_abort(**entry, cpu)).count() as u64,
+        commits: history
+            .iter()
+            .filter(|entry| is_commit(**entry, cpu))
+            .count() as u64,
+        aborts: history
+            .iter()
+            .filter(|entry| is_abort(**entry, cpu))
+            .count() as u64,
     }
 }
 
@@ -235,7 +243,13 @@ pub(crate) fn seen_cpus(
     let mut seen = Vec::new(alloc);
     for cpu in 0..image.cpu_count() {
         let claimed = claims_of(image, lines, sheet, cpu);
-        let one = seen_of(alloc, &replayed.flat, replayed.entries.as_slice(), cpu, claimed)?;
+        let one = seen_of(
+            alloc,
+            &replayed.flat,
+            replayed.entries.as_slice(),
+            cpu,
+            claimed,
+        )?;
         add_seen(&mut seen, one)?;
     }
     Ok(seen)
