@@ -26,7 +26,7 @@ use std::alloc::{AllocError, Global};
 use tx_journal::Image;
 use tx_ladder::Parms;
 use z_decode::length_of;
-use z_operands::{Kind, LineFault, pieces_by, without_end};
+use z_operands::{Kind, LineFault, count_pieces, pieces_by, without_end};
 use z_regs::{CpuImage, Guard};
 use z_text::Labels;
 
@@ -286,11 +286,9 @@ fn whole_fault(kind: Kind) -> AssembleFault
 
 /// The image that lines in capitals stand for, or the first fault.
 fn over_lines(alloc: Global, lines: &[&[u8]]) -> Result<Parts, AssembleFault>
+    requires { length lines.now ≤ 262144 }
     ensures { IsOutcome result (over_lines (map (λ l. l.now) lines.now)) }
 {
-    if MOST_LINES < lines.len() {
-        return Err(whole_fault(Kind::TooManyLines));
-    }
     let mut draft = blank(alloc)?;
     first_over(alloc, &mut draft, lines)?;
     let Draft {
@@ -317,6 +315,9 @@ fn assembled(alloc: Global, text: &[u8]) -> Result<Parts, AssembleFault>
         return Err(whole_fault(Kind::ListingTooLong));
     }
     let capitals = text.to_ascii_uppercase(alloc)?;
+    if MOST_LINES < count_pieces(b'\n', &capitals) {
+        return Err(whole_fault(Kind::TooManyLines));
+    }
     let lines = pieces_by(alloc, b'\n', &capitals)?;
     over_lines(alloc, &lines)
 }

@@ -39,6 +39,20 @@ pub fn pieces_by(alloc: Global, stop: u8, text: &[u8]) -> Result<Vec<&[u8]>, All
     Ok(pieces)
 }
 
+/// How many pieces a text has. It allocates nothing.
+pub fn count_pieces(stop: u8, text: &[u8]) -> usize
+    ensures { result ≡ length (pieces_by stop text.now) }
+{
+    let mut count = 0;
+    let mut rest = text;
+    while 0 < rest.len() {
+        let (_, behind) = rest.split_at(first_size(stop, rest));
+        count += 1;
+        rest = behind;
+    }
+    count
+}
+
 pub(crate) fn ends_with(byte: u8, text: &[u8]) -> bool
     ensures is { result ≡ ends_with byte text.now }
 {

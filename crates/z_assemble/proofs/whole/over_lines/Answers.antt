@@ -10,7 +10,7 @@ use Rattle.z_assemble.proofs.whole.over_lines.Goals as goal
 pub returns : goal.returns
 returns c =
     let few : length (map (λ (l : Piece). l.now) c.args.lines.now) ≤ 262144 =
-    simp length-map c.if-lines-gt-MOST_LINES.false in
+    simp length-map c.requires in
     let some : (c.first_over.new.draft.cpus == 0) ≡ false = grind (arith, nat_tests) in
     lines_stand (map (λ (l : Piece). l.now) c.args.lines.now) (plan_of c.in_ok-draft.draft)
     (plan_of c.first_over.new.draft) (machine_of c.in_ok-setup.setup)
