@@ -1,5 +1,5 @@
 -- Cards are read by the columns that their type names, and by no others.
-use Rattle.std.proofs.Common.{◌≡◌, ◌⊎◌, ℕ, ◌+◌, ◌-◌, ◌<◌, ◌≤◌, Bool, true, false, ◌&&◌, List, [], ◌∷◌, ◌++◌, length}
+use Rattle.std.proofs.Common.{◌≡◌, ◌⊎◌, ℕ, ◌+◌, ◌-◌, ◌≤◌, false, ◌&&◌, List, [], ◌∷◌, ◌++◌, length}
 use Rattle.std.proofs.Common.{Option, Some, None, refl, sym, ap, ap₂, ◌∙◌, subst, arith, inl, inr, length-append}
 use Rattle.std.proofs.Common.{slice_index}
 use Rattle.std.specs.Prelude.{All, if◌then◌else◌, unwrap_or}
@@ -7,12 +7,19 @@ use Rattle.std.specs.List.{concat}
 use Rattle.std.specs.Str.{bytes_eq}
 use Rattle.std.proofs.lemmas.List.Elements.{All-nil, All-head, All-tail, All-cons}
 use Rattle.byteorder.specs.Endian.{big_number}
-use Rattle.z_deck.specs.Columns.{type_of, type_named, mark, no_entry, count_field, address_field, card_size}
-use Rattle.z_deck.specs.Reading.{IsDeck, IsPart, IsText, IsEnd, IsAccessible, Holds, count_of, address_of, bytes_of}
+use Rattle.z_deck.specs.Columns.{type_of, type_named, mark, no_entry, count_field, address_field}
+use Rattle.z_deck.specs.Reading.{IsDeck, IsPart, IsText, IsEnd, IsAccessible, count_of, address_of, bytes_of}
 use Rattle.z_deck.specs.Reading.{entry_of, covers, is_text, byte_on, byte_from, over}
 use Rattle.z_deck.specs.declared.card.CardType.{CardType}
 use Rattle.z_deck.specs.declared.card.CardType.TheVariants.{Section, Text, End, Relocation, Symbol}
 use Rattle.deck_laws.specs.Alike.{AreAlike, AllAlike}
+
+-- a card that is no text puts no byte
+pub none_on : (origin address : ℕ) (card : List ℕ) → is_text (type_of card) ≡ false
+    → byte_on origin card address ≡ None
+unfolding byte_on
+none_on origin address card is = ap (λ b. if b && covers (address_of origin card) (bytes_of card) address
+    then Some (slice_index (bytes_of card) (address - address_of origin card)) else None) is
 
 module _ (card other : List ℕ) (alike : AreAlike card other) where
   type_same : type_of other ≡ type_of card
@@ -36,13 +43,8 @@ module _ (card other : List ℕ) (alike : AreAlike card other) where
     -- ---- bytes
 
     module _ (address : ℕ) where
-      none_on : (c : List ℕ) → is_text (type_of c) ≡ false → byte_on origin c address ≡ None
-      unfolding byte_on
-      none_on c is = ap (λ b. if b && covers (address_of origin c) (bytes_of c) address
-          then Some (slice_index (bytes_of c) (address - address_of origin c)) else None) is
-
       none_both : is_text (type_of card) ≡ false → byte_on origin other address ≡ byte_on origin card address
-      none_both is = none_on other (ap is_text type_same ∙ is) ∙ sym (none_on card is)
+      none_both is = none_on origin address other (ap is_text type_same ∙ is) ∙ sym (none_on origin address card is)
 
       some_both : type_of card ≡ Some Text → byte_on origin other address ≡ byte_on origin card address
       unfolding byte_on
@@ -93,7 +95,8 @@ module _ (card other : List ℕ) (alike : AreAlike card other) where
 
 -- ---- all cards
 
-all_bytes : (origin address : ℕ) (cards others : List (List ℕ)) → AllAlike cards others
+-- they put the same bytes
+pub all_bytes : (origin address : ℕ) (cards others : List (List ℕ)) → AllAlike cards others
     → byte_from origin others address ≡ byte_from origin cards address
 all_bytes origin address [] [] alike = refl
 all_bytes origin address [] (o ∷ os) alike = absurd alike

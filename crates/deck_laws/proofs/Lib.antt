@@ -5,3 +5,6 @@ pub mod Data
 pub mod Places
 pub mod Whole
 pub mod Alike
+pub mod Columns
+pub mod Apart
+pub mod Pieces

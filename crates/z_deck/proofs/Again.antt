@@ -28,19 +28,19 @@ use Rattle.z_deck.proofs.Written.{text_parts, first_low}
 
 -- ---- the section, and the end
 
-section_size : length section_card ≡ 80
+pub section_size : length section_card ≡ 80
 unfolding section_card
 section_size = refl
 
-section_type : type_of section_card ≡ Some Section
+pub section_type : type_of section_card ≡ Some Section
 unfolding section_card type_named
 section_type = refl
 
-end_size : (entry : ℕ) → length (end_card entry) ≡ 80
+pub end_size : (entry : ℕ) → length (end_card entry) ≡ 80
 unfolding end_card
 end_size entry = refl
 
-end_type : (entry : ℕ) → type_of (end_card entry) ≡ Some End
+pub end_type : (entry : ℕ) → type_of (end_card entry) ≡ Some End
 unfolding end_card type_named
 end_type entry = refl
 
@@ -49,7 +49,7 @@ not_blank : (entry : ℕ) → entry < 1048576 → bytes_eq (big_bytes 3 entry) n
 not_blank entry low = ap (λ b. b && bytes_eq (big_bytes 2 entry) (64 ∷ 64 ∷ [])) (ne_eqb (entry / 65536 % 256) 64
     (λ e. omega arith))
 
-end_entry : (entry : ℕ) → entry < 1048576 → entry_of 0 (end_card entry) ≡ Some entry
+pub end_entry : (entry : ℕ) → entry < 1048576 → entry_of 0 (end_card entry) ≡ Some entry
 unfolding end_card
 end_entry entry low =
     let number : big_number 3 (big_bytes 3 entry ++ []) ≡ entry =
@@ -59,7 +59,7 @@ end_entry entry low =
 
 -- ---- texts
 
-text_type : (address : ℕ) (bytes : List ℕ) → type_of (text_card address bytes) ≡ Some Text
+pub text_type : (address : ℕ) (bytes : List ℕ) → type_of (text_card address bytes) ≡ Some Text
 unfolding text_card type_named
 text_type address bytes = refl
 
@@ -67,7 +67,7 @@ head_size : (a n : ℕ) → length (text_head a n) ≡ 16
 unfolding text_head
 head_size a n = refl
 
-text_size : (address : ℕ) (bytes : List ℕ) → length bytes ≤ 56 → length (text_card address bytes) ≡ 80
+pub text_size : (address : ℕ) (bytes : List ℕ) → length bytes ≤ 56 → length (text_card address bytes) ≡ 80
 text_size address bytes few =
     ap length (text_parts address bytes)
     ∙ omega (
@@ -79,11 +79,11 @@ text_size address bytes few =
       length-replicate {A = ℕ} 64 64,
     )
 
-text_count : (address : ℕ) (bytes : List ℕ) → length bytes ≤ 56 → count_of (text_card address bytes) ≡ length bytes
+pub text_count : (address : ℕ) (bytes : List ℕ) → length bytes ≤ 56 → count_of (text_card address bytes) ≡ length bytes
 unfolding text_card
 text_count address bytes few = big_number-reads_back 2 (length bytes) [] (omega arith)
 
-text_address : (address : ℕ) (bytes : List ℕ) → address < 16777216 → address_of 0 (text_card address bytes) ≡ address
+pub text_address : (address : ℕ) (bytes : List ℕ) → address < 16777216 → address_of 0 (text_card address bytes) ≡ address
 unfolding text_card
 text_address address bytes low =
     let number : big_number 3 (big_bytes 3 address ++ []) ≡ address =
@@ -97,7 +97,7 @@ text_behind address bytes =
     ∙ drop_at (text_head address (length bytes)) (bytes ++ drop (length bytes) (replicate 64 64)) 16
     (head_size address (length bytes))
 
-text_says : (address : ℕ) (bytes : List ℕ) → length bytes ≤ 56 → bytes_of (text_card address bytes) ≡ bytes
+pub text_says : (address : ℕ) (bytes : List ℕ) → length bytes ≤ 56 → bytes_of (text_card address bytes) ≡ bytes
 text_says address bytes few =
     ap₂ (λ (n : ℕ) (s : List ℕ). take n s) (text_count address bytes few) (text_behind address bytes)
     ∙ take_at bytes (drop (length bytes) (replicate 64 64)) (length bytes) refl
@@ -105,15 +105,15 @@ text_says address bytes few =
 -- ---- pieces of storage
 
 module _ (storage : List ℕ) (size : length storage ≡ 1048576) where
-  piece_size : (i : ℕ) → length (piece_at storage i) ≡ min 56 (1048576 - (8192 + 56 * i))
+  pub piece_size : (i : ℕ) → length (piece_at storage i) ≡ min 56 (1048576 - (8192 + 56 * i))
   piece_size i =
       length-take 56 (drop (8192 + 56 * i) storage)
       ∙ ap (min 56) (length-drop (8192 + 56 * i) storage ∙ ap (λ n. n - (8192 + 56 * i)) size)
 
-  piece_few : (i : ℕ) → length (piece_at storage i) ≤ 56
+  pub piece_few : (i : ℕ) → length (piece_at storage i) ≤ 56
   piece_few i = omega (arith, piece_size i)
 
-  piece_in : (i address : ℕ) → 8192 + 56 * i ≤ address → address < 8192 + 56 * i + 56
+  pub piece_in : (i address : ℕ) → 8192 + 56 * i ≤ address → address < 8192 + 56 * i + 56
       → slice_index (piece_at storage i) (address - (8192 + 56 * i)) ≡ slice_index storage address
   piece_in i address low high =
       let place : 8192 + 56 * i + (address - (8192 + 56 * i)) ≡ address = omega arith in
