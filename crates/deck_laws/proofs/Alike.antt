@@ -44,7 +44,8 @@ module _ (card other : List ℕ) (alike : AreAlike card other) where
 
     module _ (address : ℕ) where
       none_both : is_text (type_of card) ≡ false → byte_on origin other address ≡ byte_on origin card address
-      none_both is = none_on origin address other (ap is_text type_same ∙ is) ∙ sym (none_on origin address card is)
+      none_both is =
+          none_on origin address other (ap is_text type_same ∙ is) ∙ sym (none_on origin address card is)
 
       some_both : type_of card ≡ Some Text → byte_on origin other address ≡ byte_on origin card address
       unfolding byte_on

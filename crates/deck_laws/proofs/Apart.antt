@@ -1,6 +1,7 @@
 -- Decks whose texts name the same places, none over another, read alike only where the texts are alike.
 use Rattle.std.proofs.Common.{◌≡◌, ℕ, suc, ◌+◌, ◌-◌, ◌<◌, Bool, true, false, ◌&&◌, List, [], ◌∷◌}
-use Rattle.std.proofs.Common.{◌++◌, length, Option, Some, None, refl, sym, ap, ap₂, ◌∙◌, subst, arith, inl, inr}
+use Rattle.std.proofs.Common.{◌++◌, length, Option, Some, None, refl, sym, ap, ap₂, ◌∙◌, subst, arith, inl}
+use Rattle.std.proofs.Common.{inr}
 use Rattle.std.proofs.Common.{slice_index, lt-ltb, le-leb, append_assoc, cond}
 use Rattle.std.specs.Prelude.{All, AllPairs, if◌then◌else◌, unwrap_or, nat_lt, nat_le, ◌↔◌}
 use Rattle.std.specs.List.{concat}
@@ -13,7 +14,8 @@ use Rattle.z_deck.proofs.Loaded.{text_bytes, length_bytes}
 use Rattle.deck_laws.specs.Alike.{AreAlike, AllAlike}
 use Rattle.deck_laws.specs.Texts.{AreBytes, AreApart, NamesSamePlace, NameSamePlaces, texts_in}
 use Rattle.deck_laws.proofs.Alike.{none_on, all_bytes, enters_same}
-use Rattle.deck_laws.proofs.Columns.{front_bytes, behind_bytes, column_bytes, same_address, same_count, same_entry}
+use Rattle.deck_laws.proofs.Columns.{front_bytes, behind_bytes, column_bytes, same_address, same_count}
+use Rattle.deck_laws.proofs.Columns.{same_entry}
 use Rattle.deck_laws.proofs.Columns.{text_alike, end_alike}
 
 -- a text of bytes, on a whole card
@@ -54,9 +56,11 @@ texts_are origin [] last parts small = All-nil (IsTextOfBytes origin)
 texts_are origin (c ∷ cs) last parts small =
     let whole = subst AreBytes (append_assoc c (concat cs) last) small in
     by whole (is_text (type_of c)) refl (All-head (IsPart origin) c cs parts)
-    (texts_are origin cs last (All-tail (IsPart origin) c cs parts) (behind_bytes c (concat cs ++ last) whole))
+    (texts_are origin cs last (All-tail (IsPart origin) c cs parts)
+    (behind_bytes c (concat cs ++ last) whole))
   where
-    one : AreBytes (c ++ (concat cs ++ last)) → IsPart origin c → is_text (type_of c) ≡ true → IsTextOfBytes origin c
+    one : AreBytes (c ++ (concat cs ++ last)) → IsPart origin c → is_text (type_of c) ≡ true
+        → IsTextOfBytes origin c
     one whole (size, inl section) is = let never = sym (ap is_text section) ∙ is in cc
     one whole (size, inr text) is = record {
       size = size;
@@ -88,7 +92,8 @@ module _ (origin : ℕ) where
       → byte_on origin card address ≡ Some (slice_index (bytes_of card) (address - address_of origin card))
   byte_there card address t is =
       text_bytes origin card address t.text.type
-      ∙ ap (λ (b : Bool). if b then Some (slice_index (bytes_of card) (address - address_of origin card)) else None)
+      ∙ ap (λ (b : Bool). if b
+      then Some (slice_index (bytes_of card) (address - address_of origin card)) else None)
       is
 
   -- and none of another
@@ -96,7 +101,8 @@ module _ (origin : ℕ) where
       → byte_on origin card address ≡ None
   none_there card address t is =
       text_bytes origin card address t.text.type
-      ∙ ap (λ (b : Bool). if b then Some (slice_index (bytes_of card) (address - address_of origin card)) else None)
+      ∙ ap (λ (b : Bool). if b
+      then Some (slice_index (bytes_of card) (address - address_of origin card)) else None)
       is
 
   -- it has as many bytes as its count says
@@ -104,7 +110,8 @@ module _ (origin : ℕ) where
   bytes_count card t = length_bytes card t.size t.text.few
 
   -- an address in a text's range
-  pub has_in : (card : List ℕ) (k : ℕ) → k < length (bytes_of card) → has card (address_of origin card + k) ≡ true
+  pub has_in : (card : List ℕ) (k : ℕ) → k < length (bytes_of card)
+      → has card (address_of origin card + k) ≡ true
   has_in card k low =
       ap₂ (λ (b c : Bool). b && c)
       (le-leb (address_of origin card) (address_of origin card + k) (omega arith))
@@ -196,7 +203,8 @@ module _ (origin : ℕ) where
     -- so they are alike
     one_alike : AreAlike c o
     one_alike = text_alike c o t.size u.size t.text.type u.text.type
-        (same_address o c u.size t.size (column_bytes 3 5 o u.small) (column_bytes 3 5 c t.small) place.address)
+        (same_address o c u.size t.size (column_bytes 3 5 o u.small) (column_bytes 3 5 c t.small)
+        place.address)
         (same_count o c u.size t.size (column_bytes 2 10 o u.small) (column_bytes 2 10 c t.small) place.count)
         bytes_same
 
@@ -220,7 +228,8 @@ module _ (origin : ℕ) where
             ∙ ap (λ (a : Option ℕ). unwrap_or a 0) (over_none (byte_from origin os address)))
 
   -- the first text is apart from the others
-  apart_head : (c : List ℕ) (cs : List (List ℕ)) → AllPairs (AreApart origin) (c ∷ cs) → All (AreApart origin c) cs
+  apart_head : (c : List ℕ) (cs : List (List ℕ)) → AllPairs (AreApart origin) (c ∷ cs)
+      → All (AreApart origin c) cs
   apart_head c cs apart = λ j d within. apart 0 (suc j) d (omega arith) (omega arith)
 
   -- and these are from one another

@@ -9,7 +9,8 @@ use Rattle.std.proofs.lemmas.List.{ext_get_or, get_or-take, get_or-drop, get_or_
 use Rattle.std.proofs.lemmas.List.{get_or_append_left, get_or-append_right}
 use Rattle.std.proofs.lemmas.Slice.Eq.{bytes_eq-Decides}
 use Rattle.byteorder.specs.Endian.{big_number}
-use Rattle.z_deck.specs.Columns.{at, mark, mark_field, type_field, address_field, count_field, name_of, type_of}
+use Rattle.z_deck.specs.Columns.{at, mark, mark_field, type_field, address_field, count_field, name_of}
+use Rattle.z_deck.specs.Columns.{type_of}
 use Rattle.z_deck.specs.Columns.{type_named, no_entry, number_at}
 use Rattle.z_deck.specs.Reading.{address_of, count_of, bytes_of, entry_of}
 use Rattle.z_deck.specs.declared.card.CardType.{CardType}
@@ -24,8 +25,10 @@ pub front_bytes : (xs ys : List ℕ) → AreBytes (xs ++ ys) → AreBytes xs
 front_bytes xs ys small k = by (nat_lt k (length xs)) refl
   where
     by : (b : Bool) → nat_lt k (length xs) ≡ b → slice_index xs k < 256
-    by true is = subst (λ (n : ℕ). n < 256) (get_or_append_left xs ys 0 k (ltb-true k (length xs) is)) (small k)
-    by false is = subst (λ (n : ℕ). n < 256) (sym (get_or_past xs k 0 (ltb-false k (length xs) is))) (omega arith)
+    by true is = subst (λ (n : ℕ). n < 256)
+        (get_or_append_left xs ys 0 k (ltb-true k (length xs) is)) (small k)
+    by false is = subst (λ (n : ℕ). n < 256)
+        (sym (get_or_past xs k 0 (ltb-false k (length xs) is))) (omega arith)
 
 -- and so has what follows
 pub behind_bytes : (xs ys : List ℕ) → AreBytes (xs ++ ys) → AreBytes ys
@@ -46,7 +49,8 @@ column_bytes size from card small k = by (nat_lt k size) refl
     by false is =
         let high : size ≤ k = ltb-false k size is in
         subst (λ (n : ℕ). n < 256)
-        (sym (get_or_past (take size (drop from card)) k 0 (omega (arith, length-take size (drop from card)))))
+        (sym (get_or_past (take size (drop from card)) k 0
+        (omega (arith, length-take size (drop from card)))))
         (omega arith)
 
 -- ---- numbers
@@ -100,7 +104,8 @@ same_entry origin card other n m small smalls =
   where
     by : (b c : Bool) → bytes_eq (at address_field card) no_entry ≡ b
         → bytes_eq (at address_field other) no_entry ≡ c
-        → (if b then None else Some (address_of origin card)) ≡ (if c then None else Some (address_of origin other))
+        → (if b then None else Some (address_of origin card))
+        ≡ (if c then None else Some (address_of origin other))
         → at address_field card ≡ at address_field other
     by true true p q e = (bytes_eq-Decides (at address_field card) no_entry).0 p
         ∙ sym ((bytes_eq-Decides (at address_field other) no_entry).0 q)
@@ -115,8 +120,8 @@ same_entry origin card other n m small smalls =
 -- a type has its name
 named : (name : List ℕ) (t : CardType) → type_named name ≡ Some t → name ≡ name_of t
 unfolding type_named
-named name t = by (bytes_eq name (name_of Section)) (bytes_eq name (name_of Text)) (bytes_eq name (name_of End))
-    (bytes_eq name (name_of Relocation)) (bytes_eq name (name_of Symbol)) refl refl refl refl refl
+named name t = by (bytes_eq name (name_of Section)) (bytes_eq name (name_of Text))
+    (bytes_eq name (name_of End)) (bytes_eq name (name_of Relocation)) (bytes_eq name (name_of Symbol)) refl refl refl refl refl
   where
     is : (s : CardType) → bytes_eq name (name_of s) ≡ true → s ≡ t → name ≡ name_of t
     is s e same = (bytes_eq-Decides name (name_of s)).0 e ∙ ap name_of same

@@ -1,6 +1,8 @@
 -- A deck of the shape in which decks are written is told by its storage and entry, column by column.
-use Rattle.std.proofs.Common.{◌≡◌, ℕ, zero, suc, ◌+◌, ◌-◌, ◌*◌, ◌<◌, ◌≤◌, Bool, true, false, ◌&&◌, List, [], ◌∷◌}
-use Rattle.std.proofs.Common.{◌++◌, length, Option, Some, None, refl, sym, ap, ap₂, ◌∙◌, subst, arith, min, add-zero}
+use Rattle.std.proofs.Common.{◌≡◌, ℕ, zero, suc, ◌+◌, ◌-◌, ◌*◌, ◌<◌, ◌≤◌, Bool, true, false, ◌&&◌, List, []}
+use Rattle.std.proofs.Common.{◌∷◌}
+use Rattle.std.proofs.Common.{◌++◌, length, Option, Some, None, refl, sym, ap, ap₂, ◌∙◌, subst, arith, min}
+use Rattle.std.proofs.Common.{add-zero}
 use Rattle.std.proofs.Common.{slice_index, le-leb, le-ltb, append_assoc, cond}
 use Rattle.std.specs.Prelude.{All, if◌then◌else◌, unwrap_or, nat_lt}
 use Rattle.std.specs.List.{concat}
@@ -13,16 +15,19 @@ use Rattle.tx_journal.specs.Image.{IsImage}
 use Rattle.z_deck.specs.Columns.{at, address_field, count_field, number_at}
 use Rattle.z_deck.specs.Reading.{IsDeck, IsPart, address_of, bytes_of, count_of, byte_from}
 use Rattle.z_deck.specs.Reading.{over, is_text}
-use Rattle.z_deck.specs.Writing.{section_card, text_card, end_card, is_zero, piece_address, piece_at, cards_of_piece}
+use Rattle.z_deck.specs.Writing.{section_card, text_card, end_card, is_zero, piece_address, piece_at}
+use Rattle.z_deck.specs.Writing.{cards_of_piece}
 use Rattle.z_deck.specs.Writing.{text_cards, first_entry, deck_of_image}
-use Rattle.z_deck.proofs.Again.{section_size, section_type, end_size, end_type, end_entry, text_type, text_size}
+use Rattle.z_deck.proofs.Again.{section_size, section_type, end_size, end_type, end_entry, text_type}
+use Rattle.z_deck.proofs.Again.{text_size}
 use Rattle.z_deck.proofs.Again.{text_count, text_address, text_says, piece_few, piece_in}
 use Rattle.z_deck.proofs.Again.{piece_size as size_of_piece}
 use Rattle.z_deck.proofs.Written.{first_low}
 use Rattle.deck_laws.specs.Alike.{AreAlike, AllAlike}
 use Rattle.deck_laws.specs.Texts.{AreBytes, texts_in}
 use Rattle.deck_laws.specs.Written.{IsPiece, ArePieces, HasWrittenShape, written_cards}
-use Rattle.deck_laws.proofs.Columns.{column_bytes, same_address, same_count, same_entry, text_alike, end_alike}
+use Rattle.deck_laws.proofs.Columns.{column_bytes, same_address, same_count, same_entry, text_alike}
+use Rattle.deck_laws.proofs.Columns.{end_alike}
 use Rattle.deck_laws.proofs.Columns.{section_alike}
 use Rattle.deck_laws.proofs.Apart.{IsTextOfBytes, texts_put, texts_are, last_bytes, byte_there, none_there}
 use Rattle.deck_laws.proofs.Apart.{bytes_count, has_in, in_storage}
@@ -140,7 +145,8 @@ module _ (storage : List ℕ) (size : length storage ≡ 1048576) where
   piece_bytes i c cs p rest t ts holds = ext_get_or 0 (bytes_of c) (piece_at storage i)
       (count_in i c p t ∙ sym (size_of_piece storage size i)) place
     where
-      place : (k : ℕ) → k < length (bytes_of c) → slice_index (bytes_of c) k ≡ slice_index (piece_at storage i) k
+      place : (k : ℕ) → k < length (bytes_of c)
+          → slice_index (bytes_of c) k ≡ slice_index (piece_at storage i) k
       place k low =
           let first = first_of i c p in
           let few = count_in i c p t in
@@ -186,9 +192,10 @@ module _ (storage : List ℕ) (size : length storage ≡ 1048576) where
       p.count ∙ sym (size_of_piece storage size i)
       ∙ sym (text_count (piece_address i) bytes (piece_few storage size i)) in
       text_alike card c whole t.size (text_type (piece_address i) bytes) p.type
-      (same_address c card t.size whole (column_bytes 3 5 c t.small) (text_address_bytes (piece_address i) bytes)
-      address)
-      (same_count c card t.size whole (column_bytes 2 10 c t.small) (text_count_bytes (piece_address i) bytes) count)
+      (same_address c card t.size whole (column_bytes 3 5 c t.small)
+      (text_address_bytes (piece_address i) bytes) address)
+      (same_count c card t.size whole (column_bytes 2 10 c t.small)
+      (text_count_bytes (piece_address i) bytes) count)
       (is ∙ sym (text_says (piece_address i) bytes (piece_few storage size i)))
 
   -- ---- all texts
@@ -238,11 +245,12 @@ module _ (storage : List ℕ) (size : length storage ≡ 1048576) where
   no_more (c ∷ cs) (j, from, p, rest) ts =
       let few = count_in j c p (All-head (IsTextOfBytes 0) c cs ts) in
       let none : length (bytes_of c) ≡ 0 = omega (arith, few, from) in
-      let zeros : is_zero (bytes_of c) ≡ true = zeros_alone (bytes_of c) (λ k low. absurd (omega (arith, none, low))) in
+      let zeros : is_zero (bytes_of c) ≡ true =
+      zeros_alone (bytes_of c) (λ k low. absurd (omega (arith, none, low))) in
       let never = sym p.some ∙ zeros in cc
 
-  module _ (i : ℕ) (few : i < 18579) (after : List (List ℕ)) (rest : (cards : List (List ℕ)) → ArePieces (suc i) cards
-      → All (IsTextOfBytes 0) cards → HoldsFrom (8192 + 56 * suc i) cards → AllAlike after cards) where
+  module _ (i : ℕ) (few : i < 18579) (after : List (List ℕ))
+      (rest : (cards : List (List ℕ)) → ArePieces (suc i) cards → All (IsTextOfBytes 0) cards → HoldsFrom (8192 + 56 * suc i) cards → AllAlike after cards) where
     -- the first text is that of this piece where the piece is not all zero
     first_alike : (cards : List (List ℕ)) → ArePieces i cards → All (IsTextOfBytes 0) cards
         → HoldsFrom (8192 + 56 * i) cards → is_zero (piece_at storage i) ≡ false
@@ -266,8 +274,8 @@ module _ (storage : List ℕ) (size : length storage ≡ 1048576) where
             )
 
     -- this piece and those behind it, by whether it is all zero
-    piece_and_rest : (b : Bool) → is_zero (piece_at storage i) ≡ b → (cards : List (List ℕ)) → ArePieces i cards
-        → All (IsTextOfBytes 0) cards → HoldsFrom (8192 + 56 * i) cards
+    piece_and_rest : (b : Bool) → is_zero (piece_at storage i) ≡ b → (cards : List (List ℕ))
+        → ArePieces i cards → All (IsTextOfBytes 0) cards → HoldsFrom (8192 + 56 * i) cards
         → AllAlike ((if b then [] else text_card (piece_address i) (piece_at storage i) ∷ []) ++ after) cards
     piece_and_rest true is cards pieces ts holds =
         rest cards (later i cards pieces ts holds is) ts (behind i cards holds)

@@ -36,10 +36,10 @@ pub fn texts_tell_decks_apart()
         ↔ (AllAlike (texts_in deck.cards) (texts_in twin.cards) × AreAlike deck.last twin.last) }
 {}
 
-/// What is written of an image has the written shape: a section, and texts of pieces of 56 bytes that are not
-/// all zero, in rising order (`cards`, `shape`). No other deck of bytes of this shape, at origin 0, is read as
-/// the image's storage and the entry of its CPU 0: its cards are alike to the written ones, one by one (`one`).
-/// Where sections stand elsewhere or nowhere, its texts and its card of the end are (`texts`).
+/// What is written of an image has the written shape: a section, and texts of pieces of 56 bytes that are
+/// not all zero, in rising order (`cards`, `shape`). No other deck of bytes of this shape, at origin 0, is
+/// read as the image's storage and the entry of its CPU 0: its cards are alike to the written ones, one by
+/// one (`one`). Where sections stand elsewhere or nowhere, its texts and its card of the end are (`texts`).
 pub fn one_deck_of_the_written_shape()
     ensures cards { (image : Content)
         → deck_of_image image ≡ concat (written_cards image) ++ end_card (first_entry image.cpus) }
