@@ -121,7 +121,8 @@ same_entry origin card other n m small smalls =
 named : (name : List ℕ) (t : CardType) → type_named name ≡ Some t → name ≡ name_of t
 unfolding type_named
 named name t = by (bytes_eq name (name_of Section)) (bytes_eq name (name_of Text))
-    (bytes_eq name (name_of End)) (bytes_eq name (name_of Relocation)) (bytes_eq name (name_of Symbol)) refl refl refl refl refl
+    (bytes_eq name (name_of End)) (bytes_eq name (name_of Relocation)) (bytes_eq name (name_of Symbol))
+    refl refl refl refl refl
   where
     is : (s : CardType) → bytes_eq name (name_of s) ≡ true → s ≡ t → name ≡ name_of t
     is s e same = (bytes_eq-Decides name (name_of s)).0 e ∙ ap name_of same

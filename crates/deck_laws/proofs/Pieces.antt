@@ -3,18 +3,19 @@ use Rattle.std.proofs.Common.{◌≡◌, ℕ, zero, suc, ◌+◌, ◌-◌, ◌*�
 use Rattle.std.proofs.Common.{◌∷◌}
 use Rattle.std.proofs.Common.{◌++◌, length, Option, Some, None, refl, sym, ap, ap₂, ◌∙◌, subst, arith, min}
 use Rattle.std.proofs.Common.{add-zero}
-use Rattle.std.proofs.Common.{slice_index, le-leb, le-ltb, append_assoc, cond}
-use Rattle.std.specs.Prelude.{All, if◌then◌else◌, unwrap_or, nat_lt}
+use Rattle.std.proofs.Common.{slice_index, le-leb, le-ltb, append_assoc, cond, drop}
+use Rattle.std.specs.Prelude.{All, AllPairs, if◌then◌else◌, unwrap_or, nat_lt, nat_le}
 use Rattle.std.specs.List.{concat}
-use Rattle.std.proofs.lemmas.Bool.{lt-leb, ltb-true, ltb-false, eq-eqb}
-use Rattle.std.proofs.lemmas.List.{ext_get_or, append-nil}
-use Rattle.std.proofs.lemmas.List.Elements.{All-head, All-tail}
+use Rattle.std.proofs.lemmas.Bool.{lt-leb, ltb-true, ltb-false, leb-true, eq-eqb, and_parts}
+use Rattle.std.proofs.lemmas.List.{ext_get_or, append-nil, length-take}
+use Rattle.std.proofs.lemmas.List.Elements.{All-nil, All-head, All-tail, All-cons}
+use Rattle.std.proofs.lemmas.List.Kept.{AllPairs-cons}
 use Rattle.byteorder.specs.Endian.{big_bytes}
 use Rattle.tx_journal.specs.Content.{Content}
 use Rattle.tx_journal.specs.Image.{IsImage}
 use Rattle.z_deck.specs.Columns.{at, address_field, count_field, number_at}
 use Rattle.z_deck.specs.Reading.{IsDeck, IsPart, address_of, bytes_of, count_of, byte_from}
-use Rattle.z_deck.specs.Reading.{over, is_text}
+use Rattle.z_deck.specs.Reading.{over, is_text, covers}
 use Rattle.z_deck.specs.Writing.{section_card, text_card, end_card, is_zero, piece_address, piece_at}
 use Rattle.z_deck.specs.Writing.{cards_of_piece}
 use Rattle.z_deck.specs.Writing.{text_cards, first_entry, deck_of_image}
@@ -24,7 +25,7 @@ use Rattle.z_deck.proofs.Again.{text_count, text_address, text_says, piece_few, 
 use Rattle.z_deck.proofs.Again.{piece_size as size_of_piece}
 use Rattle.z_deck.proofs.Written.{first_low}
 use Rattle.deck_laws.specs.Alike.{AreAlike, AllAlike}
-use Rattle.deck_laws.specs.Texts.{AreBytes, texts_in}
+use Rattle.deck_laws.specs.Texts.{AreApart, AreBytes, texts_in}
 use Rattle.deck_laws.specs.Written.{IsPiece, ArePieces, HasWrittenShape, written_cards}
 use Rattle.deck_laws.proofs.Columns.{column_bytes, same_address, same_count, same_entry, text_alike}
 use Rattle.deck_laws.proofs.Columns.{end_alike}
@@ -250,7 +251,8 @@ module _ (storage : List ℕ) (size : length storage ≡ 1048576) where
       let never = sym p.some ∙ zeros in cc
 
   module _ (i : ℕ) (few : i < 18579) (after : List (List ℕ))
-      (rest : (cards : List (List ℕ)) → ArePieces (suc i) cards → All (IsTextOfBytes 0) cards → HoldsFrom (8192 + 56 * suc i) cards → AllAlike after cards) where
+      (rest : (cards : List (List ℕ)) → ArePieces (suc i) cards → All (IsTextOfBytes 0) cards
+      → HoldsFrom (8192 + 56 * suc i) cards → AllAlike after cards) where
     -- the first text is that of this piece where the piece is not all zero
     first_alike : (cards : List (List ℕ)) → ArePieces i cards → All (IsTextOfBytes 0) cards
         → HoldsFrom (8192 + 56 * i) cards → is_zero (piece_at storage i) ≡ false
@@ -362,6 +364,38 @@ shape_kept cards s =
     ∙ ap (λ (b : Bool). cond b (s.section ∷ texts_in s.texts) (texts_in s.texts)) (ap is_text s.type)
     ∙ pieces_kept 0 s.texts s.pieces
 
+-- ---- texts of pieces lie apart
+
+-- a text of a piece has no address behind it
+within_piece : (j : ℕ) (c : List ℕ) (address : ℕ) → IsPiece j c
+    → covers (address_of 0 c) (bytes_of c) address ≡ true
+    → (8192 + 56 * j ≤ address) × (address < 8192 + 56 * j + 56)
+within_piece j c address p is =
+    let tests = and_parts (nat_le (address_of 0 c) address) (nat_lt address (address_of 0 c + length (bytes_of c))) is in
+    let from : address_of 0 c ≤ address = leb-true (address_of 0 c) address tests.0 in
+    let below : address < address_of 0 c + length (bytes_of c) =
+    ltb-true address (address_of 0 c + length (bytes_of c)) tests.1 in
+    let first : address_of 0 c ≡ 8192 + 56 * j = add-zero (number_at address_field c) ∙ p.address in
+    let most = length-take (count_of c) (drop 16 c) in
+    let count = p.count in (omega (arith, from, first), omega (arith, below, first, most, count))
+
+-- a text of a piece is apart from those of later pieces
+later_apart : (j : ℕ) (c : List ℕ) → IsPiece j c → (k : ℕ) → j < k → (cards : List (List ℕ)) → ArePieces k cards
+    → All (AreApart 0 c) cards
+later_apart j c p k after [] pieces = All-nil (AreApart 0 c)
+later_apart j c p k after (d ∷ ds) (m, from, q, rest) =
+    All-cons (AreApart 0 c) d ds
+    (λ address here there.
+    let a = within_piece j c address p here in
+    let b = within_piece m d address q there in absurd (omega (arith, a.1, b.0, from, after)))
+    (later_apart j c p (suc m) (omega (arith, from, after)) ds rest)
+
+-- so no two of them lie over one another
+pieces_apart : (i : ℕ) (cards : List (List ℕ)) → ArePieces i cards → AllPairs (AreApart 0) cards
+pieces_apart i [] pieces = λ j k d lt within. absurd (omega arith)
+pieces_apart i (c ∷ cs) (j, from, p, rest) =
+    AllPairs-cons (AreApart 0) c cs (later_apart j c p (suc j) (omega arith) cs rest) (pieces_apart (suc j) cs rest)
+
 -- ---- decks of images
 
 -- the deck of an image is these cards
@@ -379,6 +413,13 @@ written_shape image is = record {
   type = section_type;
   pieces = written_pieces image.storage is.size;
 }
+
+-- and none of their texts lies over another
+pub written_apart : (image : Content) → IsImage image → AllPairs (AreApart 0) (texts_in (written_cards image))
+written_apart image is =
+    let shape = written_shape image is in
+    subst (AllPairs (AreApart 0)) (sym (shape_kept (written_cards image) shape))
+    (pieces_apart 0 shape.texts shape.pieces)
 
 module _ (image : Content) (is : IsImage image) (bytes : List ℕ)
     (deck : IsDeck bytes 0 image.storage (Some (first_entry image.cpus))) (small : AreBytes bytes) where

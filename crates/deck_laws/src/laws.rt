@@ -37,13 +37,16 @@ pub fn texts_tell_decks_apart()
 {}
 
 /// What is written of an image has the written shape: a section, and texts of pieces of 56 bytes that are
-/// not all zero, in rising order (`cards`, `shape`). No other deck of bytes of this shape, at origin 0, is
-/// read as the image's storage and the entry of its CPU 0: its cards are alike to the written ones, one by
-/// one (`one`). Where sections stand elsewhere or nowhere, its texts and its card of the end are (`texts`).
+/// not all zero, in rising order (`cards`, `shape`), so no text lies over another (`apart`). No other deck of
+/// bytes of this shape, at origin 0, is read as the image's storage and the entry of its CPU 0: its cards are
+/// alike to the written ones, one by one (`one`). Where sections stand elsewhere or nowhere, its texts and
+/// its card of the end are (`texts`).
 pub fn one_deck_of_the_written_shape()
     ensures cards { (image : Content)
         → deck_of_image image ≡ concat (written_cards image) ++ end_card (first_entry image.cpus) }
     ensures shape { (image : Content) → IsImage image → HasWrittenShape (written_cards image) }
+    ensures apart { (image : Content) → IsImage image
+        → AllPairs (AreApart 0) (texts_in (written_cards image)) }
     ensures one { (image : Content) → IsImage image → (bytes : List ℕ)
         → (deck : IsDeck bytes 0 image.storage (Some (first_entry image.cpus))) → AreBytes bytes
         → HasWrittenShape deck.cards
