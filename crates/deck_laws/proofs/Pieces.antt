@@ -371,7 +371,8 @@ within_piece : (j : ℕ) (c : List ℕ) (address : ℕ) → IsPiece j c
     → covers (address_of 0 c) (bytes_of c) address ≡ true
     → (8192 + 56 * j ≤ address) × (address < 8192 + 56 * j + 56)
 within_piece j c address p is =
-    let tests = and_parts (nat_le (address_of 0 c) address) (nat_lt address (address_of 0 c + length (bytes_of c))) is in
+    let tests = and_parts (nat_le (address_of 0 c) address)
+    (nat_lt address (address_of 0 c + length (bytes_of c))) is in
     let from : address_of 0 c ≤ address = leb-true (address_of 0 c) address tests.0 in
     let below : address < address_of 0 c + length (bytes_of c) =
     ltb-true address (address_of 0 c + length (bytes_of c)) tests.1 in
@@ -380,8 +381,8 @@ within_piece j c address p is =
     let count = p.count in (omega (arith, from, first), omega (arith, below, first, most, count))
 
 -- a text of a piece is apart from those of later pieces
-later_apart : (j : ℕ) (c : List ℕ) → IsPiece j c → (k : ℕ) → j < k → (cards : List (List ℕ)) → ArePieces k cards
-    → All (AreApart 0 c) cards
+later_apart : (j : ℕ) (c : List ℕ) → IsPiece j c → (k : ℕ) → j < k → (cards : List (List ℕ))
+    → ArePieces k cards → All (AreApart 0 c) cards
 later_apart j c p k after [] pieces = All-nil (AreApart 0 c)
 later_apart j c p k after (d ∷ ds) (m, from, q, rest) =
     All-cons (AreApart 0 c) d ds
@@ -394,7 +395,8 @@ later_apart j c p k after (d ∷ ds) (m, from, q, rest) =
 pieces_apart : (i : ℕ) (cards : List (List ℕ)) → ArePieces i cards → AllPairs (AreApart 0) cards
 pieces_apart i [] pieces = λ j k d lt within. absurd (omega arith)
 pieces_apart i (c ∷ cs) (j, from, p, rest) =
-    AllPairs-cons (AreApart 0) c cs (later_apart j c p (suc j) (omega arith) cs rest) (pieces_apart (suc j) cs rest)
+    AllPairs-cons (AreApart 0) c cs (later_apart j c p (suc j) (omega arith) cs rest)
+    (pieces_apart (suc j) cs rest)
 
 -- ---- decks of images
 
