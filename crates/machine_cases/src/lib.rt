@@ -2,8 +2,6 @@
 #![tactic(auto)]
 
 #[cfg(test)]
-mod heats;
-#[cfg(test)]
 mod reports;
 #[cfg(test)]
 mod schedules;
