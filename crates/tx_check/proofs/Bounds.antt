@@ -1,6 +1,6 @@
 -- How many lines there can be, and how great the number of a faulty line.
-use Rattle.std.proofs.Common.{◌≡◌, ◌∙◌, ap, sym, refl, subst, ℕ, suc, ◌+◌, ◌-◌, ◌<◌, ◌≤◌, arith, Bool, true, false}
-use Rattle.std.proofs.Common.{List, [], ◌∷◌, ◌++◌, length, drop, inl, inr}
+use Rattle.std.proofs.Common.{◌≡◌, ap, ℕ, suc, ◌+◌, ◌≤◌, arith, Bool, true, false}
+use Rattle.std.proofs.Common.{List, [], ◌∷◌, length, drop, inl, inr}
 use Rattle.std.specs.Prelude.{◌==◌, if◌then◌else◌}
 use Rattle.std.proofs.lemmas.List.{length-drop}
 use Rattle.tx_journal.specs.Content.{Content}
@@ -9,7 +9,7 @@ use Rattle.report_form.specs.declared.lines.Part.{Part}
 use Rattle.report_form.specs.Lines.{Faulty, Fit, rows_of}
 use Rattle.report_form.specs.Sheet.{IsFirstFault, FaultyAt, in_head, no_history, in_history, no_schedule, in_schedule}
 use Rattle.report_form.specs.Sheet.{head_parts, history_parts, schedule_parts}
-use Rattle.report_form.specs.Sheet.{too_many, last_of, history_at, schedule_at, length_of}
+use Rattle.report_form.specs.Sheet.{too_many, last_of, history_at, schedule_at}
 use Rattle.std.proofs.Common.{map}
 use denote.Ref.{Bor}
 use Rattle.report_form.proofs.Walks.{length_seen}

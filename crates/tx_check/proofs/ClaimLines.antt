@@ -1,18 +1,14 @@
 -- The lines of counts and of attempts, of their words.
-use Rattle.std.proofs.Common.{◌≡◌, ◌≢◌, ◌∙◌, ap, ap₂, sym, refl, subst, ℕ, List, [], ◌∷◌, ◌++◌, append_assoc, inl, inr}
+use Rattle.std.proofs.Common.{◌≡◌, ◌≢◌, ◌∙◌, ap, ap₂, sym, refl, ℕ, List, [], ◌∷◌, ◌++◌, append_assoc, inl, inr}
 use Rattle.std.specs.Prelude.{codes, Some, None}
 use Rattle.std.specs.Fmt.{decimal}
 use Rattle.report_form.specs.declared.words.Name.TheVariants as name
 use Rattle.report_form.specs.declared.rows.Row.TheVariants as row
-use Rattle.report_form.specs.Words.{name_text}
 use Rattle.report_form.specs.Spelling.{Spelled}
 use Rattle.report_form.specs.Rows.{IsRow, most, most_completed}
 use Rattle.report_form.specs.declared.words.Word.TheVariants.{Fixed, AtMost}
-use Rattle.report_text.specs.declared.processors.Counts.{Counts}
-use Rattle.report_text.specs.declared.processors.Attempt.{Attempt}
 use Rattle.report_text.specs.Digits.{labelled}
 use Rattle.report_text.specs.Processor.{counts_line, attempt_line, live_line}
-use Rattle.tx_check.specs.Claims.{Named, Numbered, Ends, IsLabelled, IsLabelledEnd}
 
 -- two labelled numbers more
 label_more : (label digits : List ℕ) (rest more : List ℕ) → rest ≡ more → label ++ (digits ++ rest) ≡ (label ++ digits) ++ more

@@ -1,5 +1,5 @@
 -- What a CPU can have, and what is told of it.
-use Rattle.std.proofs.Common.{◌≡◌, ◌≢◌, ◌∙◌, ap, ap₂, sym, refl, subst, ℕ, ◌+◌, ◌*◌, ◌<◌, ◌≤◌, arith, Bool, true, false}
+use Rattle.std.proofs.Common.{◌≡◌, ◌∙◌, ap, ap₂, sym, refl, subst, ℕ, ◌+◌, ◌<◌, ◌≤◌, arith, Bool, true}
 use Rattle.std.proofs.Common.{List, length, map, get_or, take, drop, [], Option, Some, None, ◌++◌, ◌∷◌, zero, suc}
 use Rattle.std.specs.Prelude.{is_none, ◌&&◌, slice_get}
 use Rattle.std.specs.List.{take-map, drop-map}
@@ -12,23 +12,18 @@ use Rattle.std.proofs.lemmas.Option.{slice_get_within, get_or_from_slice_get}
 use Rattle.tx_journal.specs.Content.{Content}
 use Rattle.tx_serial.specs.Apply.{may_act, is_running}
 use Rattle.tx_serial.specs.Flat.{FlatState, Pending, address_of}
-use Rattle.tx_serial.specs.Attempt.{Open}
 use Rattle.tx_serial.specs.Run.{run}
 use Rattle.z_regs.specs.Cpu.{Cpu}
 use Rattle.z_regs.specs.declared.image.RunState.{RunState}
 use Rattle.tx_flat.specs.Open.{IsOpen}
 use Rattle.report_form.specs.Sheet.{IsSheet, last_of}
 use Rattle.report_form.specs.declared.sheet.Sheet.{Sheet}
-use Rattle.report_form.specs.declared.rows.Row.{Row}
 use Rattle.report_form.specs.declared.rows.Row.TheVariants as row
 use Rattle.report_form.specs.Rows.{IsRow}
-use Rattle.report_text.specs.Processor.{attempt_line, counts_line}
-use Rattle.report_text.specs.declared.processors.Attempt.{Attempt}
-use Rattle.report_text.specs.declared.processors.Counts.{Counts}
 use Rattle.tx_check.specs.declared.writing.Seen.{Seen}
 use Rattle.tx_check.specs.Told.{IsLive}
 use denote.Ref.{Bor}
-use Rattle.tx_check.specs.Sound.{IsPrinted, cpu_place, joined}
+use Rattle.tx_check.specs.Sound.{cpu_place, joined}
 use Rattle.tx_check.proofs.FormLines.{HasRow, cpu_line}
 
 none_of : (b : Option Pending) → is_none (address_of b) ≡ is_none b

@@ -1,5 +1,5 @@
 -- The report that is expected, of what the code finds.
-use Rattle.std.proofs.Common.{◌≡◌, ◌∙◌, ap, ap₂, sym, refl, subst, ℕ, ◌+◌, ◌-◌, ◌<◌, ◌≤◌, arith, List, length, take, drop}
+use Rattle.std.proofs.Common.{◌≡◌, ◌∙◌, ap, sym, refl, subst, ℕ, ◌+◌, ◌-◌, ◌≤◌, arith, List, length, take, drop}
 use Rattle.std.proofs.Common.{◌++◌, map, Option, Some, None, inl, inr}
 use Rattle.std.specs.Prelude.{slice_get}
 use Rattle.std.specs.Option.{option_map}
@@ -9,16 +9,16 @@ use Rattle.tx_journal.specs.Content.{Content}
 use Rattle.tx_journal.specs.Lines.{entry_text}
 use Rattle.tx_journal.specs.declared.entries.Entry.{Entry}
 use Rattle.tx_serial.specs.Flat.{FlatState, bytes_of}
-use Rattle.report_form.specs.Sheet.{HasForm, IsSheet, history_at, schedule_at, schedule_parts, rows_in}
+use Rattle.report_form.specs.Sheet.{HasForm, IsSheet, history_at}
 use Rattle.report_form.specs.declared.sheet.Sheet.{Sheet}
-use Rattle.report_text.specs.Shown.{Shown, ShownCpu}
-use Rattle.report_text.specs.Report.{state_part, run_part, report_text}
+use Rattle.report_text.specs.Shown.{ShownCpu}
+use Rattle.report_text.specs.Report.{state_part, report_text}
 use Rattle.report_text.specs.declared.processors.Attempt.{Attempt}
 use Rattle.tx_replay.specs.Replay.{IsReplay}
 use Rattle.tx_check.specs.declared.writing.Seen.{Seen}
 use Rattle.tx_check.specs.Seen.{shown_seen}
 use Rattle.tx_check.specs.Lines.{lines_of}
-use Rattle.tx_check.specs.Told.{IsLive, IsTold, AreLive}
+use Rattle.tx_check.specs.Told.{IsLive, IsTold}
 use Rattle.tx_check.specs.Sound.{IsSound, IsExpected, IsTaken, Believes, cpu_place, joined}
 use Rattle.report_form.specs.Sheet.{IsFirstFault}
 use Rattle.tx_check.specs.declared.checking.CheckFault.{CheckFault}

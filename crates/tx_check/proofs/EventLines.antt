@@ -1,16 +1,14 @@
 -- The lines of events, read back: which events they are.
-use Rattle.std.proofs.Common.{◌≡◌, ◌∙◌, ap, ap₂, sym, refl, subst, ℕ, zero, suc, ◌+◌, ◌*◌, ◌/◌, ◌<◌, ◌≤◌, arith}
+use Rattle.std.proofs.Common.{◌≡◌, ◌∙◌, ap, ap₂, sym, refl, subst, ℕ, zero, suc, ◌+◌, ◌*◌, ◌/◌, ◌<◌, arith}
 use Rattle.std.proofs.Common.{List, [], ◌∷◌, ◌++◌, append_assoc, append-nil, length, length-append, take, drop, inl, inr}
-use Rattle.std.proofs.Common.{Bool, true, false}
-use Rattle.std.specs.Prelude.{codes, replicate, min, ◌⊎◌, ◌==◌, if◌then◌else◌}
-use Rattle.std.specs.Fmt.{decimal}
+use Rattle.std.proofs.Common.{Bool, false}
+use Rattle.std.specs.Prelude.{codes, replicate, min, ◌==◌, if◌then◌else◌}
 use Rattle.std.proofs.lemmas.List.{drop-drop, take_all}
 use Rattle.std.proofs.Math.Seq.{drop-append_seam, take-append_seam}
 use Rattle.tx_journal.specs.declared.events.Event.{Event}
 use Rattle.tx_journal.specs.declared.events.Event.TheVariants.{Turn, External}
-use Rattle.tx_journal.specs.Schedule.{event_text, further_text, events_text, row_text, rows_text, schedule_text}
+use Rattle.tx_journal.specs.Schedule.{event_text, further_text, row_text, rows_text, schedule_text}
 use Rattle.report_form.specs.declared.words.Name.TheVariants as name
-use Rattle.report_form.specs.declared.words.Word.{Word}
 use Rattle.report_form.specs.declared.words.Word.TheVariants.{Fixed}
 use Rattle.report_form.specs.declared.words.Word.TheVariants as word
 use Rattle.report_form.specs.declared.rows.Row.{Row}

@@ -1,12 +1,12 @@
 -- Where the lines of a report stand, and what stands behind its state.
-use Rattle.std.proofs.Common.{◌≡◌, ◌∙◌, ap, ap₂, sym, refl, subst, ℕ, zero, suc, ◌+◌, ◌-◌, ◌*◌, ◌/◌, ◌%◌, ◌<◌, ◌≤◌}
+use Rattle.std.proofs.Common.{◌≡◌, ◌∙◌, ap, ap₂, sym, refl, subst, ℕ, zero, suc, ◌+◌, ◌*◌, ◌/◌, ◌%◌, ◌<◌}
 use Rattle.std.proofs.Common.{arith, List, [], ◌∷◌, ◌++◌, append_assoc, append-nil, length, length-append, take, drop}
 use Rattle.std.proofs.Common.{get_or, map, inl, inr}
 use Rattle.std.proofs.lemmas.Bool.{cases_lt}
-use Rattle.std.specs.Prelude.{codes, replicate, slice_get, Some, None, Option, ◌⊎◌, ◌==◌, if◌then◌else◌}
+use Rattle.std.specs.Prelude.{codes, replicate, slice_get, Some, ◌==◌, if◌then◌else◌}
 use Rattle.std.specs.Fmt.{decimal}
 use Rattle.std.specs.List.{flat_map}
-use Rattle.std.proofs.lemmas.List.{drop-drop, take-append-drop, length-replicate, length-map, length-drop}
+use Rattle.std.proofs.lemmas.List.{drop-drop, take-append-drop, length-replicate, length-drop}
 use Rattle.std.proofs.lemmas.List.Concat.{flat_map-append}
 use Rattle.std.proofs.lemmas.List.Folds.{flat_map-map}
 use Rattle.std.proofs.Math.Seq.{drop-cons}
@@ -22,7 +22,7 @@ use Rattle.report_form.specs.declared.words.Name.TheVariants as name
 use Rattle.report_form.specs.Rows.{IsRow}
 use Rattle.report_form.specs.Lines.{rows_of, Fit}
 use Rattle.report_form.specs.Sheet.{HasForm, history_at, schedule_at, last_of, head_parts, history_parts}
-use Rattle.report_form.specs.Sheet.{schedule_parts, cpus_parts, cpu_parts, show_parts, count_line, length_of, rows_in}
+use Rattle.report_form.specs.Sheet.{schedule_parts, cpus_parts, cpu_parts, show_parts, count_line, rows_in}
 use Rattle.report_text.specs.Digits.{labelled, number_line}
 use Rattle.report_text.specs.Report.{history_lines, schedule_lines, run_part}
 use Rattle.tx_check.specs.Sound.{joined, cpu_place}

@@ -1,6 +1,6 @@
 -- Lines of a text, the first one and the others.
-use Rattle.std.proofs.Common.{◌≡◌, ◌≢◌, ◌∙◌, ap, sym, refl, subst, ℕ, zero, suc, ◌+◌, ◌-◌, ◌<◌, ◌≤◌, arith}
-use Rattle.std.proofs.Common.{List, [], ◌∷◌, ◌++◌, map, length, take, drop, append_assoc, Bool, true, false}
+use Rattle.std.proofs.Common.{◌≡◌, ◌≢◌, ◌∙◌, ap, sym, refl, ℕ, ◌+◌, ◌<◌, ◌≤◌, arith}
+use Rattle.std.proofs.Common.{List, [], ◌∷◌, ◌++◌, length, take, drop, append_assoc, Bool, true, false}
 use Rattle.std.proofs.Common.{ap₂, get_or, append-nil, length-append, Some, None}
 use Rattle.std.specs.Prelude.{◌==◌, if◌then◌else◌}
 use Rattle.std.proofs.lemmas.List.{take_all, take_more, drop_all}

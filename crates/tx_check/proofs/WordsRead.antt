@@ -1,14 +1,13 @@
 -- Lines that are spelled in words, read word by word.
-use Rattle.std.proofs.Common.{◌≡◌, ◌≢◌, ◌∙◌, ap, sym, refl, subst, ℕ, ◌<◌, ◌≤◌, ◌^◌, arith, List, [], ◌∷◌, ◌++◌}
-use Rattle.std.proofs.Common.{append_assoc}
+use Rattle.std.proofs.Common.{◌≡◌, ◌≢◌, ◌∙◌, ap, sym, refl, subst, ℕ, ◌<◌, ◌^◌, arith, List, [], ◌∷◌, ◌++◌}
 use Rattle.std.specs.Fmt.{decimal}
 use Rattle.tx_journal.specs.Numbers.{Lacks}
-use Rattle.tx_journal.proofs.Decimals.{SameCut, same_cut, lacks_not_there, SameStart, same_start, lacks_number}
+use Rattle.tx_journal.proofs.Decimals.{same_cut, lacks_not_there, same_start}
 use Rattle.report_form.specs.declared.words.Name.{Name}
 use Rattle.report_form.specs.declared.words.Word.{Word}
 use Rattle.report_form.specs.declared.words.Word.TheVariants.{Fixed, AtMost}
-use Rattle.report_form.specs.Words.{name_text, IsNumber}
-use Rattle.report_form.specs.Spelling.{Spelled, Begins, stop_behind}
+use Rattle.report_form.specs.Words.{IsNumber}
+use Rattle.report_form.specs.Spelling.{Spelled}
 use Rattle.report_form.proofs.WordLemmas.{word_lacks}
 use Rattle.tx_check.specs.Claims.{Named, Numbered, Ends}
 

@@ -1,5 +1,4 @@
 -- A CPU as it is told, with counts of any size.
-use Rattle.std.specs.Prelude.{ℕ}
 use Rattle.z_regs.specs.Cpu.{cpu_of}
 use Rattle.report_text.specs.Shown.{ShownCpu}
 use Rattle.tx_check.specs.declared.writing.Seen.{Seen}

@@ -1,4 +1,4 @@
-use Rattle.std.proofs.Common.{◌≡◌, ◌≤◌, ◌∙◌, ap, sym, subst, arith, length}
+use Rattle.std.proofs.Common.{◌∙◌, ap, sym, subst, arith, length}
 use Rattle.report_form.specs.Sheet.{IsSheet}
 use Rattle.report_form.proofs.Walks.{seen, length_seen}
 use Rattle.tx_check.specs.Lines.{lines_of}

@@ -1,4 +1,4 @@
-use Rattle.std.proofs.Common.{◌≡◌, ◌∙◌, ◌-◌, ap, length}
+use Rattle.std.proofs.Common.{◌∙◌, ◌-◌, ap, length}
 use Rattle.tx_serial.specs.Flat.{bytes_of}
 use Rattle.tx_flat.specs.Machine.{state_of}
 use Rattle.tx_flat.proofs.Laid.{length-bytes}

@@ -1,5 +1,4 @@
-use Rattle.std.proofs.Common.{◌≡◌, ◌+◌, ◌-◌, refl, sym, subst, arith, take, drop}
-use Rattle.report_form.proofs.Walks.{seen}
+use Rattle.std.proofs.Common.{◌≡◌, ◌+◌, ◌-◌, refl, subst, arith}
 use Rattle.report_form.specs.Sheet.{history_at}
 use Rattle.tx_replay.specs.Replay.{IsFirstMisfit}
 use Rattle.tx_check.proofs.CpuLines.{part_of}

@@ -1,4 +1,4 @@
-use Rattle.std.proofs.Common.{map, ℕ, List, arith, subst, ◌+◌, sym, ◌∙◌, ◌<◌, length, true, false, ◌≡◌}
+use Rattle.std.proofs.Common.{arith, subst, ◌+◌, sym, ◌∙◌, length, ◌≡◌}
 use Rattle.std.proofs.lemmas.Bool.{false≢true}
 use Rattle.tx_check.specs.Lines.{FirstDifference}
 use Rattle.report_form.proofs.Walks.{seen, length_seen}

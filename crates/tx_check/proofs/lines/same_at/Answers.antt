@@ -1,4 +1,4 @@
-use Rattle.std.proofs.Common.{ℕ, List, [], sym, ◌∙◌, arith}
+use Rattle.std.proofs.Common.{ℕ, List, [], sym, ◌∙◌}
 use Rattle.std.proofs.lemmas.List.{get_or-map}
 use denote.Ref.{Bor}
 use Rattle.tx_check.proofs.lines.same_at.Goals as goal

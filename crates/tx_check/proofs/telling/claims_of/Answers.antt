@@ -1,4 +1,4 @@
-use Rattle.std.proofs.Common.{◌≡◌, ◌∙◌, ◌<◌, ◌+◌, ◌*◌, ap, subst, arith, ℕ, List, [], length, Some}
+use Rattle.std.proofs.Common.{◌∙◌, ◌<◌, ◌+◌, ap, subst, arith, ℕ, List, [], length, Some}
 use Rattle.std.proofs.lemmas.List.{get_or-map}
 use Rattle.std.proofs.lemmas.Option.{slice_get-get_or}
 use denote.Ref.{Bor}
@@ -6,7 +6,7 @@ use Rattle.report_form.proofs.Walks.{seen, length_seen}
 use Rattle.report_form.specs.Rows.{IsRow}
 use Rattle.report_form.specs.declared.rows.Row.TheVariants as row
 use Rattle.tx_check.specs.Sound.{cpu_place}
-use Rattle.tx_check.proofs.CpuLines.{HasLines, has_lines}
+use Rattle.tx_check.proofs.CpuLines.{has_lines}
 use Rattle.tx_check.proofs.telling.claims_of.Goals as goal
 
 pub bounds-lines-first : goal.bounds-lines-first

@@ -1,4 +1,4 @@
-use Rattle.std.proofs.Common.{◌≡◌, ◌+◌, ap, sym, subst, arith, ℕ, List, [], ◌∷◌, ◌++◌, length, length-append, map, Some}
+use Rattle.std.proofs.Common.{◌≡◌, ap, sym, subst, arith, ℕ, [], ◌∷◌, length, length-append, Some}
 use Rattle.std.specs.Prelude.{slice_get}
 use Rattle.tx_flat.specs.Machine.{state_of}
 use Rattle.report_form.proofs.Walks.{seen}
