@@ -7,7 +7,8 @@ use Rattle.std.proofs.lemmas.List.{append-nil}
 use Rattle.std.proofs.lemmas.List.Folds.{list_all-map}
 use Rattle.std.proofs.Math.Seq.{drop-length}
 use Rattle.report_text.specs.Shown.{ShownCpu}
-use Rattle.tx_heat.specs.Conflicts.{Conflict, aborts_by, conflicts, conflicts_from, conflicts_in, entries_in, rejects_by}
+use Rattle.tx_heat.specs.Conflicts.{Conflict, aborts_by, conflicts, conflicts_from, conflicts_in, entries_in}
+use Rattle.tx_heat.specs.Conflicts.{rejects_by}
 use Rattle.tx_heat.specs.Heats.{Heated, all_finished, heat_of, heats}
 use Rattle.tx_heat.specs.Text.{heat_text}
 use Rattle.tx_heat.specs.Text as printed
@@ -45,7 +46,8 @@ use Rattle.ztx_answers.proofs.Ran.{IsOpened, ran_status}
 module _ (m : Setting) where
   -- the conflicts of events that go on
   conflicts_on : (events more : List Event) (s : State)
-      → conflicts_from m (events ++ more) s ≡ conflicts_from m events s ++ conflicts_from m more (meaning_from m events s)
+      → conflicts_from m (events ++ more) s
+      ≡ conflicts_from m events s ++ conflicts_from m more (meaning_from m events s)
   unfolding conflicts_from meaning_from
   conflicts_on [] more s = refl
   conflicts_on (e ∷ rest) more s =
@@ -65,20 +67,24 @@ module _ (m : Setting) where
 
   -- an event that is recorded
   told_more : (e : Event) (s : State) → meaning m s.events ≡ s
-      → (happen m e s).state.events ≡ s.events ++ e ∷ [] → told (happen m e s).state ≡ told s ++ conflicts_in m s e
+      → (happen m e s).state.events ≡ s.events ++ e ∷ []
+      → told (happen m e s).state ≡ told s ++ conflicts_in m s e
   told_more e s is more =
       ap (λ (es : List Event). conflicts m es) more ∙ conflicts_on s.events (e ∷ []) beginning
       ∙ ap (λ (t : State). told s ++ conflicts_from m (e ∷ []) t) is
       ∙ ap (λ (cs : List Conflict). told s ++ cs) (of_one e s)
 
+  -- a turn is an event
   turn_is : (i : ℕ) (s : State) → happen m (event.Turn i) s ≡ turn m i s
   unfolding happen
   turn_is i s = refl
 
+  -- an idle turn leaves the state as it was
   idle_is : (i : ℕ) (s : State) (o : Outcome) → idle m s i ≡ Some o → turn m i s ≡ turned s o
   unfolding turn
   idle_is i s o e = ap (λ x. turn_where x m i s) e
 
+  -- the conflicts that are told of what came of an event
   abbrev conflicts_of : Event → State → Turned → List Conflict
   conflicts_of e s t = flat_map (aborts_by m s e) (entries_in s t.state) ++ rejects_by m s e t.reject
 
@@ -87,13 +93,14 @@ module _ (m : Setting) where
   none_in e s o =
       ap (λ (es : List Entry). flat_map (aborts_by m s e) es ++ []) (drop-length s.history)
 
+  -- so an idle turn has no conflict
   idle_quiet : (i : ℕ) (s : State) (o : Outcome) → idle m s i ≡ Some o → conflicts_in m s (event.Turn i) ≡ []
   unfolding conflicts_in
   idle_quiet i s o e =
       ap (λ (t : Turned). conflicts_of (event.Turn i) s t) (turn_is i s ∙ idle_is i s o e)
       ∙ none_in (event.Turn i) s o
 
-  -- and one that is not, since it changes nothing
+  -- an event that is recorded, or is not, since it changes nothing
   told_behind : (e : Event) (s : State) → meaning m s.events ≡ s
       → told (happen m e s).state ≡ told s ++ conflicts_in m s e
   told_behind (event.External i) s is =
@@ -121,23 +128,28 @@ module _ (m : Setting) where
       ap (λ (es : List Event). told (meaning m es)) (sym (append_assoc before (e ∷ []) rest))
       ∙ all_told rest (before ++ e ∷ [])
       ∙ ap (λ (t : State). told t ++ conflicts_from m rest t) (meaning_more m before e)
-      ∙ ap (λ (cs : List Conflict). cs ++ conflicts_from m rest after) (told_behind e s (recorded_mean m before))
+      ∙ ap (λ (cs : List Conflict). cs ++ conflicts_from m rest after)
+      (told_behind e s (recorded_mean m before))
       ∙ append_assoc (told s) (conflicts_in m s e) (conflicts_from m rest after)
 
+  -- at the beginning nothing is recorded
   nothing_told : told (meaning m []) ≡ []
   unfolding meaning_from conflicts_from
   nothing_told = refl
 
+  -- and from there on come all conflicts
   from_nothing : (events : List Event) → conflicts_from m events (meaning m []) ≡ conflicts m events
   unfolding meaning_from
   from_nothing events = refl
 
+  -- the recorded events have the conflicts of all
   conflicts_recorded : (events : List Event) → conflicts m (meaning m events).events ≡ conflicts m events
   conflicts_recorded events =
       all_told events []
       ∙ ap (λ (cs : List Conflict). cs ++ conflicts_from m events (meaning m [])) nothing_told
       ∙ from_nothing events
 
+-- the heat of a run by its setting
 abbrev heat_at : Setting → List Event → Heated
 heat_at m events = heat_of m.image m.limits events
 
@@ -145,10 +157,12 @@ heat_at m events = heat_of m.image m.limits events
 abbrev heated : Setting → List Conflict → State → Heated
 heated m found s = record { lines = heats found; finished = all_finished m s }
 
+-- the recorded events have the heat of all
 heat_recorded : (m : Setting) (events : List Event) → heat_at m (meaning m events).events ≡ heat_at m events
 unfolding heat_of
 heat_recorded m events =
-    ap (λ (cs : List Conflict). heated m cs (meaning m (meaning m events).events)) (conflicts_recorded m events)
+    ap (λ (cs : List Conflict). heated m cs (meaning m (meaning m events).events))
+    (conflicts_recorded m events)
     ∙ ap (λ (s : State). heated m (conflicts m events) s) (recorded_mean m events)
 
 -- so a machine that has run has the conflicts of the run
@@ -171,6 +185,7 @@ same_status m events =
 
 -- ---- what is due
 
+-- a machine that has run has what is due
 pub heat_due : (image : Content) (turns tick : ℕ) (seed : Option ℕ) (before after : Seen) (found : Heated)
     (input : List ℕ) (status : ℕ) (text : List ℕ) → IsOpened image turns tick before
     → HasRun before after (planned (setting_of before) seed)
@@ -192,6 +207,7 @@ heat_due image turns tick seed before after found input status text is ran h s t
 
 -- ---- only one
 
+-- the status, and the text, of the run of an image
 abbrev status_on : ℕ → ℕ → Option ℕ → Content → ℕ
 status_on turns tick seed image = let m = running image turns tick in status_of m (planned m seed)
 
@@ -199,6 +215,7 @@ abbrev text_on : ℕ → ℕ → Option ℕ → Content → List ℕ
 text_on turns tick seed image = heat_text (heat_on image turns tick seed)
 
 module _ (turns tick : ℕ) (seed : Option ℕ) (input : List ℕ) where
+  -- a listing has one heat
   same_heat : IsOnly (IsHeat turns tick seed input)
   same_heat s t xs ys r q =
       let images = same_image input r.image q.image r.stands q.stands in
@@ -207,6 +224,7 @@ module _ (turns tick : ℕ) (seed : Option ℕ) (input : List ℕ) where
         texts = r.text_is ∙ ap (text_on turns tick seed) images ∙ sym q.text_is;
       }
 
+  -- one answer is due
   pub one_heat : IsOnly (IsDueToHeat turns tick seed input)
   one_heat s t xs ys (inl r) (inl q) = same_refusal input s t xs ys r q
   one_heat s t xs ys (inl r) (inr q) = absurd (both_fail input q.image r.fault q.stands r.first)
@@ -215,6 +233,7 @@ module _ (turns tick : ℕ) (seed : Option ℕ) (input : List ℕ) where
 
   -- ---- one there is
 
+  -- a listing has a heat, another text its first fault
   heat_by : ((image : Content) × Stands input image) ⊎ ((f : ListingFault) × FirstFault input f)
       → IsSome (IsDueToHeat turns tick seed input)
   heat_by (inl (image, s)) = record {
@@ -234,13 +253,16 @@ module _ (turns tick : ℕ) (seed : Option ℕ) (input : List ℕ) where
     is_due = inl (refusal input f first);
   }
 
+  -- something is due
   pub some_heat : IsSome (IsDueToHeat turns tick seed input)
   some_heat = heat_by (one_holds input)
 
   -- ---- of a listing that is refused
 
+  -- the line of its first fault is due to a text that is no listing
   pub heat_refused : {E : Type 0} (r : Result Answer E) (fault : ListingFault) → FirstFault input fault
       → IfOk r (λ a. a.status ≡ 5) → IfOk r (λ a. a.text.items ≡ fault_line fault)
       → IfOk r (λ a. IsDueToHeat turns tick seed input a.status a.text.items)
-  heat_refused (Ok a) fault first s t = inl (record { fault = fault; first = first; status_is = s; text_is = t })
+  heat_refused (Ok a) fault first s t =
+      inl (record { fault = fault; first = first; status_is = s; text_is = t })
   heat_refused (Err e) fault first s t = tt

@@ -58,8 +58,8 @@ fn heat_image(
     }
 }
 
-/// What `heat` answers to the bytes of a listing: the conflicts of the run that `run` would report with these numbers,
-/// line by line, or its first fault.
+/// What `heat` answers to the bytes of a listing: the conflicts of the run that `run` would report with these
+/// numbers, line by line, or its first fault.
 pub fn heat_listing(
     alloc: Global,
     input: &[u8],

@@ -11,5 +11,5 @@ returns-in-Err-Listing-clause-due c =
     subst (HasFault c.args.input.now) c.in-Err-Listing.field-0-is c.in-Err-Listing.ensures.fault in
     let text = subst (λ (f : ListingFault). IfOk c.refuse.result (λ a. a.text.items ≡ fault_line f))
     c.in-Err-Listing.fault-is c.refuse.ensures.text in
-    heat_refused c.args.turns c.args.tick c.args.seed c.args.input.now c.refuse.result c.in-Err-Listing.fault first
-    c.refuse.ensures.status text
+    heat_refused c.args.turns c.args.tick c.args.seed c.args.input.now c.refuse.result c.in-Err-Listing.fault
+    first c.refuse.ensures.status text
