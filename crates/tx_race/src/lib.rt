@@ -6,7 +6,6 @@ mod board;
 mod finish;
 mod gate;
 mod racing;
-mod start;
 mod turns;
 mod workers;
 

@@ -6,7 +6,6 @@ ghost use Rattle.tx_schedule.specs.Ran.{HasNoneReady};
 use crate::board::{Blank, Board, Raced};
 use crate::finish::{finish_round, is_of_run, run_again};
 use crate::gate::Gate;
-use crate::start::Start;
 use crate::turns::cpu_count;
 use crate::workers::{Job, jobs_of, work};
 use std::alloc::Global;
@@ -43,20 +42,16 @@ fn race_on<L: Ledger + Send + Sync, R: Threads + Wait + Sync, G: Gate>(
     let image = machine.shared_image()?;
     let limits = machine.limits();
     let lockings = lockings_of(limits);
-    let start = Start::new(cpu_count(&machine));
     let (board, shares) = Board::open(alloc, machine, Blank::<L>::new(blank))?;
     let mut shares = shares;
     let mut last = shares.pop().unwrap();
     let jobs = jobs_of(alloc, shares)?;
     let board = Mutex::new(board);
-    let (shared, met) = (&board, &start);
+    let shared = &board;
     let Ok(done) = thread::map_vec(
         rt,
         jobs,
-        &|job: Job<L>| {
-            met.meet();
-            work(rt, shared, gate, job, lockings)
-        },
+        &|job: Job<L>| work(rt, shared, gate, job, lockings),
     ) else {
         return Err(NoMemory);
     };
