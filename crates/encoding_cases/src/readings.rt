@@ -293,6 +293,6 @@ fn flags_of_every_row_are_those_of_the_lists(rt: HostRuntime) {
             row.permitted != NOT_PERMITTED.contains(&name),
             "row {number}"
         );
-        assert!(rt; line.demand == demand_of(name), "row {number}");
+        assert!(rt; line.kind.demand() == demand_of(name), "row {number}");
     }
 }

@@ -1,4 +1,4 @@
-//! Row numbers and columns as the instruction table lists them, and fields at the edges of their ranges.
+//! Names and columns as the instruction table lists them, and fields at the edges of their ranges.
 
 use std::test::Fail;
 use z_instr::addresses::{first_address, is_selected, registers_named, second_address};
@@ -10,12 +10,12 @@ use z_instr::name::Name;
 use z_instr::operand::{Demand, Operands, Size};
 use z_instr::roles::{begins, block_named, is_end, is_relative_branch, sets_access_register};
 
-/// Names, and the numbers of their rows.
+/// Names, and the opcodes of their rows.
 static NAMES: [(&[u8], Option<u16>); 8] = [
-    (b"LPR", Some(0)),
-    (b"AGR", Some(49)),
-    (b"AGRK", Some(77)),
-    (b"CGIJ", Some(187)),
+    (b"SPM", Some(0x04)),
+    (b"AGR", Some(0xB908)),
+    (b"AGRK", Some(0xB9E8)),
+    (b"CGIJ", Some(0xEC7C)),
     (b"AG R", None),
     (b"AGRKX", None),
     (b"TBEG", None),
@@ -24,8 +24,8 @@ static NAMES: [(&[u8], Option<u16>); 8] = [
 
 #[test]
 fn names_are_found_whole(rt: HostRuntime) {
-    for (name, number) in NAMES {
-        assert_eq!(rt; find(name).map(|op| op.number), number);
+    for (name, opcode) in NAMES {
+        assert_eq!(rt; find(name).map(|op| row(op).opcode), opcode);
     }
 }
 
@@ -52,7 +52,8 @@ fn rows_have_their_columns(rt: HostRuntime) -> Result<(), Fail> {
 fn lines_have_their_columns(rt: HostRuntime) -> Result<(), Fail> {
     let swap = line(find(b"CSG").ok_or("CSG")?);
     assert!(rt;
-        swap.operands == Operands::Stored(Size::Doubleword) && swap.demand == Demand::Boundary
+        swap.kind.operands() == Operands::Stored(Size::Doubleword)
+            && swap.kind.demand() == Demand::Boundary
     );
     for (name, relative) in [(b"LARL", true), (b"LGFI", false)] {
         assert_eq!(rt;

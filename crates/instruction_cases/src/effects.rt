@@ -5,17 +5,17 @@ use std::test::Fail;
 use tx_control::Exception;
 use tx_control::codes::FIXED_POINT_OVERFLOW;
 use z_arith::{Answer, Shift, Width};
-use z_effect::kind::{
-    Branch, Combination, General, Kind, Logic, Operation, Order, Part, Place, Source, Storage,
-    Transaction,
-};
 use z_effect::{
     advance, after, combine, compare, conclude, delay, exception, extend, immediate, interrupt,
-    item, kind_of, logic, next_address, opened, operand, put, put_pair, register, settle, shift,
-    size_in, target, transact, zero_code,
+    logic, next_address, opened, operand, put, put_pair, register, settle, shift, target, transact,
+    zero_code,
 };
 use z_instr::instr::{Fields, Instr};
-use z_instr::lookup::find;
+use z_instr::kind::{
+    Branch, Combination, General, Kind, Logic, Operation, Order, Part, Place, Source, Storage,
+    Transaction, item, size_in,
+};
+use z_instr::lookup::{find, kind_of};
 use z_instr::operand::Size;
 use z_instr::roles::begins;
 use z_regs::{CpuImage, RunState};

@@ -10,6 +10,7 @@ use Rattle.z_instr.specs.declared.instr.Fields.{Fields}
 use Rattle.z_instr.specs.Made.{no_fields}
 use Rattle.z_instr.specs.Ranges.{is_within, bounds}
 use Rattle.z_instr.specs.Table.{Entry, table, entry_at}
+use Rattle.z_instr.proofs.Named.{number_of}
 use Rattle.z_operands.specs.Chain.{◌>>=◌}
 use Rattle.z_operands.specs.Code.{code_of, code_for}
 use Rattle.z_operands.specs.declared.operand.Slot.TheVariants as slot
@@ -24,6 +25,32 @@ use Rattle.listing_laws.proofs.Given.{goes, ends, first_slot, immediate_slot, im
 
 abbrev pub plain : ℤ → Operand
 plain z = Plain (Some z)
+
+-- ---- the rows of the generator's instructions
+
+unfoldable pub lghi : ℕ
+lghi = number_of (codes "LGHI")
+
+unfoldable pub tbeginc : ℕ
+tbeginc = number_of (codes "TBEGINC")
+
+unfoldable pub lg : ℕ
+lg = number_of (codes "LG")
+
+unfoldable pub aghi : ℕ
+aghi = number_of (codes "AGHI")
+
+unfoldable pub stg : ℕ
+stg = number_of (codes "STG")
+
+unfoldable pub tend : ℕ
+tend = number_of (codes "TEND")
+
+unfoldable pub brctg : ℕ
+brctg = number_of (codes "BRCTG")
+
+unfoldable pub svc : ℕ
+svc = number_of (codes "SVC")
 
 -- bytes come of operands of the right form with allowed fields
 pub coded : (e : Entry) (here : ℕ) (os : List Operand) (f : Fields) → has_form (form_of e) os ≡ true
@@ -44,36 +71,36 @@ HasCode row here os = (bytes : List ℕ) × (code_for (entry_at row) None here o
 
 -- ---- names and sizes
 
-pub lghi_is : operation_named (codes "LGHI") ≡ Some (Instruction 119 None)
-unfolding operation_named directive_named row_named table
+pub lghi_is : operation_named (codes "LGHI") ≡ Some (Instruction lghi None)
+unfolding operation_named directive_named row_named table lghi number_of
 lghi_is = refl
 
-pub tbeginc_is : operation_named (codes "TBEGINC") ≡ Some (Instruction 176 None)
-unfolding operation_named directive_named row_named table
+pub tbeginc_is : operation_named (codes "TBEGINC") ≡ Some (Instruction tbeginc None)
+unfolding operation_named directive_named row_named table tbeginc number_of
 tbeginc_is = refl
 
-pub lg_is : operation_named (codes "LG") ≡ Some (Instruction 87 None)
-unfolding operation_named directive_named row_named table
+pub lg_is : operation_named (codes "LG") ≡ Some (Instruction lg None)
+unfolding operation_named directive_named row_named table lg number_of
 lg_is = refl
 
-pub aghi_is : operation_named (codes "AGHI") ≡ Some (Instruction 121 None)
-unfolding operation_named directive_named row_named table
+pub aghi_is : operation_named (codes "AGHI") ≡ Some (Instruction aghi None)
+unfolding operation_named directive_named row_named table aghi number_of
 aghi_is = refl
 
-pub stg_is : operation_named (codes "STG") ≡ Some (Instruction 99 None)
-unfolding operation_named directive_named row_named table
+pub stg_is : operation_named (codes "STG") ≡ Some (Instruction stg None)
+unfolding operation_named directive_named row_named table stg number_of
 stg_is = refl
 
-pub tend_is : operation_named (codes "TEND") ≡ Some (Instruction 177 None)
-unfolding operation_named directive_named row_named table
+pub tend_is : operation_named (codes "TEND") ≡ Some (Instruction tend None)
+unfolding operation_named directive_named row_named table tend number_of
 tend_is = refl
 
-pub brctg_is : operation_named (codes "BRCTG") ≡ Some (Instruction 117 None)
-unfolding operation_named directive_named row_named table
+pub brctg_is : operation_named (codes "BRCTG") ≡ Some (Instruction brctg None)
+unfolding operation_named directive_named row_named table brctg number_of
 brctg_is = refl
 
-pub svc_is : operation_named (codes "SVC") ≡ Some (Instruction 20 None)
-unfolding operation_named directive_named row_named table
+pub svc_is : operation_named (codes "SVC") ≡ Some (Instruction svc None)
+unfolding operation_named directive_named row_named table svc number_of
 svc_is = refl
 
 pub cpu_is : operation_named (codes "CPU") ≡ Some Cpu
@@ -88,22 +115,22 @@ pub end_is : operation_named (codes "END") ≡ Some End
 unfolding operation_named directive_named row_named table
 end_is = refl
 
-pub sizes_are : (size_of_row 119 ≡ 4) × (size_of_row 176 ≡ 6) × (size_of_row 87 ≡ 6) × (size_of_row 121 ≡ 4)
-    × (size_of_row 99 ≡ 6) × (size_of_row 177 ≡ 4) × (size_of_row 117 ≡ 4) × (size_of_row 20 ≡ 2)
-unfolding entry_at table
+pub sizes_are : (size_of_row lghi ≡ 4) × (size_of_row tbeginc ≡ 6) × (size_of_row lg ≡ 6) × (size_of_row aghi ≡ 4)
+    × (size_of_row stg ≡ 6) × (size_of_row tend ≡ 4) × (size_of_row brctg ≡ 4) × (size_of_row svc ≡ 2)
+unfolding entry_at table lghi tbeginc lg aghi stg tend brctg svc number_of
 sizes_are = (refl, refl, refl, refl, refl, refl, refl, refl)
 
 -- ---- the codes
 
 -- a register and an immediate of a halfword
-pub lghi_code : (here n : ℕ) → n < 32768 → HasCode 119 here (plain (pos 2) ∷ plain (pos n) ∷ [])
-unfolding entry_at table
+pub lghi_code : (here n : ℕ) → n < 32768 → HasCode lghi here (plain (pos 2) ∷ plain (pos n) ∷ [])
+unfolding entry_at table lghi number_of
 lghi_code here n few =
     let fits : is_within (bounds (2 ^ 31) (2 ^ 32)) (pos n) ≡ true = lt-ltb n (2 ^ 32) (omega arith) in
     let one = fields 2 0 0 0 0 (pos 0) 0 (pos 0) (pos 0) 0 in
     let both = fields 2 0 0 0 0 (pos 0) 0 (pos 0) (pos n) 0 in (
-      code_of (entry_at 119) both,
-      coded (entry_at 119) here (plain (pos 2) ∷ plain (pos n) ∷ []) both refl
+      code_of (entry_at lghi) both,
+      coded (entry_at lghi) here (plain (pos 2) ∷ plain (pos n) ∷ []) both refl
           refl
           (goes here _ _ _ _ no_fields one (first_slot here 2 no_fields (lit< tt)) ∙ goes here _ _ _ _ one
           both
@@ -111,37 +138,37 @@ lghi_code here n few =
           (lt-ltb n 32768 few),
     )
 
-pub tbeginc_code : (here : ℕ) → HasCode 176 here (plain (pos 0) ∷ plain (pos 65280) ∷ [])
-unfolding entry_at table fields_from
+pub tbeginc_code : (here : ℕ) → HasCode tbeginc here (plain (pos 0) ∷ plain (pos 65280) ∷ [])
+unfolding entry_at table fields_from tbeginc number_of
 tbeginc_code here =
     let f = fields 0 0 0 0 0 (pos 0) 0 (pos 0) (pos 65280) 0 in (
-      code_of (entry_at 176) f,
-      coded (entry_at 176) here (plain (pos 0) ∷ plain (pos 65280) ∷ []) f refl refl
+      code_of (entry_at tbeginc) f,
+      coded (entry_at tbeginc) here (plain (pos 0) ∷ plain (pos 65280) ∷ []) f refl refl
           refl refl,
     )
 
-pub aghi_code : (here : ℕ) → HasCode 121 here (plain (pos 1) ∷ plain (pos 1) ∷ [])
-unfolding entry_at table fields_from
+pub aghi_code : (here : ℕ) → HasCode aghi here (plain (pos 1) ∷ plain (pos 1) ∷ [])
+unfolding entry_at table fields_from aghi number_of
 aghi_code here =
     let f = fields 1 0 0 0 0 (pos 0) 0 (pos 0) (pos 1) 0 in (
-      code_of (entry_at 121) f,
-      coded (entry_at 121) here (plain (pos 1) ∷ plain (pos 1) ∷ []) f refl refl
+      code_of (entry_at aghi) f,
+      coded (entry_at aghi) here (plain (pos 1) ∷ plain (pos 1) ∷ []) f refl refl
           refl refl,
     )
 
-pub tend_code : (here : ℕ) → HasCode 177 here []
-unfolding entry_at table fields_from
+pub tend_code : (here : ℕ) → HasCode tend here []
+unfolding entry_at table fields_from tend number_of
 tend_code here = (
-  code_of (entry_at 177) no_fields,
-  coded (entry_at 177) here [] no_fields refl refl refl
+  code_of (entry_at tend) no_fields,
+  coded (entry_at tend) here [] no_fields refl refl refl
       refl,
 )
 
-pub svc_code : (here : ℕ) → HasCode 20 here (plain (pos 0) ∷ [])
-unfolding entry_at table fields_from
+pub svc_code : (here : ℕ) → HasCode svc here (plain (pos 0) ∷ [])
+unfolding entry_at table fields_from svc number_of
 svc_code here = (
-  code_of (entry_at 20) no_fields,
-  coded (entry_at 20) here (plain (pos 0) ∷ []) no_fields
+  code_of (entry_at svc) no_fields,
+  coded (entry_at svc) here (plain (pos 0) ∷ []) no_fields
       refl refl refl refl,
 )
 
@@ -151,26 +178,26 @@ one_address : (here a : ℕ) → a < 524288 → (with_slot here slot.Indexed (pl
 one_address here a few = ap (λ b. option_and_then (λ d. Some (fields 1 0 0 0 0 d 0 (pos 0) (pos 0) 0)) (if b
     then Some (pos a) else None)) (lt-ltb a 524288 few)
 
-pub lg_code : (here a : ℕ) → a < 524288 → HasCode 87 here (plain (pos 1) ∷ plain (pos a) ∷ [])
-unfolding entry_at table
+pub lg_code : (here a : ℕ) → a < 524288 → HasCode lg here (plain (pos 1) ∷ plain (pos a) ∷ [])
+unfolding entry_at table lg number_of
 lg_code here a few =
     let one = fields 1 0 0 0 0 (pos 0) 0 (pos 0) (pos 0) 0 in
     let both = fields 1 0 0 0 0 (pos a) 0 (pos 0) (pos 0) 0 in (
-      code_of (entry_at 87) both,
-      coded (entry_at 87) here (plain (pos 1) ∷ plain (pos a) ∷ []) both refl refl
+      code_of (entry_at lg) both,
+      coded (entry_at lg) here (plain (pos 1) ∷ plain (pos a) ∷ []) both refl refl
           (goes here _ _ _ _ no_fields one (first_slot here 1 no_fields (lit< tt)) ∙ goes here _ _ _ _ one
           both
           (one_address here a few) ∙ ends here both)
           (ap (λ b. b && true) (lt-ltb a 524288 few)),
     )
 
-pub stg_code : (here a : ℕ) → a < 524288 → HasCode 99 here (plain (pos 1) ∷ plain (pos a) ∷ [])
-unfolding entry_at table
+pub stg_code : (here a : ℕ) → a < 524288 → HasCode stg here (plain (pos 1) ∷ plain (pos a) ∷ [])
+unfolding entry_at table stg number_of
 stg_code here a few =
     let one = fields 1 0 0 0 0 (pos 0) 0 (pos 0) (pos 0) 0 in
     let both = fields 1 0 0 0 0 (pos a) 0 (pos 0) (pos 0) 0 in (
-      code_of (entry_at 99) both,
-      coded (entry_at 99) here (plain (pos 1) ∷ plain (pos a) ∷ []) both refl refl
+      code_of (entry_at stg) both,
+      coded (entry_at stg) here (plain (pos 1) ∷ plain (pos a) ∷ []) both refl refl
           (goes here _ _ _ _ no_fields one (first_slot here 1 no_fields (lit< tt)) ∙ goes here _ _ _ _ one
           both
           (one_address here a few) ∙ ends here both)
@@ -185,14 +212,14 @@ back here low =
     (2 ^ 33) (omega arith))
     ∙ ap (λ z. option_and_then immediate (half z)) apart
 
-pub brctg_code : (here : ℕ) → here + 26 < 2 ^ 32 → HasCode 117 (here + 26) (plain (pos 2) ∷ plain (pos here)
+pub brctg_code : (here : ℕ) → here + 26 < 2 ^ 32 → HasCode brctg (here + 26) (plain (pos 2) ∷ plain (pos here)
     ∷ [])
-unfolding entry_at table
+unfolding entry_at table brctg number_of
 brctg_code here low =
     let one = fields 2 0 0 0 0 (pos 0) 0 (pos 0) (pos 0) 0 in
     let both = fields 2 0 0 0 0 (pos 0) 0 (pos 0) (negsuc 12) 0 in (
-      code_of (entry_at 117) both,
-      coded (entry_at 117) (here + 26) (plain (pos 2) ∷ plain (pos here) ∷ [])
+      code_of (entry_at brctg) both,
+      coded (entry_at brctg) (here + 26) (plain (pos 2) ∷ plain (pos here) ∷ [])
           both refl refl
           (goes (here + 26) _ _ _ _ no_fields one (first_slot (here + 26) 2 no_fields (lit< tt))
           ∙ goes (here + 26) _ _ _ _ one both (ap (option_and_then (λ i. Some (record one { imm = i })))

@@ -95,10 +95,10 @@ module _ (c : ℕ) (most : c ≤ 8) (i n a : ℕ) (few : i < 10) (n_few : n < 32
       let l0 = labels in
       let n0 = line in
       let in_lghi = lghi_line i n a few n_few a_few in
-      let a1 = step c most in_lghi 119 4 n0 h0 (8192 + 18 * i) cpus l0 p lghi_is sizes_are.0 (lit< tt) (omega
+      let a1 = step c most in_lghi lghi 4 n0 h0 (8192 + 18 * i) cpus l0 p lghi_is sizes_are.0 (lit< tt) (omega
       arith) (omega arith) (omega arith)
       (fresh_label 80 i labels none.entry) s
-      (λ k all. instruction_goes in_lghi.label in_lghi.op in_lghi.ws in_lghi.said k n0 h0 119 (plain (pos
+      (λ k all. instruction_goes in_lghi.label in_lghi.op in_lghi.ws in_lghi.said k n0 h0 lghi (plain (pos
       2) ∷ plain (pos n) ∷ [])
       (two_values in_lghi.label in_lghi.op 2 n in_lghi.said k.labels h0 WrongOperands (lit< tt) (omega
       arith)) (lghi_code h0 n n_few)) in
@@ -106,11 +106,11 @@ module _ (c : ℕ) (most : c ≤ 8) (i n a : ℕ) (few : i < 10) (n_few : n < 32
       let l1 = table_with in_lghi.label (pos h0) l0 in
       let n1 = n0 + 1 in
       let in_tbeginc = tbeginc_line i n a few n_few a_few in
-      let a2 = step c most in_tbeginc 176 6 n1 h1 (8194 + 18 * i) cpus l1 a1.0 tbeginc_is sizes_are.1 (lit<
+      let a2 = step c most in_tbeginc tbeginc 6 n1 h1 (8194 + 18 * i) cpus l1 a1.0 tbeginc_is sizes_are.1 (lit<
       tt) (omega arith) (omega arith) (omega arith)
       (fresh_label 76 i l1 (missed (label_name 76 i) 80 i (pos h0) labels (other_letter 76 80 i i (λ e.
       omega (arith, e))) ∙ none.loops)) a1.2
-      (λ k all. instruction_goes in_tbeginc.label in_tbeginc.op in_tbeginc.ws in_tbeginc.said k n1 h1 176
+      (λ k all. instruction_goes in_tbeginc.label in_tbeginc.op in_tbeginc.ws in_tbeginc.said k n1 h1 tbeginc
       (plain (pos 0) ∷ plain (pos 65280) ∷ [])
       (two_values in_tbeginc.label in_tbeginc.op 0 65280 in_tbeginc.said k.labels h1 WrongOperands (lit<
       tt) (lit< tt)) (tbeginc_code h1)) in
@@ -118,10 +118,10 @@ module _ (c : ℕ) (most : c ≤ 8) (i n a : ℕ) (few : i < 10) (n_few : n < 32
       let l2 = table_with in_tbeginc.label (pos h1) l1 in
       let n2 = n1 + 1 in
       let in_lg = lg_line i n a few n_few a_few in
-      let a3 = step c most in_lg 87 6 n2 h2 (8197 + 18 * i) cpus l2 a2.0 lg_is sizes_are.2 (lit< tt) (omega
+      let a3 = step c most in_lg lg 6 n2 h2 (8197 + 18 * i) cpus l2 a2.0 lg_is sizes_are.2 (lit< tt) (omega
       arith) (omega arith) (omega arith)
       refl a2.2
-      (λ k all. instruction_goes in_lg.label in_lg.op in_lg.ws in_lg.said k n2 h2 87 (plain (pos 1) ∷
+      (λ k all. instruction_goes in_lg.label in_lg.op in_lg.ws in_lg.said k n2 h2 lg (plain (pos 1) ∷
       plain (pos a) ∷ [])
       (two_values in_lg.label in_lg.op 1 a in_lg.said k.labels h2 WrongOperands (lit< tt) (omega arith))
       (lg_code h2 a a_few)) in
@@ -129,10 +129,10 @@ module _ (c : ℕ) (most : c ≤ 8) (i n a : ℕ) (few : i < 10) (n_few : n < 32
       let l3 = table_with in_lg.label (pos h2) l2 in
       let n3 = n2 + 1 in
       let in_aghi = aghi_line i n a few n_few a_few in
-      let a4 = step c most in_aghi 121 4 n3 h3 (8200 + 18 * i) cpus l3 a3.0 aghi_is sizes_are.3 (lit< tt)
+      let a4 = step c most in_aghi aghi 4 n3 h3 (8200 + 18 * i) cpus l3 a3.0 aghi_is sizes_are.3 (lit< tt)
       (omega arith) (omega arith) (omega arith)
       refl a3.2
-      (λ k all. instruction_goes in_aghi.label in_aghi.op in_aghi.ws in_aghi.said k n3 h3 121 (plain (pos
+      (λ k all. instruction_goes in_aghi.label in_aghi.op in_aghi.ws in_aghi.said k n3 h3 aghi (plain (pos
       1) ∷ plain (pos 1) ∷ [])
       (two_values in_aghi.label in_aghi.op 1 1 in_aghi.said k.labels h3 WrongOperands (lit< tt) (lit<
       tt)) (aghi_code h3)) in
@@ -140,10 +140,10 @@ module _ (c : ℕ) (most : c ≤ 8) (i n a : ℕ) (few : i < 10) (n_few : n < 32
       let l4 = table_with in_aghi.label (pos h3) l3 in
       let n4 = n3 + 1 in
       let in_stg = stg_line i n a few n_few a_few in
-      let a5 = step c most in_stg 99 6 n4 h4 (8202 + 18 * i) cpus l4 a4.0 stg_is sizes_are.4 (lit< tt) (omega
+      let a5 = step c most in_stg stg 6 n4 h4 (8202 + 18 * i) cpus l4 a4.0 stg_is sizes_are.4 (lit< tt) (omega
       arith) (omega arith) (omega arith)
       refl a4.2
-      (λ k all. instruction_goes in_stg.label in_stg.op in_stg.ws in_stg.said k n4 h4 99 (plain (pos 1) ∷
+      (λ k all. instruction_goes in_stg.label in_stg.op in_stg.ws in_stg.said k n4 h4 stg (plain (pos 1) ∷
       plain (pos a) ∷ [])
       (two_values in_stg.label in_stg.op 1 a in_stg.said k.labels h4 WrongOperands (lit< tt) (omega
       arith)) (stg_code h4 a a_few)) in
@@ -151,10 +151,10 @@ module _ (c : ℕ) (most : c ≤ 8) (i n a : ℕ) (few : i < 10) (n_few : n < 32
       let l5 = table_with in_stg.label (pos h4) l4 in
       let n5 = n4 + 1 in
       let in_tend = tend_line i n a few n_few a_few in
-      let a6 = step c most in_tend 177 4 n5 h5 (8205 + 18 * i) cpus l5 a5.0 tend_is sizes_are.5 (lit< tt)
+      let a6 = step c most in_tend tend 4 n5 h5 (8205 + 18 * i) cpus l5 a5.0 tend_is sizes_are.5 (lit< tt)
       (omega arith) (omega arith) (omega arith)
       refl a5.2
-      (λ k all. instruction_goes in_tend.label in_tend.op in_tend.ws in_tend.said k n5 h5 177 []
+      (λ k all. instruction_goes in_tend.label in_tend.op in_tend.ws in_tend.said k n5 h5 tend []
       (no_operand (written in_tend) k.labels h5 WrongOperands (words_at in_tend.label in_tend.op
       in_tend.ws)) (tend_code h5)) in
       let h6 = h5 + 4 in
@@ -162,25 +162,25 @@ module _ (c : ℕ) (most : c ≤ 8) (i n a : ℕ) (few : i < 10) (n_few : n < 32
       let n6 = n5 + 1 in
       let in_brctg = brctg_line i n a few n_few a_few in
       let there : loop i + 26 ≡ h6 = omega arith in
-      let a7 = step c most in_brctg 117 4 n6 h6 (8207 + 18 * i) cpus l6 a6.0 brctg_is sizes_are.6 (lit< tt)
+      let a7 = step c most in_brctg brctg 4 n6 h6 (8207 + 18 * i) cpus l6 a6.0 brctg_is sizes_are.6 (lit< tt)
       (omega arith) (omega arith) (omega arith)
       refl a6.2
-      (λ k all. instruction_goes in_brctg.label in_brctg.op in_brctg.ws in_brctg.said k n6 h6 117 (plain
+      (λ k all. instruction_goes in_brctg.label in_brctg.op in_brctg.ws in_brctg.said k n6 h6 brctg (plain
       (pos 2) ∷ plain (pos (loop i)) ∷ [])
       (two_operands (written in_brctg) k.labels h6 WrongOperands (number 2) (name_word 76 i) (pos 2) (pos
       (loop i)) (words_at in_brctg.label in_brctg.op in_brctg.ws) (number_value (written in_brctg)
       k.labels h6 2 (lit< tt)) (label_value (written in_brctg) k.labels h6 76 i (pos (loop i))
       (capital_by 76 i few refl) (all i among).loops) (words_lie in_brctg.label in_brctg.op
-      in_brctg.ws in_brctg.said)) (subst (λ x. HasCode 117 x (plain (pos 2) ∷ plain (pos
+      in_brctg.ws in_brctg.said)) (subst (λ x. HasCode brctg x (plain (pos 2) ∷ plain (pos
       (loop i)) ∷ [])) there (brctg_code (loop i) (omega arith)))) in
       let h7 = h6 + 4 in
       let l7 = table_with in_brctg.label (pos h6) l6 in
       let n7 = n6 + 1 in
       let in_svc = svc_line i n a few n_few a_few in
-      let a8 = step c most in_svc 20 2 n7 h7 (8209 + 18 * i) cpus l7 a7.0 svc_is sizes_are.7 (lit< tt) (omega
+      let a8 = step c most in_svc svc 2 n7 h7 (8209 + 18 * i) cpus l7 a7.0 svc_is sizes_are.7 (lit< tt) (omega
       arith) (omega arith) (omega arith)
       refl a7.2
-      (λ k all. instruction_goes in_svc.label in_svc.op in_svc.ws in_svc.said k n7 h7 20 (plain (pos 0) ∷
+      (λ k all. instruction_goes in_svc.label in_svc.op in_svc.ws in_svc.said k n7 h7 svc (plain (pos 0) ∷
       [])
       (one_value in_svc.label in_svc.op 0 in_svc.said k.labels h7 WrongOperands (lit< tt)) (svc_code h7))
       in

@@ -24,22 +24,23 @@ use Rattle.z_instr.specs.Table.{Entry, entry_at}
 use Rattle.z_instr.proofs.OneSpelling.{modulo_below}
 use Rattle.z_effect.specs.Registers.{register, operand_in, after, with_register, with_condition, advanced}
 use Rattle.z_effect.specs.Operations.{combined, shifted}
-use Rattle.z_effect.specs.declared.kind.Kind.{Kind}
-use Rattle.z_effect.specs.declared.kind.Kind.TheVariants as kind
-use Rattle.z_effect.specs.declared.kind.General.{General}
-use Rattle.z_effect.specs.declared.kind.General.TheVariants as general
-use Rattle.z_effect.specs.declared.kind.Storage.{Storage}
-use Rattle.z_effect.specs.declared.kind.Storage.TheVariants as storage
-use Rattle.z_effect.specs.declared.kind.Branch.{Branch}
-use Rattle.z_effect.specs.declared.kind.Branch.TheVariants as branch
-use Rattle.z_effect.specs.declared.kind.Transaction.{Transaction}
-use Rattle.z_effect.specs.declared.kind.Transaction.TheVariants as transaction
+use Rattle.z_instr.specs.declared.kind.Kind.{Kind}
+use Rattle.z_instr.specs.declared.kind.Kind.TheVariants as kind
+use Rattle.z_instr.specs.declared.kind.General.{General}
+use Rattle.z_instr.specs.declared.kind.General.TheVariants as general
+use Rattle.z_instr.specs.declared.kind.Storage.{Storage}
+use Rattle.z_instr.specs.declared.kind.Storage.TheVariants as storage
+use Rattle.z_instr.specs.declared.kind.Branch.{Branch}
+use Rattle.z_instr.specs.declared.kind.Branch.TheVariants as branch
+use Rattle.z_instr.specs.declared.kind.Transaction.{Transaction}
+use Rattle.z_instr.specs.declared.kind.Transaction.TheVariants as transaction
 use Rattle.z_effect.specs.GeneralEffect.{general_effect, first_operand, second_operand, amount, answered}
 use Rattle.z_effect.specs.GeneralEffect.{divided}
-use Rattle.z_effect.specs.StorageEffect.{storage_effect, item, number, stored, piece}
+use Rattle.z_effect.specs.StorageEffect.{storage_effect, number, stored, piece}
+use Rattle.z_instr.specs.Kinds.{item}
 use Rattle.z_effect.specs.BranchEffect.{branch_effect}
 use Rattle.z_effect.specs.TransactionEffect.{transaction_effect}
-use Rattle.z_effect.specs.Kinds.{kind_at, kind_named}
+use Rattle.z_instr.specs.Table.{kind_at}
 use Rattle.z_effect.specs.One.{one, effect, length_of}
 use Rattle.z_effect.specs.Outcome.{Outcome, Did, Divides, Aborts, ended}
 use Rattle.z_effect.specs.Outcome as outcome
@@ -164,11 +165,10 @@ demands_code _ = false
 
 -- an instruction that aborts is one whose code is tested
 abbrev tests_code : Entry → Bool
-tests_code e = not (aborts_itself (kind_named e.name)) || demands_code e.demand
+tests_code e = not (aborts_itself e.kind) || demands_code e.demand
 
 -- that is so of each row of the table
 code_rows : (n : ℕ) → tests_code (entry_at n) ≡ true
-unfolding kind_named
 code_rows = any_row tests_code refl refl
 
 -- of an implication that holds
@@ -182,7 +182,7 @@ one_by : (i : Instr) (c : Cpu) (depth : ℕ) (bytes : List ℕ)
 unfolding kind_at
 one_by i c depth bytes =
     effect_by (demands_code (entry_at i.op.number).demand) (kind_at i.op.number) (length_of i) i c depth bytes
-    (second_so (aborts_itself (kind_named (entry_at i.op.number).name)) _ (code_rows i.op.number))
+    (second_so (aborts_itself (entry_at i.op.number).kind) _ (code_rows i.op.number))
 
 -- neither of two tests has found anything wrong
 neither_wrong : (a b : Bool) → where_wrong a special_operation (where_wrong b specification None) ≡ None

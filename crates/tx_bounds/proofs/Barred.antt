@@ -15,22 +15,23 @@ use Rattle.z_instr.specs.declared.instr.Instr.{Instr}
 use Rattle.z_instr.specs.Table.{Entry, entry_at}
 use Rattle.z_effect.specs.Registers.{register, operand_in, after, with_register, with_condition, advanced}
 use Rattle.z_effect.specs.Operations.{combined, shifted}
-use Rattle.z_effect.specs.declared.kind.Kind.{Kind}
-use Rattle.z_effect.specs.declared.kind.Kind.TheVariants as kind
-use Rattle.z_effect.specs.declared.kind.General.{General}
-use Rattle.z_effect.specs.declared.kind.General.TheVariants as general
-use Rattle.z_effect.specs.declared.kind.Storage.{Storage}
-use Rattle.z_effect.specs.declared.kind.Storage.TheVariants as storage
-use Rattle.z_effect.specs.declared.kind.Branch.{Branch}
-use Rattle.z_effect.specs.declared.kind.Branch.TheVariants as branch
-use Rattle.z_effect.specs.declared.kind.Transaction.{Transaction}
-use Rattle.z_effect.specs.declared.kind.Transaction.TheVariants as transaction
+use Rattle.z_instr.specs.declared.kind.Kind.{Kind}
+use Rattle.z_instr.specs.declared.kind.Kind.TheVariants as kind
+use Rattle.z_instr.specs.declared.kind.General.{General}
+use Rattle.z_instr.specs.declared.kind.General.TheVariants as general
+use Rattle.z_instr.specs.declared.kind.Storage.{Storage}
+use Rattle.z_instr.specs.declared.kind.Storage.TheVariants as storage
+use Rattle.z_instr.specs.declared.kind.Branch.{Branch}
+use Rattle.z_instr.specs.declared.kind.Branch.TheVariants as branch
+use Rattle.z_instr.specs.declared.kind.Transaction.{Transaction}
+use Rattle.z_instr.specs.declared.kind.Transaction.TheVariants as transaction
 use Rattle.z_effect.specs.GeneralEffect.{general_effect, first_operand, second_operand, amount, answered}
 use Rattle.z_effect.specs.GeneralEffect.{divided}
-use Rattle.z_effect.specs.StorageEffect.{storage_effect, item, number, stored, piece}
+use Rattle.z_effect.specs.StorageEffect.{storage_effect, number, stored, piece}
+use Rattle.z_instr.specs.Kinds.{item}
 use Rattle.z_effect.specs.BranchEffect.{branch_effect}
 use Rattle.z_effect.specs.TransactionEffect.{transaction_effect}
-use Rattle.z_effect.specs.Kinds.{kind_at, kind_named}
+use Rattle.z_instr.specs.Table.{kind_at}
 use Rattle.z_effect.specs.One.{one, effect, length_of}
 use Rattle.z_effect.specs.Outcome.{Outcome, Did, Divides, Aborts, ended}
 use Rattle.z_effect.specs.Outcome as outcome
@@ -128,10 +129,9 @@ effect_not (kind.Branch b) n i c depth bytes h = branch_not b n i c
 effect_not (kind.Transaction t) n i c depth bytes h = transaction_not t n i c depth h
 
 abbrev is_barred : Entry → Bool
-is_barred e = not (e.permitted && aborts_itself (kind_named e.name))
+is_barred e = not (e.permitted && aborts_itself e.kind)
 
 barred_rows : (n : ℕ) → is_barred (entry_at n) ≡ true
-unfolding kind_named
 barred_rows = any_row is_barred refl refl
 
 not_second : (a b : Bool) → not (a && b) ≡ true → a ≡ true → b ≡ false
@@ -145,5 +145,5 @@ pub permitted_not : (i : Instr) (c : Cpu) (depth : ℕ) (bytes : List ℕ)
 unfolding kind_at
 permitted_not i c depth bytes h =
     effect_not (kind_at i.op.number) (length_of i) i c depth bytes
-    (not_second (entry_at i.op.number).permitted (aborts_itself (kind_named (entry_at i.op.number).name))
+    (not_second (entry_at i.op.number).permitted (aborts_itself (entry_at i.op.number).kind)
     (barred_rows i.op.number) h)

@@ -17,7 +17,7 @@ use Rattle.z_instr.specs.Table.{entry_at, table}
 use Rattle.z_instr.specs.Computing.{reading_of, row_number}
 use Rattle.z_instr.specs.Access.{accessible_pages, text_pages, unfetched}
 use Rattle.z_instr.specs.Operands.{spans_in, unspecified_in, inaccessible_in}
-use Rattle.z_effect.specs.Kinds.{kind_at, kind_named}
+use Rattle.z_instr.specs.Table.{kind_at}
 use Rattle.z_effect.specs.Operations.{combined}
 use Rattle.z_effect.specs.GeneralEffect.{general_effect}
 use Rattle.z_effect.specs.BranchEffect.{branch_effect}
@@ -229,7 +229,7 @@ unfolding events_by k_idle k_external k_executing k_ends_by k_aborting k_get_lin
     k_ask_one
     k_reply k_granting reply against granting needs_of with_number aborting fate_by_progress executed stopped
     aborted block_stored interruption_taken cause_in laid_over reading_of row_number entry_at table
-    accessible_pages text_pages unfetched spans_in unspecified_in inaccessible_in kind_at kind_named combined
+    accessible_pages text_pages unfetched spans_in unspecified_in inaccessible_in kind_at combined
     general_effect branch_effect storage_effect transaction_effect absolute_range has_place count_below
     with_octowords add_of divide_word_of block fields register_fields restored psw_of with_fields loaded
     next_text_breach next_operand_breach
@@ -256,7 +256,7 @@ unfolding events_by k_idle k_external k_executing k_ends_by k_aborting k_get_lin
     k_ask_one
     k_reply k_granting reply against granting needs_of with_number aborting fate_by_progress executed stopped
     aborted block_stored interruption_taken cause_in laid_over reading_of row_number entry_at table
-    accessible_pages text_pages unfetched spans_in unspecified_in inaccessible_in kind_at kind_named combined
+    accessible_pages text_pages unfetched spans_in unspecified_in inaccessible_in kind_at combined
     general_effect branch_effect storage_effect transaction_effect absolute_range has_place count_below
     with_octowords add_of divide_word_of block fields register_fields restored psw_of with_fields loaded
     next_text_breach next_operand_breach
@@ -274,7 +274,7 @@ unfolding events_by k_idle k_external k_executing k_ends_by k_aborting k_get_lin
     k_ask_one
     k_reply k_granting reply against granting needs_of with_number aborting fate_by_progress executed stopped
     aborted block_stored interruption_taken cause_in laid_over reading_of row_number entry_at table
-    accessible_pages text_pages unfetched spans_in unspecified_in inaccessible_in kind_at kind_named combined
+    accessible_pages text_pages unfetched spans_in unspecified_in inaccessible_in kind_at combined
     general_effect branch_effect storage_effect transaction_effect absolute_range has_place count_below
     with_octowords add_of divide_word_of block fields register_fields restored psw_of with_fields loaded
     next_text_breach next_operand_breach
@@ -299,7 +299,7 @@ unfolding events_by k_idle k_external k_executing k_ends_by k_aborting k_get_lin
     k_ask_one
     k_reply k_granting reply against granting needs_of with_number aborting fate_by_progress executed stopped
     aborted block_stored interruption_taken cause_in laid_over reading_of row_number entry_at table
-    accessible_pages text_pages unfetched spans_in unspecified_in inaccessible_in kind_at kind_named combined
+    accessible_pages text_pages unfetched spans_in unspecified_in inaccessible_in kind_at combined
     general_effect branch_effect storage_effect transaction_effect absolute_range has_place count_below
     with_octowords add_of divide_word_of block fields register_fields restored psw_of with_fields loaded
     next_text_breach next_operand_breach
@@ -324,7 +324,7 @@ unfolding events_by k_idle k_external k_executing k_ends_by k_aborting k_get_lin
     k_ask_one
     k_reply k_granting reply against granting needs_of with_number aborting fate_by_progress executed stopped
     aborted block_stored interruption_taken cause_in laid_over reading_of row_number entry_at table
-    accessible_pages text_pages unfetched spans_in unspecified_in inaccessible_in kind_at kind_named combined
+    accessible_pages text_pages unfetched spans_in unspecified_in inaccessible_in kind_at combined
     general_effect branch_effect storage_effect transaction_effect absolute_range has_place count_below
     with_octowords add_of divide_word_of block fields register_fields restored psw_of with_fields loaded
     next_text_breach next_operand_breach
@@ -342,7 +342,7 @@ unfolding events_by k_idle k_external k_executing k_ends_by k_aborting k_get_lin
     k_ask_one
     k_reply k_granting reply against granting needs_of with_number aborting fate_by_progress executed stopped
     aborted block_stored interruption_taken cause_in laid_over reading_of row_number entry_at table
-    accessible_pages text_pages unfetched spans_in unspecified_in inaccessible_in kind_at kind_named combined
+    accessible_pages text_pages unfetched spans_in unspecified_in inaccessible_in kind_at combined
     general_effect branch_effect storage_effect transaction_effect absolute_range has_place count_below
     with_octowords add_of divide_word_of block fields register_fields restored psw_of with_fields loaded
     next_text_breach next_operand_breach
@@ -362,7 +362,7 @@ unfolding events_by k_idle k_external k_executing k_ends_by k_aborting k_get_lin
     k_ask_one
     k_reply k_granting reply against granting needs_of with_number aborting fate_by_progress executed stopped
     aborted block_stored interruption_taken cause_in laid_over reading_of row_number entry_at table
-    accessible_pages text_pages unfetched spans_in unspecified_in inaccessible_in kind_at kind_named combined
+    accessible_pages text_pages unfetched spans_in unspecified_in inaccessible_in kind_at combined
     general_effect branch_effect storage_effect transaction_effect absolute_range has_place count_below
     with_octowords add_of divide_word_of block fields register_fields restored psw_of with_fields loaded
     next_text_breach next_operand_breach

@@ -22,7 +22,7 @@ use Rattle.tx_control.specs.declared.begins.Begin.{Begin}
 use Rattle.tx_control.specs.declared.causes.Why.{Why}
 use Rattle.tx_ladder.specs.Rungs.{Standing, begun}
 use Rattle.tx_journal.specs.declared.entries.Entry.TheVariants.{Commit}
-use Rattle.z_effect.specs.Kinds.{kind_at}
+use Rattle.z_instr.specs.Table.{kind_at}
 use Rattle.tx_serial.specs.Apply.{is_running}
 use Rattle.tx_serial.specs.Attempt.{at_rest}
 use Rattle.tx_serial.specs.Fate.{Goes, fate}

@@ -12,33 +12,34 @@ use Rattle.z_arith.specs.Quotient.{divide_word_of, divide_double_of, divide_logi
 use Rattle.z_instr.specs.declared.operand.Size.TheVariants.{Doubleword}
 use Rattle.z_instr.specs.Operands.{first_address, second_address, selects, registers_between}
 use Rattle.z_instr.specs.Operands as operands
-use Rattle.z_effect.specs.declared.kind.Order.TheVariants.{Signed}
+use Rattle.z_instr.specs.declared.kind.Order.TheVariants.{Signed}
 use Rattle.z_effect.specs.Registers.{register, operand_in, after, target, with_general, with_register}
 use Rattle.z_effect.specs.Registers.{with_condition, next_address, advanced}
 use Rattle.z_effect.specs.Operations.{combined, compared, shifted}
 use Rattle.z_arith.specs.declared.DivideFault.{DivideFault}
 use Rattle.z_instr.specs.declared.instr.Instr.{Instr}
 use Rattle.z_regs.specs.Cpu.{Cpu}
-use Rattle.z_effect.specs.declared.kind.Kind.{Kind}
-use Rattle.z_effect.specs.declared.kind.Kind.TheVariants as kind
-use Rattle.z_effect.specs.declared.kind.General.{General}
-use Rattle.z_effect.specs.declared.kind.General.TheVariants as general
-use Rattle.z_effect.specs.declared.kind.Storage.{Storage}
-use Rattle.z_effect.specs.declared.kind.Storage.TheVariants as storage
-use Rattle.z_effect.specs.declared.kind.Branch.{Branch}
-use Rattle.z_effect.specs.declared.kind.Branch.TheVariants as branch
-use Rattle.z_effect.specs.declared.kind.Transaction.{Transaction}
-use Rattle.z_effect.specs.declared.kind.Transaction.TheVariants as transaction
+use Rattle.z_instr.specs.declared.kind.Kind.{Kind}
+use Rattle.z_instr.specs.declared.kind.Kind.TheVariants as kind
+use Rattle.z_instr.specs.declared.kind.General.{General}
+use Rattle.z_instr.specs.declared.kind.General.TheVariants as general
+use Rattle.z_instr.specs.declared.kind.Storage.{Storage}
+use Rattle.z_instr.specs.declared.kind.Storage.TheVariants as storage
+use Rattle.z_instr.specs.declared.kind.Branch.{Branch}
+use Rattle.z_instr.specs.declared.kind.Branch.TheVariants as branch
+use Rattle.z_instr.specs.declared.kind.Transaction.{Transaction}
+use Rattle.z_instr.specs.declared.kind.Transaction.TheVariants as transaction
 use Rattle.z_effect.specs.Outcome.{Outcome, Did, ended}
-use Rattle.z_effect.specs.Kinds.{kind_at, kind_named}
+use Rattle.z_instr.specs.Table.{kind_at}
 use Rattle.z_instr.specs.Roles.{begins}
 use Rattle.z_instr.specs.Table.{Entry, entry_at}
 use Rattle.z_effect.specs.GeneralEffect.{general_effect, first_operand, second_operand, amount, answered}
 use Rattle.z_effect.specs.GeneralEffect.{divided}
-use Rattle.z_effect.specs.StorageEffect.{storage_effect, item, number, stored, piece, with_items}
+use Rattle.z_effect.specs.StorageEffect.{storage_effect, number, stored, piece, with_items}
+use Rattle.z_instr.specs.Kinds.{item}
 use Rattle.z_effect.specs.StorageEffect.{with_code_of, results, lead}
-use Rattle.z_effect.specs.declared.kind.Combination.{Combination}
-use Rattle.z_effect.specs.declared.kind.Combination.TheVariants.{Move, Logic}
+use Rattle.z_instr.specs.declared.kind.Combination.{Combination}
+use Rattle.z_instr.specs.declared.kind.Combination.TheVariants.{Move, Logic}
 use Rattle.z_effect.specs.BranchEffect.{branch_effect, destination, counted, going}
 use Rattle.z_effect.specs.TransactionEffect.{transaction_effect}
 use Rattle.z_effect.specs.After.{cpu_after}
@@ -234,17 +235,15 @@ keeps_running i c depth bytes plain =
 -- ---- instructions of transactions
 
 abbrev is_plain_row : Entry → Bool
-is_plain_row e = e.restricted || not (is_service (kind_named e.name))
+is_plain_row e = e.restricted || not (is_service e.kind)
 
 plain_rows : (n : ℕ) → n < ROWS → is_plain_row (entry_at n) ≡ true
-unfolding kind_named
 plain_rows n there = passes_row is_plain_row refl n there
 
 abbrev is_plain_begin : Entry → Bool
-is_plain_begin e = not (begins e && is_service (kind_named e.name))
+is_plain_begin e = not (begins e && is_service e.kind)
 
 plain_begins : (n : ℕ) → is_plain_begin (entry_at n) ≡ true
-unfolding kind_named
 plain_begins = any_row is_plain_begin refl refl
 
 not_and : (a b : Bool) → not (a && b) ≡ true → a ≡ true → b ≡ false
@@ -270,10 +269,10 @@ no_service : (nest : List Begin) (i : Instr) → may_follow nest i ≡ true
     → is_restricted nest (entry_at i.op.number) ≡ false → is_service (kind_at i.op.number) ≡ false
 unfolding kind_at
 no_service [] i follows h =
-    not_and (begins (entry_at i.op.number)) (is_service (kind_named (entry_at i.op.number).name))
+    not_and (begins (entry_at i.op.number)) (is_service (entry_at i.op.number).kind)
     (plain_begins i.op.number) follows
 no_service (b ∷ bs) i follows h =
-    or_not (entry_at i.op.number).restricted (is_service (kind_named (entry_at i.op.number).name))
+    or_not (entry_at i.op.number).restricted (is_service (entry_at i.op.number).kind)
     (plain_rows i.op.number i.op.known) (or_first (entry_at i.op.number).restricted _ h)
 
 pub goes_without_service : (text : List ℕ) (p : Run) (i : Instr) (ranges : List Range)

@@ -39,7 +39,7 @@ pub fn unit(instr: &Instr) -> u64
     ensures some { 1 ≤ result }
     ensures few { result ≤ 32 }
 {
-    if is_multiple(line(instr.op).operands) {
+    if is_multiple(line(instr.op).kind.operands()) {
         OCTOWORD_SIZE
     } else {
         DOUBLEWORD_SIZE

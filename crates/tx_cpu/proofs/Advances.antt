@@ -28,7 +28,8 @@ use Rattle.store_cache.specs.Entries.{Entries, stores_of}
 use Rattle.store_cache.specs.Sizes.{block_size}
 use Rattle.store_cache.proofs.Overlays.{with_one-other}
 use Rattle.tx_serial.specs.Flat.{operand_stores, stores_at}
-use Rattle.tx_serial.specs.Run.{nest_after, lasting_of, stores_lastingly}
+use Rattle.tx_serial.specs.Run.{nest_after, lasting_of}
+use Rattle.z_instr.specs.Roles.{stores_lastingly}
 use Rattle.tx_serial.proofs.StoredBytes.{stored_size}
 use Rattle.tx_serial.proofs.StoredPlaces.{goes_there, AreSmall, operands_there}
 use Rattle.tx_progress.specs.Progress.{laying}

@@ -6,8 +6,6 @@ use Rattle.z_regs.specs.Cpu.{Cpu}
 use Rattle.z_regs.specs.declared.ranges.Range.{Range}
 use Rattle.z_regs.specs.declared.waiting.Waiting.{Waiting}
 use Rattle.z_instr.specs.declared.instr.Instr.{Instr}
-use Rattle.z_instr.specs.Facts.{agree}
-use Rattle.z_instr.specs.Roles.{is_named}
 use Rattle.z_instr.specs.Table.{entry_at}
 use Rattle.z_effect.specs.After.{cpu_after, exception}
 use Rattle.z_effect.specs.One.{length_of}
@@ -30,21 +28,6 @@ use Rattle.tx_cpu.specs.Parts.{Parts, local_of, beside, storage_of}
 use Rattle.tx_cpu.proofs.Ends.{cpu-rests}
 use Rattle.tx_cpu.proofs.Resting.{local-rests}
 use Rattle.tx_cpu.proofs.Stored.{trimmed-stores}
-
--- ---- PPA alone has its opcode
-
-pub agreed : (a b : Bool) → agree a b ≡ true → a ≡ b
-agreed true true h = refl
-agreed true false h = sym h
-agreed false true h = h
-agreed false false h = refl
-
-pub assist-by-opcode : (n : ℕ) → nat_eq (entry_at n).opcode 0xB2E8 ≡ is_named (codes "PPA") (entry_at n)
-assist-by-opcode n =
-    agreed _ _ (any_row (λ e. agree (nat_eq e.opcode 0xB2E8) (is_named (codes "PPA") e)) refl refl n)
-
-pub unequal : (a b : ℕ) → (a ≡ b → ⊥) → nat_eq a b ≡ false
-unequal a b h = grind (arith, nat_tests, h)
 
 -- ---- how the instruction ended
 

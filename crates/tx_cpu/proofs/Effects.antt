@@ -17,10 +17,10 @@ use Rattle.z_effect.specs.After.{Raises, answer_of, told, exception, Executes, L
 use Rattle.z_effect.specs.After.{touched, ranges_of, cpu_after}
 use Rattle.z_effect.specs.Outcome.{Outcome, Did, Overflowed, Divides, Aborts}
 use Rattle.z_effect.specs.TransactionEffect.{transaction_effect}
-use Rattle.z_effect.specs.declared.kind.Transaction.{Transaction}
-use Rattle.z_effect.specs.declared.kind.Transaction.TheVariants.{Begin, BeginConstrained, End, Abort}
-use Rattle.z_effect.specs.declared.kind.Transaction.TheVariants.{ExtractDepth}
-use Rattle.z_effect.specs.declared.kind.Transaction.TheVariants.{StoreLasting, Assist}
+use Rattle.z_instr.specs.declared.kind.Transaction.{Transaction}
+use Rattle.z_instr.specs.declared.kind.Transaction.TheVariants.{Begin, BeginConstrained, End, Abort}
+use Rattle.z_instr.specs.declared.kind.Transaction.TheVariants.{ExtractDepth}
+use Rattle.z_instr.specs.declared.kind.Transaction.TheVariants.{StoreLasting, Assist}
 use Rattle.tx_control.specs.Codes.{fixed_point_overflow_code, fixed_point_divide_code}
 use Rattle.tx_control.specs.declared.exceptions.Exception.{Exception}
 use Rattle.tx_serial.specs.Fate.{operands}

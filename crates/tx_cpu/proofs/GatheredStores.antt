@@ -7,22 +7,15 @@ use Rattle.byteorder.specs.Endian.{big_bytes}
 use Rattle.z_regs.specs.Absolute.{IsAccessible}
 use Rattle.z_regs.specs.declared.ranges.Range.{Range}
 use Rattle.z_instr.specs.declared.instr.Instr.{Instr}
-use Rattle.z_instr.specs.Facts.{agree}
 use Rattle.z_instr.specs.Table.{entry_at}
 use Rattle.store_cache.specs.Overlay.{Overlay, Store}
 use Rattle.tx_serial.specs.Flat.{operand_stores, stores_at}
-use Rattle.tx_serial.specs.Run.{lasting_of, stores_lastingly}
-use Rattle.tx_progress.proofs.Rows.{any_row}
+use Rattle.tx_serial.specs.Run.{lasting_of}
+use Rattle.z_instr.specs.Roles.{stores_lastingly}
 use Rattle.tx_progress.specs.Progress.{laying}
 use Rattle.tx_cpu.specs.Gathered.{IsDoubleword}
 use Rattle.tx_cpu.specs.Performed.{StoresFirst, first_size}
-use Rattle.tx_cpu.proofs.Completing.{agreed}
 use Rattle.tx_cpu.proofs.Stored.{none-stores, first-stores, trimmed-stores}
-
--- NTSTG alone has its opcode
-pub lasting-by-opcode : (n : ℕ) → nat_eq (entry_at n).opcode 0xE325 ≡ stores_lastingly (entry_at n)
-lasting-by-opcode n =
-    agreed _ _ (any_row (λ e. agree (nat_eq e.opcode 0xE325) (stores_lastingly e)) refl refl n)
 
 abbrev pub stores_by : Option ℕ → List Range → List ℕ → List Store
 stores_by prefix rs bytes = operand_stores prefix rs (take (first_size rs) bytes)

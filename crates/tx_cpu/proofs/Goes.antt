@@ -39,7 +39,7 @@ use Rattle.tx_serial.specs.Fate.{operands, fetch_refusal, instruction_at, unread
 use Rattle.tx_serial.specs.Fate.{restricted_refusal, specified_refusal, depth_refusal, operand_refusal}
 use Rattle.tx_serial.specs.Fate.{overflow_in, overflow_of}
 use Rattle.tx_serial.specs.Flat.{Storage}
-use Rattle.tx_serial.specs.Run.{stores_lastingly}
+use Rattle.z_instr.specs.Roles.{stores_lastingly}
 use Rattle.tx_serial.proofs.FreeOperands.{inside_operands, inside_block}
 use Rattle.tx_progress.specs.Progress.{Progress}
 use Rattle.tx_progress.specs.Trial.{at_hand, fetched, tried, tests_by, fate_by_progress, text_refusal_by}

@@ -9,16 +9,16 @@ use Rattle.z_regs.specs.Cpu.{Cpu}
 use Rattle.z_regs.specs.declared.ranges.Range.{Range}
 use Rattle.z_instr.specs.declared.instr.Instr.{Instr}
 use Rattle.z_instr.specs.Table.{Entry, entry_at}
-use Rattle.z_effect.specs.declared.kind.Kind.{Kind}
-use Rattle.z_effect.specs.declared.kind.Kind.TheVariants as kind
-use Rattle.z_effect.specs.declared.kind.Transaction.{Transaction}
-use Rattle.z_effect.specs.declared.kind.Transaction.TheVariants as transaction
-use Rattle.z_effect.specs.Kinds.{kind_at, kind_named}
+use Rattle.z_instr.specs.declared.kind.Kind.{Kind}
+use Rattle.z_instr.specs.declared.kind.Kind.TheVariants as kind
+use Rattle.z_instr.specs.declared.kind.Transaction.{Transaction}
+use Rattle.z_instr.specs.declared.kind.Transaction.TheVariants as transaction
+use Rattle.z_instr.specs.Table.{kind_at}
 use Rattle.z_effect.specs.One.{one, effect, length_of}
 use Rattle.z_effect.specs.Outcome.{Did}
 use Rattle.z_effect.specs.Registers.{register, advanced}
 use Rattle.z_effect.specs.TransactionEffect.{transaction_effect}
-use Rattle.tx_serial.specs.Run.{stores_lastingly}
+use Rattle.z_instr.specs.Roles.{stores_lastingly}
 use Rattle.tx_progress.proofs.Rows.{any_row}
 use Rattle.tx_cpu.specs.declared.performing.Ended.{Ended}
 use Rattle.tx_cpu.specs.Gathered.{IsDoubleword}
@@ -35,10 +35,9 @@ lasting_kind (kind.Transaction t) = is_lasting t
 lasting_kind _ = false
 
 abbrev lasting_row : Entry → Bool
-lasting_row e = not (stores_lastingly e) || lasting_kind (kind_named e.name)
+lasting_row e = not (stores_lastingly e) || lasting_kind e.kind
 
 lasting-rows : (n : ℕ) → lasting_row (entry_at n) ≡ true
-unfolding kind_named
 lasting-rows = any_row lasting_row refl refl
 
 one-lasting : (t : Transaction) → is_lasting t ≡ true → t ≡ transaction.StoreLasting

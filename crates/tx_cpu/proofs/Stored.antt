@@ -17,15 +17,15 @@ use Rattle.z_instr.specs.Table.{entry_at}
 use Rattle.z_touch.specs.Refusals.{span_of, range_of}
 use Rattle.z_effect.specs.After.{AreInside, written, with_stored, range_at, touched}
 use Rattle.z_effect.specs.Outcome.{Outcome, Did, Overflowed, Divides, Aborts}
-use Rattle.z_effect.specs.declared.kind.Kind.{Kind}
-use Rattle.z_effect.specs.declared.kind.Kind.TheVariants as kind
-use Rattle.z_effect.specs.declared.kind.Transaction.{Transaction}
-use Rattle.z_effect.specs.declared.kind.Transaction.TheVariants as transaction
-use Rattle.z_effect.specs.Facts.{operands_of}
-use Rattle.z_effect.specs.Kinds.{kind_at}
+use Rattle.z_instr.specs.declared.kind.Kind.{Kind}
+use Rattle.z_instr.specs.declared.kind.Kind.TheVariants as kind
+use Rattle.z_instr.specs.declared.kind.Transaction.{Transaction}
+use Rattle.z_instr.specs.declared.kind.Transaction.TheVariants as transaction
+use Rattle.z_instr.specs.Kinds.{operands_of}
+use Rattle.z_instr.specs.Table.{kind_at}
 use Rattle.z_effect.specs.One.{one, effect, length_of}
 use Rattle.z_effect.specs.TransactionEffect.{transaction_effect}
-use Rattle.z_effect.proofs.TableFacts.{operands_at}
+use Rattle.z_instr.proofs.TableFacts.{operands_at}
 use Rattle.z_regs.specs.Absolute.{IsAccessible}
 use Rattle.store_cache.specs.Overlay.{Store}
 use Rattle.tx_serial.specs.Fate.{operands}

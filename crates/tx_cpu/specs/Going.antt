@@ -9,7 +9,7 @@ use Rattle.z_instr.specs.declared.instr.Instr.{Instr}
 use Rattle.z_instr.specs.Roles.{is_end, block_named}
 use Rattle.z_instr.specs.Table.{entry_at}
 use Rattle.tx_serial.specs.Fate.{operands}
-use Rattle.tx_serial.specs.Run.{stores_lastingly}
+use Rattle.z_instr.specs.Roles.{stores_lastingly}
 use Rattle.tx_cpu.specs.Advancing.{MayAdvance}
 use Rattle.tx_cpu.specs.Tracked.{Tracked}
 

@@ -8,10 +8,10 @@ use Rattle.z_touch.specs.Refusals.{span_of}
 use Rattle.z_effect.specs.After.{cpu_after, storage_after, range_at}
 use Rattle.z_effect.specs.Outcome.{Outcome, Did, Overflowed, Divides, Aborts}
 use Rattle.z_effect.specs.Outcome as outcome
-use Rattle.z_effect.specs.declared.kind.Kind.{Kind}
-use Rattle.z_effect.specs.declared.kind.Kind.TheVariants as kind
-use Rattle.z_effect.specs.declared.kind.Transaction.{Transaction}
-use Rattle.z_effect.specs.declared.kind.Transaction.TheVariants.{StoreLasting}
+use Rattle.z_instr.specs.declared.kind.Kind.{Kind}
+use Rattle.z_instr.specs.declared.kind.Kind.TheVariants as kind
+use Rattle.z_instr.specs.declared.kind.Transaction.{Transaction}
+use Rattle.z_instr.specs.declared.kind.Transaction.TheVariants.{StoreLasting}
 use Rattle.tx_control.specs.Codes.{fixed_point_divide_code}
 use Rattle.tx_control.specs.declared.exceptions.Exception.{Exception}
 use Rattle.z_regs.specs.declared.waiting.Waiting.{Waiting}

@@ -8,7 +8,7 @@ ghost use Rattle.tx_progress.specs.Progress.{advanced};
 ghost use Rattle.std.specs.Prelude.{take, ◌^◌};
 ghost use Rattle.tx_serial.specs.Fate.{operands};
 ghost use Rattle.tx_serial.specs.Flat.{operand_stores};
-ghost use Rattle.tx_serial.specs.Run.{stores_lastingly as lasts};
+ghost use Rattle.z_instr.specs.Roles.{stores_lastingly as lasts};
 ghost use Rattle.z_effect.specs.Registers.{register as register_of};
 ghost use Rattle.tx_cpu.specs.Advancing.{MayAdvance};
 ghost use Rattle.tx_cpu.specs.Gathered.{IsDoubleword};

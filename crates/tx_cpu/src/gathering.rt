@@ -10,19 +10,18 @@ ghost use Rattle.std.specs.Prelude.{take, slice_get, All, Some, true};
 ghost use Rattle.z_regs.specs.Absolute.{IsAccessible};
 ghost use Rattle.z_instr.specs.Table.{entry_at};
 ghost use Rattle.tx_serial.specs.Flat.{operand_stores};
-ghost use Rattle.tx_serial.specs.Run.{lasting_of, stores_lastingly as lasts};
+ghost use Rattle.tx_serial.specs.Run.{lasting_of};
+ghost use Rattle.z_instr.specs.Roles.{stores_lastingly as lasts};
 ghost use Rattle.tx_cpu.specs.Performed.{StoresFirst, first_size};
 ghost use Rattle.tx_cpu.specs.Gathered.{HasRoomFor, IsDoubleword, with_gathered};
 
 use crate::performing::MOST_BYTES;
 use store_cache::StoreCache;
 use z_instr::instr::Instr;
+use z_instr::kind::{Kind, Transaction};
 use z_instr::lookup::line;
 use z_instr::op::Op;
 use z_regs::{Range, Touches, place_of};
-
-/// The opcode of NTSTG.
-const STORE_LASTING: u16 = 0xE325;
 
 /// Gathers bytes that are stored from a real address on.
 pub fn gather(stores: &mut StoreCache, bytes: &[u8], first: u64, prefix: Option<u32>)
@@ -54,7 +53,7 @@ pub fn gather_lasting(stores: &mut StoreCache, value: u64, first: u64, prefix: O
 fn stores_lastingly(op: Op) -> bool
     ensures { result ≡ lasts (entry_at op.number) }
 {
-    line(op).opcode == STORE_LASTING
+    matches!(line(op).kind, Kind::Transaction(Transaction::StoreLasting))
 }
 
 /// Gathers what an instruction stores in its first operand; no other is ever stored into. Of NTSTG that is

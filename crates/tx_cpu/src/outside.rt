@@ -17,17 +17,15 @@ use tx_control::codes::{FIXED_POINT_DIVIDE, FIXED_POINT_OVERFLOW};
 use tx_progress::done::Done;
 use z_effect::{delay, exception, interrupt};
 use z_instr::instr::Instr;
+use z_instr::kind::{Kind, Transaction};
 use z_instr::lookup::line;
 use z_regs::{Bytes, CpuImage, RunState, Touches, Waiting};
-
-/// The opcode of PPA.
-const ASSIST: u16 = 0xB2E8;
 
 /// How many turns the program waits after the instruction.
 pub fn delay_after(instr: &Instr, image: &CpuImage) -> u32
     ensures { result ≡ delay_given instr.now (cpu_of image.now) }
 {
-    if line(instr.op).opcode == ASSIST {
+    if matches!(line(instr.op).kind, Kind::Transaction(Transaction::Assist)) {
         delay(instr, image)
     } else {
         0

@@ -13,15 +13,15 @@ use Rattle.z_instr.specs.declared.instr.Instr.{Instr}
 use Rattle.z_instr.specs.declared.table.TheConstants.{ROWS}
 use Rattle.z_instr.proofs.TableFacts.{passes_row}
 use Rattle.z_effect.specs.Beginning.{begin_of}
-use Rattle.z_effect.specs.Kinds.{kind_at, kind_named}
+use Rattle.z_instr.specs.Table.{kind_at}
 use Rattle.z_effect.specs.One.{one, effect, length_of}
 use Rattle.z_effect.specs.Outcome.{Outcome, Did, Divides, Aborts}
 use Rattle.z_effect.specs.Outcome as outcome
 use Rattle.z_effect.specs.TransactionEffect.{transaction_effect}
-use Rattle.z_effect.specs.declared.kind.Kind.{Kind}
-use Rattle.z_effect.specs.declared.kind.Kind.TheVariants as kind
-use Rattle.z_effect.specs.declared.kind.Transaction.{Transaction}
-use Rattle.z_effect.specs.declared.kind.Transaction.TheVariants as transaction
+use Rattle.z_instr.specs.declared.kind.Kind.{Kind}
+use Rattle.z_instr.specs.declared.kind.Kind.TheVariants as kind
+use Rattle.z_instr.specs.declared.kind.Transaction.{Transaction}
+use Rattle.z_instr.specs.declared.kind.Transaction.TheVariants as transaction
 use Rattle.tx_control.specs.declared.begins.Begin.{Begin}
 use Rattle.tx_constraint.specs.Constraints.{Step}
 use Rattle.tx_serial.specs.Flat.{FlatState, operand_bytes}
@@ -90,10 +90,9 @@ is_transaction (kind.Transaction t) = true
 is_transaction _ = false
 
 abbrev is_told_apart : Entry → Bool
-is_told_apart e = not (begins e || is_end e) || is_transaction (kind_named e.name)
+is_told_apart e = not (begins e || is_end e) || is_transaction e.kind
 
 all_told_apart : (n : ℕ) → n < ROWS → is_told_apart (entry_at n) ≡ true
-unfolding kind_named
 all_told_apart = passes_row is_told_apart refl
 
 none_overflows : (t : Transaction) (n : ℕ) (i : Instr) (c : Cpu) (depth : ℕ) (d : Cpu) (bytes : List ℕ)

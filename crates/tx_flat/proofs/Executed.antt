@@ -13,12 +13,12 @@ use Rattle.z_instr.specs.declared.operand.Operands.TheVariants.{Stored}
 use Rattle.z_instr.specs.declared.operand.Size.TheVariants.{Doubleword}
 use Rattle.z_instr.specs.Operands.{Span, spans_in, first_address}
 use Rattle.tx_control.specs.declared.exceptions.Exception.{Exception}
-use Rattle.z_effect.specs.declared.kind.Kind.{Kind}
-use Rattle.z_effect.specs.declared.kind.Kind.TheVariants as kind
-use Rattle.z_effect.specs.declared.kind.Transaction.{Transaction}
-use Rattle.z_effect.specs.declared.kind.Transaction.TheVariants as transaction
-use Rattle.z_effect.specs.Kinds.{kind_at}
-use Rattle.z_effect.specs.Facts.{operands_of, transaction_operands}
+use Rattle.z_instr.specs.declared.kind.Kind.{Kind}
+use Rattle.z_instr.specs.declared.kind.Kind.TheVariants as kind
+use Rattle.z_instr.specs.declared.kind.Transaction.{Transaction}
+use Rattle.z_instr.specs.declared.kind.Transaction.TheVariants as transaction
+use Rattle.z_instr.specs.Table.{kind_at}
+use Rattle.z_instr.specs.Kinds.{operands_of, transaction_operands}
 use Rattle.z_effect.specs.Registers.{register}
 use Rattle.z_effect.specs.TransactionEffect.{transaction_effect}
 use Rattle.z_effect.specs.Outcome.{Outcome}
@@ -26,7 +26,7 @@ use Rattle.z_effect.specs.One.{effect, length_of}
 use Rattle.z_effect.specs.After.{touched, ranges_of, cpu_after, storage_after, answer_of, told, Executes}
 use Rattle.z_effect.specs.After.{AreInside}
 use Rattle.z_effect.specs.After.{written, with_stored}
-use Rattle.z_effect.proofs.TableFacts.{operands_at}
+use Rattle.z_instr.proofs.TableFacts.{operands_at}
 use Rattle.tx_flat.specs.declared.execution.Completion.{Completion}
 use Rattle.tx_flat.specs.declared.execution.Completion.TheVariants as done
 use Rattle.tx_flat.specs.Done.{completion_of, outcome_at, IsExecuted}

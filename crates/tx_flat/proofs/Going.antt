@@ -16,7 +16,8 @@ use Rattle.tx_serial.specs.Flat.{Storage}
 use Rattle.tx_serial.specs.Attempt.{Run}
 use Rattle.tx_serial.specs.Attempt as run
 use Rattle.tx_serial.specs.Fate.{Passes, operands}
-use Rattle.tx_serial.specs.Run.{after, outcome_of, stores_lastingly, nest_after, may_follow, mark_in}
+use Rattle.tx_serial.specs.Run.{after, outcome_of, nest_after, may_follow, mark_in}
+use Rattle.z_instr.specs.Roles.{stores_lastingly}
 use Rattle.tx_flat.specs.declared.attempt.Attempt as kept
 use Rattle.tx_flat.specs.declared.execution.Completion.{Completion}
 use Rattle.tx_flat.specs.Done.{completion_of, outcome_at}

@@ -29,7 +29,8 @@ use Rattle.tx_serial.specs.Fate.{Refusal, Passes, operands, step_of, tests, firs
 use Rattle.tx_serial.specs.Fate.{broken_where}
 use Rattle.tx_serial.specs.Fate.{text_refusal, restricted_refusal, specified_refusal, depth_refusal}
 use Rattle.tx_serial.specs.Fate.{operand_refusal, place_refusal, overflow_refusal}
-use Rattle.tx_serial.specs.Run.{with_instruction, lasting_of, stores_lastingly, nest_after, may_follow}
+use Rattle.tx_serial.specs.Run.{with_instruction, lasting_of, nest_after, may_follow}
+use Rattle.z_instr.specs.Roles.{stores_lastingly}
 use Rattle.tx_serial.proofs.Copies.{laid_twice}
 use Rattle.tx_flat.specs.declared.attempt.Attempt as kept
 use Rattle.tx_flat.specs.declared.execution.Completion.{Completion}

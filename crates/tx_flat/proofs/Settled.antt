@@ -13,10 +13,10 @@ use Rattle.z_regs.specs.declared.ranges.Range.{Range}
 use Rattle.z_instr.specs.declared.instr.Instr.{Instr}
 use Rattle.z_instr.specs.Table.{Entry, entry_at}
 use Rattle.z_instr.specs.Facts.{agree}
-use Rattle.z_effect.specs.declared.kind.Kind.{Kind}
-use Rattle.z_effect.specs.declared.kind.Kind.TheVariants as kind
-use Rattle.z_effect.specs.declared.kind.Transaction.TheVariants as transaction
-use Rattle.z_effect.specs.Kinds.{kind_at, kind_named}
+use Rattle.z_instr.specs.declared.kind.Kind.{Kind}
+use Rattle.z_instr.specs.declared.kind.Kind.TheVariants as kind
+use Rattle.z_instr.specs.declared.kind.Transaction.TheVariants as transaction
+use Rattle.z_instr.specs.Table.{kind_at}
 use Rattle.z_instr.specs.Roles.{begins}
 use Rattle.z_instr.specs.Operands.{Span}
 use Rattle.z_touch.specs.Refusals.{range_of, span_of}
@@ -37,7 +37,8 @@ use Rattle.tx_footprint.specs.Touched.{Sets, untouched, touching}
 use Rattle.tx_serial.specs.Flat.{Storage, bytes_of, laid_over, operand_stores}
 use Rattle.tx_serial.specs.Attempt.{Run, footprint, attempt_of, last_step}
 use Rattle.tx_serial.specs.Fate.{operands}
-use Rattle.tx_serial.specs.Run.{outcome_of, stores_lastingly}
+use Rattle.tx_serial.specs.Run.{outcome_of}
+use Rattle.z_instr.specs.Roles.{stores_lastingly}
 use Rattle.tx_serial.proofs.Listed.{bytes_are_seen, stores_are_seen}
 use Rattle.tx_flat.specs.Done.{outcome_at, is_lasting_kind}
 use Rattle.tx_flat.specs.Reading.{IsCopy}
@@ -207,10 +208,9 @@ plain_inside a s h =
 -- ---- NTSTG
 
 abbrev is_told_apart : Entry → Bool
-is_told_apart e = agree (is_lasting_kind (kind_named e.name)) (stores_lastingly e)
+is_told_apart e = agree (is_lasting_kind e.kind) (stores_lastingly e)
 
 told_apart : (n : ℕ) → n < ROWS → is_told_apart (entry_at n) ≡ true
-unfolding kind_named
 told_apart = passes_row is_told_apart refl
 
 agrees : (a b : Bool) → agree a b ≡ true → a ≡ b
@@ -222,7 +222,7 @@ agrees false false h = refl
 -- an operation has lasting stores exactly where it is NTSTG
 pub lasting_at : (n : ℕ) → n < ROWS → is_lasting_kind (kind_at n) ≡ stores_lastingly (entry_at n)
 unfolding kind_at
-lasting_at n h = agrees (is_lasting_kind (kind_named (entry_at n).name)) (stores_lastingly (entry_at n))
+lasting_at n h = agrees (is_lasting_kind (entry_at n).kind) (stores_lastingly (entry_at n))
     (told_apart n h)
 
 lasting_is : (k : Kind) → is_lasting_kind k ≡ true → k ≡ kind.Transaction transaction.StoreLasting

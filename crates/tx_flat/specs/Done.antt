@@ -1,8 +1,8 @@
 -- What one instruction leaves.
 use Rattle.std.specs.Prelude.{◌≡◌, ℕ, List, Bool, true, false}
-use Rattle.z_effect.specs.declared.kind.Kind.{Kind}
-use Rattle.z_effect.specs.declared.kind.Kind.TheVariants as kind
-use Rattle.z_effect.specs.declared.kind.Transaction.TheVariants as transaction
+use Rattle.z_instr.specs.declared.kind.Kind.{Kind}
+use Rattle.z_instr.specs.declared.kind.Kind.TheVariants as kind
+use Rattle.z_instr.specs.declared.kind.Transaction.TheVariants as transaction
 use Rattle.z_regs.specs.Cpu.{Cpu}
 use Rattle.z_instr.specs.declared.instr.Instr.{Instr}
 use Rattle.z_effect.specs.One.{one}

@@ -15,7 +15,8 @@ use Rattle.tx_control.specs.declared.begins.Begin.{Begin}
 use Rattle.tx_constraint.specs.Kept.{kept_at, added}
 use Rattle.tx_footprint.specs.Touched.{sets_of, touching, fit_of}
 use Rattle.tx_serial.specs.Attempt as run
-use Rattle.tx_serial.specs.Run.{stores_lastingly, nest_after, mark_in}
+use Rattle.tx_serial.specs.Run.{nest_after, mark_in}
+use Rattle.z_instr.specs.Roles.{stores_lastingly}
 use Rattle.tx_flat.specs.declared.attempt.Attempt.{Attempt}
 use Rattle.tx_flat.specs.declared.execution.Completion.{Completion}
 use Rattle.tx_flat.specs.declared.execution.Completion.TheVariants.{Completed, Overflowed, Divides, Aborts}

@@ -5,22 +5,22 @@ ghost use Rattle.z_instr.specs.Operands.{first_address as first_address_of};
 ghost use Rattle.z_regs.specs.Cpu.{cpu_of};
 ghost use Rattle.z_regs.specs.Prefix.{storage_size};
 ghost use Rattle.z_effect.specs.Registers.{register as value_of};
-ghost use Rattle.z_effect.specs.Kinds.{kind_at};
+ghost use Rattle.z_instr.specs.Table.{kind_at};
 ghost use Rattle.z_effect.specs.Outcome.{Outcome};
 ghost use Rattle.z_effect.specs.After.{AreInside, ranges_of, answer_of, told, written};
-ghost use Rattle.z_effect.specs.declared.kind.Kind.TheVariants as kinds;
+ghost use Rattle.z_instr.specs.declared.kind.Kind.TheVariants as kinds;
 ghost use Rattle.tx_flat.specs.Done.{completion_of, IsExecuted};
 
 use crate::storing::write_bytes;
 use byteorder::{BigEndian, ByteOrder};
 use tx_control::Exception;
 use tx_control::codes::FIXED_POINT_OVERFLOW;
-use z_effect::kind::{Kind, Transaction};
-use z_effect::{kind_of, register, transact};
+use z_effect::{register, transact};
 use z_instr::addresses::first_address;
 use z_instr::format::length_in;
 use z_instr::instr::Instr;
-use z_instr::lookup::line;
+use z_instr::kind::{Kind, Transaction};
+use z_instr::lookup::{kind_of, line};
 use z_regs::{CpuImage, Storage};
 
 /// How an instruction has come to its end.

@@ -11,31 +11,32 @@ use Rattle.z_arith.specs.Quotient.{divide_word_of, divide_double_of, divide_logi
 use Rattle.z_instr.specs.declared.operand.Size.TheVariants.{Doubleword}
 use Rattle.z_instr.specs.Operands.{first_address, second_address, selects, registers_between}
 use Rattle.z_instr.specs.Operands as operands
-use Rattle.z_effect.specs.declared.kind.Order.TheVariants.{Signed}
+use Rattle.z_instr.specs.declared.kind.Order.TheVariants.{Signed}
 use Rattle.z_effect.specs.Registers.{register, operand_in, after, target, with_general, with_register}
 use Rattle.z_effect.specs.Registers.{with_condition, next_address, advanced}
 use Rattle.z_effect.specs.Operations.{combined, compared, shifted}
 use Rattle.z_arith.specs.declared.DivideFault.{DivideFault}
 use Rattle.z_instr.specs.declared.instr.Instr.{Instr}
 use Rattle.z_regs.specs.Cpu.{Cpu}
-use Rattle.z_effect.specs.declared.kind.Kind.{Kind}
-use Rattle.z_effect.specs.declared.kind.Kind.TheVariants as kind
-use Rattle.z_effect.specs.declared.kind.General.{General}
-use Rattle.z_effect.specs.declared.kind.General.TheVariants as general
-use Rattle.z_effect.specs.declared.kind.Storage.{Storage}
-use Rattle.z_effect.specs.declared.kind.Storage.TheVariants as storage
-use Rattle.z_effect.specs.declared.kind.Branch.{Branch}
-use Rattle.z_effect.specs.declared.kind.Branch.TheVariants as branch
-use Rattle.z_effect.specs.declared.kind.Transaction.{Transaction}
-use Rattle.z_effect.specs.declared.kind.Transaction.TheVariants as transaction
+use Rattle.z_instr.specs.declared.kind.Kind.{Kind}
+use Rattle.z_instr.specs.declared.kind.Kind.TheVariants as kind
+use Rattle.z_instr.specs.declared.kind.General.{General}
+use Rattle.z_instr.specs.declared.kind.General.TheVariants as general
+use Rattle.z_instr.specs.declared.kind.Storage.{Storage}
+use Rattle.z_instr.specs.declared.kind.Storage.TheVariants as storage
+use Rattle.z_instr.specs.declared.kind.Branch.{Branch}
+use Rattle.z_instr.specs.declared.kind.Branch.TheVariants as branch
+use Rattle.z_instr.specs.declared.kind.Transaction.{Transaction}
+use Rattle.z_instr.specs.declared.kind.Transaction.TheVariants as transaction
 use Rattle.z_effect.specs.Outcome.{Outcome, Did, ended}
-use Rattle.z_effect.specs.Kinds.{kind_at}
+use Rattle.z_instr.specs.Table.{kind_at}
 use Rattle.z_effect.specs.GeneralEffect.{general_effect, first_operand, second_operand, amount, answered}
 use Rattle.z_effect.specs.GeneralEffect.{divided}
-use Rattle.z_effect.specs.StorageEffect.{storage_effect, item, number, stored, piece, with_items}
+use Rattle.z_effect.specs.StorageEffect.{storage_effect, number, stored, piece, with_items}
+use Rattle.z_instr.specs.Kinds.{item}
 use Rattle.z_effect.specs.StorageEffect.{with_code_of, results, lead}
-use Rattle.z_effect.specs.declared.kind.Combination.{Combination}
-use Rattle.z_effect.specs.declared.kind.Combination.TheVariants.{Move, Logic}
+use Rattle.z_instr.specs.declared.kind.Combination.{Combination}
+use Rattle.z_instr.specs.declared.kind.Combination.TheVariants.{Move, Logic}
 use Rattle.z_effect.specs.BranchEffect.{branch_effect, destination, counted, going}
 use Rattle.z_effect.specs.TransactionEffect.{transaction_effect}
 use Rattle.z_effect.specs.After.{cpu_after}

@@ -84,7 +84,7 @@ use Rattle.tx_serial.specs.Ending.{outcome_cause}
 use Rattle.tx_serial.specs.Fate.{cause_in}
 use Rattle.tx_serial.specs.Flat.{operand_bytes, operand_stores, laid_over}
 use Rattle.tx_serial.specs.Run.{after, overflowed, with_instruction, mark_in, outcome_of, lasting_of}
-use Rattle.tx_serial.specs.Run.{stores_lastingly}
+use Rattle.z_instr.specs.Roles.{stores_lastingly}
 use Rattle.tx_serial.proofs.Passing.{passes}
 use Rattle.tx_serial.proofs.StoredBytes.{Fills, stored_size}
 use Rattle.tx_serial.proofs.StoredPlaces.{filled, small_operands, AreSmall, goes_there}

@@ -16,7 +16,7 @@ use Rattle.z_instr.specs.Table.{entry_at, table}
 use Rattle.z_instr.specs.Computing.{reading_of, row_number}
 use Rattle.z_instr.specs.Access.{accessible_pages, text_pages, unfetched}
 use Rattle.z_instr.specs.Operands.{spans_in, unspecified_in, inaccessible_in}
-use Rattle.z_effect.specs.Kinds.{kind_at, kind_named}
+use Rattle.z_instr.specs.Table.{kind_at}
 use Rattle.z_effect.specs.Operations.{combined}
 use Rattle.z_effect.specs.GeneralEffect.{general_effect}
 use Rattle.z_effect.specs.BranchEffect.{branch_effect}
@@ -115,7 +115,7 @@ begun : both (turns 1 (on plain storing)).told
 unfolding executed stopped aborted interruption_taken block_stored fate_by_progress cause_in laid_over
     reading_of
     row_number entry_at table accessible_pages text_pages unfetched spans_in unspecified_in inaccessible_in
-    kind_at kind_named combined general_effect branch_effect storage_effect transaction_effect absolute_range
+    kind_at combined general_effect branch_effect storage_effect transaction_effect absolute_range
     has_place count_below next_text_breach next_operand_breach with_octowords add_of divide_word_of block
     fields register_fields restored psw_of with_fields loaded
 begun = refl
@@ -128,7 +128,7 @@ stored : both (turns 2 (on plain storing)).told (both (bytes_at 0x9000 8 (turns 
 unfolding executed stopped aborted interruption_taken block_stored fate_by_progress cause_in laid_over
     reading_of
     row_number entry_at table accessible_pages text_pages unfetched spans_in unspecified_in inaccessible_in
-    kind_at kind_named combined general_effect branch_effect storage_effect transaction_effect absolute_range
+    kind_at combined general_effect branch_effect storage_effect transaction_effect absolute_range
     has_place count_below next_text_breach next_operand_breach with_octowords add_of divide_word_of block
     fields register_fields restored psw_of with_fields loaded
 stored = refl
@@ -145,7 +145,7 @@ committed : both (turns 3 (on plain storing)).told (both (bytes_at 0x9000 8 (tur
 unfolding executed stopped aborted interruption_taken block_stored fate_by_progress cause_in laid_over
     reading_of
     row_number entry_at table accessible_pages text_pages unfetched spans_in unspecified_in inaccessible_in
-    kind_at kind_named combined general_effect branch_effect storage_effect transaction_effect absolute_range
+    kind_at combined general_effect branch_effect storage_effect transaction_effect absolute_range
     has_place count_below next_text_breach next_operand_breach with_octowords add_of divide_word_of block
     fields register_fields restored psw_of with_fields loaded
 committed = refl
@@ -167,7 +167,7 @@ abort_is_told : both (turns 7 (on plain aborting)).told (turns 7 (on plain
 unfolding executed stopped aborted interruption_taken block_stored fate_by_progress cause_in laid_over
     reading_of
     row_number entry_at table accessible_pages text_pages unfetched spans_in unspecified_in inaccessible_in
-    kind_at kind_named combined general_effect branch_effect storage_effect transaction_effect absolute_range
+    kind_at combined general_effect branch_effect storage_effect transaction_effect absolute_range
     has_place count_below next_text_breach next_operand_breach with_octowords add_of divide_word_of block
     fields register_fields restored psw_of with_fields loaded
 abort_is_told = refl
@@ -180,7 +180,7 @@ left_by_abort : (let b = left 0x4020 (turns 7 (on plain aborting)) in
 unfolding executed stopped aborted interruption_taken block_stored fate_by_progress cause_in laid_over
     reading_of
     row_number entry_at table accessible_pages text_pages unfetched spans_in unspecified_in inaccessible_in
-    kind_at kind_named combined general_effect branch_effect storage_effect transaction_effect absolute_range
+    kind_at combined general_effect branch_effect storage_effect transaction_effect absolute_range
     has_place count_below next_text_breach next_operand_breach with_octowords add_of divide_word_of block
     fields register_fields restored psw_of with_fields loaded
 left_by_abort = refl
@@ -191,7 +191,7 @@ its_block : (let b = block_stored (left 0x4020 (turns 7 (on plain aborting))) in
 unfolding executed stopped aborted interruption_taken block_stored fate_by_progress cause_in laid_over
     reading_of
     row_number entry_at table accessible_pages text_pages unfetched spans_in unspecified_in inaccessible_in
-    kind_at kind_named combined general_effect branch_effect storage_effect transaction_effect absolute_range
+    kind_at combined general_effect branch_effect storage_effect transaction_effect absolute_range
     has_place count_below next_text_breach next_operand_breach with_octowords add_of divide_word_of block
     fields register_fields restored psw_of with_fields loaded
 its_block = refl
@@ -216,7 +216,7 @@ its_last_value_stays : (let e = turns 4 (on three_and_four lasting) in
 unfolding executed stopped aborted interruption_taken block_stored fate_by_progress cause_in laid_over
     reading_of
     row_number entry_at table accessible_pages text_pages unfetched spans_in unspecified_in inaccessible_in
-    kind_at kind_named combined general_effect branch_effect storage_effect transaction_effect absolute_range
+    kind_at combined general_effect branch_effect storage_effect transaction_effect absolute_range
     has_place count_below next_text_breach next_operand_breach with_octowords add_of divide_word_of block
     fields register_fields restored psw_of with_fields loaded
 its_last_value_stays = refl
@@ -236,7 +236,7 @@ constrained : (let q = (turns 0 (on plain own_page)).after.local.attempt in both
 unfolding executed stopped aborted interruption_taken block_stored fate_by_progress cause_in laid_over
     reading_of
     row_number entry_at table accessible_pages text_pages unfetched spans_in unspecified_in inaccessible_in
-    kind_at kind_named combined general_effect branch_effect storage_effect transaction_effect absolute_range
+    kind_at combined general_effect branch_effect storage_effect transaction_effect absolute_range
     has_place count_below next_text_breach next_operand_breach with_octowords add_of divide_word_of block
     fields register_fields restored psw_of with_fields loaded
 constrained = refl
@@ -246,7 +246,7 @@ breach : (let e = turns 1 (on plain own_page) in both e.told (seen 0 (left 0x400
 unfolding executed stopped aborted interruption_taken block_stored fate_by_progress cause_in laid_over
     reading_of
     row_number entry_at table accessible_pages text_pages unfetched spans_in unspecified_in inaccessible_in
-    kind_at kind_named combined general_effect branch_effect storage_effect transaction_effect absolute_range
+    kind_at combined general_effect branch_effect storage_effect transaction_effect absolute_range
     has_place count_below next_text_breach next_operand_breach with_octowords add_of divide_word_of block
     fields register_fields restored psw_of with_fields loaded
 breach = refl
@@ -268,7 +268,7 @@ overflow_has_completed : (let e = turns 1 (on full overflowing) in
 unfolding executed stopped aborted interruption_taken block_stored fate_by_progress cause_in laid_over
     reading_of
     row_number entry_at table accessible_pages text_pages unfetched spans_in unspecified_in inaccessible_in
-    kind_at kind_named combined general_effect branch_effect storage_effect transaction_effect absolute_range
+    kind_at combined general_effect branch_effect storage_effect transaction_effect absolute_range
     has_place count_below next_text_breach next_operand_breach with_octowords add_of divide_word_of block
     fields register_fields restored psw_of with_fields loaded
 overflow_has_completed = refl

@@ -12,11 +12,11 @@ use Rattle.z_instr.specs.Lines.{entry_of}
 use Rattle.z_instr.specs.Table.{Entry, entry_at, table, no_entry}
 use Rattle.z_instr.specs.Roles.{begins, is_end}
 use Rattle.z_instr.proofs.TableFacts.{passes_row, same_table}
-use Rattle.z_effect.specs.declared.kind.Kind.{Kind}
-use Rattle.z_effect.specs.declared.kind.Kind.TheVariants as kind
-use Rattle.z_effect.specs.declared.kind.Transaction.{Transaction}
-use Rattle.z_effect.specs.declared.kind.Transaction.TheVariants as transaction
-use Rattle.z_effect.specs.Kinds.{kind_at, kind_named}
+use Rattle.z_instr.specs.declared.kind.Kind.{Kind}
+use Rattle.z_instr.specs.declared.kind.Kind.TheVariants as kind
+use Rattle.z_instr.specs.declared.kind.Transaction.{Transaction}
+use Rattle.z_instr.specs.declared.kind.Transaction.TheVariants as transaction
+use Rattle.z_instr.specs.Table.{kind_at}
 use Rattle.z_effect.specs.One.{one, effect, length_of}
 use Rattle.z_effect.specs.Outcome.{Outcome, Did}
 use Rattle.z_effect.specs.TransactionEffect.{transaction_effect}
@@ -54,10 +54,9 @@ completes (kind.Transaction t) = completes_transaction t
 completes _ = false
 
 abbrev is_kept_simple : Entry → Bool
-is_kept_simple e = not (begins e || is_end e) || completes (kind_named e.name)
+is_kept_simple e = not (begins e || is_end e) || completes e.kind
 
 simple_rows : (n : ℕ) → is_kept_simple (entry_at n) ≡ true
-unfolding kind_named
 simple_rows = any_row is_kept_simple refl refl
 
 pub record IsDone (o : Outcome) : Type 0 where

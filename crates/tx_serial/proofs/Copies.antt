@@ -17,7 +17,8 @@ use Rattle.tx_serial.specs.Flat.{Storage, FlatState, at_put, laid_over, operand_
 use Rattle.tx_serial.specs.Attempt.{Run, Mark, Open, Committed, Overflowed, Missing}
 use Rattle.tx_serial.specs.Fate.{Fate, Goes, Ends, Stops, fate}
 use Rattle.tx_serial.specs.Run.{run, more, more_of, after_fate, after_where, after, may_follow, outcome_of}
-use Rattle.tx_serial.specs.Run.{lasting_of, stores_lastingly}
+use Rattle.tx_serial.specs.Run.{lasting_of}
+use Rattle.z_instr.specs.Roles.{stores_lastingly}
 
 -- ---- stores
 

@@ -16,7 +16,7 @@ use Rattle.z_instr.specs.Table.{entry_at, table}
 use Rattle.z_instr.specs.Computing.{reading_of, row_number}
 use Rattle.z_instr.specs.Access.{accessible_pages, text_pages, unfetched}
 use Rattle.z_instr.specs.Operands.{spans_in, unspecified_in, inaccessible_in}
-use Rattle.z_effect.specs.Kinds.{kind_at, kind_named}
+use Rattle.z_instr.specs.Table.{kind_at}
 use Rattle.z_effect.specs.Operations.{combined}
 use Rattle.z_effect.specs.GeneralEffect.{general_effect}
 use Rattle.z_effect.specs.BranchEffect.{branch_effect}
@@ -113,7 +113,7 @@ load =
 one_step : cpu_seen 2 (after (on plain load) (Step 0 ∷ [])) ≡ (0 ∷ 5 ∷ [], 0x4004, 0, Running)
 unfolding apply replay_from run more fate cause_in ending fits remains laid_over reading_of row_number
     entry_at table accessible_pages text_pages unfetched spans_in unspecified_in inaccessible_in kind_at
-    kind_named combined general_effect branch_effect storage_effect transaction_effect absolute_range
+    combined general_effect branch_effect storage_effect transaction_effect absolute_range
     has_place count_below text_breach operand_breach with_octowords add_of divide_word_of block fields
     register_fields restored psw_of with_fields loaded
 one_step = refl
@@ -126,7 +126,7 @@ service =
 halting : cpu_seen 0 (after (on plain service) (Step 0 ∷ [])) ≡ ([], 0x4002, 0, Halted)
 unfolding apply replay_from run more fate cause_in ending fits remains laid_over reading_of row_number
     entry_at table accessible_pages text_pages unfetched spans_in unspecified_in inaccessible_in kind_at
-    kind_named combined general_effect branch_effect storage_effect transaction_effect absolute_range
+    combined general_effect branch_effect storage_effect transaction_effect absolute_range
     has_place count_below text_breach operand_breach with_octowords add_of divide_word_of block fields
     register_fields restored psw_of with_fields loaded
 halting = refl
@@ -139,7 +139,7 @@ far_load =
 addressing_exception : cpu_seen 0 (after (on plain far_load) (Step 0 ∷ [])) ≡ ([], 0x4006, 0, Interrupted 5)
 unfolding apply replay_from run more fate cause_in ending fits remains laid_over reading_of row_number
     entry_at table accessible_pages text_pages unfetched spans_in unspecified_in inaccessible_in kind_at
-    kind_named combined general_effect branch_effect storage_effect transaction_effect absolute_range
+    combined general_effect branch_effect storage_effect transaction_effect absolute_range
     has_place count_below text_breach operand_breach with_octowords add_of divide_word_of block fields
     register_fields restored psw_of with_fields loaded
 addressing_exception = refl
@@ -153,7 +153,7 @@ protection_exception : cpu_seen 0 (after (on (with_registers (0 ∷ 0 ∷ 0x4100
     ∷ []) plain) text_store) (Step 0 ∷ [])) ≡ ([], 0x4004, 0, Interrupted 4)
 unfolding apply replay_from run more fate cause_in ending fits remains laid_over reading_of row_number
     entry_at table accessible_pages text_pages unfetched spans_in unspecified_in inaccessible_in kind_at
-    kind_named combined general_effect branch_effect storage_effect transaction_effect absolute_range
+    combined general_effect branch_effect storage_effect transaction_effect absolute_range
     has_place count_below text_breach operand_breach with_octowords add_of divide_word_of block fields
     register_fields restored psw_of with_fields loaded
 protection_exception = refl
@@ -166,7 +166,7 @@ dividing =
 divide_exception : cpu_seen 0 (after (on plain dividing) (Step 0 ∷ [])) ≡ ([], 0x4002, 0, Interrupted 9)
 unfolding apply replay_from run more fate cause_in ending fits remains laid_over reading_of row_number
     entry_at table accessible_pages text_pages unfetched spans_in unspecified_in inaccessible_in kind_at
-    kind_named combined general_effect branch_effect storage_effect transaction_effect absolute_range
+    combined general_effect branch_effect storage_effect transaction_effect absolute_range
     has_place count_below text_breach operand_breach with_octowords add_of divide_word_of block fields
     register_fields restored psw_of with_fields loaded
 divide_exception = refl
@@ -175,7 +175,7 @@ divide_exception = refl
 no_instruction : cpu_seen 0 (after (on plain []) (Step 0 ∷ [])) ≡ ([], 0x4002, 0, Interrupted 1)
 unfolding apply replay_from run more fate cause_in ending fits remains laid_over reading_of row_number
     entry_at table accessible_pages text_pages unfetched spans_in unspecified_in inaccessible_in kind_at
-    kind_named combined general_effect branch_effect storage_effect transaction_effect absolute_range
+    combined general_effect branch_effect storage_effect transaction_effect absolute_range
     has_place count_below text_breach operand_breach with_octowords add_of divide_word_of block fields
     register_fields restored psw_of with_fields loaded
 no_instruction = refl
@@ -183,7 +183,7 @@ no_instruction = refl
 odd_address : cpu_seen 0 (after (on (started 0x4001) load) (Step 0 ∷ [])) ≡ ([], 0x4001, 0, Interrupted 6)
 unfolding apply replay_from run more fate cause_in ending fits remains laid_over reading_of row_number
     entry_at table accessible_pages text_pages unfetched spans_in unspecified_in inaccessible_in kind_at
-    kind_named combined general_effect branch_effect storage_effect transaction_effect absolute_range
+    combined general_effect branch_effect storage_effect transaction_effect absolute_range
     has_place count_below text_breach operand_breach with_octowords add_of divide_word_of block fields
     register_fields restored psw_of with_fields loaded
 odd_address = refl
@@ -191,7 +191,7 @@ odd_address = refl
 outside_text : cpu_seen 0 (after (on (started 0x5000) load) (Step 0 ∷ [])) ≡ ([], 0x5000, 0, Interrupted 4)
 unfolding apply replay_from run more fate cause_in ending fits remains laid_over reading_of row_number
     entry_at table accessible_pages text_pages unfetched spans_in unspecified_in inaccessible_in kind_at
-    kind_named combined general_effect branch_effect storage_effect transaction_effect absolute_range
+    combined general_effect branch_effect storage_effect transaction_effect absolute_range
     has_place count_below text_breach operand_breach with_octowords add_of divide_word_of block fields
     register_fields restored psw_of with_fields loaded
 outside_text = refl
@@ -201,7 +201,7 @@ into_the_next_page : cpu_seen 0 (after (with_storage (placed 0x4ffe load (λ a. 
     [])) (Step 0 ∷ [])) ≡ ([], 0x4ffe, 0, Interrupted 4)
 unfolding apply replay_from run more fate cause_in ending fits remains laid_over reading_of row_number
     entry_at table accessible_pages text_pages unfetched spans_in unspecified_in inaccessible_in kind_at
-    kind_named combined general_effect branch_effect storage_effect transaction_effect absolute_range
+    combined general_effect branch_effect storage_effect transaction_effect absolute_range
     has_place count_below text_breach operand_breach with_octowords add_of divide_word_of block fields
     register_fields restored psw_of with_fields loaded
 into_the_next_page = refl
@@ -214,7 +214,7 @@ lone_end =
 end_outside : cpu_seen 0 (after (on plain lone_end) (Step 0 ∷ [])) ≡ ([], 0x4004, 2, Running)
 unfolding apply replay_from run more fate cause_in ending fits remains laid_over reading_of row_number
     entry_at table accessible_pages text_pages unfetched spans_in unspecified_in inaccessible_in kind_at
-    kind_named combined general_effect branch_effect storage_effect transaction_effect absolute_range
+    combined general_effect branch_effect storage_effect transaction_effect absolute_range
     has_place count_below text_breach operand_breach with_octowords add_of divide_word_of block fields
     register_fields restored psw_of with_fields loaded
 end_outside = refl
@@ -227,7 +227,7 @@ lone_abort =
 abort_outside : cpu_seen 0 (after (on plain lone_abort) (Step 0 ∷ [])) ≡ ([], 0x4004, 0, Interrupted 0x13)
 unfolding apply replay_from run more fate cause_in ending fits remains laid_over reading_of row_number
     entry_at table accessible_pages text_pages unfetched spans_in unspecified_in inaccessible_in kind_at
-    kind_named combined general_effect branch_effect storage_effect transaction_effect absolute_range
+    combined general_effect branch_effect storage_effect transaction_effect absolute_range
     has_place count_below text_breach operand_breach with_octowords add_of divide_word_of block fields
     register_fields restored psw_of with_fields loaded
 abort_outside = refl
@@ -250,7 +250,7 @@ commit_of_three : both (cpu_seen 4 stored) (bytes_at 0x9000 8 stored)
     ≡ both (0 ∷ 0 ∷ 0 ∷ 2 ∷ [], 0x4016, 0, Halted) (0 ∷ 0 ∷ 0 ∷ 0 ∷ 0 ∷ 0 ∷ 0 ∷ 2 ∷ [])
 unfolding apply replay_from run more fate cause_in ending fits remains laid_over reading_of row_number
     entry_at table accessible_pages text_pages unfetched spans_in unspecified_in inaccessible_in kind_at
-    kind_named combined general_effect branch_effect storage_effect transaction_effect absolute_range
+    combined general_effect branch_effect storage_effect transaction_effect absolute_range
     has_place count_below text_breach operand_breach with_octowords add_of divide_word_of block fields
     register_fields restored psw_of with_fields loaded
 commit_of_three = refl
@@ -281,7 +281,7 @@ aborted = after (on plain aborting) (three_steps ++ Abort 0 4 (Tabort 257) ∷ [
 registers_after_tabort : cpu_seen 3 aborted ≡ (0 ∷ 1 ∷ 12 ∷ [], 0x4014, 3, Running)
 unfolding apply replay_from run more fate cause_in ending fits remains laid_over reading_of row_number
     entry_at table accessible_pages text_pages unfetched spans_in unspecified_in inaccessible_in kind_at
-    kind_named combined general_effect branch_effect storage_effect transaction_effect absolute_range
+    combined general_effect branch_effect storage_effect transaction_effect absolute_range
     has_place count_below text_breach operand_breach with_octowords add_of divide_word_of block fields
     register_fields restored psw_of with_fields loaded
 registers_after_tabort = refl
@@ -295,7 +295,7 @@ block_after_tabort : both (pending_at 0 40 aborted) (pending_at 128 24 aborted)
     ∷ 0x00 ∷ 0x00 ∷ 0x0B ∷ 0x00 ∷ 0x00 ∷ 0x00 ∷ 0x00 ∷ 0x00 ∷ 0x00 ∷ 0x00 ∷ 0x0C ∷ [])
 unfolding apply replay_from run more fate cause_in ending fits remains laid_over reading_of row_number
     entry_at table accessible_pages text_pages unfetched spans_in unspecified_in inaccessible_in kind_at
-    kind_named combined general_effect branch_effect storage_effect transaction_effect absolute_range
+    combined general_effect branch_effect storage_effect transaction_effect absolute_range
     has_place count_below text_breach operand_breach with_octowords add_of divide_word_of block fields
     register_fields restored psw_of with_fields loaded
 block_after_tabort = refl
@@ -310,7 +310,7 @@ block_is_stored : both (cpu_seen 3 told) (both (pending_at 0 40 told) (bytes_at 
     ∷ 0x00 ∷ 0x00 ∷ 0x40 ∷ 0x20 ∷ []))
 unfolding apply replay_from run more fate cause_in ending fits remains laid_over reading_of row_number
     entry_at table accessible_pages text_pages unfetched spans_in unspecified_in inaccessible_in kind_at
-    kind_named combined general_effect branch_effect storage_effect transaction_effect absolute_range
+    combined general_effect branch_effect storage_effect transaction_effect absolute_range
     has_place count_below text_breach operand_breach with_octowords add_of divide_word_of block fields
     register_fields restored psw_of with_fields loaded
 block_is_stored = refl
@@ -351,7 +351,7 @@ filtered_exception : both (cpu_seen 3 filtered) (both (pending_at 8 8 filtered) 
     (both (0x9000 ∷ 0 ∷ 0 ∷ 0 ∷ 0 ∷ 0 ∷ 0 ∷ 0 ∷ 12 ∷ []) (0x9000 ∷ 4 ∷ 0 ∷ 6 ∷ []))
 unfolding apply replay_from run more fate cause_in ending fits remains laid_over reading_of row_number
     entry_at table accessible_pages text_pages unfetched spans_in unspecified_in inaccessible_in kind_at
-    kind_named combined general_effect branch_effect storage_effect transaction_effect absolute_range
+    combined general_effect branch_effect storage_effect transaction_effect absolute_range
     has_place count_below text_breach operand_breach with_octowords add_of divide_word_of block fields
     register_fields restored psw_of with_fields loaded
 filtered_exception = refl
@@ -364,7 +364,7 @@ unfiltered_exception : both (cpu_seen 3 unfiltered) (both (pending_at 8 8 unfilt
     (both (0x9000 ∷ 0 ∷ 0 ∷ 0 ∷ 0 ∷ 0 ∷ 0 ∷ 0 ∷ 4 ∷ []) false)
 unfolding apply replay_from run more fate cause_in ending fits remains laid_over reading_of row_number
     entry_at table accessible_pages text_pages unfetched spans_in unspecified_in inaccessible_in kind_at
-    kind_named combined general_effect branch_effect storage_effect transaction_effect absolute_range
+    combined general_effect branch_effect storage_effect transaction_effect absolute_range
     has_place count_below text_breach operand_breach with_octowords add_of divide_word_of block fields
     register_fields restored psw_of with_fields loaded
 unfiltered_exception = refl
@@ -382,7 +382,7 @@ overflow_has_completed : cpu_seen 3 (after (on full overflowing) (Abort 0 2 (Fil
     ≡ (0 ∷ 0x8000000000000000 ∷ 1 ∷ [], 0x4006, 3, Running)
 unfolding apply replay_from run more fate cause_in ending fits remains laid_over reading_of row_number
     entry_at table accessible_pages text_pages unfetched spans_in unspecified_in inaccessible_in kind_at
-    kind_named combined general_effect branch_effect storage_effect transaction_effect absolute_range
+    combined general_effect branch_effect storage_effect transaction_effect absolute_range
     has_place count_below text_breach operand_breach with_octowords add_of divide_word_of block fields
     register_fields restored psw_of with_fields loaded
 overflow_has_completed = refl
@@ -397,7 +397,7 @@ restricted_instruction : cpu_seen 0 (after (on plain serving) (Abort 0 1 Restric
     ≡ ([], 0x4006, 3, Running)
 unfolding apply replay_from run more fate cause_in ending fits remains laid_over reading_of row_number
     entry_at table accessible_pages text_pages unfetched spans_in unspecified_in inaccessible_in kind_at
-    kind_named combined general_effect branch_effect storage_effect transaction_effect absolute_range
+    combined general_effect branch_effect storage_effect transaction_effect absolute_range
     has_place count_below text_breach operand_breach with_octowords add_of divide_word_of block fields
     register_fields restored psw_of with_fields loaded
 restricted_instruction = refl
@@ -424,7 +424,7 @@ its_last_value_stays : both (cpu_seen 3 lasted) (bytes_at 0x9000 8 lasted)
     ≡ both (0 ∷ 3 ∷ 4 ∷ [], 0x4006, 2, Running) (0 ∷ 0 ∷ 0 ∷ 0 ∷ 0 ∷ 0 ∷ 0 ∷ 3 ∷ [])
 unfolding apply replay_from run more fate cause_in ending fits remains laid_over reading_of row_number
     entry_at table accessible_pages text_pages unfetched spans_in unspecified_in inaccessible_in kind_at
-    kind_named combined general_effect branch_effect storage_effect transaction_effect absolute_range
+    combined general_effect branch_effect storage_effect transaction_effect absolute_range
     has_place count_below text_breach operand_breach with_octowords add_of divide_word_of block fields
     register_fields restored psw_of with_fields loaded
 its_last_value_stays = refl
@@ -441,7 +441,7 @@ breach : cpu_seen 0 (after (on plain own_page) (Abort 0 1 (Program (exception 0x
     ≡ ([], 0x4000, 3, Interrupted 0x218)
 unfolding apply replay_from run more fate cause_in ending fits remains laid_over reading_of row_number
     entry_at table accessible_pages text_pages unfetched spans_in unspecified_in inaccessible_in kind_at
-    kind_named combined general_effect branch_effect storage_effect transaction_effect absolute_range
+    combined general_effect branch_effect storage_effect transaction_effect absolute_range
     has_place count_below text_breach operand_breach with_octowords add_of divide_word_of block fields
     register_fields restored psw_of with_fields loaded
 breach = refl
@@ -468,7 +468,7 @@ bytes_apart : both (bytes_at 0xbffc 5 apart) (bytes_at 0x2000 5 apart)
     ≡ both (1 ∷ 2 ∷ 3 ∷ 4 ∷ 0 ∷ []) (5 ∷ 6 ∷ 7 ∷ 8 ∷ 0 ∷ [])
 unfolding apply replay_from run more fate cause_in ending fits remains laid_over reading_of row_number
     entry_at table accessible_pages text_pages unfetched spans_in unspecified_in inaccessible_in kind_at
-    kind_named combined general_effect branch_effect storage_effect transaction_effect absolute_range
+    combined general_effect branch_effect storage_effect transaction_effect absolute_range
     has_place count_below text_breach operand_breach with_octowords add_of divide_word_of block fields
     register_fields restored psw_of with_fields loaded
 bytes_apart = refl
@@ -483,7 +483,7 @@ interruption_is_taken : both (both (cpu_seen 0 taken) (waits taken)) (both (byte
     ∷ 0x40 ∷ 0x02 ∷ []))
 unfolding apply replay_from run more fate cause_in ending fits remains laid_over reading_of row_number
     entry_at table accessible_pages text_pages unfetched spans_in unspecified_in inaccessible_in kind_at
-    kind_named combined general_effect branch_effect storage_effect transaction_effect absolute_range
+    combined general_effect branch_effect storage_effect transaction_effect absolute_range
     has_place count_below text_breach operand_breach with_octowords add_of divide_word_of block fields
     register_fields restored psw_of with_fields loaded
 interruption_is_taken = refl
@@ -502,7 +502,7 @@ interruption_after_an_abort : both (both (cpu_seen 0 taken_after_abort) (bytes_a
     ∷ 0x00 ∷ 0x00 ∷ 0x40 ∷ 0x06 ∷ 0x00 ∷ 0x00 ∷ 0x00 ∷ 0x00 ∷ 0x00 ∷ 0x06 ∷ 0x00 ∷ 0x18 ∷ []))
 unfolding apply replay_from run more fate cause_in ending fits remains laid_over reading_of row_number
     entry_at table accessible_pages text_pages unfetched spans_in unspecified_in inaccessible_in kind_at
-    kind_named combined general_effect branch_effect storage_effect transaction_effect absolute_range
+    combined general_effect branch_effect storage_effect transaction_effect absolute_range
     has_place count_below text_breach operand_breach with_octowords add_of divide_word_of block fields
     register_fields restored psw_of with_fields loaded
 interruption_after_an_abort = refl
@@ -516,7 +516,7 @@ stepped rest = Step 0 ∷ rest
 begin_as_a_step : fitting (on plain storing) (stepped (Step 0 ∷ [])) ≡ false
 unfolding apply replay_from run more fate cause_in ending fits remains laid_over reading_of row_number
     entry_at table accessible_pages text_pages unfetched spans_in unspecified_in inaccessible_in kind_at
-    kind_named combined general_effect branch_effect storage_effect transaction_effect absolute_range
+    combined general_effect branch_effect storage_effect transaction_effect absolute_range
     has_place count_below text_breach operand_breach with_octowords add_of divide_word_of block fields
     register_fields restored psw_of with_fields loaded
 begin_as_a_step = refl
@@ -525,7 +525,7 @@ begin_as_a_step = refl
 too_early : fitting (on plain storing) (stepped (Commit 0 2 ∷ [])) ≡ false
 unfolding apply replay_from run more fate cause_in ending fits remains laid_over reading_of row_number
     entry_at table accessible_pages text_pages unfetched spans_in unspecified_in inaccessible_in kind_at
-    kind_named combined general_effect branch_effect storage_effect transaction_effect absolute_range
+    combined general_effect branch_effect storage_effect transaction_effect absolute_range
     has_place count_below text_breach operand_breach with_octowords add_of divide_word_of block fields
     register_fields restored psw_of with_fields loaded
 too_early = refl
@@ -534,7 +534,7 @@ too_early = refl
 too_late : fitting (on plain storing) (stepped (Commit 0 4 ∷ [])) ≡ false
 unfolding apply replay_from run more fate cause_in ending fits remains laid_over reading_of row_number
     entry_at table accessible_pages text_pages unfetched spans_in unspecified_in inaccessible_in kind_at
-    kind_named combined general_effect branch_effect storage_effect transaction_effect absolute_range
+    combined general_effect branch_effect storage_effect transaction_effect absolute_range
     has_place count_below text_breach operand_breach with_octowords add_of divide_word_of block fields
     register_fields restored psw_of with_fields loaded
 too_late = refl
@@ -543,7 +543,7 @@ too_late = refl
 no_begin : fitting (on plain storing) (Commit 0 1 ∷ []) ≡ false
 unfolding apply replay_from run more fate cause_in ending fits remains laid_over reading_of row_number
     entry_at table accessible_pages text_pages unfetched spans_in unspecified_in inaccessible_in kind_at
-    kind_named combined general_effect branch_effect storage_effect transaction_effect absolute_range
+    combined general_effect branch_effect storage_effect transaction_effect absolute_range
     has_place count_below text_breach operand_breach with_octowords add_of divide_word_of block fields
     register_fields restored psw_of with_fields loaded
 no_begin = refl
@@ -552,7 +552,7 @@ no_begin = refl
 no_cpu_there : fitting (on plain storing) (Step 1 ∷ []) ≡ false
 unfolding apply replay_from run more fate cause_in ending fits remains laid_over reading_of row_number
     entry_at table accessible_pages text_pages unfetched spans_in unspecified_in inaccessible_in kind_at
-    kind_named combined general_effect branch_effect storage_effect transaction_effect absolute_range
+    combined general_effect branch_effect storage_effect transaction_effect absolute_range
     has_place count_below text_breach operand_breach with_octowords add_of divide_word_of block fields
     register_fields restored psw_of with_fields loaded
 no_cpu_there = refl
@@ -561,7 +561,7 @@ no_cpu_there = refl
 no_block : fitting (on plain storing) (Tdb 0 ∷ []) ≡ false
 unfolding apply replay_from run more fate cause_in ending fits remains laid_over reading_of row_number
     entry_at table accessible_pages text_pages unfetched spans_in unspecified_in inaccessible_in kind_at
-    kind_named combined general_effect branch_effect storage_effect transaction_effect absolute_range
+    combined general_effect branch_effect storage_effect transaction_effect absolute_range
     has_place count_below text_breach operand_breach with_octowords add_of divide_word_of block fields
     register_fields restored psw_of with_fields loaded
 no_block = refl
@@ -570,7 +570,7 @@ no_block = refl
 no_interruption : fitting (on plain storing) (Interrupt 0 ∷ []) ≡ false
 unfolding apply replay_from run more fate cause_in ending fits remains laid_over reading_of row_number
     entry_at table accessible_pages text_pages unfetched spans_in unspecified_in inaccessible_in kind_at
-    kind_named combined general_effect branch_effect storage_effect transaction_effect absolute_range
+    combined general_effect branch_effect storage_effect transaction_effect absolute_range
     has_place count_below text_breach operand_breach with_octowords add_of divide_word_of block fields
     register_fields restored psw_of with_fields loaded
 no_interruption = refl
@@ -579,7 +579,7 @@ no_interruption = refl
 no_attempt : fitting (on plain storing) (stepped (Abort 0 0 External ∷ [])) ≡ false
 unfolding apply replay_from run more fate cause_in ending fits remains laid_over reading_of row_number
     entry_at table accessible_pages text_pages unfetched spans_in unspecified_in inaccessible_in kind_at
-    kind_named combined general_effect branch_effect storage_effect transaction_effect absolute_range
+    combined general_effect branch_effect storage_effect transaction_effect absolute_range
     has_place count_below text_breach operand_breach with_octowords add_of divide_word_of block fields
     register_fields restored psw_of with_fields loaded
 no_attempt = refl
@@ -588,7 +588,7 @@ no_attempt = refl
 after_the_commit : fitting (on plain storing) (stepped (Abort 0 3 External ∷ [])) ≡ false
 unfolding apply replay_from run more fate cause_in ending fits remains laid_over reading_of row_number
     entry_at table accessible_pages text_pages unfetched spans_in unspecified_in inaccessible_in kind_at
-    kind_named combined general_effect branch_effect storage_effect transaction_effect absolute_range
+    combined general_effect branch_effect storage_effect transaction_effect absolute_range
     has_place count_below text_breach operand_breach with_octowords add_of divide_word_of block fields
     register_fields restored psw_of with_fields loaded
 after_the_commit = refl
@@ -597,7 +597,7 @@ after_the_commit = refl
 fetch_of_a_stored_line : fitting (on plain storing) (stepped (Abort 0 2 (FetchConflict 0x90) ∷ [])) ≡ false
 unfolding apply replay_from run more fate cause_in ending fits remains laid_over reading_of row_number
     entry_at table accessible_pages text_pages unfetched spans_in unspecified_in inaccessible_in kind_at
-    kind_named combined general_effect branch_effect storage_effect transaction_effect absolute_range
+    combined general_effect branch_effect storage_effect transaction_effect absolute_range
     has_place count_below text_breach operand_breach with_octowords add_of divide_word_of block fields
     register_fields restored psw_of with_fields loaded
 fetch_of_a_stored_line = refl
@@ -606,7 +606,7 @@ fetch_of_a_stored_line = refl
 untouched_line : fitting (on plain storing) (stepped (Abort 0 2 (StoreConflict 0x91) ∷ [])) ≡ false
 unfolding apply replay_from run more fate cause_in ending fits remains laid_over reading_of row_number
     entry_at table accessible_pages text_pages unfetched spans_in unspecified_in inaccessible_in kind_at
-    kind_named combined general_effect branch_effect storage_effect transaction_effect absolute_range
+    combined general_effect branch_effect storage_effect transaction_effect absolute_range
     has_place count_below text_breach operand_breach with_octowords add_of divide_word_of block fields
     register_fields restored psw_of with_fields loaded
 untouched_line = refl
@@ -615,7 +615,7 @@ untouched_line = refl
 not_yet_stored : fitting (on plain storing) (stepped (Abort 0 1 (StoreConflict 0x90) ∷ [])) ≡ false
 unfolding apply replay_from run more fate cause_in ending fits remains laid_over reading_of row_number
     entry_at table accessible_pages text_pages unfetched spans_in unspecified_in inaccessible_in kind_at
-    kind_named combined general_effect branch_effect storage_effect transaction_effect absolute_range
+    combined general_effect branch_effect storage_effect transaction_effect absolute_range
     has_place count_below text_breach operand_breach with_octowords add_of divide_word_of block fields
     register_fields restored psw_of with_fields loaded
 not_yet_stored = refl
@@ -624,7 +624,7 @@ not_yet_stored = refl
 starved_unconstrained : fitting (on plain storing) (stepped (Abort 0 1 Starved ∷ [])) ≡ false
 unfolding apply replay_from run more fate cause_in ending fits remains laid_over reading_of row_number
     entry_at table accessible_pages text_pages unfetched spans_in unspecified_in inaccessible_in kind_at
-    kind_named combined general_effect branch_effect storage_effect transaction_effect absolute_range
+    combined general_effect branch_effect storage_effect transaction_effect absolute_range
     has_place count_below text_breach operand_breach with_octowords add_of divide_word_of block fields
     register_fields restored psw_of with_fields loaded
 starved_unconstrained = refl
@@ -633,7 +633,7 @@ starved_unconstrained = refl
 not_refused : fitting (on plain storing) (stepped (Abort 0 1 Restricted ∷ [])) ≡ false
 unfolding apply replay_from run more fate cause_in ending fits remains laid_over reading_of row_number
     entry_at table accessible_pages text_pages unfetched spans_in unspecified_in inaccessible_in kind_at
-    kind_named combined general_effect branch_effect storage_effect transaction_effect absolute_range
+    combined general_effect branch_effect storage_effect transaction_effect absolute_range
     has_place count_below text_breach operand_breach with_octowords add_of divide_word_of block fields
     register_fields restored psw_of with_fields loaded
 not_refused = refl
@@ -642,7 +642,7 @@ not_refused = refl
 other_cause : fitting (on plain serving) (Abort 0 1 (Tabort 257) ∷ []) ≡ false
 unfolding apply replay_from run more fate cause_in ending fits remains laid_over reading_of row_number
     entry_at table accessible_pages text_pages unfetched spans_in unspecified_in inaccessible_in kind_at
-    kind_named combined general_effect branch_effect storage_effect transaction_effect absolute_range
+    combined general_effect branch_effect storage_effect transaction_effect absolute_range
     has_place count_below text_breach operand_breach with_octowords add_of divide_word_of block fields
     register_fields restored psw_of with_fields loaded
 other_cause = refl
@@ -651,7 +651,7 @@ other_cause = refl
 count_too_low : fitting (on three_and_four lasting) (Abort 0 3 (Tabort 256) ∷ []) ≡ false
 unfolding apply replay_from run more fate cause_in ending fits remains laid_over reading_of row_number
     entry_at table accessible_pages text_pages unfetched spans_in unspecified_in inaccessible_in kind_at
-    kind_named combined general_effect branch_effect storage_effect transaction_effect absolute_range
+    combined general_effect branch_effect storage_effect transaction_effect absolute_range
     has_place count_below text_breach operand_breach with_octowords add_of divide_word_of block fields
     register_fields restored psw_of with_fields loaded
 count_too_low = refl
@@ -660,7 +660,7 @@ count_too_low = refl
 overflow_from_outside : fitting (on full overflowing) (Abort 0 2 External ∷ []) ≡ false
 unfolding apply replay_from run more fate cause_in ending fits remains laid_over reading_of row_number
     entry_at table accessible_pages text_pages unfetched spans_in unspecified_in inaccessible_in kind_at
-    kind_named combined general_effect branch_effect storage_effect transaction_effect absolute_range
+    combined general_effect branch_effect storage_effect transaction_effect absolute_range
     has_place count_below text_breach operand_breach with_octowords add_of divide_word_of block fields
     register_fields restored psw_of with_fields loaded
 overflow_from_outside = refl
@@ -669,7 +669,7 @@ overflow_from_outside = refl
 overflow_not_counted : fitting (on full overflowing) (Abort 0 1 (Filtered (exception 8 4)) ∷ []) ≡ false
 unfolding apply replay_from run more fate cause_in ending fits remains laid_over reading_of row_number
     entry_at table accessible_pages text_pages unfetched spans_in unspecified_in inaccessible_in kind_at
-    kind_named combined general_effect branch_effect storage_effect transaction_effect absolute_range
+    combined general_effect branch_effect storage_effect transaction_effect absolute_range
     has_place count_below text_breach operand_breach with_octowords add_of divide_word_of block fields
     register_fields restored psw_of with_fields loaded
 overflow_not_counted = refl
@@ -679,7 +679,7 @@ filtered_as_program : fitting (on plain filtering) (three_steps ++ Abort 0 4 (Pr
     ∷ []) ≡ false
 unfolding apply replay_from run more fate cause_in ending fits remains laid_over reading_of row_number
     entry_at table accessible_pages text_pages unfetched spans_in unspecified_in inaccessible_in kind_at
-    kind_named combined general_effect branch_effect storage_effect transaction_effect absolute_range
+    combined general_effect branch_effect storage_effect transaction_effect absolute_range
     has_place count_below text_breach operand_breach with_octowords add_of divide_word_of block fields
     register_fields restored psw_of with_fields loaded
 filtered_as_program = refl
@@ -689,7 +689,7 @@ step_while_pending : fitting (on plain filtering) (three_steps ++ Abort 0 4 (Fil
     ∷ Step 0 ∷ []) ≡ false
 unfolding apply replay_from run more fate cause_in ending fits remains laid_over reading_of row_number
     entry_at table accessible_pages text_pages unfetched spans_in unspecified_in inaccessible_in kind_at
-    kind_named combined general_effect branch_effect storage_effect transaction_effect absolute_range
+    combined general_effect branch_effect storage_effect transaction_effect absolute_range
     has_place count_below text_breach operand_breach with_octowords add_of divide_word_of block fields
     register_fields restored psw_of with_fields loaded
 step_while_pending = refl
@@ -698,7 +698,7 @@ step_while_pending = refl
 step_while_interrupted : fitting (with_new_psw (on prefixed dividing)) (Step 0 ∷ Step 0 ∷ []) ≡ false
 unfolding apply replay_from run more fate cause_in ending fits remains laid_over reading_of row_number
     entry_at table accessible_pages text_pages unfetched spans_in unspecified_in inaccessible_in kind_at
-    kind_named combined general_effect branch_effect storage_effect transaction_effect absolute_range
+    combined general_effect branch_effect storage_effect transaction_effect absolute_range
     has_place count_below text_breach operand_breach with_octowords add_of divide_word_of block fields
     register_fields restored psw_of with_fields loaded
 step_while_interrupted = refl
@@ -709,7 +709,7 @@ interruption_while_pending : fitting (with_pending 0 (Some record { address = 0x
     ∷ []) ≡ false
 unfolding apply replay_from run more fate cause_in ending fits remains laid_over reading_of row_number
     entry_at table accessible_pages text_pages unfetched spans_in unspecified_in inaccessible_in kind_at
-    kind_named combined general_effect branch_effect storage_effect transaction_effect absolute_range
+    combined general_effect branch_effect storage_effect transaction_effect absolute_range
     has_place count_below text_breach operand_breach with_octowords add_of divide_word_of block fields
     register_fields restored psw_of with_fields loaded
 interruption_while_pending = refl
@@ -719,7 +719,7 @@ interruption_while_pending = refl
 external_at_any_time : fitting (on plain storing) (stepped (Abort 0 1 External ∷ [])) ≡ true
 unfolding apply replay_from run more fate cause_in ending fits remains laid_over reading_of row_number
     entry_at table accessible_pages text_pages unfetched spans_in unspecified_in inaccessible_in kind_at
-    kind_named combined general_effect branch_effect storage_effect transaction_effect absolute_range
+    combined general_effect branch_effect storage_effect transaction_effect absolute_range
     has_place count_below text_breach operand_breach with_octowords add_of divide_word_of block fields
     register_fields restored psw_of with_fields loaded
 external_at_any_time = refl
@@ -727,7 +727,7 @@ external_at_any_time = refl
 store_conflict : fitting (on plain storing) (stepped (Abort 0 2 (StoreConflict 0x90) ∷ [])) ≡ true
 unfolding apply replay_from run more fate cause_in ending fits remains laid_over reading_of row_number
     entry_at table accessible_pages text_pages unfetched spans_in unspecified_in inaccessible_in kind_at
-    kind_named combined general_effect branch_effect storage_effect transaction_effect absolute_range
+    combined general_effect branch_effect storage_effect transaction_effect absolute_range
     has_place count_below text_breach operand_breach with_octowords add_of divide_word_of block fields
     register_fields restored psw_of with_fields loaded
 store_conflict = refl
@@ -742,7 +742,7 @@ fetching =
 fetch_conflict : fitting (on plain fetching) (Abort 0 2 (FetchConflict 0x90) ∷ []) ≡ true
 unfolding apply replay_from run more fate cause_in ending fits remains laid_over reading_of row_number
     entry_at table accessible_pages text_pages unfetched spans_in unspecified_in inaccessible_in kind_at
-    kind_named combined general_effect branch_effect storage_effect transaction_effect absolute_range
+    combined general_effect branch_effect storage_effect transaction_effect absolute_range
     has_place count_below text_breach operand_breach with_octowords add_of divide_word_of block fields
     register_fields restored psw_of with_fields loaded
 fetch_conflict = refl
@@ -750,7 +750,7 @@ fetch_conflict = refl
 starved : fitting (on plain fetching) (Abort 0 1 Starved ∷ []) ≡ true
 unfolding apply replay_from run more fate cause_in ending fits remains laid_over reading_of row_number
     entry_at table accessible_pages text_pages unfetched spans_in unspecified_in inaccessible_in kind_at
-    kind_named combined general_effect branch_effect storage_effect transaction_effect absolute_range
+    combined general_effect branch_effect storage_effect transaction_effect absolute_range
     has_place count_below text_breach operand_breach with_octowords add_of divide_word_of block fields
     register_fields restored psw_of with_fields loaded
 starved = refl
@@ -759,7 +759,7 @@ starved = refl
 starved_without_operands : fitting (on plain fetching) (Abort 0 2 Starved ∷ []) ≡ false
 unfolding apply replay_from run more fate cause_in ending fits remains laid_over reading_of row_number
     entry_at table accessible_pages text_pages unfetched spans_in unspecified_in inaccessible_in kind_at
-    kind_named combined general_effect branch_effect storage_effect transaction_effect absolute_range
+    combined general_effect branch_effect storage_effect transaction_effect absolute_range
     has_place count_below text_breach operand_breach with_octowords add_of divide_word_of block fields
     register_fields restored psw_of with_fields loaded
 starved_without_operands = refl
@@ -779,7 +779,7 @@ depth_of_two : cpu_seen 4 (after (on plain nested) (Commit 0 5 ∷ []))
     ≡ (0 ∷ 0 ∷ 0 ∷ 2 ∷ [], 0x4018, 0, Running)
 unfolding apply replay_from run more fate cause_in ending fits remains laid_over reading_of row_number
     entry_at table accessible_pages text_pages unfetched spans_in unspecified_in inaccessible_in kind_at
-    kind_named combined general_effect branch_effect storage_effect transaction_effect absolute_range
+    combined general_effect branch_effect storage_effect transaction_effect absolute_range
     has_place count_below text_breach operand_breach with_octowords add_of divide_word_of block fields
     register_fields restored psw_of with_fields loaded
 depth_of_two = refl
@@ -788,7 +788,7 @@ depth_of_two = refl
 inner_end : fitting (on plain nested) (Commit 0 4 ∷ []) ≡ false
 unfolding apply replay_from run more fate cause_in ending fits remains laid_over reading_of row_number
     entry_at table accessible_pages text_pages unfetched spans_in unspecified_in inaccessible_in kind_at
-    kind_named combined general_effect branch_effect storage_effect transaction_effect absolute_range
+    combined general_effect branch_effect storage_effect transaction_effect absolute_range
     has_place count_below text_breach operand_breach with_octowords add_of divide_word_of block fields
     register_fields restored psw_of with_fields loaded
 inner_end = refl

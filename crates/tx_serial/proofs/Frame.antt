@@ -15,7 +15,7 @@ use Rattle.z_instr.specs.Operands.{from_up, where_wrong, specification, addressi
 use Rattle.z_instr.specs.Access.{accessible_pages, text_pages, lies_in, byte_unfetched, first_some, unfetched}
 use Rattle.z_effect.specs.Outcome.{Outcome, Did, Divides, Aborts}
 use Rattle.z_effect.specs.Outcome as outcome
-use Rattle.z_effect.specs.Kinds.{kind_at}
+use Rattle.z_instr.specs.Table.{kind_at}
 use Rattle.z_effect.specs.One.{one, length_of}
 use Rattle.tx_control.specs.declared.causes.Why.{Why}
 use Rattle.tx_constraint.specs.Constraints.{Step}

@@ -12,7 +12,7 @@ use Rattle.z_instr.specs.Table.{entry_at, table}
 use Rattle.z_instr.specs.Computing.{reading_of, row_number}
 use Rattle.z_instr.specs.Access.{accessible_pages, text_pages, unfetched}
 use Rattle.z_instr.specs.Operands.{spans_in, unspecified_in, inaccessible_in}
-use Rattle.z_effect.specs.Kinds.{kind_at, kind_named}
+use Rattle.z_instr.specs.Table.{kind_at}
 use Rattle.z_effect.specs.Operations.{combined}
 use Rattle.z_effect.specs.GeneralEffect.{general_effect}
 use Rattle.z_effect.specs.BranchEffect.{branch_effect}
@@ -52,7 +52,7 @@ overflow_tells_its_own_place : pending_at 24 8
     ≡ 0x9000 ∷ 0 ∷ 0 ∷ 0 ∷ 0 ∷ 0 ∷ 0 ∷ 0x40 ∷ 0x06 ∷ []
 unfolding apply replay_from run more fate cause_in ending fits remains laid_over reading_of row_number
     entry_at table accessible_pages text_pages unfetched spans_in unspecified_in inaccessible_in kind_at
-    kind_named combined general_effect branch_effect storage_effect transaction_effect absolute_range
+    combined general_effect branch_effect storage_effect transaction_effect absolute_range
     has_place count_below text_breach operand_breach with_octowords add_of divide_word_of block fields
     register_fields restored psw_of with_fields loaded
 overflow_tells_its_own_place = refl
@@ -68,7 +68,7 @@ fetched_and_stored =
 no_fetch_conflict_there : fitting (on plain fetched_and_stored) (Abort 0 3 (FetchConflict 0x90) ∷ []) ≡ false
 unfolding apply replay_from run more fate cause_in ending fits remains laid_over reading_of row_number
     entry_at table accessible_pages text_pages unfetched spans_in unspecified_in inaccessible_in kind_at
-    kind_named combined general_effect branch_effect storage_effect transaction_effect absolute_range
+    combined general_effect branch_effect storage_effect transaction_effect absolute_range
     has_place count_below text_breach operand_breach with_octowords add_of divide_word_of block fields
     register_fields restored psw_of with_fields loaded
 no_fetch_conflict_there = refl
@@ -76,7 +76,7 @@ no_fetch_conflict_there = refl
 a_store_conflict_there : fitting (on plain fetched_and_stored) (Abort 0 3 (StoreConflict 0x90) ∷ []) ≡ true
 unfolding apply replay_from run more fate cause_in ending fits remains laid_over reading_of row_number
     entry_at table accessible_pages text_pages unfetched spans_in unspecified_in inaccessible_in kind_at
-    kind_named combined general_effect branch_effect storage_effect transaction_effect absolute_range
+    combined general_effect branch_effect storage_effect transaction_effect absolute_range
     has_place count_below text_breach operand_breach with_octowords add_of divide_word_of block fields
     register_fields restored psw_of with_fields loaded
 a_store_conflict_there = refl
@@ -85,7 +85,7 @@ a_store_conflict_there = refl
 a_fetch_conflict_before : fitting (on plain fetched_and_stored) (Abort 0 2 (FetchConflict 0x90) ∷ []) ≡ true
 unfolding apply replay_from run more fate cause_in ending fits remains laid_over reading_of row_number
     entry_at table accessible_pages text_pages unfetched spans_in unspecified_in inaccessible_in kind_at
-    kind_named combined general_effect branch_effect storage_effect transaction_effect absolute_range
+    combined general_effect branch_effect storage_effect transaction_effect absolute_range
     has_place count_below text_breach operand_breach with_octowords add_of divide_word_of block fields
     register_fields restored psw_of with_fields loaded
 a_fetch_conflict_before = refl
@@ -104,7 +104,7 @@ inside depth =
 fifteen_are_not_too_many : is_cause (ending (4 ∷ []) (inside 15)) Depth ≡ false
 unfolding apply replay_from run more fate cause_in ending fits remains laid_over reading_of row_number
     entry_at table accessible_pages text_pages unfetched spans_in unspecified_in inaccessible_in kind_at
-    kind_named combined general_effect branch_effect storage_effect transaction_effect absolute_range
+    combined general_effect branch_effect storage_effect transaction_effect absolute_range
     has_place count_below text_breach operand_breach with_octowords add_of divide_word_of block fields
     register_fields restored psw_of with_fields loaded
 fifteen_are_not_too_many = refl
@@ -112,7 +112,7 @@ fifteen_are_not_too_many = refl
 sixteen_are_too_many : is_cause (ending (4 ∷ []) (inside 16)) Depth ≡ true
 unfolding apply replay_from run more fate cause_in ending fits remains laid_over reading_of row_number
     entry_at table accessible_pages text_pages unfetched spans_in unspecified_in inaccessible_in kind_at
-    kind_named combined general_effect branch_effect storage_effect transaction_effect absolute_range
+    combined general_effect branch_effect storage_effect transaction_effect absolute_range
     has_place count_below text_breach operand_breach with_octowords add_of divide_word_of block fields
     register_fields restored psw_of with_fields loaded
 sixteen_are_too_many = refl

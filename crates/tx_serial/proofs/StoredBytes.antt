@@ -21,22 +21,23 @@ use Rattle.z_instr.specs.Operands.{spans, spans_in, bytes_of, selects, registers
 use Rattle.z_instr.specs.Operands.{first_address}
 use Rattle.z_instr.specs.Operands as operand
 use Rattle.z_touch.specs.Refusals.{range_of}
-use Rattle.z_effect.specs.declared.kind.Kind.{Kind}
-use Rattle.z_effect.specs.declared.kind.Kind.TheVariants as kind
-use Rattle.z_effect.specs.declared.kind.Storage.{Storage}
-use Rattle.z_effect.specs.declared.kind.Storage.TheVariants as storage
-use Rattle.z_effect.specs.declared.kind.Transaction.{Transaction}
-use Rattle.z_effect.specs.declared.kind.Transaction.TheVariants as transaction
-use Rattle.z_effect.specs.declared.kind.Combination.{Combination}
-use Rattle.z_effect.specs.Facts.{operands_of}
-use Rattle.z_effect.specs.Kinds.{kind_at}
+use Rattle.z_instr.specs.declared.kind.Kind.{Kind}
+use Rattle.z_instr.specs.declared.kind.Kind.TheVariants as kind
+use Rattle.z_instr.specs.declared.kind.Storage.{Storage}
+use Rattle.z_instr.specs.declared.kind.Storage.TheVariants as storage
+use Rattle.z_instr.specs.declared.kind.Transaction.{Transaction}
+use Rattle.z_instr.specs.declared.kind.Transaction.TheVariants as transaction
+use Rattle.z_instr.specs.declared.kind.Combination.{Combination}
+use Rattle.z_instr.specs.Kinds.{operands_of}
+use Rattle.z_instr.specs.Table.{kind_at}
 use Rattle.z_effect.specs.Registers.{register, operand_in, advanced, with_condition, with_register}
 use Rattle.z_effect.specs.Operations.{combined, logic_of}
-use Rattle.z_effect.specs.StorageEffect.{storage_effect, item, number, stored, items, results, mixed, lead}
+use Rattle.z_effect.specs.StorageEffect.{storage_effect, number, stored, items, results, mixed, lead}
+use Rattle.z_instr.specs.Kinds.{item}
 use Rattle.z_effect.specs.TransactionEffect.{transaction_effect}
 use Rattle.z_effect.specs.Outcome.{Outcome, Did, Overflowed, Divides, Aborts, ended}
 use Rattle.z_effect.specs.One.{one, effect, length_of}
-use Rattle.z_effect.proofs.TableFacts.{operands_at}
+use Rattle.z_instr.proofs.TableFacts.{operands_at}
 use Rattle.tx_serial.specs.Flat as flat
 use Rattle.tx_serial.specs.Flat.{bytes_seen, operand_bytes}
 

@@ -1,12 +1,12 @@
 -- Private runs: a CPU alone, from its outermost begin on.
 use Rattle.std.specs.Prelude.{ℕ, zero, suc, ◌-◌, Bool, true, false, if◌then◌else◌, length, take, List, []}
-use Rattle.std.specs.Prelude.{◌∷◌, ◌++◌, codes}
+use Rattle.std.specs.Prelude.{◌∷◌, ◌++◌}
 use Rattle.z_regs.specs.Cpu.{Cpu}
 use Rattle.z_regs.specs.Absolute.{absolute_ranges}
 use Rattle.z_regs.specs.declared.ranges.Range.{Range}
 use Rattle.z_instr.specs.declared.instr.Instr.{Instr}
-use Rattle.z_instr.specs.Table.{Entry, entry_at}
-use Rattle.z_instr.specs.Roles.{is_named, is_end, begins}
+use Rattle.z_instr.specs.Table.{entry_at}
+use Rattle.z_instr.specs.Roles.{stores_lastingly, is_end, begins}
 use Rattle.z_effect.specs.One.{one}
 use Rattle.z_effect.specs.Outcome.{Outcome, Did, Divides, Aborts}
 use Rattle.z_effect.specs.Outcome as outcome
@@ -18,10 +18,6 @@ use Rattle.tx_serial.specs.Attempt.{Run, Mark, Open, Committed, Overflowed, Miss
 use Rattle.tx_serial.specs.Fate.{Fate, Goes, Ends, Stops, fate, step_of}
 
 -- ---- what an instruction is to a transaction
-
--- its stores outlive an abort
-abbrev pub stores_lastingly : Entry → Bool
-stores_lastingly e = is_named (codes "NTSTG") e
 
 abbrev pub lasting_of : Instr → List Store → List Store
 lasting_of i stores = if stores_lastingly (entry_at i.op.number) then stores else []

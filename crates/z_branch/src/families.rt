@@ -4,16 +4,16 @@ ghost use Rattle.z_arith.specs.Whole.{bits};
 ghost use Rattle.z_instr.specs.Operands.{selects};
 ghost use Rattle.z_regs.specs.Cpu.{cpu_of};
 ghost use Rattle.z_effect.specs.Registers.{target as target_of};
-ghost use Rattle.z_effect.specs.declared.kind.Branch.TheVariants.{OnCondition, OnCount, AndSave, OnCompare};
-ghost use Rattle.z_effect.specs.declared.kind.Branch.TheVariants.{OnCompareImmediate, ServiceCall};
+ghost use Rattle.z_instr.specs.declared.kind.Branch.TheVariants.{OnCondition, OnCount, AndSave, OnCompare};
+ghost use Rattle.z_instr.specs.declared.kind.Branch.TheVariants.{OnCompareImmediate, ServiceCall};
 ghost use Rattle.z_effect.specs.BranchEffect.{branch_effect, destination as destination_of, going, counted};
 ghost use Rattle.z_effect.specs.After.{Sets};
 
 use z_arith::{Width, low};
-use z_effect::kind::{Order, Place};
 use z_effect::{advance, compare, immediate, next_address, operand, put, register, target};
 use z_instr::addresses::{first_address, is_selected};
 use z_instr::instr::Instr;
+use z_instr::kind::{Order, Place};
 use z_regs::{CpuImage, RunState};
 
 /// Where a branch goes, if anywhere.

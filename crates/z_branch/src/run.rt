@@ -1,18 +1,17 @@
 //! One instruction.
 ghost use Rattle.std.specs.Prelude.{◌≡◌, ℕ, true};
 ghost use Rattle.z_regs.specs.Cpu.{cpu_of};
-ghost use Rattle.z_effect.specs.Kinds.{kind_at};
+ghost use Rattle.z_instr.specs.Table.{kind_at};
 ghost use Rattle.z_effect.specs.Facts.{is_branch};
 ghost use Rattle.z_effect.specs.BranchEffect.{branch_effect};
 ghost use Rattle.z_effect.specs.After.{Sets, Executes};
 
 use crate::families;
 use tx_control::Exception;
-use z_effect::kind::{Branch, Kind};
-use z_effect::kind_of;
 use z_instr::format::length_in;
 use z_instr::instr::Instr;
-use z_instr::lookup::line;
+use z_instr::kind::{Branch, Kind};
+use z_instr::lookup::{kind_of, line};
 use z_instr::op::Op;
 use z_regs::{Bytes, CpuImage};
 

@@ -1,23 +1,31 @@
--- The index: its keys rise, each is that of the row beside it, and each row's is among them.
+-- The rows stand in the order of their keys, so a binary search finds the row of a key.
 use Rattle.std.proofs.Common.{◌≡◌, ℕ, ◌<◌, ◌≤◌, ◌/◌, zero, suc, true, false, refl, List, [], ◌∷◌, length}
-use Rattle.std.proofs.Common.{get_or, nat_eq, nat_le, map, arith, sym, subst, ap, ◌∙◌, inl, inr}
-use Rattle.std.specs.List.{list_all, list_any}
-use Rattle.std.proofs.lemmas.Bool.{leb-true, ltb-true, eqb-true, cases_lt}
+use Rattle.std.proofs.Common.{get_or, nat_eq, nat_le, map, arith, sym, ap, ◌∙◌, inl, inr, Ok, Err}
+use Rattle.std.specs.List.{list_all}
+use Rattle.std.specs.List.Sorted.{IsBinarySearchResult}
+use Rattle.std.specs.Ordering.{nat_cmp, ordering_index}
+use Rattle.std.proofs.lemmas.Cmp.{ranked}
+use Rattle.std.proofs.lemmas.Bool.Decides.{nat_tests}
+use Rattle.std.proofs.lemmas.List.{get_or-map}
+use Rattle.std.proofs.lemmas.List.Sorted.{IsNonDecreasingBy-from_default}
+use Rattle.std.proofs.lemmas.Bool.{leb-true, cases_lt}
 use Rattle.z_instr.specs.declared.table.TheConstants.{TABLE, ROWS}
+use Rattle.z_instr.specs.declared.table.Line.{Line}
+use Rattle.z_instr.specs.declared.format.Format.TheVariants.{RR}
+use Rattle.z_instr.specs.declared.kind.Kind.TheVariants.{Branch}
+use Rattle.z_instr.specs.declared.kind.Branch.TheVariants.{ServiceCall}
 use Rattle.z_instr.specs.declared.format.Place.{Place}
 use Rattle.z_instr.specs.declared.format.Place.TheVariants.{First, FirstTwo, FirstHalf, Ends}
-use Rattle.z_instr.specs.Table.{Entry, entry_at, no_entry}
+use Rattle.z_instr.specs.Table.{Entry, entry_at}
 use Rattle.z_instr.specs.Lines.{entry_of}
 use Rattle.z_instr.specs.Layout.{place, lead}
 use Rattle.z_instr.specs.Facts.{is_same_place}
 use Rattle.z_instr.specs.Places.{opcode_at, HasOpcode}
 use Rattle.z_instr.specs.Reading.{AreBytes}
 use Rattle.z_instr.proofs.Passing.{passes, and_left, and_right}
-use Rattle.z_instr.proofs.TableFacts.{same_table, passes_row}
+use Rattle.z_instr.proofs.TableFacts.{line_is, passes_row}
 use Rattle.z_instr.proofs.Distinct.{leads}
-use Rattle.z_decode.specs.declared.index.TheConstants.{KEYS, NUMBERS}
-use Rattle.z_decode.specs.Index.{place_by, key_at, key_of, key_with, key_in, is_rising, are_keys_of_rows}
-use Rattle.z_decode.specs.Index.{is_key_among, has_telling_lead}
+use Rattle.z_decode.specs.Keys.{place_by, key_at, key_of, key_with, key_in, is_rising, has_telling_lead}
 
 -- ---- what the computed tests say
 
@@ -30,59 +38,57 @@ rises (x ∷ xs) (suc i) zero h l k = absurd (omega arith)
 rises (x ∷ xs) (suc i) (suc j) h l k =
     rises xs i j (and_right (list_all (nat_le x) xs) (is_rising xs) h) (omega arith) (omega arith)
 
-pub keys_rise : (i j : ℕ) → i ≤ j → j < length KEYS → get_or KEYS i 0 ≤ get_or KEYS j 0
-keys_rise i j = rises KEYS i j refl
+-- a line for places past the end
+abbrev blank : Line
+blank = record {
+  letters = [];
+  count = 0;
+  opcode = 0;
+  format = RR;
+  restricted = false;
+  permitted = false;
+  signed = false;
+  relative = false;
+  masked = false;
+  single = false;
+  kind = Branch ServiceCall;
+}
 
-row_number : (es : List Entry) (ks ns : List ℕ) (k d : ℕ) → are_keys_of_rows es ks ns ≡ true → k < length ks →
-    get_or ns k d < 188
-row_number es [] ns k d h l = absurd (omega arith)
-row_number es (x ∷ ks) [] k d h l = absurd (cc)
-row_number es (x ∷ ks) (n ∷ ns) zero d h l = ltb-true _ _ (and_left _ _ h)
-row_number es (x ∷ ks) (n ∷ ns) (suc k) d h l =
-    row_number es ks ns k d (and_right _ _ (and_right _ _ h)) (omega arith)
+-- the key of a line of the code's table
+abbrev key_of_line : Line → ℕ
+key_of_line l = key_of (entry_of l)
 
-row_key : (es : List Entry) (ks ns : List ℕ) (k d : ℕ) → are_keys_of_rows es ks ns ≡ true → k < length ks →
-    key_of (get_or es (get_or ns k d) no_entry) ≡ get_or ks k 0
-row_key es [] ns k d h l = absurd (omega arith)
-row_key es (x ∷ ks) [] k d h l = absurd (cc)
-row_key es (x ∷ ks) (n ∷ ns) zero d h l = eqb-true _ _ (and_left _ _ (and_right _ _ h))
-row_key es (x ∷ ks) (n ∷ ns) (suc k) d h l =
-    row_key es ks ns k d (and_right _ _ (and_right _ _ h)) (omega arith)
+keys_rise : is_rising (map key_of_line TABLE) ≡ true
+keys_rise = refl
 
-keys_of_rows : are_keys_of_rows (map entry_of TABLE) KEYS NUMBERS ≡ true
-keys_of_rows = refl
+key_there : (n : ℕ) → n < ROWS → get_or (map key_of_line TABLE) n 0 ≡ key_of (entry_at n)
+key_there n h = get_or-map key_of_line TABLE n blank 0 h ∙ ap key_of (line_is n blank h)
 
-pub number_at : (k d : ℕ) → k < 188 → get_or NUMBERS k d < ROWS
-number_at k d h = row_number (map entry_of TABLE) KEYS NUMBERS k d keys_of_rows h
+lines_rise : (x i j : ℕ) → i ≤ j → j < length TABLE →
+    ordering_index (nat_cmp (key_of_line (get_or TABLE i blank)) x) ≤
+    ordering_index (nat_cmp (key_of_line (get_or TABLE j blank)) x)
+lines_rise x i j l h =
+    let up : key_of_line (get_or TABLE i blank) ≤ key_of_line (get_or TABLE j blank) =
+    rw (← get_or-map key_of_line TABLE i blank 0 (omega (arith, l, h)), ← get_or-map key_of_line TABLE j blank 0 h)
+    (rises (map key_of_line TABLE) i j keys_rise l h) in
+    grind (arith, nat_tests, up)
 
-pub key_is : (k d : ℕ) → k < 188 → key_of (entry_at (get_or NUMBERS k d)) ≡ get_or KEYS k 0
-unfolding entry_at
-key_is k d h =
-    subst (λ (es : List Entry). key_of (get_or es (get_or NUMBERS k d) no_entry) ≡ get_or KEYS k 0) same_table
-    (row_key (map entry_of TABLE) KEYS NUMBERS k d keys_of_rows h)
+-- where a binary search finds a key, it is that of the row there
+pub key_found : (x i : ℕ) → i < ROWS → IsBinarySearchResult (λ l. nat_cmp (key_of_line l) x) TABLE (Ok i) →
+    key_of (entry_at i) ≡ x
+key_found x i h found = sym (ap key_of (line_is i blank h)) ∙ ranked _ x _ (sym (found blank))
 
-never_among : (x : ℕ) (xs : List ℕ) → list_any (nat_eq x) xs ≡ true →
-    ((k : ℕ) → k < length xs → get_or xs k 0 ≡ x → ⊥) → ⊥
-never_among x [] h none = absurd (cc)
-never_among x (y ∷ ys) h none =
-    elim (nat_eq x y) as (λ b. nat_eq x y ≡ b → ⊥) [
-      | true ↦ λ e. none 0 (omega arith) (sym (eqb-true x y e))
-      | false ↦ λ e. never_among x ys (grind arith) (λ k l f. none (suc k) (omega arith) f)
-    ] refl
-
-keys_cover : (n : ℕ) → n < ROWS → is_key_among KEYS (entry_at n) ≡ true
-keys_cover = passes_row (is_key_among KEYS) refl
-
--- a key that all keys of the index miss is no row's
-pub no_row_key : (x i : ℕ) → ((k : ℕ) → k < i → get_or KEYS k 0 < x) →
-    ((k : ℕ) → i ≤ k → k < length KEYS → x < get_or KEYS k 0) →
+-- where it finds none, no row has it
+pub no_row_key : (x i : ℕ) → IsBinarySearchResult (λ l. nat_cmp (key_of_line l) x) TABLE (Err i) →
     (n : ℕ) → n < ROWS → key_of (entry_at n) ≡ x → ⊥
-no_row_key x i below above n h e =
-    never_among x KEYS (subst (λ y. list_any (nat_eq y) KEYS ≡ true) e (keys_cover n h))
-    (λ k l f. elim (cases_lt k i) [
-      | inl b ↦ absurd (omega (arith, below k b))
-      | inr a ↦ absurd (omega (arith, above k a l))
-    ])
+no_row_key x i parted n h e =
+    let is : key_of_line (get_or TABLE n blank) ≡ x = ap key_of (line_is n blank h) ∙ e in
+    let sides = parted (IsNonDecreasingBy-from_default (λ l. ordering_index (nat_cmp (key_of_line l) x)) TABLE blank
+    (lines_rise x)) in
+    elim (cases_lt n i) [
+      | inl b ↦ absurd (omega (arith, ranked _ x _ (sym (sides.0 n blank (omega (arith, b)) b)), is))
+      | inr a ↦ absurd (omega (arith, ranked _ x _ (sym (sides.1 n blank a h)), is))
+    ]
 
 -- ---- keys and opcodes
 

@@ -2,7 +2,7 @@
 #![tactic(auto)]
 
 mod encoding;
-mod index;
+mod finding;
 mod read;
 mod reading;
 mod spell;

@@ -7,7 +7,7 @@ ghost use Rattle.z_instr.specs.Places.{HasOpcode, is_spare_zero};
 ghost use Rattle.z_instr.specs.Reading.{Reads};
 ghost use Rattle.z_instr.specs.declared.instr.Instr.{Instr};
 
-use crate::index::find_row;
+use crate::finding::find_row;
 use crate::read;
 use z_instr::format::Format;
 use z_instr::instr::Instr;

@@ -1,18 +1,15 @@
 -- Worked values of the definitions.
-use Rattle.std.proofs.Common.{◌≡◌, refl, [], ◌∷◌, true, false, codes}
+use Rattle.std.proofs.Common.{◌≡◌, refl, [], ◌∷◌, true, false}
 use Rattle.z_arith.specs.declared.Width.TheVariants as width
 use Rattle.z_arith.specs.Sum.{add_of, add_logical_of, subtract_logical_of}
 use Rattle.z_arith.specs.Comparison.{compare_logical_of}
 use Rattle.z_instr.specs.declared.operand.Size.TheVariants as size
 use Rattle.z_instr.specs.Operands.{span}
 use Rattle.z_regs.specs.Cpu.{Cpu, started}
-use Rattle.z_effect.specs.declared.kind.Kind.TheVariants as kind
-use Rattle.z_effect.specs.declared.kind.Storage.TheVariants as storage
-use Rattle.z_effect.specs.declared.kind.Operation.TheVariants as operation
-use Rattle.z_effect.specs.declared.kind.Part.TheVariants as part
-use Rattle.z_effect.specs.declared.kind.Logic.TheVariants as logic
-use Rattle.z_effect.specs.declared.kind.Combination.TheVariants as combination
-use Rattle.z_effect.specs.Kinds.{kind_named}
+use Rattle.z_instr.specs.declared.kind.Operation.TheVariants as operation
+use Rattle.z_instr.specs.declared.kind.Part.TheVariants as part
+use Rattle.z_instr.specs.declared.kind.Logic.TheVariants as logic
+use Rattle.z_instr.specs.declared.kind.Combination.TheVariants as combination
 use Rattle.z_effect.specs.Operations.{combined, extended}
 use Rattle.z_effect.specs.Registers.{register, put_low, with_register, with_pair}
 use Rattle.z_effect.specs.StorageEffect.{items, with_items, results, lead, order_of_bytes}
@@ -48,11 +45,6 @@ negative_halfword = refl
 
 plain_halfword : extended width.Double (part.Plain size.Halfword) 0x8001 ≡ 0x8001
 plain_halfword = refl
-
-long_load : kind_named (codes "LY") ≡
-    kind.Storage (storage.Compute operation.Load width.Word (part.Plain size.Word))
-unfolding kind_named
-long_load = refl
 
 -- ---- registers
 

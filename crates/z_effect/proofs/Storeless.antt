@@ -8,13 +8,13 @@ use Rattle.z_instr.specs.declared.operand.Operands.TheVariants.{Absent}
 use Rattle.z_instr.specs.Table.{entry_at}
 use Rattle.z_instr.specs.Operands.{Span, spans_in}
 use Rattle.z_regs.specs.Cpu.{Cpu}
-use Rattle.z_effect.specs.declared.kind.Kind.{Kind}
-use Rattle.z_effect.specs.Kinds.{kind_at}
-use Rattle.z_effect.specs.Facts.{operands_of}
+use Rattle.z_instr.specs.declared.kind.Kind.{Kind}
+use Rattle.z_instr.specs.Table.{kind_at}
+use Rattle.z_instr.specs.Kinds.{operands_of}
 use Rattle.z_effect.specs.Outcome.{Outcome, Did, Overflowed, Divides, Aborts}
 use Rattle.z_effect.specs.One.{effect, one, length_of}
 use Rattle.z_effect.specs.After.{touched, answer_of, cpu_after, storage_after, Sets, ranges_of, Executes}
-use Rattle.z_effect.proofs.TableFacts.{operands_at}
+use Rattle.z_instr.proofs.TableFacts.{operands_at}
 
 no_ranges : (i : Instr) (c : Cpu) → (entry_at i.op.number).operands ≡ Absent → ranges_of i c ≡ []
 unfolding spans_in

@@ -9,7 +9,7 @@ use Rattle.z_instr.specs.Computing.{reading_of, row_number}
 use Rattle.z_instr.specs.Table.{entry_at, table}
 use Rattle.z_regs.specs.declared.image.RunState.TheVariants.{Interrupted}
 use Rattle.z_regs.specs.Cpu.{Cpu, started}
-use Rattle.z_effect.specs.Kinds.{kind_named, kind_at}
+use Rattle.z_instr.specs.Table.{kind_at}
 use Rattle.z_effect.specs.Registers.{with_general, with_condition}
 use Rattle.z_effect.specs.Outcome.{Outcome, Did, Overflowed, Divides, Aborts}
 use Rattle.z_effect.specs.One.{one}
@@ -34,40 +34,40 @@ moved n c = record c { address = 0x4000 + n }
 -- TBEGIN 0,X'FF00'
 begins : done_at 0 (with_first 7) (0xE5 ∷ 0x60 ∷ 0 ∷ 0 ∷ 0xFF ∷ 0 ∷ []) ≡
     Some (Did (with_condition 0 (moved 6 (with_first 7))) [])
-unfolding reading_of row_number entry_at table kind_named kind_at transaction_effect
+unfolding reading_of row_number entry_at table kind_at transaction_effect
 begins = refl
 
 -- TEND outside a transaction, and at depth 1
 ends_nothing : done_at 0 (with_first 7) (0xB2 ∷ 0xF8 ∷ 0 ∷ 0 ∷ []) ≡
     Some (Did (with_condition 2 (moved 4 (with_first 7))) [])
-unfolding reading_of row_number entry_at table kind_named kind_at transaction_effect
+unfolding reading_of row_number entry_at table kind_at transaction_effect
 ends_nothing = refl
 
 ends : done_at 1 (with_first 7) (0xB2 ∷ 0xF8 ∷ 0 ∷ 0 ∷ []) ≡
     Some (Did (with_condition 0 (moved 4 (with_first 7))) [])
-unfolding reading_of row_number entry_at table kind_named kind_at transaction_effect
+unfolding reading_of row_number entry_at table kind_at transaction_effect
 ends = refl
 
 -- TABORT 257
 aborts : done_at 1 (with_first 7) (0xB2 ∷ 0xFC ∷ 1 ∷ 1 ∷ []) ≡ Some (Aborts 257)
-unfolding reading_of row_number entry_at table kind_named kind_at transaction_effect
+unfolding reading_of row_number entry_at table kind_at transaction_effect
 aborts = refl
 
 -- ETND 1 at depth 16 leaves the left half
 depth : done_at 16 (with_first 0xAAAAAAAA00000007) (0xB2 ∷ 0xEC ∷ 0 ∷ 0x10 ∷ []) ≡
     Some (Did (moved 4 (with_first 0xAAAAAAAA00000010)) [])
-unfolding reading_of row_number entry_at table kind_named kind_at transaction_effect
+unfolding reading_of row_number entry_at table kind_at transaction_effect
 depth = refl
 
 -- NTSTG 1,X'9000'
 lasts : done_at 1 (with_first 0x0102030405060708) (0xE3 ∷ 0x10 ∷ 0 ∷ 0 ∷ 9 ∷ 0x25 ∷ []) ≡
     Some (Did (moved 6 (with_first 0x0102030405060708)) (1 ∷ 2 ∷ 3 ∷ 4 ∷ 5 ∷ 6 ∷ 7 ∷ 8 ∷ []))
-unfolding reading_of row_number entry_at table kind_named kind_at transaction_effect
+unfolding reading_of row_number entry_at table kind_at transaction_effect
 lasts = refl
 
 -- PPA 1,0,1
 assists : done_at 0 (with_first 3) (0xB2 ∷ 0xE8 ∷ 0x10 ∷ 0x10 ∷ []) ≡ Some (Did (moved 4 (with_first 3)) [])
-unfolding reading_of row_number entry_at table kind_named kind_at transaction_effect
+unfolding reading_of row_number entry_at table kind_at transaction_effect
 assists = refl
 
 -- ---- delays of PPA, by the word of register 1 and by the mask

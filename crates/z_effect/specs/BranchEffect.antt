@@ -7,11 +7,11 @@ use Rattle.z_instr.specs.declared.instr.Instr.{Instr}
 use Rattle.z_instr.specs.Operands.{first_address, selects}
 use Rattle.z_regs.specs.Cpu.{Cpu}
 use Rattle.z_regs.specs.declared.image.RunState.TheVariants as state
-use Rattle.z_effect.specs.declared.kind.Branch.{Branch}
-use Rattle.z_effect.specs.declared.kind.Branch.TheVariants.{OnCondition, OnCount, AndSave, OnCompare, OnCompareImmediate, ServiceCall}
-use Rattle.z_effect.specs.declared.kind.Place.{Place}
-use Rattle.z_effect.specs.declared.kind.Place.TheVariants.{Register, Address, Relative}
-use Rattle.z_effect.specs.declared.kind.Order.TheVariants.{Signed}
+use Rattle.z_instr.specs.declared.kind.Branch.{Branch}
+use Rattle.z_instr.specs.declared.kind.Branch.TheVariants.{OnCondition, OnCount, AndSave, OnCompare, OnCompareImmediate, ServiceCall}
+use Rattle.z_instr.specs.declared.kind.Place.{Place}
+use Rattle.z_instr.specs.declared.kind.Place.TheVariants.{Register, Address, Relative}
+use Rattle.z_instr.specs.declared.kind.Order.TheVariants.{Signed}
 use Rattle.z_effect.specs.Registers.{register, operand_in, target, with_general, with_register, with_address, next_address, advanced}
 use Rattle.z_effect.specs.Operations.{compared}
 use Rattle.z_effect.specs.Outcome.{Outcome, done}

@@ -11,12 +11,13 @@ use Rattle.z_arith.specs.Comparison.{test_halfword_of, leftmost_one_of}
 use Rattle.z_instr.specs.declared.instr.Instr.{Instr}
 use Rattle.z_instr.specs.Operands.{first_address, selects}
 use Rattle.z_regs.specs.Cpu.{Cpu}
-use Rattle.z_effect.specs.declared.kind.General.{General}
-use Rattle.z_effect.specs.declared.kind.General.TheVariants.{Compute, Compare, LowHalfword, InsertHalfword, TestHalfword, ShiftFirst, ShiftThird, Address, Target, MultiplyWord, MultiplyLogical, DivideWord, DivideDouble, DivideLogical, FindLeftmostOne, LoadSelected, InsertProgramMask, SetProgramMask, ExtractAccess, SetAccess}
-use Rattle.z_effect.specs.declared.kind.Source.{Source}
-use Rattle.z_effect.specs.declared.kind.Source.TheVariants.{Second, Third, Immediate}
+use Rattle.z_instr.specs.declared.kind.General.{General}
+use Rattle.z_instr.specs.declared.kind.General.TheVariants.{Compute, Compare, LowHalfword, InsertHalfword, TestHalfword, ShiftFirst, ShiftThird, Address, Target, MultiplyWord, MultiplyLogical, DivideWord, DivideDouble, DivideLogical, FindLeftmostOne, LoadSelected, InsertProgramMask, SetProgramMask, ExtractAccess, SetAccess}
+use Rattle.z_instr.specs.declared.kind.Source.{Source}
+use Rattle.z_instr.specs.declared.kind.Source.TheVariants.{Second, Third, Immediate}
 use Rattle.z_effect.specs.Registers.{register, access_register, operand_in, after, target, put_low, with_general, with_register, with_pair, with_access, with_condition, with_mask, advanced}
-use Rattle.z_effect.specs.Operations.{combined, compared, extended, size_of, bits_in, logic_of, zero_code, shifted}
+use Rattle.z_effect.specs.Operations.{combined, compared, extended, bits_in, logic_of, zero_code, shifted}
+use Rattle.z_instr.specs.Kinds.{size_of}
 use Rattle.z_effect.specs.Outcome.{Outcome, Divides, done, ended}
 
 -- ---- operands

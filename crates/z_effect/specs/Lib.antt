@@ -6,7 +6,6 @@ pub mod GeneralEffect
 pub mod StorageEffect
 pub mod BranchEffect
 pub mod TransactionEffect
-pub mod Kinds
 pub mod One
 pub mod After
 pub mod Facts

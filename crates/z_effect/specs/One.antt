@@ -4,9 +4,9 @@ use Rattle.z_instr.specs.declared.instr.Instr.{Instr}
 use Rattle.z_instr.specs.Table.{entry_at}
 use Rattle.z_instr.specs.Layout.{format_length}
 use Rattle.z_regs.specs.Cpu.{Cpu}
-use Rattle.z_effect.specs.declared.kind.Kind.{Kind}
-use Rattle.z_effect.specs.declared.kind.Kind.TheVariants as kind
-use Rattle.z_effect.specs.Kinds.{kind_at}
+use Rattle.z_instr.specs.declared.kind.Kind.{Kind}
+use Rattle.z_instr.specs.declared.kind.Kind.TheVariants as kind
+use Rattle.z_instr.specs.Table.{kind_at}
 use Rattle.z_effect.specs.GeneralEffect.{general_effect}
 use Rattle.z_effect.specs.StorageEffect.{storage_effect}
 use Rattle.z_effect.specs.BranchEffect.{branch_effect}

@@ -11,14 +11,14 @@ use Rattle.z_arith.specs.Comparison.{compare_signed_of, compare_logical_of}
 use Rattle.z_arith.specs.Shifted.{shift_of}
 use Rattle.z_instr.specs.declared.operand.Size.{Size}
 use Rattle.z_instr.specs.Operands.{bytes_of}
-use Rattle.z_effect.specs.declared.kind.Logic.{Logic}
-use Rattle.z_effect.specs.declared.kind.Logic.TheVariants.{And, Or, ExclusiveOr}
-use Rattle.z_effect.specs.declared.kind.Operation.{Operation}
-use Rattle.z_effect.specs.declared.kind.Operation.TheVariants as operation
-use Rattle.z_effect.specs.declared.kind.Order.{Order}
-use Rattle.z_effect.specs.declared.kind.Order.TheVariants as order
-use Rattle.z_effect.specs.declared.kind.Part.{Part}
-use Rattle.z_effect.specs.declared.kind.Part.TheVariants as part
+use Rattle.z_instr.specs.declared.kind.Logic.{Logic}
+use Rattle.z_instr.specs.declared.kind.Logic.TheVariants.{And, Or, ExclusiveOr}
+use Rattle.z_instr.specs.declared.kind.Operation.{Operation}
+use Rattle.z_instr.specs.declared.kind.Operation.TheVariants as operation
+use Rattle.z_instr.specs.declared.kind.Order.{Order}
+use Rattle.z_instr.specs.declared.kind.Order.TheVariants as order
+use Rattle.z_instr.specs.declared.kind.Part.{Part}
+use Rattle.z_instr.specs.declared.kind.Part.TheVariants as part
 
 abbrev pub logic_of : Logic → ℕ → ℕ → ℕ
 logic_of And a b = bit_and a b
@@ -51,10 +51,6 @@ combined operation.LoadComplement w code a b = complement_of w b
 abbrev pub compared : Order → Width → ℕ → ℕ → ℕ
 compared order.Signed w a b = compare_signed_of w a b
 compared order.Logical w a b = compare_logical_of a b
-
-abbrev pub size_of : Part → Size
-size_of (part.Plain s) = s
-size_of (part.Signed s) = s
 
 abbrev pub bits_in : Size → ℕ
 bits_in s = 8 * bytes_of s

@@ -12,22 +12,18 @@ use Rattle.z_instr.specs.declared.operand.Size.{Size}
 use Rattle.z_instr.specs.declared.operand.Size.TheVariants.{Byte, Word, Doubleword}
 use Rattle.z_instr.specs.Operands.{bytes_of, first_address, second_address, selects, registers_between, length_of}
 use Rattle.z_regs.specs.Cpu.{Cpu}
-use Rattle.z_effect.specs.declared.kind.Storage.{Storage}
-use Rattle.z_effect.specs.declared.kind.Storage.TheVariants.{Compute, Compare, CompareImmediate, TestUnderMask, InsertByte, Store, StoreImmediate, ByteLogic, AddImmediate, LoadMany, StoreMany, CompareAndSwap, LoadAnd, LoadSelected, StoreSelected, ByteByByte, CompareBytes}
-use Rattle.z_effect.specs.declared.kind.Combination.{Combination}
-use Rattle.z_effect.specs.declared.kind.Combination.TheVariants.{Move, Logic}
-use Rattle.z_effect.specs.declared.kind.Part.{Part}
+use Rattle.z_instr.specs.declared.kind.Storage.{Storage}
+use Rattle.z_instr.specs.declared.kind.Storage.TheVariants.{Compute, Compare, CompareImmediate, TestUnderMask, InsertByte, Store, StoreImmediate, ByteLogic, AddImmediate, LoadMany, StoreMany, CompareAndSwap, LoadAnd, LoadSelected, StoreSelected, ByteByByte, CompareBytes}
+use Rattle.z_instr.specs.declared.kind.Combination.{Combination}
+use Rattle.z_instr.specs.declared.kind.Combination.TheVariants.{Move, Logic}
+use Rattle.z_instr.specs.declared.kind.Part.{Part}
 use Rattle.z_effect.specs.Registers.{register, operand_in, put_low, with_general, with_register, with_condition, advanced}
-use Rattle.z_effect.specs.Operations.{combined, compared, extended, size_of, logic_of, zero_code}
+use Rattle.z_effect.specs.Operations.{combined, compared, extended, logic_of, zero_code}
+use Rattle.z_instr.specs.Kinds.{item, size_of}
 use Rattle.z_effect.specs.GeneralEffect.{answered}
 use Rattle.z_effect.specs.Outcome.{Outcome, Did, done, ended}
 
 -- ---- numbers in storage, the leftmost byte first
-
--- the item that has a register's width
-abbrev pub item : Width → Size
-item width.Word = Word
-item width.Double = Doubleword
 
 abbrev pub number : Size → List ℕ → ℕ
 number size bytes = big_number (bytes_of size) bytes

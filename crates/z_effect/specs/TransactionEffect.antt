@@ -1,15 +1,15 @@
 -- What a transaction instruction of n bytes does at a nesting depth, apart from beginning and ending
 -- transactions.
-use Rattle.std.specs.Prelude.{ℕ, ◌^◌, min, ◌&&◌, not, nat_eq, if◌then◌else◌, codes}
+use Rattle.std.specs.Prelude.{ℕ, ◌^◌, min, ◌&&◌, not, nat_eq, if◌then◌else◌}
 use Rattle.z_arith.specs.declared.Width.TheVariants as width
 use Rattle.z_instr.specs.declared.instr.Instr.{Instr}
 use Rattle.z_instr.specs.declared.operand.Size.TheVariants.{Doubleword}
 use Rattle.z_instr.specs.Operands.{first_address}
-use Rattle.z_instr.specs.Roles.{is_named}
+use Rattle.z_instr.specs.Roles.{asks_for_time}
 use Rattle.z_instr.specs.Table.{entry_at}
 use Rattle.z_regs.specs.Cpu.{Cpu}
-use Rattle.z_effect.specs.declared.kind.Transaction.{Transaction}
-use Rattle.z_effect.specs.declared.kind.Transaction.TheVariants.{Begin, BeginConstrained, End, Abort, ExtractDepth, StoreLasting, Assist}
+use Rattle.z_instr.specs.declared.kind.Transaction.{Transaction}
+use Rattle.z_instr.specs.declared.kind.Transaction.TheVariants.{Begin, BeginConstrained, End, Abort, ExtractDepth, StoreLasting, Assist}
 use Rattle.z_effect.specs.Registers.{register, operand_in, with_register, with_condition, advanced}
 use Rattle.z_effect.specs.StorageEffect.{stored}
 use Rattle.z_effect.specs.Outcome.{Outcome, Did, Aborts, done}
@@ -23,7 +23,7 @@ delay_of i c =
 
 -- how many turns the program waits after an instruction outside transactions: behind an assist alone
 abbrev pub delay_given : Instr → Cpu → ℕ
-delay_given i c = if is_named (codes "PPA") (entry_at i.op.number) then delay_of i c else 0
+delay_given i c = if asks_for_time (entry_at i.op.number) then delay_of i c else 0
 
 unfoldable pub transaction_effect : Transaction → ℕ → Instr → Cpu → ℕ → Outcome
 transaction_effect Begin n i c depth = done (advanced n (with_condition 0 c))

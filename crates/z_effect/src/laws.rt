@@ -1,21 +1,10 @@
 //! What holds of all instructions. Each law is the contract of a function that does nothing.
-ghost use Rattle.std.specs.Prelude.{◌≡◌, ◌<◌, ℕ, List, length, get_or, true};
-ghost use Rattle.z_instr.specs.Table.{entry_at};
+ghost use Rattle.std.specs.Prelude.{◌≡◌, ℕ, List, length, get_or};
 ghost use Rattle.z_instr.specs.Operands.{Span};
-ghost use Rattle.z_instr.specs.declared.table.TheConstants.{ROWS};
-ghost use Rattle.z_effect.specs.Kinds.{kind_at, doings};
 ghost use Rattle.z_instr.specs.declared.instr.Instr.{Instr};
 ghost use Rattle.z_regs.specs.Cpu.{Cpu};
 ghost use Rattle.z_effect.specs.One.{one};
-ghost use Rattle.z_effect.specs.Facts.{operands_of, is_named_once};
 ghost use Rattle.z_effect.specs.After.{cpu_after, AreInside, IsBeside, with_stored};
-
-/// Each operation is named in one place of the table of effects, and touches the operands that its row of the
-/// instruction table says.
-pub fn kinds_are_sound()
-    ensures named { (n : ℕ) → n < ROWS → is_named_once doings (entry_at n) ≡ true }
-    ensures operands { (n : ℕ) → n < ROWS → (entry_at n).operands ≡ operands_of (kind_at n) }
-{}
 
 /// Whatever the new bytes are, storage keeps its size, and a byte that lies in no stored range keeps its
 /// value.

@@ -4,16 +4,12 @@
 //! "Transactional-Execution Facility").
 #![tactic(auto)]
 
-pub mod kind;
 pub mod laws;
-mod lookup;
 mod operations;
 mod steps;
-mod table;
 mod transactions;
 
-pub use lookup::kind_of;
-pub use operations::{combine, compare, extend, immediate, item, logic, shift, size_in, zero_code};
+pub use operations::{combine, compare, extend, immediate, logic, shift, zero_code};
 pub use steps::{
     advance, after, conclude, exception, next_address, operand, put, put_pair, register, settle,
     target,

@@ -1,12 +1,12 @@
 //! Operations on numbers, by their kinds.
 ghost use Rattle.std.specs.Prelude.{◌≡◌, ◌<◌, ◌^◌, ℕ};
 ghost use Rattle.z_arith.specs.Whole.{bits, signed, modulo, sign_code, plain_answer};
-ghost use Rattle.z_effect.specs.Operations.{logic_of, logic_answer as answer_of, zero_code as code_of, combined, compared, extended, size_of, bits_in, shifted};
-ghost use Rattle.z_effect.specs.StorageEffect.{item as item_of};
+ghost use Rattle.z_instr.specs.Kinds.{size_of};
+ghost use Rattle.z_effect.specs.Operations.{logic_of, logic_answer as answer_of, zero_code as code_of, combined, compared, extended, bits_in, shifted};
 
-use crate::kind::{Logic, Operation, Order, Part};
 use z_arith::shifts::shift as shift_bits;
 use z_arith::{self, Answer, Shift, Width, doubleword, low, number, word};
+use z_instr::kind::{Logic, Operation, Order, Part};
 use z_instr::operand::Size;
 
 /// An operation on bits. Of operands of so many bits the result has no more.
@@ -140,25 +140,6 @@ pub fn extend(w: Width, part: Part, pattern: u64) -> u64
     match part {
         Part::Plain(_) => low(w, pattern),
         Part::Signed(size) => immediate(w, signed_item(size, pattern)),
-    }
-}
-
-/// Which piece it is.
-pub fn size_in(part: Part) -> Size
-    ensures { result ≡ size_of part }
-{
-    match part {
-        Part::Plain(size) | Part::Signed(size) => size,
-    }
-}
-
-/// The item that has a register's width.
-pub fn item(w: Width) -> Size
-    ensures { result ≡ item_of w }
-{
-    match w {
-        Width::Word => Size::Word,
-        Width::Double => Size::Doubleword,
     }
 }
 

@@ -11,11 +11,11 @@ ghost use Rattle.z_effect.specs.Beginning.{is_constrained, begin_of};
 ghost use Rattle.z_effect.specs.Interrupted.{interrupted_by};
 ghost use Rattle.z_effect.specs.TransactionEffect.{transaction_effect, delay_of};
 
-use crate::kind::Transaction;
 use crate::steps::{advance, operand, put};
 use tx_control::{Begin, Exception};
 use z_arith::Width;
 use z_instr::instr::Instr;
+use z_instr::kind::Transaction;
 use z_instr::laws::immediates_are_plain;
 use z_instr::lookup::line;
 use z_instr::op::Op;
@@ -69,7 +69,7 @@ pub fn delay(instr: &Instr, image: &CpuImage) -> u32
 fn begins_constrained(op: Op) -> bool
     ensures { result ≡ is_constrained (entry_at op.number).demand }
 {
-    matches!(line(op).demand, Demand::BeginConstrained)
+    matches!(line(op).kind.demand(), Demand::BeginConstrained)
 }
 
 /// The level that an immediate without a sign asks for.

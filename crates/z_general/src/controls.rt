@@ -1,7 +1,7 @@
 //! Instructions that load an address or a register, and those on the program mask and access registers.
 ghost use Rattle.std.specs.Prelude.{◌≡◌, ◌<◌};
 ghost use Rattle.z_regs.specs.Cpu.{cpu_of};
-ghost use Rattle.z_effect.specs.declared.kind.General.TheVariants as general;
+ghost use Rattle.z_instr.specs.declared.kind.General.TheVariants as general;
 ghost use Rattle.z_effect.specs.Registers.{advanced, with_condition};
 ghost use Rattle.z_effect.specs.GeneralEffect.{general_effect};
 ghost use Rattle.z_effect.specs.Outcome.{done};

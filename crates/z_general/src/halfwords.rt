@@ -2,7 +2,7 @@
 ghost use Rattle.std.specs.Prelude.{◌≡◌, ◌<◌, ◌^◌};
 ghost use Rattle.z_arith.specs.Whole.{modulo};
 ghost use Rattle.z_regs.specs.Cpu.{cpu_of};
-ghost use Rattle.z_effect.specs.declared.kind.General.TheVariants as general;
+ghost use Rattle.z_instr.specs.declared.kind.General.TheVariants as general;
 ghost use Rattle.z_effect.specs.Operations.{logic_of};
 ghost use Rattle.z_effect.specs.GeneralEffect.{general_effect, halfword as halfword_of, with_halfword};
 ghost use Rattle.z_effect.specs.After.{Sets};
@@ -10,9 +10,9 @@ ghost use Rattle.z_effect.specs.After.{Sets};
 use crate::controls::{finish, finish_with};
 use tx_control::Exception;
 use z_arith::{doubleword, test_halfword};
-use z_effect::kind::Logic;
 use z_effect::{logic, register, zero_code};
 use z_instr::instr::Instr;
+use z_instr::kind::Logic;
 use z_regs::CpuImage;
 
 /// The rightmost halfword of R1.

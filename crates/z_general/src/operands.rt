@@ -7,10 +7,10 @@ ghost use Rattle.z_effect.specs.GeneralEffect.{first_operand as first_of, second
 ghost use Rattle.z_effect.specs.GeneralEffect.{amount as amount_of};
 
 use z_arith::Width;
-use z_effect::kind::Source;
-use z_effect::{extend, immediate, operand, register, size_in};
+use z_effect::{extend, immediate, operand, register};
 use z_instr::addresses::first_address;
 use z_instr::instr::Instr;
+use z_instr::kind::{Source, size_in};
 use z_instr::operand::Size;
 use z_regs::CpuImage;
 

@@ -2,7 +2,7 @@
 ghost use Rattle.std.specs.Prelude.{◌≡◌, ◌<◌, ◌^◌};
 ghost use Rattle.z_arith.specs.Whole.{bits};
 ghost use Rattle.z_regs.specs.Cpu.{cpu_of};
-ghost use Rattle.z_effect.specs.declared.kind.General.TheVariants as general;
+ghost use Rattle.z_instr.specs.declared.kind.General.TheVariants as general;
 ghost use Rattle.z_effect.specs.Registers.{with_pair, advanced};
 ghost use Rattle.z_effect.specs.GeneralEffect.{general_effect};
 ghost use Rattle.z_effect.specs.Outcome.{done};

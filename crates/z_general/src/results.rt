@@ -1,7 +1,7 @@
 //! Instructions that put one result into R1, or compare.
 ghost use Rattle.std.specs.Prelude.{◌≡◌, ◌<◌};
 ghost use Rattle.z_regs.specs.Cpu.{cpu_of};
-ghost use Rattle.z_effect.specs.declared.kind.General.TheVariants as general;
+ghost use Rattle.z_instr.specs.declared.kind.General.TheVariants as general;
 ghost use Rattle.z_effect.specs.GeneralEffect.{general_effect};
 ghost use Rattle.z_effect.specs.After.{Sets};
 
@@ -9,9 +9,9 @@ use crate::controls::finish_with;
 use crate::operands::{amount, first_operand, second_operand};
 use tx_control::Exception;
 use z_arith::{Shift, Width};
-use z_effect::kind::{Operation, Order, Source};
 use z_effect::{combine, operand, settle};
 use z_instr::instr::Instr;
+use z_instr::kind::{Operation, Order, Source};
 use z_regs::CpuImage;
 
 /// Puts the result of an operation into R1.

@@ -1,8 +1,9 @@
 -- Worked values of the definitions that no code of this crate computes.
 use Rattle.std.proofs.Common.{◌≡◌, refl, true, false, [], ◌∷◌, lit<}
-use Rattle.std.specs.Prelude.{pos, negsuc, Some, None}
+use Rattle.std.specs.Prelude.{pos, negsuc, Some, None, codes}
 use Rattle.z_instr.specs.declared.instr.Instr.{Instr}
 use Rattle.z_instr.specs.Table.{entry_at, table}
+use Rattle.z_instr.proofs.Named.{number_of}
 use Rattle.z_instr.specs.Reading.{Reads}
 use Rattle.z_instr.specs.Operands.{span, spans, spans_in, pieces, selects, registers_between, address, unspecified, unspecified_in, inaccessible, inaccessible_in, special_operation, specification, addressing, protection}
 
@@ -51,10 +52,10 @@ past_the_end = refl
 
 -- MVC 4(3,1),8(2): three bytes
 move_three : Instr
-unfolding entry_at table
+unfolding number_of entry_at table
 move_three =
     record {
-      op = record { number = 179; known = lit< tt };
+      op = record { number = number_of (codes "MVC"); known = lit< tt };
       r1 = 0;
       r2 = 0;
       r3 = 0;
@@ -76,33 +77,33 @@ move_three =
     }
 
 move_spelled : Reads (0xD2 ∷ 0x02 ∷ 0x10 ∷ 0x04 ∷ 0x20 ∷ 0x08 ∷ []) move_three
-unfolding move_three entry_at table
+unfolding move_three number_of entry_at table
 move_spelled = refl
 
 move_spans : spans move_three (0 ∷ 8192 ∷ 16384 ∷ []) 0 ≡ span 8196 3 true ∷ span 16392 3 false ∷ []
-unfolding move_three entry_at table spans_in
+unfolding move_three number_of entry_at table spans_in
 move_spans = refl
 
 -- the text page 2 is stored into, an operand that is not accessible comes first
 move_protected : inaccessible move_three (0 ∷ 8192 ∷ 16384 ∷ []) 0 0 (2 ∷ 3 ∷ 4 ∷ []) (2 ∷ []) ≡
     Some protection
-unfolding move_three entry_at table spans_in inaccessible_in
+unfolding move_three number_of entry_at table spans_in inaccessible_in
 move_protected = refl
 
 move_absent : inaccessible move_three (0 ∷ 8192 ∷ 16384 ∷ []) 0 0 (2 ∷ 3 ∷ []) (2 ∷ []) ≡ Some addressing
-unfolding move_three entry_at table spans_in inaccessible_in
+unfolding move_three number_of entry_at table spans_in inaccessible_in
 move_absent = refl
 
 move_allowed : inaccessible move_three (0 ∷ 8192 ∷ 16384 ∷ []) 0 0 (2 ∷ 4 ∷ []) (4 ∷ []) ≡ None
-unfolding move_three entry_at table spans_in inaccessible_in
+unfolding move_three number_of entry_at table spans_in inaccessible_in
 move_allowed = refl
 
 -- TABORT 255: special operation outside a transaction, specification inside
 abort_code : Instr
-unfolding entry_at table
+unfolding number_of entry_at table
 abort_code =
     record {
-      op = record { number = 178; known = lit< tt };
+      op = record { number = number_of (codes "TABORT"); known = lit< tt };
       r1 = 0;
       r2 = 0;
       r3 = 0;
@@ -124,19 +125,19 @@ abort_code =
     }
 
 abort_outside : unspecified abort_code [] 0 ≡ Some special_operation
-unfolding abort_code entry_at table unspecified_in
+unfolding abort_code number_of entry_at table unspecified_in
 abort_outside = refl
 
 abort_inside : unspecified abort_code [] 1 ≡ Some specification
-unfolding abort_code entry_at table unspecified_in
+unfolding abort_code number_of entry_at table unspecified_in
 abort_inside = refl
 
 -- TBEGIN 0(1),X'FF00': the outermost block is tested, an inner one for its boundary alone
 begin_with_block : Instr
-unfolding entry_at table
+unfolding number_of entry_at table
 begin_with_block =
     record {
-      op = record { number = 175; known = lit< tt };
+      op = record { number = number_of (codes "TBEGIN"); known = lit< tt };
       r1 = 0;
       r2 = 0;
       r3 = 0;
@@ -158,13 +159,13 @@ begin_with_block =
     }
 
 block_off_boundary : unspecified begin_with_block (0 ∷ 8196 ∷ []) 3 ≡ Some specification
-unfolding begin_with_block entry_at table unspecified_in
+unfolding begin_with_block number_of entry_at table unspecified_in
 block_off_boundary = refl
 
 block_absent : inaccessible begin_with_block (0 ∷ 4096 ∷ []) 0 0 (2 ∷ []) [] ≡ Some addressing
-unfolding begin_with_block entry_at table spans_in inaccessible_in
+unfolding begin_with_block number_of entry_at table spans_in inaccessible_in
 block_absent = refl
 
 inner_block_untested : inaccessible begin_with_block (0 ∷ 4096 ∷ []) 0 1 (2 ∷ []) [] ≡ None
-unfolding begin_with_block entry_at table spans_in inaccessible_in
+unfolding begin_with_block number_of entry_at table spans_in inaccessible_in
 inner_block_untested = refl

@@ -1,6 +1,6 @@
+pub mod Named
 pub mod Passing
 pub mod TableFacts
-pub mod RoleFacts
 pub mod Within
 pub mod OneSpelling
 pub mod Bytes

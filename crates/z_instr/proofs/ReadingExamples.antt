@@ -6,6 +6,7 @@ use Rattle.z_instr.specs.declared.instr.Instr.{Instr}
 use Rattle.z_instr.specs.Computing.{reading_of, row_number}
 use Rattle.z_instr.specs.Made.{no_fields}
 use Rattle.z_instr.specs.Table.{entry_at, table}
+use Rattle.z_instr.proofs.Named.{number_of}
 use Rattle.z_instr.proofs.SameInstr.{fields_of}
 
 -- the name and the fields of an instruction
@@ -202,10 +203,10 @@ empty = refl
 
 -- a whole instruction: LGHI 1,5
 load_five : Instr
-unfolding entry_at table
+unfolding number_of entry_at table
 load_five =
     record {
-      op = record { number = 119; known = lit< tt };
+      op = record { number = number_of (codes "LGHI"); known = lit< tt };
       r1 = 1;
       r2 = 0;
       r3 = 0;
@@ -227,5 +228,5 @@ load_five =
     }
 
 whole : reading_of (0xA7 ∷ 0x19 ∷ 0x00 ∷ 0x05 ∷ []) ≡ Some load_five
-unfolding load_five reading_of row_number entry_at table
+unfolding load_five number_of reading_of row_number entry_at table
 whole = refl

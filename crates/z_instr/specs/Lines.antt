@@ -2,6 +2,7 @@
 use Rattle.std.specs.Prelude.{take}
 use Rattle.z_instr.specs.declared.table.Line.{Line}
 use Rattle.z_instr.specs.declared.row.Row.{Row}
+use Rattle.z_instr.specs.Kinds.{operands_of, demand_of}
 use Rattle.z_instr.specs.Table.{Entry}
 
 abbrev pub entry_of : Line → Entry
@@ -16,8 +17,9 @@ entry_of l =
       relative = l.relative;
       masked = l.masked;
       single = l.single;
-      operands = l.operands;
-      demand = l.demand;
+      kind = l.kind;
+      operands = operands_of l.kind;
+      demand = demand_of l.kind;
     }
 
 abbrev pub row_of : Entry → Row

@@ -1,23 +1,80 @@
--- The instruction table: the opcodes format by format, and the lists of names that further columns are made
--- of.
-use Rattle.std.specs.Prelude.{ℕ, Bool, not, ◌||◌, cond, List, [], ◌∷◌, ◌++◌, map, get_or, codes}
-use Rattle.std.specs.List.{list_any}
-use Rattle.std.specs.Str.{bytes_eq}
+-- The instruction table: one row for each instruction, in the order of the opcodes.
+use Rattle.std.specs.Prelude.{ℕ, Bool, true, false, List, [], ◌∷◌, get_or, codes}
+use Rattle.z_arith.specs.declared.Width.TheVariants as width
+use Rattle.z_arith.specs.declared.Shift.TheVariants as shift
 use Rattle.z_instr.specs.declared.format.Format.{Format}
 use Rattle.z_instr.specs.declared.format.Format.TheVariants.{RR, I, RX, RRE, RRFa, RRFc, RXY, RI, RIL, RS, RSY, SI, SIY, SIL, S, SS, RIEb, RIEc}
-use Rattle.z_instr.specs.declared.operand.Size.TheVariants.{Byte, Halfword, Word, Doubleword}
+use Rattle.z_instr.specs.declared.operand.Size.TheVariants as size
 use Rattle.z_instr.specs.declared.operand.Operands.{Operands}
-use Rattle.z_instr.specs.declared.operand.Operands.TheVariants.{Absent, Fetched, Stored, FetchedMany, StoredMany, FetchedSelected, StoredSelected, StoredAndFetched, BothFetched}
 use Rattle.z_instr.specs.declared.operand.Demand.{Demand}
-use Rattle.z_instr.specs.declared.operand.Demand.TheVariants.{Nothing, EvenPair, Boundary, AbortCode, Begin, BeginConstrained, ServiceZero}
+use Rattle.z_instr.specs.declared.kind.Kind.{Kind}
+use Rattle.z_instr.specs.declared.kind.Kind.TheVariants.{General, Storage, Branch, Transaction}
+use Rattle.z_instr.specs.declared.kind.General.TheVariants as general
+use Rattle.z_instr.specs.declared.kind.Storage.TheVariants as storage
+use Rattle.z_instr.specs.declared.kind.Branch.TheVariants as branch
+use Rattle.z_instr.specs.declared.kind.Transaction.TheVariants as transaction
+use Rattle.z_instr.specs.declared.kind.Operation.TheVariants.{Add, Subtract, AddLogical, SubtractLogical, AddWithCarry, SubtractWithBorrow, Multiply, Logic, Load, LoadAndTest, LoadPositive, LoadNegative, LoadComplement}
+use Rattle.z_instr.specs.declared.kind.Logic.TheVariants as logic
+use Rattle.z_instr.specs.declared.kind.Order.TheVariants as order
+use Rattle.z_instr.specs.declared.kind.Part.{Part}
+use Rattle.z_instr.specs.declared.kind.Part.TheVariants as part
+use Rattle.z_instr.specs.declared.kind.Source.{Source}
+use Rattle.z_instr.specs.declared.kind.Source.TheVariants as source
+use Rattle.z_instr.specs.declared.kind.Combination.TheVariants as combination
+use Rattle.z_instr.specs.declared.kind.Place.TheVariants as place
+use Rattle.z_instr.specs.Kinds.{operands_of, demand_of}
+
+-- ---- the columns
+
+-- Who may have an operation: all, all but constrained transactions, or no transaction.
+pub data Use : Type 0 where
+  Free : Use
+  Barred : Use
+  Restricted : Use
+
+-- How a row departs from what its format has most often: the immediate has a sign; it is the distance of a
+-- target in halfwords, which has a sign too; a mask stands in the place of a register; the last register or
+-- the only address is left out.
+pub data Shape : Type 0 where
+  Plain : Shape
+  Signed : Shape
+  Relative : Shape
+  Masked : Shape
+  RelativeMasked : Shape
+  Single : Shape
+
+abbrev pub is_restricted : Use → Bool
+is_restricted Restricted = true
+is_restricted _ = false
+
+abbrev pub is_permitted : Use → Bool
+is_permitted Free = true
+is_permitted _ = false
+
+abbrev pub is_signed : Shape → Bool
+is_signed Signed = true
+is_signed Relative = true
+is_signed RelativeMasked = true
+is_signed _ = false
+
+abbrev pub has_target : Shape → Bool
+has_target Relative = true
+has_target RelativeMasked = true
+has_target _ = false
+
+abbrev pub is_masked : Shape → Bool
+is_masked Masked = true
+is_masked RelativeMasked = true
+is_masked _ = false
+
+abbrev pub is_single : Shape → Bool
+is_single Single = true
+is_single _ = false
 
 -- A row: the letters of its name, its opcode, its format, whether every transaction refuses it and whether
--- constrained
--- ones may have it, whether its immediate has a sign and is the distance of a target, whether a mask stands
--- in place of a
--- register, whether its last register or its address is left out, which operands in storage it touches, and
--- what it
--- demands of its fields.
+-- constrained ones may have it, whether its immediate has a sign and is the distance of a target, whether a
+-- mask stands in place of a register, whether its last register or its address is left out, and what it does.
+-- Which operands in storage it touches and what it demands of its fields follow from what it does.
 pub record Entry : Type 0 where
   pub name : List ℕ
   pub opcode : ℕ
@@ -28,308 +85,266 @@ pub record Entry : Type 0 where
   pub relative : Bool
   pub masked : Bool
   pub single : Bool
+  pub kind : Kind
   pub operands : Operands
   pub demand : Demand
 
--- ---- the lists of names
+abbrev pub row : List ℕ → ℕ → Format → Use → Shape → Kind → Entry
+row name opcode format who shape kind =
+    record {
+      name = name;
+      opcode = opcode;
+      format = format;
+      restricted = is_restricted who;
+      permitted = is_permitted who;
+      signed = is_signed shape;
+      relative = has_target shape;
+      masked = is_masked shape;
+      single = is_single shape;
+      kind = kind;
+      operands = operands_of kind;
+      demand = demand_of kind;
+    }
 
-abbrev pub Names : Type 0
-Names = List (List ℕ)
+-- ---- pieces of operands, in words
 
-abbrev pub is_among : Names → List ℕ → Bool
-is_among names name = list_any (bytes_eq name) names
+abbrev byte : Part
+byte = part.Plain size.Byte
 
--- restricted in every transaction
-abbrev pub restricted_names : Names
-restricted_names =
-    codes "SVC" ∷ codes "PPA" ∷ codes "SPM" ∷ []
+abbrev halfword : Part
+halfword = part.Plain size.Halfword
 
--- not permitted in a constrained transaction
-abbrev pub barred_names : Names
-barred_names =
-    codes "SPM" ∷ codes "BCTR" ∷ codes "BCR" ∷ codes "BASR" ∷ codes "SVC" ∷ codes "MR" ∷ codes "DR" ∷
-    codes "BCT" ∷
-    codes "BC" ∷ codes "MS" ∷ codes "MSR" ∷ codes "MSGR" ∷ codes "MSG" ∷ codes "DSGR" ∷ codes "MLGR" ∷
-    codes "DLGR" ∷ codes "FLOGR" ∷ codes "BCTGR" ∷ codes "MHI" ∷ codes "MGHI" ∷ codes "SAR" ∷ codes "BRAS" ∷
-    codes "BRASL" ∷ codes "CS" ∷ codes "CSG" ∷ codes "LAA" ∷ codes "LAAG" ∷ codes "LANG" ∷ codes "LAOG" ∷
-    codes "LAXG" ∷ codes "ASI" ∷ codes "AGSI" ∷ codes "MVC" ∷ codes "NC" ∷ codes "CLC" ∷ codes "OC" ∷
-    codes "XC" ∷
-    codes "TABORT" ∷ codes "ETND" ∷ codes "NTSTG" ∷ codes "PPA" ∷ codes "TBEGIN" ∷ codes "TBEGINC" ∷ []
+abbrev word : Part
+word = part.Plain size.Word
 
--- with a signed immediate of 16 or of 32 bits
-abbrev pub signed_names : Names
-signed_names =
-    codes "LHI" ∷ codes "LGHI" ∷ codes "AHI" ∷ codes "AGHI" ∷ codes "MHI" ∷ codes "MGHI" ∷ codes "CHI" ∷
-    codes "CGHI" ∷ codes "MVHHI" ∷ codes "MVHI" ∷ codes "MVGHI" ∷ codes "CHSI" ∷ codes "CGHSI" ∷
-    codes "LGFI" ∷
-    codes "AFI" ∷ codes "AGFI" ∷ codes "CFI" ∷ codes "CGFI" ∷ []
+abbrev doubleword : Part
+doubleword = part.Plain size.Doubleword
 
--- with a target: how far it is from the instruction, in halfwords, which has a sign too
-abbrev pub relative_names : Names
-relative_names =
-    codes "BRAS" ∷ codes "BRC" ∷ codes "BRCT" ∷ codes "BRCTG" ∷ codes "LARL" ∷ codes "BRASL" ∷ codes "BRCL" ∷
-    codes "CGRJ" ∷
-    codes "CLGRJ" ∷ codes "CRJ" ∷ codes "CGIJ" ∷ []
+abbrev signed_halfword : Part
+signed_halfword = part.Signed size.Halfword
 
--- with a mask in the place of a register
-abbrev pub masked_names : Names
-masked_names =
-    codes "BCR" ∷ codes "BC" ∷ codes "BRC" ∷ codes "BRCL" ∷ codes "LOCG" ∷ codes "STOCG" ∷ []
+abbrev signed_word : Part
+signed_word = part.Signed size.Word
 
--- with R1 alone, with R1 and an address where others of the format have R3, or with no operand at all
-abbrev pub single_names : Names
-single_names =
-    codes "SPM" ∷ codes "IPM" ∷ codes "ETND" ∷ codes "SRL" ∷ codes "SLL" ∷ codes "SRA" ∷ codes "SLA" ∷
-    codes "TEND" ∷ []
+abbrev byte_of_r2 : Source
+byte_of_r2 = source.Second byte
 
--- ---- operands in storage
+abbrev halfword_of_r2 : Source
+halfword_of_r2 = source.Second halfword
 
-pub record Touching : Type 0 where
-  pub operands : Operands
-  pub names : Names
+abbrev word_of_r2 : Source
+word_of_r2 = source.Second word
 
-abbrev pub touching : Operands → Names → Touching
-touching o n = record { operands = o; names = n }
+abbrev all_of_r2 : Source
+all_of_r2 = source.Second doubleword
 
-abbrev pub operand_groups : List Touching
-operand_groups =
-    touching (Fetched Byte) (codes "IC" ∷ codes "LLGC" ∷ codes "TM" ∷ codes "CLI" ∷ []) ∷
-    touching (Fetched Halfword)
-    (codes "LH" ∷ codes "CH" ∷ codes "AH" ∷ codes "SH" ∷ codes "LGH" ∷ codes "LLGH" ∷ []) ∷
-    touching (Fetched Word) (
-    codes "N" ∷ codes "CL" ∷ codes "O" ∷ codes "X" ∷ codes "L" ∷ codes "C" ∷ codes "A" ∷ codes "S" ∷
-    codes "AL" ∷ codes "SL" ∷ codes "MS" ∷ codes "LGF" ∷ codes "LLGF" ∷ codes "AGF" ∷ codes "LY" ∷
-    codes "CHSI" ∷ []
-    ) ∷
-    touching (Fetched Doubleword) (
-    codes "LTG" ∷ codes "LG" ∷ codes "AG" ∷ codes "SG" ∷ codes "ALG" ∷ codes "SLG" ∷ codes "MSG" ∷
-    codes "CG" ∷
-    codes "CLG" ∷ codes "NG" ∷ codes "OG" ∷ codes "XG" ∷ codes "CGHSI" ∷ []
-    ) ∷
-    touching (Stored Byte) (codes "STC" ∷ codes "MVI" ∷ codes "NI" ∷ codes "OI" ∷ codes "XI" ∷ []) ∷
-    touching (Stored Halfword) (codes "STH" ∷ codes "MVHHI" ∷ []) ∷
-    touching (Stored Word)
-    (codes "ST" ∷ codes "STY" ∷ codes "MVHI" ∷ codes "CS" ∷ codes "LAA" ∷ codes "ASI" ∷ []) ∷
-    touching (Stored Doubleword) (
-    codes "STG" ∷ codes "NTSTG" ∷ codes "MVGHI" ∷ codes "CSG" ∷ codes "LAAG" ∷ codes "LANG" ∷ codes "LAOG" ∷
-    codes "LAXG" ∷ codes "AGSI" ∷ []
-    ) ∷
-    touching (FetchedMany Word) (codes "LM" ∷ []) ∷
-    touching (FetchedMany Doubleword) (codes "LMG" ∷ []) ∷
-    touching (StoredMany Word) (codes "STM" ∷ []) ∷
-    touching (StoredMany Doubleword) (codes "STMG" ∷ []) ∷
-    touching FetchedSelected (codes "LOCG" ∷ []) ∷
-    touching StoredSelected (codes "STOCG" ∷ []) ∷
-    touching StoredAndFetched (codes "MVC" ∷ codes "NC" ∷ codes "OC" ∷ codes "XC" ∷ []) ∷
-    touching BothFetched (codes "CLC" ∷ []) ∷
-    []
+abbrev signed_halfword_of_r2 : Source
+signed_halfword_of_r2 = source.Second signed_halfword
 
-abbrev pub operands_among : List Touching → List ℕ → Operands
-operands_among [] name = Absent
-operands_among (g ∷ gs) name = cond (is_among g.names name) g.operands (operands_among gs name)
-
--- ---- demands
-
-pub record Demanding : Type 0 where
-  pub demand : Demand
-  pub names : Names
-
-abbrev pub demanding : Demand → Names → Demanding
-demanding d n = record { demand = d; names = n }
-
-abbrev pub demand_groups : List Demanding
-demand_groups =
-    demanding EvenPair
-    (codes "MR" ∷ codes "DR" ∷ codes "MLGR" ∷ codes "DSGR" ∷ codes "DLGR" ∷ codes "FLOGR" ∷ []) ∷
-    demanding Boundary
-    (codes "CS" ∷ codes "LAA" ∷ codes "CSG" ∷ codes "LAAG" ∷ codes "LANG" ∷ codes "LAOG" ∷ codes "LAXG" ∷
-    codes "NTSTG" ∷ []) ∷
-    demanding AbortCode (codes "TABORT" ∷ []) ∷
-    demanding Begin (codes "TBEGIN" ∷ []) ∷
-    demanding BeginConstrained (codes "TBEGINC" ∷ []) ∷
-    demanding ServiceZero (codes "SVC" ∷ []) ∷
-    []
-
-abbrev pub demand_among : List Demanding → List ℕ → Demand
-demand_among [] name = Nothing
-demand_among (g ∷ gs) name = cond (is_among g.names name) g.demand (demand_among gs name)
+abbrev signed_word_of_r2 : Source
+signed_word_of_r2 = source.Second signed_word
 
 -- ---- the rows
 
-pub record Code : Type 0 where
-  pub name : List ℕ
-  pub opcode : ℕ
-
-abbrev pub code : List ℕ → ℕ → Code
-code n o = record { name = n; opcode = o }
-
-abbrev pub entry : Format → Code → Entry
-entry f c =
-    record {
-      name = c.name;
-      opcode = c.opcode;
-      format = f;
-      restricted = is_among restricted_names c.name;
-      permitted = not (is_among barred_names c.name);
-      signed = is_among signed_names c.name || is_among relative_names c.name;
-      relative = is_among relative_names c.name;
-      masked = is_among masked_names c.name;
-      single = is_among single_names c.name;
-      operands = operands_among operand_groups c.name;
-      demand = demand_among demand_groups c.name;
-    }
-
-abbrev pub rr_codes : List Code
-rr_codes =
-    code (codes "LPR") 0x10 ∷ code (codes "LNR") 0x11 ∷ code (codes "LTR") 0x12 ∷ code (codes "LCR") 0x13 ∷
-    code (codes "NR") 0x14 ∷ code (codes "CLR") 0x15 ∷ code (codes "OR") 0x16 ∷ code (codes "XR") 0x17 ∷
-    code (codes "LR") 0x18 ∷ code (codes "CR") 0x19 ∷ code (codes "AR") 0x1A ∷ code (codes "SR") 0x1B ∷
-    code (codes "MR") 0x1C ∷ code (codes "DR") 0x1D ∷ code (codes "ALR") 0x1E ∷ code (codes "SLR") 0x1F ∷
-    code (codes "SPM") 0x04 ∷ code (codes "BCTR") 0x06 ∷ code (codes "BCR") 0x07 ∷
-    code (codes "BASR") 0x0D ∷ []
-
-abbrev pub i_codes : List Code
-i_codes =
-    code (codes "SVC") 0x0A ∷ []
-
-abbrev pub rx_codes : List Code
-rx_codes =
-    code (codes "STH") 0x40 ∷ code (codes "LA") 0x41 ∷ code (codes "STC") 0x42 ∷ code (codes "IC") 0x43 ∷
-    code (codes "BCT") 0x46 ∷ code (codes "BC") 0x47 ∷ code (codes "LH") 0x48 ∷ code (codes "CH") 0x49 ∷
-    code (codes "AH") 0x4A ∷ code (codes "SH") 0x4B ∷ code (codes "ST") 0x50 ∷ code (codes "N") 0x54 ∷
-    code (codes "CL") 0x55 ∷ code (codes "O") 0x56 ∷ code (codes "X") 0x57 ∷ code (codes "L") 0x58 ∷
-    code (codes "C") 0x59 ∷ code (codes "A") 0x5A ∷ code (codes "S") 0x5B ∷ code (codes "AL") 0x5E ∷
-    code (codes "SL") 0x5F ∷ code (codes "MS") 0x71 ∷ []
-
-abbrev pub rre_codes : List Code
-rre_codes =
-    code (codes "LPGR") 0xB900 ∷ code (codes "LNGR") 0xB901 ∷ code (codes "LTGR") 0xB902 ∷
-    code (codes "LCGR") 0xB903 ∷ code (codes "LGR") 0xB904 ∷ code (codes "LGHR") 0xB907 ∷
-    code (codes "AGR") 0xB908 ∷ code (codes "SGR") 0xB909 ∷ code (codes "ALGR") 0xB90A ∷
-    code (codes "SLGR") 0xB90B ∷ code (codes "MSGR") 0xB90C ∷ code (codes "DSGR") 0xB90D ∷
-    code (codes "LGFR") 0xB914 ∷ code (codes "LLGFR") 0xB916 ∷ code (codes "AGFR") 0xB918 ∷
-    code (codes "SGFR") 0xB919 ∷ code (codes "CGR") 0xB920 ∷ code (codes "CLGR") 0xB921 ∷
-    code (codes "NGR") 0xB980 ∷ code (codes "OGR") 0xB981 ∷ code (codes "XGR") 0xB982 ∷
-    code (codes "FLOGR") 0xB983 ∷ code (codes "LLGCR") 0xB984 ∷ code (codes "LLGHR") 0xB985 ∷
-    code (codes "MLGR") 0xB986 ∷ code (codes "DLGR") 0xB987 ∷ code (codes "ALCGR") 0xB988 ∷
-    code (codes "SLBGR") 0xB989 ∷ code (codes "BCTGR") 0xB946 ∷ code (codes "MSR") 0xB252 ∷
-    code (codes "SAR") 0xB24E ∷ code (codes "EAR") 0xB24F ∷ code (codes "IPM") 0xB222 ∷
-    code (codes "ETND") 0xB2EC ∷ []
-
-abbrev pub rrfa_codes : List Code
-rrfa_codes =
-    code (codes "AGRK") 0xB9E8 ∷ code (codes "SGRK") 0xB9E9 ∷ code (codes "NGRK") 0xB9E4 ∷
-    code (codes "OGRK") 0xB9E6 ∷ code (codes "XGRK") 0xB9E7 ∷ code (codes "ARK") 0xB9F8 ∷
-    code (codes "SRK") 0xB9F9 ∷ []
-
-abbrev pub rrfc_codes : List Code
-rrfc_codes =
-    code (codes "LOCGR") 0xB9E2 ∷ code (codes "PPA") 0xB2E8 ∷ []
-
-abbrev pub rxy_codes : List Code
-rxy_codes =
-    code (codes "LTG") 0xE302 ∷ code (codes "LG") 0xE304 ∷ code (codes "AG") 0xE308 ∷
-    code (codes "SG") 0xE309 ∷
-    code (codes "ALG") 0xE30A ∷ code (codes "SLG") 0xE30B ∷ code (codes "MSG") 0xE30C ∷
-    code (codes "LGF") 0xE314 ∷
-    code (codes "LGH") 0xE315 ∷ code (codes "LLGF") 0xE316 ∷ code (codes "AGF") 0xE318 ∷
-    code (codes "CG") 0xE320 ∷
-    code (codes "CLG") 0xE321 ∷ code (codes "STG") 0xE324 ∷ code (codes "NTSTG") 0xE325 ∷
-    code (codes "STY") 0xE350 ∷ code (codes "LY") 0xE358 ∷ code (codes "LAY") 0xE371 ∷
-    code (codes "NG") 0xE380 ∷
-    code (codes "OG") 0xE381 ∷ code (codes "XG") 0xE382 ∷ code (codes "LLGC") 0xE390 ∷
-    code (codes "LLGH") 0xE391 ∷ []
-
-abbrev pub ri_codes : List Code
-ri_codes =
-    code (codes "IILL") 0xA53 ∷ code (codes "NILL") 0xA57 ∷ code (codes "OILL") 0xA5B ∷
-    code (codes "LLILL") 0xA5F ∷ code (codes "TMLL") 0xA71 ∷ code (codes "BRC") 0xA74 ∷
-    code (codes "BRAS") 0xA75 ∷
-    code (codes "BRCT") 0xA76 ∷ code (codes "BRCTG") 0xA77 ∷ code (codes "LHI") 0xA78 ∷
-    code (codes "LGHI") 0xA79 ∷
-    code (codes "AHI") 0xA7A ∷ code (codes "AGHI") 0xA7B ∷ code (codes "MHI") 0xA7C ∷
-    code (codes "MGHI") 0xA7D ∷
-    code (codes "CHI") 0xA7E ∷ code (codes "CGHI") 0xA7F ∷ []
-
-abbrev pub ril_codes : List Code
-ril_codes =
-    code (codes "LARL") 0xC00 ∷ code (codes "LGFI") 0xC01 ∷ code (codes "BRCL") 0xC04 ∷
-    code (codes "BRASL") 0xC05 ∷ code (codes "XILF") 0xC07 ∷ code (codes "NILF") 0xC0B ∷
-    code (codes "OILF") 0xC0D ∷ code (codes "LLILF") 0xC0F ∷ code (codes "AGFI") 0xC28 ∷
-    code (codes "AFI") 0xC29 ∷
-    code (codes "CGFI") 0xC2C ∷ code (codes "CFI") 0xC2D ∷ code (codes "CLGFI") 0xC2E ∷ []
-
-abbrev pub rs_codes : List Code
-rs_codes =
-    code (codes "SRL") 0x88 ∷ code (codes "SLL") 0x89 ∷ code (codes "SRA") 0x8A ∷ code (codes "SLA") 0x8B ∷
-    code (codes "STM") 0x90 ∷ code (codes "LM") 0x98 ∷ code (codes "CS") 0xBA ∷ []
-
-abbrev pub rsy_codes : List Code
-rsy_codes =
-    code (codes "LMG") 0xEB04 ∷ code (codes "SRAG") 0xEB0A ∷ code (codes "SLAG") 0xEB0B ∷
-    code (codes "SRLG") 0xEB0C ∷ code (codes "SLLG") 0xEB0D ∷ code (codes "RLLG") 0xEB1C ∷
-    code (codes "RLL") 0xEB1D ∷ code (codes "STMG") 0xEB24 ∷ code (codes "CSG") 0xEB30 ∷
-    code (codes "LOCG") 0xEBE2 ∷ code (codes "STOCG") 0xEBE3 ∷ code (codes "LANG") 0xEBE4 ∷
-    code (codes "LAOG") 0xEBE6 ∷ code (codes "LAXG") 0xEBE7 ∷ code (codes "LAAG") 0xEBE8 ∷
-    code (codes "LAA") 0xEBF8 ∷ []
-
-abbrev pub si_codes : List Code
-si_codes =
-    code (codes "TM") 0x91 ∷ code (codes "MVI") 0x92 ∷ code (codes "NI") 0x94 ∷ code (codes "CLI") 0x95 ∷
-    code (codes "OI") 0x96 ∷ code (codes "XI") 0x97 ∷ []
-
-abbrev pub siy_codes : List Code
-siy_codes =
-    code (codes "ASI") 0xEB6A ∷ code (codes "AGSI") 0xEB7A ∷ []
-
-abbrev pub sil_codes : List Code
-sil_codes =
-    code (codes "MVHHI") 0xE544 ∷ code (codes "MVGHI") 0xE548 ∷ code (codes "MVHI") 0xE54C ∷
-    code (codes "CGHSI") 0xE558 ∷ code (codes "CHSI") 0xE55C ∷ code (codes "TBEGIN") 0xE560 ∷
-    code (codes "TBEGINC") 0xE561 ∷ []
-
-abbrev pub s_codes : List Code
-s_codes =
-    code (codes "TEND") 0xB2F8 ∷ code (codes "TABORT") 0xB2FC ∷ []
-
-abbrev pub ss_codes : List Code
-ss_codes =
-    code (codes "MVC") 0xD2 ∷ code (codes "NC") 0xD4 ∷ code (codes "CLC") 0xD5 ∷ code (codes "OC") 0xD6 ∷
-    code (codes "XC") 0xD7 ∷ []
-
-abbrev pub rieb_codes : List Code
-rieb_codes =
-    code (codes "CGRJ") 0xEC64 ∷ code (codes "CLGRJ") 0xEC65 ∷ code (codes "CRJ") 0xEC76 ∷ []
-
-abbrev pub riec_codes : List Code
-riec_codes =
-    code (codes "CGIJ") 0xEC7C ∷ []
-
--- all rows, in their order
 unfoldable pub table : List Entry
 table =
-    map (entry RR) rr_codes
-    ++ map (entry I) i_codes
-    ++ map (entry RX) rx_codes
-    ++ map (entry RRE) rre_codes
-    ++ map (entry RRFa) rrfa_codes
-    ++ map (entry RRFc) rrfc_codes
-    ++ map (entry RXY) rxy_codes
-    ++ map (entry RI) ri_codes
-    ++ map (entry RIL) ril_codes
-    ++ map (entry RS) rs_codes
-    ++ map (entry RSY) rsy_codes
-    ++ map (entry SI) si_codes
-    ++ map (entry SIY) siy_codes
-    ++ map (entry SIL) sil_codes
-    ++ map (entry S) s_codes
-    ++ map (entry SS) ss_codes
-    ++ map (entry RIEb) rieb_codes
-    ++ map (entry RIEc) riec_codes
+    row (codes "SPM") 0x04 RR Restricted Single (General general.SetProgramMask) ∷
+    row (codes "BCTR") 0x06 RR Barred Plain (Branch (branch.OnCount place.Register width.Word)) ∷
+    row (codes "BCR") 0x07 RR Barred Masked (Branch (branch.OnCondition place.Register)) ∷
+    row (codes "SVC") 0x0A I Restricted Plain (Branch branch.ServiceCall) ∷
+    row (codes "BASR") 0x0D RR Barred Plain (Branch (branch.AndSave place.Register)) ∷
+    row (codes "LPR") 0x10 RR Free Plain (General (general.Compute LoadPositive width.Word word_of_r2)) ∷
+    row (codes "LNR") 0x11 RR Free Plain (General (general.Compute LoadNegative width.Word word_of_r2)) ∷
+    row (codes "LTR") 0x12 RR Free Plain (General (general.Compute LoadAndTest width.Word word_of_r2)) ∷
+    row (codes "LCR") 0x13 RR Free Plain (General (general.Compute LoadComplement width.Word word_of_r2)) ∷
+    row (codes "NR") 0x14 RR Free Plain (General (general.Compute (Logic logic.And) width.Word word_of_r2)) ∷
+    row (codes "CLR") 0x15 RR Free Plain (General (general.Compare order.Logical width.Word word_of_r2)) ∷
+    row (codes "OR") 0x16 RR Free Plain (General (general.Compute (Logic logic.Or) width.Word word_of_r2)) ∷
+    row (codes "XR") 0x17 RR Free Plain (General (general.Compute (Logic logic.ExclusiveOr) width.Word word_of_r2)) ∷
+    row (codes "LR") 0x18 RR Free Plain (General (general.Compute Load width.Word word_of_r2)) ∷
+    row (codes "CR") 0x19 RR Free Plain (General (general.Compare order.Signed width.Word word_of_r2)) ∷
+    row (codes "AR") 0x1A RR Free Plain (General (general.Compute Add width.Word word_of_r2)) ∷
+    row (codes "SR") 0x1B RR Free Plain (General (general.Compute Subtract width.Word word_of_r2)) ∷
+    row (codes "MR") 0x1C RR Barred Plain (General general.MultiplyWord) ∷
+    row (codes "DR") 0x1D RR Barred Plain (General general.DivideWord) ∷
+    row (codes "ALR") 0x1E RR Free Plain (General (general.Compute AddLogical width.Word word_of_r2)) ∷
+    row (codes "SLR") 0x1F RR Free Plain (General (general.Compute SubtractLogical width.Word word_of_r2)) ∷
+    row (codes "STH") 0x40 RX Free Plain (Storage (storage.Store size.Halfword)) ∷
+    row (codes "LA") 0x41 RX Free Plain (General general.Address) ∷
+    row (codes "STC") 0x42 RX Free Plain (Storage (storage.Store size.Byte)) ∷
+    row (codes "IC") 0x43 RX Free Plain (Storage storage.InsertByte) ∷
+    row (codes "BCT") 0x46 RX Barred Plain (Branch (branch.OnCount place.Address width.Word)) ∷
+    row (codes "BC") 0x47 RX Barred Masked (Branch (branch.OnCondition place.Address)) ∷
+    row (codes "LH") 0x48 RX Free Plain (Storage (storage.Compute Load width.Word signed_halfword)) ∷
+    row (codes "CH") 0x49 RX Free Plain (Storage (storage.Compare order.Signed width.Word signed_halfword)) ∷
+    row (codes "AH") 0x4A RX Free Plain (Storage (storage.Compute Add width.Word signed_halfword)) ∷
+    row (codes "SH") 0x4B RX Free Plain (Storage (storage.Compute Subtract width.Word signed_halfword)) ∷
+    row (codes "ST") 0x50 RX Free Plain (Storage (storage.Store size.Word)) ∷
+    row (codes "N") 0x54 RX Free Plain (Storage (storage.Compute (Logic logic.And) width.Word word)) ∷
+    row (codes "CL") 0x55 RX Free Plain (Storage (storage.Compare order.Logical width.Word word)) ∷
+    row (codes "O") 0x56 RX Free Plain (Storage (storage.Compute (Logic logic.Or) width.Word word)) ∷
+    row (codes "X") 0x57 RX Free Plain (Storage (storage.Compute (Logic logic.ExclusiveOr) width.Word word)) ∷
+    row (codes "L") 0x58 RX Free Plain (Storage (storage.Compute Load width.Word word)) ∷
+    row (codes "C") 0x59 RX Free Plain (Storage (storage.Compare order.Signed width.Word word)) ∷
+    row (codes "A") 0x5A RX Free Plain (Storage (storage.Compute Add width.Word word)) ∷
+    row (codes "S") 0x5B RX Free Plain (Storage (storage.Compute Subtract width.Word word)) ∷
+    row (codes "AL") 0x5E RX Free Plain (Storage (storage.Compute AddLogical width.Word word)) ∷
+    row (codes "SL") 0x5F RX Free Plain (Storage (storage.Compute SubtractLogical width.Word word)) ∷
+    row (codes "MS") 0x71 RX Barred Plain (Storage (storage.Compute Multiply width.Word word)) ∷
+    row (codes "SRL") 0x88 RS Free Single (General (general.ShiftFirst shift.RightLogical)) ∷
+    row (codes "SLL") 0x89 RS Free Single (General (general.ShiftFirst shift.LeftLogical)) ∷
+    row (codes "SRA") 0x8A RS Free Single (General (general.ShiftFirst shift.RightSigned)) ∷
+    row (codes "SLA") 0x8B RS Free Single (General (general.ShiftFirst shift.LeftSigned)) ∷
+    row (codes "STM") 0x90 RS Free Plain (Storage (storage.StoreMany width.Word)) ∷
+    row (codes "TM") 0x91 SI Free Plain (Storage storage.TestUnderMask) ∷
+    row (codes "MVI") 0x92 SI Free Plain (Storage (storage.StoreImmediate size.Byte)) ∷
+    row (codes "NI") 0x94 SI Free Plain (Storage (storage.ByteLogic logic.And)) ∷
+    row (codes "CLI") 0x95 SI Free Plain (Storage (storage.CompareImmediate order.Logical width.Word byte)) ∷
+    row (codes "OI") 0x96 SI Free Plain (Storage (storage.ByteLogic logic.Or)) ∷
+    row (codes "XI") 0x97 SI Free Plain (Storage (storage.ByteLogic logic.ExclusiveOr)) ∷
+    row (codes "LM") 0x98 RS Free Plain (Storage (storage.LoadMany width.Word)) ∷
+    row (codes "IILL") 0xA53 RI Free Plain (General general.InsertHalfword) ∷
+    row (codes "NILL") 0xA57 RI Free Plain (General (general.LowHalfword logic.And)) ∷
+    row (codes "OILL") 0xA5B RI Free Plain (General (general.LowHalfword logic.Or)) ∷
+    row (codes "LLILL") 0xA5F RI Free Plain (General (general.Compute Load width.Double source.Immediate)) ∷
+    row (codes "TMLL") 0xA71 RI Free Plain (General general.TestHalfword) ∷
+    row (codes "BRC") 0xA74 RI Free RelativeMasked (Branch (branch.OnCondition place.Relative)) ∷
+    row (codes "BRAS") 0xA75 RI Barred Relative (Branch (branch.AndSave place.Relative)) ∷
+    row (codes "BRCT") 0xA76 RI Free Relative (Branch (branch.OnCount place.Relative width.Word)) ∷
+    row (codes "BRCTG") 0xA77 RI Free Relative (Branch (branch.OnCount place.Relative width.Double)) ∷
+    row (codes "LHI") 0xA78 RI Free Signed (General (general.Compute Load width.Word source.Immediate)) ∷
+    row (codes "LGHI") 0xA79 RI Free Signed (General (general.Compute Load width.Double source.Immediate)) ∷
+    row (codes "AHI") 0xA7A RI Free Signed (General (general.Compute Add width.Word source.Immediate)) ∷
+    row (codes "AGHI") 0xA7B RI Free Signed (General (general.Compute Add width.Double source.Immediate)) ∷
+    row (codes "MHI") 0xA7C RI Barred Signed (General (general.Compute Multiply width.Word source.Immediate)) ∷
+    row (codes "MGHI") 0xA7D RI Barred Signed (General (general.Compute Multiply width.Double source.Immediate)) ∷
+    row (codes "CHI") 0xA7E RI Free Signed (General (general.Compare order.Signed width.Word source.Immediate)) ∷
+    row (codes "CGHI") 0xA7F RI Free Signed (General (general.Compare order.Signed width.Double source.Immediate)) ∷
+    row (codes "IPM") 0xB222 RRE Free Single (General general.InsertProgramMask) ∷
+    row (codes "SAR") 0xB24E RRE Barred Plain (General general.SetAccess) ∷
+    row (codes "EAR") 0xB24F RRE Free Plain (General general.ExtractAccess) ∷
+    row (codes "MSR") 0xB252 RRE Barred Plain (General (general.Compute Multiply width.Word word_of_r2)) ∷
+    row (codes "PPA") 0xB2E8 RRFc Restricted Plain (Transaction transaction.Assist) ∷
+    row (codes "ETND") 0xB2EC RRE Barred Single (Transaction transaction.ExtractDepth) ∷
+    row (codes "TEND") 0xB2F8 S Free Single (Transaction transaction.End) ∷
+    row (codes "TABORT") 0xB2FC S Barred Plain (Transaction transaction.Abort) ∷
+    row (codes "LPGR") 0xB900 RRE Free Plain (General (general.Compute LoadPositive width.Double all_of_r2)) ∷
+    row (codes "LNGR") 0xB901 RRE Free Plain (General (general.Compute LoadNegative width.Double all_of_r2)) ∷
+    row (codes "LTGR") 0xB902 RRE Free Plain (General (general.Compute LoadAndTest width.Double all_of_r2)) ∷
+    row (codes "LCGR") 0xB903 RRE Free Plain (General (general.Compute LoadComplement width.Double all_of_r2)) ∷
+    row (codes "LGR") 0xB904 RRE Free Plain (General (general.Compute Load width.Double all_of_r2)) ∷
+    row (codes "LGHR") 0xB907 RRE Free Plain (General (general.Compute Load width.Double signed_halfword_of_r2)) ∷
+    row (codes "AGR") 0xB908 RRE Free Plain (General (general.Compute Add width.Double all_of_r2)) ∷
+    row (codes "SGR") 0xB909 RRE Free Plain (General (general.Compute Subtract width.Double all_of_r2)) ∷
+    row (codes "ALGR") 0xB90A RRE Free Plain (General (general.Compute AddLogical width.Double all_of_r2)) ∷
+    row (codes "SLGR") 0xB90B RRE Free Plain (General (general.Compute SubtractLogical width.Double all_of_r2)) ∷
+    row (codes "MSGR") 0xB90C RRE Barred Plain (General (general.Compute Multiply width.Double all_of_r2)) ∷
+    row (codes "DSGR") 0xB90D RRE Barred Plain (General general.DivideDouble) ∷
+    row (codes "LGFR") 0xB914 RRE Free Plain (General (general.Compute Load width.Double signed_word_of_r2)) ∷
+    row (codes "LLGFR") 0xB916 RRE Free Plain (General (general.Compute Load width.Double word_of_r2)) ∷
+    row (codes "AGFR") 0xB918 RRE Free Plain (General (general.Compute Add width.Double signed_word_of_r2)) ∷
+    row (codes "SGFR") 0xB919 RRE Free Plain (General (general.Compute Subtract width.Double signed_word_of_r2)) ∷
+    row (codes "CGR") 0xB920 RRE Free Plain (General (general.Compare order.Signed width.Double all_of_r2)) ∷
+    row (codes "CLGR") 0xB921 RRE Free Plain (General (general.Compare order.Logical width.Double all_of_r2)) ∷
+    row (codes "BCTGR") 0xB946 RRE Barred Plain (Branch (branch.OnCount place.Register width.Double)) ∷
+    row (codes "NGR") 0xB980 RRE Free Plain (General (general.Compute (Logic logic.And) width.Double all_of_r2)) ∷
+    row (codes "OGR") 0xB981 RRE Free Plain (General (general.Compute (Logic logic.Or) width.Double all_of_r2)) ∷
+    row (codes "XGR") 0xB982 RRE Free Plain (General (general.Compute (Logic logic.ExclusiveOr) width.Double all_of_r2)) ∷
+    row (codes "FLOGR") 0xB983 RRE Barred Plain (General general.FindLeftmostOne) ∷
+    row (codes "LLGCR") 0xB984 RRE Free Plain (General (general.Compute Load width.Double byte_of_r2)) ∷
+    row (codes "LLGHR") 0xB985 RRE Free Plain (General (general.Compute Load width.Double halfword_of_r2)) ∷
+    row (codes "MLGR") 0xB986 RRE Barred Plain (General general.MultiplyLogical) ∷
+    row (codes "DLGR") 0xB987 RRE Barred Plain (General general.DivideLogical) ∷
+    row (codes "ALCGR") 0xB988 RRE Free Plain (General (general.Compute AddWithCarry width.Double all_of_r2)) ∷
+    row (codes "SLBGR") 0xB989 RRE Free Plain (General (general.Compute SubtractWithBorrow width.Double all_of_r2)) ∷
+    row (codes "LOCGR") 0xB9E2 RRFc Free Plain (General general.LoadSelected) ∷
+    row (codes "NGRK") 0xB9E4 RRFa Free Plain (General (general.Compute (Logic logic.And) width.Double source.Third)) ∷
+    row (codes "OGRK") 0xB9E6 RRFa Free Plain (General (general.Compute (Logic logic.Or) width.Double source.Third)) ∷
+    row (codes "XGRK") 0xB9E7 RRFa Free Plain (General (general.Compute (Logic logic.ExclusiveOr) width.Double source.Third)) ∷
+    row (codes "AGRK") 0xB9E8 RRFa Free Plain (General (general.Compute Add width.Double source.Third)) ∷
+    row (codes "SGRK") 0xB9E9 RRFa Free Plain (General (general.Compute Subtract width.Double source.Third)) ∷
+    row (codes "ARK") 0xB9F8 RRFa Free Plain (General (general.Compute Add width.Word source.Third)) ∷
+    row (codes "SRK") 0xB9F9 RRFa Free Plain (General (general.Compute Subtract width.Word source.Third)) ∷
+    row (codes "CS") 0xBA RS Barred Plain (Storage (storage.CompareAndSwap width.Word)) ∷
+    row (codes "LARL") 0xC00 RIL Free Relative (General general.Target) ∷
+    row (codes "LGFI") 0xC01 RIL Free Signed (General (general.Compute Load width.Double source.Immediate)) ∷
+    row (codes "BRCL") 0xC04 RIL Free RelativeMasked (Branch (branch.OnCondition place.Relative)) ∷
+    row (codes "BRASL") 0xC05 RIL Barred Relative (Branch (branch.AndSave place.Relative)) ∷
+    row (codes "XILF") 0xC07 RIL Free Plain (General (general.Compute (Logic logic.ExclusiveOr) width.Word source.Immediate)) ∷
+    row (codes "NILF") 0xC0B RIL Free Plain (General (general.Compute (Logic logic.And) width.Word source.Immediate)) ∷
+    row (codes "OILF") 0xC0D RIL Free Plain (General (general.Compute (Logic logic.Or) width.Word source.Immediate)) ∷
+    row (codes "LLILF") 0xC0F RIL Free Plain (General (general.Compute Load width.Double source.Immediate)) ∷
+    row (codes "AGFI") 0xC28 RIL Free Signed (General (general.Compute Add width.Double source.Immediate)) ∷
+    row (codes "AFI") 0xC29 RIL Free Signed (General (general.Compute Add width.Word source.Immediate)) ∷
+    row (codes "CGFI") 0xC2C RIL Free Signed (General (general.Compare order.Signed width.Double source.Immediate)) ∷
+    row (codes "CFI") 0xC2D RIL Free Signed (General (general.Compare order.Signed width.Word source.Immediate)) ∷
+    row (codes "CLGFI") 0xC2E RIL Free Plain (General (general.Compare order.Logical width.Double source.Immediate)) ∷
+    row (codes "MVC") 0xD2 SS Barred Plain (Storage (storage.ByteByByte combination.Move)) ∷
+    row (codes "NC") 0xD4 SS Barred Plain (Storage (storage.ByteByByte (combination.Logic logic.And))) ∷
+    row (codes "CLC") 0xD5 SS Barred Plain (Storage storage.CompareBytes) ∷
+    row (codes "OC") 0xD6 SS Barred Plain (Storage (storage.ByteByByte (combination.Logic logic.Or))) ∷
+    row (codes "XC") 0xD7 SS Barred Plain (Storage (storage.ByteByByte (combination.Logic logic.ExclusiveOr))) ∷
+    row (codes "LTG") 0xE302 RXY Free Plain (Storage (storage.Compute LoadAndTest width.Double doubleword)) ∷
+    row (codes "LG") 0xE304 RXY Free Plain (Storage (storage.Compute Load width.Double doubleword)) ∷
+    row (codes "AG") 0xE308 RXY Free Plain (Storage (storage.Compute Add width.Double doubleword)) ∷
+    row (codes "SG") 0xE309 RXY Free Plain (Storage (storage.Compute Subtract width.Double doubleword)) ∷
+    row (codes "ALG") 0xE30A RXY Free Plain (Storage (storage.Compute AddLogical width.Double doubleword)) ∷
+    row (codes "SLG") 0xE30B RXY Free Plain (Storage (storage.Compute SubtractLogical width.Double doubleword)) ∷
+    row (codes "MSG") 0xE30C RXY Barred Plain (Storage (storage.Compute Multiply width.Double doubleword)) ∷
+    row (codes "LGF") 0xE314 RXY Free Plain (Storage (storage.Compute Load width.Double signed_word)) ∷
+    row (codes "LGH") 0xE315 RXY Free Plain (Storage (storage.Compute Load width.Double signed_halfword)) ∷
+    row (codes "LLGF") 0xE316 RXY Free Plain (Storage (storage.Compute Load width.Double word)) ∷
+    row (codes "AGF") 0xE318 RXY Free Plain (Storage (storage.Compute Add width.Double signed_word)) ∷
+    row (codes "CG") 0xE320 RXY Free Plain (Storage (storage.Compare order.Signed width.Double doubleword)) ∷
+    row (codes "CLG") 0xE321 RXY Free Plain (Storage (storage.Compare order.Logical width.Double doubleword)) ∷
+    row (codes "STG") 0xE324 RXY Free Plain (Storage (storage.Store size.Doubleword)) ∷
+    row (codes "NTSTG") 0xE325 RXY Barred Plain (Transaction transaction.StoreLasting) ∷
+    row (codes "STY") 0xE350 RXY Free Plain (Storage (storage.Store size.Word)) ∷
+    row (codes "LY") 0xE358 RXY Free Plain (Storage (storage.Compute Load width.Word word)) ∷
+    row (codes "LAY") 0xE371 RXY Free Plain (General general.Address) ∷
+    row (codes "NG") 0xE380 RXY Free Plain (Storage (storage.Compute (Logic logic.And) width.Double doubleword)) ∷
+    row (codes "OG") 0xE381 RXY Free Plain (Storage (storage.Compute (Logic logic.Or) width.Double doubleword)) ∷
+    row (codes "XG") 0xE382 RXY Free Plain (Storage (storage.Compute (Logic logic.ExclusiveOr) width.Double doubleword)) ∷
+    row (codes "LLGC") 0xE390 RXY Free Plain (Storage (storage.Compute Load width.Double byte)) ∷
+    row (codes "LLGH") 0xE391 RXY Free Plain (Storage (storage.Compute Load width.Double halfword)) ∷
+    row (codes "MVHHI") 0xE544 SIL Free Signed (Storage (storage.StoreImmediate size.Halfword)) ∷
+    row (codes "MVGHI") 0xE548 SIL Free Signed (Storage (storage.StoreImmediate size.Doubleword)) ∷
+    row (codes "MVHI") 0xE54C SIL Free Signed (Storage (storage.StoreImmediate size.Word)) ∷
+    row (codes "CGHSI") 0xE558 SIL Free Signed (Storage (storage.CompareImmediate order.Signed width.Double doubleword)) ∷
+    row (codes "CHSI") 0xE55C SIL Free Signed (Storage (storage.CompareImmediate order.Signed width.Word word)) ∷
+    row (codes "TBEGIN") 0xE560 SIL Barred Plain (Transaction transaction.Begin) ∷
+    row (codes "TBEGINC") 0xE561 SIL Barred Plain (Transaction transaction.BeginConstrained) ∷
+    row (codes "LMG") 0xEB04 RSY Free Plain (Storage (storage.LoadMany width.Double)) ∷
+    row (codes "SRAG") 0xEB0A RSY Free Plain (General (general.ShiftThird shift.RightSigned width.Double)) ∷
+    row (codes "SLAG") 0xEB0B RSY Free Plain (General (general.ShiftThird shift.LeftSigned width.Double)) ∷
+    row (codes "SRLG") 0xEB0C RSY Free Plain (General (general.ShiftThird shift.RightLogical width.Double)) ∷
+    row (codes "SLLG") 0xEB0D RSY Free Plain (General (general.ShiftThird shift.LeftLogical width.Double)) ∷
+    row (codes "RLLG") 0xEB1C RSY Free Plain (General (general.ShiftThird shift.Rotate width.Double)) ∷
+    row (codes "RLL") 0xEB1D RSY Free Plain (General (general.ShiftThird shift.Rotate width.Word)) ∷
+    row (codes "STMG") 0xEB24 RSY Free Plain (Storage (storage.StoreMany width.Double)) ∷
+    row (codes "CSG") 0xEB30 RSY Barred Plain (Storage (storage.CompareAndSwap width.Double)) ∷
+    row (codes "ASI") 0xEB6A SIY Barred Plain (Storage (storage.AddImmediate width.Word)) ∷
+    row (codes "AGSI") 0xEB7A SIY Barred Plain (Storage (storage.AddImmediate width.Double)) ∷
+    row (codes "LOCG") 0xEBE2 RSY Free Masked (Storage storage.LoadSelected) ∷
+    row (codes "STOCG") 0xEBE3 RSY Free Masked (Storage storage.StoreSelected) ∷
+    row (codes "LANG") 0xEBE4 RSY Barred Plain (Storage (storage.LoadAnd (Logic logic.And) width.Double)) ∷
+    row (codes "LAOG") 0xEBE6 RSY Barred Plain (Storage (storage.LoadAnd (Logic logic.Or) width.Double)) ∷
+    row (codes "LAXG") 0xEBE7 RSY Barred Plain (Storage (storage.LoadAnd (Logic logic.ExclusiveOr) width.Double)) ∷
+    row (codes "LAAG") 0xEBE8 RSY Barred Plain (Storage (storage.LoadAnd Add width.Double)) ∷
+    row (codes "LAA") 0xEBF8 RSY Barred Plain (Storage (storage.LoadAnd Add width.Word)) ∷
+    row (codes "CGRJ") 0xEC64 RIEb Free Relative (Branch (branch.OnCompare order.Signed width.Double)) ∷
+    row (codes "CLGRJ") 0xEC65 RIEb Free Relative (Branch (branch.OnCompare order.Logical width.Double)) ∷
+    row (codes "CRJ") 0xEC76 RIEb Free Relative (Branch (branch.OnCompare order.Signed width.Word)) ∷
+    row (codes "CGIJ") 0xEC7C RIEc Free Relative (Branch branch.OnCompareImmediate) ∷
+    []
 
 abbrev pub no_entry : Entry
-no_entry = entry RR (code [] 0)
+no_entry = row [] 0 RR Free Plain (Branch branch.ServiceCall)
 
 -- the row of a number
 unfoldable pub entry_at : ℕ → Entry
 entry_at n = get_or table n no_entry
+
+-- what the operation of a row does
+unfoldable pub kind_at : ℕ → Kind
+kind_at n = (entry_at n).kind

@@ -4,7 +4,8 @@ ghost use Rattle.std.specs.Prelude.{◌≡◌, ◌<◌, ℕ, List, length, get_o
 ghost use Rattle.std.specs.Prelude.{◌↔◌, Some, None};
 ghost use Rattle.std.specs.List.{list_any};
 ghost use Rattle.z_instr.specs.Operands.{Span, IsSmall, pieces, spans, HoldsByteOf};
-ghost use Rattle.z_instr.specs.Table.{table, entry_at};
+ghost use Rattle.z_instr.specs.Kinds.{operands_of, demand_of};
+ghost use Rattle.z_instr.specs.Table.{table, entry_at, kind_at};
 ghost use Rattle.z_instr.specs.Layout.{length_by, format_length, place, room};
 ghost use Rattle.z_instr.specs.Facts.{has_fitting_name, is_refused_alike, has_two_lists, is_service, is_begin};
 ghost use Rattle.z_instr.specs.Ranges.{is_within, bounds};
@@ -33,6 +34,12 @@ pub fn rows_are_sound()
     ensures names { (n : ℕ) → n < ROWS → has_fitting_name (entry_at n) ≡ true }
     ensures opcodes { (n : ℕ) → n < ROWS → (entry_at n).opcode < room (place (entry_at n).format) }
     ensures refused { (n : ℕ) → n < ROWS → is_refused_alike (entry_at n) ≡ true }
+{}
+
+/// The operands in storage that an operation touches, and what it demands, are those of its kind.
+pub fn columns_follow_from_kinds()
+    ensures operands { (n : ℕ) → n < ROWS → (entry_at n).operands ≡ operands_of (kind_at n) }
+    ensures demands { (n : ℕ) → n < ROWS → (entry_at n).demand ≡ demand_of (kind_at n) }
 {}
 
 /// No list has two readings, no instruction is read from two lists, and what has a reading is a list of

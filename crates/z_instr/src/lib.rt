@@ -6,6 +6,7 @@
 pub mod addresses;
 pub mod format;
 pub mod instr;
+pub mod kind;
 pub mod laws;
 pub mod limits;
 pub mod lookup;

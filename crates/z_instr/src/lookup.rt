@@ -1,11 +1,12 @@
-//! Rows by operations and by names.
+//! Rows by operations and by names, and kinds by operations.
 ghost use Rattle.std.specs.Prelude.{◌≡◌, ◌<◌, ◌≤◌, ℕ, IfSome, IfNone, take};
 ghost use Rattle.std.specs.Str.{IsAscii};
-ghost use Rattle.z_instr.specs.Table.{entry_at};
+ghost use Rattle.z_instr.specs.Table.{entry_at, kind_at};
 ghost use Rattle.z_instr.specs.Layout.{place, room};
 ghost use Rattle.z_instr.specs.declared.table.TheConstants.{ROWS};
 ghost use Rattle.z_instr.specs.Lines.{entry_of, row_of};
 
+use crate::kind::Kind;
 use crate::name::Name;
 use crate::op::Op;
 use crate::row::Row;
@@ -19,6 +20,13 @@ pub fn line(op: Op) -> Line
     ensures room { result.opcode < room (place result.format) }
 {
     TABLE[op.number as usize]
+}
+
+/// What an operation does.
+pub fn kind_of(op: Op) -> Kind
+    ensures { result ≡ kind_at op.number }
+{
+    TABLE[op.number as usize].kind
 }
 
 /// The row of an operation.

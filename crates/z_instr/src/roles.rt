@@ -5,29 +5,23 @@ ghost use Rattle.z_instr.specs.Roles.{is_end as ends, sets_access_register as se
 
 use crate::addresses::first_address;
 use crate::instr::Instr;
+use crate::kind::{General, Kind, Transaction};
 use crate::lookup::line;
 use crate::op::Op;
 use crate::operand::Demand;
-
-/// The opcodes of TEND, SAR and LARL.
-const END: u16 = 0xB2F8;
-
-const SET_ACCESS: u16 = 0xB24E;
-
-const LOAD_ADDRESS_RELATIVE: u16 = 0xC00;
 
 /// Whether the operation is TEND, which takes away a level of a transaction.
 pub fn is_end(op: Op) -> bool
     ensures { result ≡ ends (entry_at op.number) }
 {
-    line(op).opcode == END
+    matches!(line(op).kind, Kind::Transaction(Transaction::End))
 }
 
 /// Whether the operation is SAR, which transactions allow only where the effective A control is one.
 pub fn sets_access_register(op: Op) -> bool
     ensures { result ≡ sets_access (entry_at op.number) }
 {
-    line(op).opcode == SET_ACCESS
+    matches!(line(op).kind, Kind::General(General::SetAccess))
 }
 
 /// Whether the operation branches to a target that stands in the instruction: all that have a target, but for
@@ -36,14 +30,17 @@ pub fn is_relative_branch(op: Op) -> bool
     ensures { result ≡ branches (entry_at op.number) }
 {
     let line = line(op);
-    line.relative && line.opcode != LOAD_ADDRESS_RELATIVE
+    line.relative && !matches!(line.kind, Kind::General(General::Target))
 }
 
 /// Whether the operation begins a transaction: TBEGIN or TBEGINC.
 pub fn begins(op: Op) -> bool
     ensures { result ≡ begins_one (entry_at op.number) }
 {
-    matches!(line(op).demand, Demand::Begin | Demand::BeginConstrained)
+    matches!(
+        line(op).kind.demand(),
+        Demand::Begin | Demand::BeginConstrained
+    )
 }
 
 /// The address of the diagnostic block that an instruction names: only a TBEGIN with a base register names
@@ -54,7 +51,7 @@ pub fn block_named(instr: &Instr, general: &[u64; 16]) -> Option<u64>
     if instr.b == 0 {
         return None;
     }
-    match line(instr.op).demand {
+    match line(instr.op).kind.demand() {
         Demand::Begin => Some(first_address(instr, general)),
         _ => None,
     }

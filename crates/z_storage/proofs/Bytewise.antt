@@ -8,7 +8,7 @@ use Rattle.std.proofs.lemmas.List.{length_push, get_or-take, get_or-drop}
 use Rattle.std.proofs.lemmas.List.Folds.{list_all-append}
 use Rattle.std.proofs.lemmas.Bool.{cases_lt, lt-ltb, le-ltb}
 use Rattle.std.proofs.Math.Numerals.{add-one}
-use Rattle.z_effect.specs.declared.kind.Combination.{Combination}
+use Rattle.z_instr.specs.declared.kind.Combination.{Combination}
 use Rattle.z_effect.specs.StorageEffect.{mixed, lead, results}
 use Rattle.z_effect.specs.After.{range_at, written}
 use Rattle.z_effect.proofs.Stored.{below, above}

@@ -10,15 +10,15 @@ use Rattle.z_instr.specs.Ranges.{is_within, bounds}
 use Rattle.z_instr.specs.Table.{entry_at}
 use Rattle.z_instr.proofs.PlainImmediates as plain
 use Rattle.z_regs.specs.Cpu.{Cpu}
-use Rattle.z_effect.specs.declared.kind.Kind.{Kind}
-use Rattle.z_effect.specs.declared.kind.Kind.TheVariants as kind
-use Rattle.z_effect.specs.declared.kind.Storage.{Storage}
-use Rattle.z_effect.specs.Facts.{operands_of, storage_operands}
-use Rattle.z_effect.specs.Kinds.{kind_at}
+use Rattle.z_instr.specs.declared.kind.Kind.{Kind}
+use Rattle.z_instr.specs.declared.kind.Kind.TheVariants as kind
+use Rattle.z_instr.specs.declared.kind.Storage.{Storage}
+use Rattle.z_instr.specs.Kinds.{operands_of, storage_operands}
+use Rattle.z_instr.specs.Table.{kind_at}
 use Rattle.z_effect.specs.One.{effect, length_of}
 use Rattle.z_effect.specs.Outcome.{Outcome, Did, Overflowed, Divides, Aborts}
 use Rattle.z_effect.specs.After.{touched, storage_after, AreInside, IsBeside, Leaves, ranges_of, Executes}
-use Rattle.z_effect.proofs.TableFacts.{operands_at}
+use Rattle.z_instr.proofs.TableFacts.{operands_at}
 use Rattle.z_effect.proofs.Stored.{same_size, same_elsewhere}
 use Rattle.z_storage.specs.Performs.{ranges, Performs}
 

@@ -12,7 +12,8 @@ use Rattle.z_instr.specs.declared.operand.Size.{Size}
 use Rattle.z_instr.specs.Operands.{bytes_of}
 use Rattle.z_regs.specs.Cpu.{Cpu}
 use Rattle.z_effect.specs.Registers.{register, with_register}
-use Rattle.z_effect.specs.StorageEffect.{item, number, stored, items, with_items}
+use Rattle.z_effect.specs.StorageEffect.{number, stored, items, with_items}
+use Rattle.z_instr.specs.Kinds.{item}
 use Rattle.z_effect.specs.After.{range_at, written}
 use Rattle.z_effect.proofs.Stored.{length-written}
 use Rattle.z_storage.proofs.Writes.{written_none, written_then}

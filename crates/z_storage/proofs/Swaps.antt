@@ -5,9 +5,10 @@ use Rattle.z_arith.specs.declared.Width.{Width}
 use Rattle.z_instr.specs.declared.instr.Instr.{Instr}
 use Rattle.z_instr.specs.Operands.{bytes_of, first_address, spans_in}
 use Rattle.z_regs.specs.Cpu.{Cpu}
-use Rattle.z_effect.specs.declared.kind.Storage.TheVariants.{CompareAndSwap}
+use Rattle.z_instr.specs.declared.kind.Storage.TheVariants.{CompareAndSwap}
 use Rattle.z_effect.specs.Registers.{operand_in, with_register, with_condition, advanced}
-use Rattle.z_effect.specs.StorageEffect.{item, number, storage_effect}
+use Rattle.z_effect.specs.StorageEffect.{number, storage_effect}
+use Rattle.z_instr.specs.Kinds.{item}
 use Rattle.z_effect.specs.Outcome.{Did}
 use Rattle.z_effect.specs.After.{range_at, answer_of, cpu_after, storage_after}
 use Rattle.z_storage.specs.Performs.{ranges, Performs}

@@ -7,8 +7,8 @@ use Rattle.z_instr.specs.declared.instr.Instr.{Instr}
 use Rattle.z_instr.specs.declared.operand.Operands.TheVariants.{StoredAndFetched}
 use Rattle.z_instr.specs.Operands.{first_address, second_address, length_of, spans_in, Span}
 use Rattle.z_regs.specs.Cpu.{Cpu}
-use Rattle.z_effect.specs.declared.kind.Combination.{Combination}
-use Rattle.z_effect.specs.declared.kind.Storage.TheVariants.{ByteByByte}
+use Rattle.z_instr.specs.declared.kind.Combination.{Combination}
+use Rattle.z_instr.specs.declared.kind.Storage.TheVariants.{ByteByByte}
 use Rattle.z_effect.specs.Registers.{advanced}
 use Rattle.z_effect.specs.StorageEffect.{lead, results, with_code_of, storage_effect}
 use Rattle.z_effect.specs.Outcome.{Did}

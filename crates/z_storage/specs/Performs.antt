@@ -4,8 +4,8 @@ use Rattle.tx_control.specs.declared.exceptions.Exception.{Exception}
 use Rattle.z_instr.specs.declared.instr.Instr.{Instr}
 use Rattle.z_instr.specs.Operands.{Span, spans_in}
 use Rattle.z_regs.specs.Cpu.{Cpu}
-use Rattle.z_effect.specs.declared.kind.Storage.{Storage}
-use Rattle.z_effect.specs.Facts.{storage_operands}
+use Rattle.z_instr.specs.declared.kind.Storage.{Storage}
+use Rattle.z_instr.specs.Kinds.{storage_operands}
 use Rattle.z_effect.specs.StorageEffect.{storage_effect}
 use Rattle.z_effect.specs.After.{touched, Leaves}
 

@@ -4,15 +4,17 @@ ghost use Rattle.z_regs.specs.Prefix.{storage_size};
 ghost use Rattle.z_instr.specs.Operands.{bytes_of};
 ghost use Rattle.z_instr.specs.declared.operand.Size.TheVariants.{Byte};
 ghost use Rattle.z_arith.specs.Whole.{bits, modulo};
-ghost use Rattle.z_effect.specs.Operations.{bits_in, size_of};
-ghost use Rattle.z_effect.specs.StorageEffect.{item as item_of, number, piece, stored};
+ghost use Rattle.z_effect.specs.Operations.{bits_in};
+ghost use Rattle.z_instr.specs.Kinds.{size_of};
+ghost use Rattle.z_effect.specs.StorageEffect.{number, piece, stored};
+ghost use Rattle.z_instr.specs.Kinds.{item as item_of};
 ghost use Rattle.z_effect.specs.After.{range_at, written};
 
 use byteorder::{BigEndian, ByteOrder};
 use z_arith::{Width, doubleword};
-use z_effect::kind::Part;
-use z_effect::{extend, size_in};
+use z_effect::extend;
 use z_instr::instr::Instr;
+use z_instr::kind::{Part, size_in};
 use z_instr::operand::Size;
 use z_regs::Bytes;
 

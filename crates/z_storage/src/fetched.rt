@@ -2,18 +2,18 @@
 ghost use Rattle.std.specs.Prelude.{◌≡◌, length};
 ghost use Rattle.z_regs.specs.Prefix.{storage_size};
 ghost use Rattle.z_regs.specs.Cpu.{cpu_of};
-ghost use Rattle.z_effect.specs.declared.kind.Storage.TheVariants.{Compute, Compare, CompareImmediate};
-ghost use Rattle.z_effect.specs.declared.kind.Storage.TheVariants.{TestUnderMask, InsertByte, LoadSelected};
+ghost use Rattle.z_instr.specs.declared.kind.Storage.TheVariants.{Compute, Compare, CompareImmediate};
+ghost use Rattle.z_instr.specs.declared.kind.Storage.TheVariants.{TestUnderMask, InsertByte, LoadSelected};
 ghost use Rattle.z_effect.specs.After.{AreInside};
 ghost use Rattle.z_storage.specs.Performs.{ranges, Performs};
 
 use crate::access::{fetch, fetch_byte, fetch_piece, immediate_byte};
 use tx_control::Exception;
 use z_arith::{Width, test_under_mask};
-use z_effect::kind::{Operation, Order, Part};
 use z_effect::{advance, combine, compare, immediate, operand, put, register, settle};
 use z_instr::addresses::{first_address, is_selected};
 use z_instr::instr::Instr;
+use z_instr::kind::{Operation, Order, Part};
 use z_instr::operand::Size;
 use z_regs::{Bytes, CpuImage};
 

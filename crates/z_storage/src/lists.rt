@@ -6,17 +6,17 @@ ghost use Rattle.std.specs.List.{list_all};
 ghost use Rattle.z_instr.specs.Operands.{length_of};
 ghost use Rattle.z_instr.specs.Ranges.{is_within, bounds};
 ghost use Rattle.z_regs.specs.Cpu.{cpu_of};
-ghost use Rattle.z_effect.specs.declared.kind.Storage.TheVariants.{ByteByByte, CompareBytes};
+ghost use Rattle.z_instr.specs.declared.kind.Storage.TheVariants.{ByteByByte, CompareBytes};
 ghost use Rattle.z_effect.specs.StorageEffect.{mixed, lead, results, with_code_of, order_of_bytes};
 ghost use Rattle.z_effect.specs.After.{range_at, written, AreInside};
 ghost use Rattle.z_storage.specs.Performs.{ranges, Performs};
 
 use tx_control::Exception;
 use z_arith::Width;
-use z_effect::kind::{Combination, Order};
 use z_effect::{advance, compare, logic};
 use z_instr::addresses::{first_address, second_address};
 use z_instr::instr::Instr;
+use z_instr::kind::{Combination, Order};
 use z_regs::{Bytes, CpuImage};
 
 /// How many bytes each operand has, 1 to 256.

@@ -3,17 +3,19 @@ ghost use Rattle.std.specs.Prelude.{◌≡◌, ◌<◌, ◌≤◌, ◌+◌, ◌*
 ghost use Rattle.z_regs.specs.Prefix.{storage_size};
 ghost use Rattle.z_instr.specs.Operands.{bytes_of};
 ghost use Rattle.z_regs.specs.Cpu.{cpu_of};
-ghost use Rattle.z_effect.specs.declared.kind.Storage.TheVariants.{LoadMany, StoreMany};
-ghost use Rattle.z_effect.specs.StorageEffect.{item as item_of, items, with_items};
+ghost use Rattle.z_instr.specs.declared.kind.Storage.TheVariants.{LoadMany, StoreMany};
+ghost use Rattle.z_effect.specs.StorageEffect.{items, with_items};
+ghost use Rattle.z_instr.specs.Kinds.{item as item_of};
 ghost use Rattle.z_effect.specs.After.{AreInside, range_at, written};
 ghost use Rattle.z_storage.specs.Performs.{ranges, Performs};
 
 use crate::access::{fetch_item, store};
 use tx_control::Exception;
 use z_arith::Width;
-use z_effect::{advance, item, put, register};
+use z_effect::{advance, put, register};
 use z_instr::addresses::{first_address, registers_named};
 use z_instr::instr::Instr;
+use z_instr::kind::item;
 use z_regs::{Bytes, CpuImage};
 
 /// The address of an item behind `k` others.

@@ -4,18 +4,18 @@ ghost use Rattle.z_regs.specs.Prefix.{storage_size};
 ghost use Rattle.z_instr.specs.Facts.{has_two_lists};
 ghost use Rattle.z_instr.specs.Ranges.{is_within, bounds};
 ghost use Rattle.z_regs.specs.Cpu.{cpu_of};
-ghost use Rattle.z_effect.specs.Kinds.{kind_at};
-ghost use Rattle.z_effect.specs.Facts.{is_storage, storage_operands};
+ghost use Rattle.z_instr.specs.Table.{kind_at};
+ghost use Rattle.z_effect.specs.Facts.{is_storage};
+ghost use Rattle.z_instr.specs.Kinds.{storage_operands};
 ghost use Rattle.z_effect.specs.After.{AreInside, IsBeside, ranges_of, Executes};
 ghost use Rattle.z_storage.specs.Performs.{ranges, Performs};
 
 use crate::{fetched, lists, registers, stored};
 use tx_control::Exception;
-use z_effect::kind::{Kind, Storage};
-use z_effect::kind_of;
 use z_instr::format::length_in;
 use z_instr::instr::Instr;
-use z_instr::lookup::line;
+use z_instr::kind::{Kind, Storage};
+use z_instr::lookup::{kind_of, line};
 use z_instr::op::Op;
 use z_regs::{Bytes, CpuImage};
 

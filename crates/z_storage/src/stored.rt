@@ -2,21 +2,19 @@
 ghost use Rattle.std.specs.Prelude.{◌≡◌, length};
 ghost use Rattle.z_regs.specs.Prefix.{storage_size};
 ghost use Rattle.z_regs.specs.Cpu.{cpu_of};
-ghost use Rattle.z_effect.specs.declared.kind.Storage.TheVariants.{Store, StoreImmediate, ByteLogic};
-ghost use Rattle.z_effect.specs.declared.kind.Storage.TheVariants.{AddImmediate, CompareAndSwap, LoadAnd};
-ghost use Rattle.z_effect.specs.declared.kind.Storage.TheVariants.{StoreSelected};
+ghost use Rattle.z_instr.specs.declared.kind.Storage.TheVariants.{Store, StoreImmediate, ByteLogic};
+ghost use Rattle.z_instr.specs.declared.kind.Storage.TheVariants.{AddImmediate, CompareAndSwap, LoadAnd};
+ghost use Rattle.z_instr.specs.declared.kind.Storage.TheVariants.{StoreSelected};
 ghost use Rattle.z_effect.specs.After.{AreInside};
 ghost use Rattle.z_storage.specs.Performs.{ranges, Performs};
 
 use crate::access::{fetch_byte, fetch_item, immediate_byte, store};
 use tx_control::Exception;
 use z_arith::{Width, add};
-use z_effect::kind::{Logic, Operation};
-use z_effect::{
-    advance, combine, conclude, immediate, item, logic, operand, put, register, zero_code,
-};
+use z_effect::{advance, combine, conclude, immediate, logic, operand, put, register, zero_code};
 use z_instr::addresses::{first_address, is_selected};
 use z_instr::instr::Instr;
+use z_instr::kind::{Logic, Operation, item};
 use z_instr::operand::Size;
 use z_regs::{Bytes, CpuImage};
 

@@ -57,7 +57,7 @@ pub fn ranges(instr: &Instr, image: &CpuImage) -> Touches
     ensures { result ≡ map range_of (spans instr.now image.now.general image.now.condition) }
 {
     immediates_are_plain();
-    operands_in(line(instr.op).operands, instr, image)
+    operands_in(line(instr.op).kind.operands(), instr, image)
 }
 
 /// Whether an instruction that meets neither special operation nor specification may touch its ranges, which
@@ -79,7 +79,14 @@ pub fn accessible(
 {
     immediates_are_plain();
     operands_are_small();
-    match denied(line(instr.op).demand, operands, instr, image, guard, depth) {
+    match denied(
+        line(instr.op).kind.demand(),
+        operands,
+        instr,
+        image,
+        guard,
+        depth,
+    ) {
         None => Ok(()),
         Some(code) => Err(exception(instr, code)),
     }

@@ -77,7 +77,13 @@ pub fn specified(instr: &Instr, image: &CpuImage, depth: u32) -> Result<(), Exce
 {
     immediates_are_plain();
     let line = line(instr.op);
-    match unmet(line.demand, line.operands, instr, image, depth) {
+    match unmet(
+        line.kind.demand(),
+        line.kind.operands(),
+        instr,
+        image,
+        depth,
+    ) {
         None => Ok(()),
         Some(code) => Err(exception(instr, code)),
     }

@@ -17,7 +17,7 @@ use Rattle.z_instr.proofs.SmallOperands.{sizes}
 use Rattle.z_regs.specs.declared.ranges.Range.{Range}
 use Rattle.z_regs.specs.Cpu.{Cpu}
 use Rattle.z_regs.specs.Prefix.{storage_size}
-use Rattle.z_effect.specs.Kinds.{kind_named, kind_at}
+use Rattle.z_instr.specs.Table.{kind_at}
 use Rattle.z_effect.specs.Facts.{is_storage}
 use Rattle.z_effect.specs.After.{AreInside, ranges_of}
 use Rattle.z_instr.specs.Access.{accessible_pages, text_pages}
@@ -27,10 +27,10 @@ use Rattle.z_touch.proofs.SmallRanges.{inside_ends}
 -- ---- no operation on storage begins a transaction, so its operands are what is tested
 
 abbrev does_not_begin : Entry → Bool
-does_not_begin e = not (is_storage (kind_named e.name) && is_begin e.demand)
+does_not_begin e = not (is_storage e.kind && is_begin e.demand)
 
 none_begins : list_all does_not_begin table ≡ true
-unfolding table kind_named
+unfolding table
 none_begins = refl
 
 in_table : (n : ℕ) → n < ROWS → n < length table

@@ -2,9 +2,8 @@
 
 use crate::fault::Fault;
 use std::alloc::{AllocError, Global};
-use z_effect::kind::{Kind, Transaction};
-use z_effect::kind_of;
-use z_instr::lookup::find;
+use z_instr::kind::{Kind, Transaction};
+use z_instr::lookup::{find, kind_of};
 use z_instr::op::Op;
 
 /// What an operation about transactions is; nothing for all others.

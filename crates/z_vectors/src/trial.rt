@@ -2,7 +2,7 @@
 ghost use Rattle.std.specs.Prelude.{◌≡◌, List, ℕ, length, true};
 ghost use Rattle.z_regs.specs.Prefix.{storage_size};
 ghost use Rattle.z_regs.specs.Cpu.{cpu_of};
-ghost use Rattle.z_effect.specs.Kinds.{kind_at};
+ghost use Rattle.z_instr.specs.Table.{kind_at};
 ghost use Rattle.z_effect.specs.Facts.{is_storage};
 ghost use Rattle.z_effect.specs.After.{AreInside, ranges_of};
 

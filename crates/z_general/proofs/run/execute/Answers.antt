@@ -1,7 +1,7 @@
 use Rattle.std.proofs.Common.{refl, sym, ap, ◌∙◌}
 use Rattle.z_instr.specs.Layout.{format_length}
 use Rattle.z_instr.specs.Table.{Entry}
-use Rattle.z_effect.specs.declared.kind.Kind.TheVariants.{General}
+use Rattle.z_instr.specs.declared.kind.Kind.TheVariants.{General}
 use Rattle.z_effect.proofs.Storeless.{executes}
 use Rattle.z_general.proofs.run.execute.Goals as goal
 

@@ -1,7 +1,8 @@
 use Rattle.std.proofs.Common.{◌≡◌, arith, ◌*◌, ◌+◌}
 use Rattle.z_instr.specs.Operands.{bytes_of}
 use Rattle.z_regs.specs.Cpu.{cpu_of}
-use Rattle.z_effect.specs.StorageEffect.{item, number}
+use Rattle.z_effect.specs.StorageEffect.{number}
+use Rattle.z_instr.specs.Kinds.{item}
 use Rattle.z_effect.specs.After.{range_at}
 use Rattle.z_storage.proofs.Items.{none_loaded, load_step}
 use Rattle.z_storage.proofs.registers.load_registers.Goals as goal

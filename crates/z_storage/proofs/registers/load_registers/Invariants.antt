@@ -1,7 +1,8 @@
 use Rattle.std.proofs.Common.{◌≡◌, ◌*◌}
 use Rattle.z_instr.specs.Operands.{bytes_of}
 use Rattle.z_regs.specs.Cpu.{cpu_of}
-use Rattle.z_effect.specs.StorageEffect.{item, with_items}
+use Rattle.z_effect.specs.StorageEffect.{with_items}
+use Rattle.z_instr.specs.Kinds.{item}
 use Rattle.z_effect.specs.After.{range_at}
 use Rattle.z_storage.proofs.registers.load_registers.Given as goal
 

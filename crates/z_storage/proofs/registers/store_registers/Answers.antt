@@ -2,7 +2,8 @@ use Rattle.std.proofs.Common.{◌≡◌, arith, rules, ◌∙◌, ap, length, �
 use Rattle.z_instr.specs.Operands.{bytes_of}
 use Rattle.z_regs.specs.Cpu.{cpu_of}
 use Rattle.z_effect.specs.Registers.{register}
-use Rattle.z_effect.specs.StorageEffect.{item, stored}
+use Rattle.z_effect.specs.StorageEffect.{stored}
+use Rattle.z_instr.specs.Kinds.{item}
 use Rattle.z_effect.specs.After.{written}
 use Rattle.z_storage.proofs.Items.{none_stored, store_step, length-stored}
 use Rattle.z_storage.proofs.registers.store_registers.Goals as goal

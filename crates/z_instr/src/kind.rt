@@ -1,9 +1,13 @@
 //! The kinds of operations: what an operation computes, how wide its operands are, and where they come from.
 //!
-//! A kind says what an operation does; its row in the instruction table says how it is encoded.
+//! A kind says what an operation does, and so which operands in storage it touches and what it demands; the other
+//! columns of its row in the instruction table say how it is encoded.
+ghost use Rattle.std.specs.Prelude.{◌≡◌};
+ghost use Rattle.z_instr.specs.Kinds.{item as item_of, size_of, operands_of, storage_operands, transaction_operands};
+ghost use Rattle.z_instr.specs.Kinds.{demand_of, general_demand, storage_demand, branch_demand, transaction_demand};
 
+use crate::operand::{Demand, Operands, Size};
 use z_arith::{Shift, Width};
-use z_instr::operand::Size;
 
 /// An operation on bits, place by place.
 #[derive(Clone, Copy)]
@@ -224,4 +228,137 @@ pub enum Kind {
     Storage(Storage),
     Branch(Branch),
     Transaction(Transaction),
+}
+
+/// Which piece it is.
+pub fn size_in(part: Part) -> Size
+    ensures { result ≡ size_of part }
+{
+    match part {
+        Part::Plain(size) | Part::Signed(size) => size,
+    }
+}
+
+/// The item that has a register's width.
+pub fn item(w: Width) -> Size
+    ensures { result ≡ item_of w }
+{
+    match w {
+        Width::Word => Size::Word,
+        Width::Double => Size::Doubleword,
+    }
+}
+
+impl Storage {
+    /// The operands in storage that the operation touches.
+    fn operands(self) -> Operands
+        ensures { result ≡ storage_operands self }
+    {
+        match self {
+            Storage::Compute(_, _, part)
+            | Storage::Compare(_, _, part)
+            | Storage::CompareImmediate(_, _, part) => Operands::Fetched(size_in(part)),
+            Storage::TestUnderMask | Storage::InsertByte => Operands::Fetched(Size::Byte),
+            Storage::Store(size) | Storage::StoreImmediate(size) => Operands::Stored(size),
+            Storage::ByteLogic(_) => Operands::Stored(Size::Byte),
+            Storage::AddImmediate(w) | Storage::CompareAndSwap(w) | Storage::LoadAnd(_, w) => {
+                Operands::Stored(item(w))
+            }
+            Storage::LoadMany(w) => Operands::FetchedMany(item(w)),
+            Storage::StoreMany(w) => Operands::StoredMany(item(w)),
+            Storage::LoadSelected => Operands::FetchedSelected,
+            Storage::StoreSelected => Operands::StoredSelected,
+            Storage::ByteByByte(_) => Operands::StoredAndFetched,
+            Storage::CompareBytes => Operands::BothFetched,
+        }
+    }
+
+    /// What is demanded: a boundary, where the operation reads and stores at once.
+    fn demand(self) -> Demand
+        ensures { result ≡ storage_demand self }
+    {
+        match self {
+            Storage::CompareAndSwap(_) | Storage::LoadAnd(_, _) => Demand::Boundary,
+            _ => Demand::Nothing,
+        }
+    }
+}
+
+impl General {
+    /// What is demanded: the even register of a pair, where the result takes a pair.
+    fn demand(self) -> Demand
+        ensures { result ≡ general_demand self }
+    {
+        match self {
+            General::MultiplyWord
+            | General::MultiplyLogical
+            | General::DivideWord
+            | General::DivideDouble
+            | General::DivideLogical
+            | General::FindLeftmostOne => Demand::EvenPair,
+            _ => Demand::Nothing,
+        }
+    }
+}
+
+impl Branch {
+    /// What is demanded: that a service call has the number 0.
+    fn demand(self) -> Demand
+        ensures { result ≡ branch_demand self }
+    {
+        match self {
+            Branch::ServiceCall => Demand::ServiceZero,
+            _ => Demand::Nothing,
+        }
+    }
+}
+
+impl Transaction {
+    /// The operands in storage that the operation touches.
+    fn operands(self) -> Operands
+        ensures { result ≡ transaction_operands self }
+    {
+        match self {
+            Transaction::StoreLasting => Operands::Stored(Size::Doubleword),
+            _ => Operands::Absent,
+        }
+    }
+
+    /// What is demanded of a begin, of an abort's code, and of a store that outlasts an abort.
+    fn demand(self) -> Demand
+        ensures { result ≡ transaction_demand self }
+    {
+        match self {
+            Transaction::Begin => Demand::Begin,
+            Transaction::BeginConstrained => Demand::BeginConstrained,
+            Transaction::Abort => Demand::AbortCode,
+            Transaction::StoreLasting => Demand::Boundary,
+            _ => Demand::Nothing,
+        }
+    }
+}
+
+impl Kind {
+    /// The operands in storage that an operation of this kind touches.
+    pub fn operands(self) -> Operands
+        ensures { result ≡ operands_of self }
+    {
+        match self {
+            Kind::General(_) | Kind::Branch(_) => Operands::Absent,
+            Kind::Storage(storage) => storage.operands(),
+            Kind::Transaction(transaction) => transaction.operands(),
+        }
+    }
+
+    /// What an operation of this kind demands before it is executed.
+    pub fn demand(self) -> Demand
+        ensures { result ≡ demand_of self }
+    {
+        match self {
+            Kind::General(general) => general.demand(),
+            Kind::Storage(storage) => storage.demand(),
+            Kind::Branch(branch) => branch.demand(),
+            Kind::Transaction(transaction) => transaction.demand(),
+        }
+    }
 }

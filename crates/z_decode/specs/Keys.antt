@@ -1,10 +1,9 @@
 -- How bytes and rows are brought into one order: by a key of two bytes.
-use Rattle.std.specs.Prelude.{ℕ, ◌+◌, ◌*◌, ◌/◌, ◌%◌, List, [], ◌∷◌, get_or, Bool, true, false, nat_eq, nat_lt}
-use Rattle.std.specs.Prelude.{nat_le, ◌||◌, ◌&&◌, if◌then◌else◌}
-use Rattle.std.specs.List.{list_all, list_any}
+use Rattle.std.specs.Prelude.{ℕ, ◌+◌, ◌*◌, ◌/◌, ◌%◌, List, [], ◌∷◌, get_or, Bool, true, nat_eq, nat_le, ◌||◌, ◌&&◌, if◌then◌else◌}
+use Rattle.std.specs.List.{list_all}
 use Rattle.z_instr.specs.declared.format.Place.{Place}
 use Rattle.z_instr.specs.declared.format.Place.TheVariants.{First, FirstTwo, FirstHalf, Ends}
-use Rattle.z_instr.specs.Table.{Entry, no_entry}
+use Rattle.z_instr.specs.Table.{Entry}
 use Rattle.z_instr.specs.Layout.{place, lead}
 use Rattle.z_instr.specs.Facts.{is_same_place}
 
@@ -36,22 +35,12 @@ key_with Ends bytes = get_or bytes 0 0 * 256 + get_or bytes 5 0
 abbrev pub key_in : List ℕ → ℕ
 key_in bytes = key_with (place_by (get_or bytes 0 0)) bytes
 
--- ---- tests of the index that compute
+-- ---- tests of the table that compute
 
 -- no number is above a later one
 abbrev pub is_rising : List ℕ → Bool
 is_rising [] = true
 is_rising (x ∷ xs) = list_all (nat_le x) xs && is_rising xs
-
--- each number is that of a row, and the key beside it is that row's
-abbrev pub are_keys_of_rows : List Entry → List ℕ → List ℕ → Bool
-are_keys_of_rows es [] [] = true
-are_keys_of_rows es (k ∷ ks) (n ∷ ns) =
-    nat_lt n 188 && (nat_eq (key_of (get_or es n no_entry)) k && are_keys_of_rows es ks ns)
-are_keys_of_rows es _ _ = false
-
-abbrev pub is_key_among : List ℕ → Entry → Bool
-is_key_among keys e = list_any (nat_eq (key_of e)) keys
 
 -- the first byte of the opcode tells its place
 abbrev pub has_telling_lead : Entry → Bool

@@ -3,7 +3,7 @@ use Rattle.std.proofs.lemmas.Option.{IfSome_then}
 use Rattle.z_instr.proofs.Distinct.{opcode_gives_length}
 use Rattle.z_decode.proofs.Keys.{key_to_opcode, opcode_to_key}
 use Rattle.z_decode.proofs.Unread.{IfNone_then}
-use Rattle.z_decode.proofs.index.find_row.Goals as goal
+use Rattle.z_decode.proofs.finding.find_row.Goals as goal
 
 pub returns-clause-found : goal.returns-clause-found
 returns-clause-found c =
