@@ -21,8 +21,8 @@ returns-in-None c =
     denied_is c.args.instr.now c.args.image.now.general c.args.image.now.condition c.args.depth
     (accessible_pages c.args.image.now.prefix)
     (text_pages c.args.image.now.prefix
-    (items c.args.guard.now)) c.line.result.demand c.args.operands.now
-    (ap (λ (e : Entry). e.demand) c.line.ensures.row) c.requires in
+    (items c.args.guard.now)) c.demand.result c.args.operands.now
+    (c.demand.ensures ∙ ap (λ (e : Entry). e.demand) c.line.ensures.row) c.requires in
     answer_fits _ c.args.instr.now tt (sym c.in-None.is ∙ c.denied.ensures ∙ denied)
 
 pub returns-in-Some : goal.returns-in-Some
@@ -31,7 +31,7 @@ returns-in-Some c =
     denied_is c.args.instr.now c.args.image.now.general c.args.image.now.condition c.args.depth
     (accessible_pages c.args.image.now.prefix)
     (text_pages c.args.image.now.prefix
-    (items c.args.guard.now)) c.line.result.demand c.args.operands.now
-    (ap (λ (e : Entry). e.demand) c.line.ensures.row) c.requires in
+    (items c.args.guard.now)) c.demand.result c.args.operands.now
+    (c.demand.ensures ∙ ap (λ (e : Entry). e.demand) c.line.ensures.row) c.requires in
     answer_refused _ c.args.instr.now tt c.in-Some.code c.exception.result (sym c.in-Some.is
     ∙ c.denied.ensures ∙ denied) c.exception.ensures
