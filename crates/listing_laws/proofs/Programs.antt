@@ -20,6 +20,7 @@ use Rattle.listing_laws.proofs.Terms.{no_operand, one_operand, two_operands}
 use Rattle.listing_laws.proofs.Codes.{HasCode, plain, lghi_is, tbeginc_is, lg_is, aghi_is, stg_is, tend_is}
 use Rattle.listing_laws.proofs.Codes.{brctg_is, svc_is, sizes_are, lghi_code, tbeginc_code, lg_code}
 use Rattle.listing_laws.proofs.Codes.{aghi_code, stg_code, tend_code, brctg_code, svc_code}
+use Rattle.listing_laws.proofs.Codes.{lghi, tbeginc, lg, aghi, stg, tend, brctg, svc}
 use Rattle.listing_laws.proofs.Again.{instruction_goes}
 use Rattle.listing_laws.proofs.Texts.{written, Runs}
 use Rattle.listing_laws.proofs.Generated.{small, one_number, two_numbers, lghi_line, tbeginc_line, lg_line}
