@@ -1,5 +1,5 @@
 -- Worked values of the definitions.
-use Rattle.std.proofs.Common.{◌≡◌, true, false, List, [], ◌∷◌, ◌++◌, refl, arith}
+use Rattle.std.proofs.Common.{◌≡◌, ℕ, true, false, List, [], ◌∷◌, ◌++◌, refl, sym, ap, ◌∙◌, arith}
 use Rattle.std.specs.Prelude.{count_by}
 use Rattle.tx_control.specs.declared.causes.Why.TheVariants.{External, FetchConflict, StoreConflict, Starved}
 use Rattle.tx_control.specs.declared.causes.Why.TheVariants.{StoreOverflow, Tabort}
@@ -7,7 +7,9 @@ use Rattle.tx_journal.specs.declared.entries.Entry.{Entry}
 use Rattle.tx_journal.specs.declared.entries.Entry.TheVariants.{Step, Commit, Abort, Tdb}
 use Rattle.tx_journal.specs.declared.events.Event.TheVariants as event
 use Rattle.tx_headline.specs.Since.{is_conflict_abort_of, is_other_abort_of, is_external_of, CommitsAfter}
+use Rattle.tx_meaning.specs.Queues.{QueueMoves, HeadMoves, Stays, Leaves, GoesLast}
 use Rattle.tx_headline.specs.Queue.{others_before}
+use Rattle.tx_headline.proofs.Queue.{same_head, same_rest}
 
 -- the places in a queue of three
 first_place : others_before 3 (3 ∷ 0 ∷ 1 ∷ []) ≡ 0
@@ -58,3 +60,22 @@ of_this_cpu = refl
 
 of_another_cpu : is_external_of 2 (event.External 1) ≡ false
 of_another_cpu = refl
+
+-- whoever joins: nobody leaves the queue from its middle
+none_from_the_middle : (joined : List ℕ) → HeadMoves ((1 ∷ 2 ∷ 3 ∷ []) ++ joined) (1 ∷ 3 ∷ []) → ⊥
+none_from_the_middle joined (Stays is) =
+    let rest = same_rest 1 1 (3 ∷ []) (2 ∷ 3 ∷ joined) is in
+    let first = same_head 3 2 [] (3 ∷ joined) rest in
+    absurd (omega (arith, first))
+none_from_the_middle joined (Leaves head rest before is) =
+    let later = same_rest 1 head (2 ∷ 3 ∷ joined) rest before in
+    let first = same_head 1 2 (3 ∷ []) (3 ∷ joined) (is ∙ sym later) in
+    absurd (omega (arith, first))
+none_from_the_middle joined (GoesLast head rest before is) =
+    let later = same_rest 1 head (2 ∷ 3 ∷ joined) rest before in
+    let first = same_head 1 2 (3 ∷ []) (3 ∷ joined ++ head ∷ [])
+    (is ∙ ap (λ q. q ++ head ∷ []) (sym later)) in
+    absurd (omega (arith, first))
+
+not_any_list : QueueMoves (1 ∷ 2 ∷ 3 ∷ []) (1 ∷ 3 ∷ []) → ⊥
+not_any_list moves = none_from_the_middle moves.joined moves.head

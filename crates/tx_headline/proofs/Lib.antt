@@ -13,5 +13,6 @@ pub mod Commits
 pub mod Members
 pub mod Queue
 pub mod Served
+pub mod Reasons
 pub mod Bounds
 mod Examples

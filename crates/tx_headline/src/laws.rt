@@ -4,7 +4,7 @@ ghost use Rattle.std.specs.List.{list_any};
 ghost use Rattle.tx_control.specs.Causes.{code_number};
 ghost use Rattle.tx_control.specs.declared.causes.Why.{Why};
 ghost use Rattle.tx_control.specs.declared.causes.Why.TheVariants.{Tabort};
-ghost use Rattle.tx_headline.specs.Queue.{QueueChanges, others_before};
+ghost use Rattle.tx_headline.specs.Queue.{Joins, QueueChanges, others_before};
 ghost use Rattle.tx_headline.specs.Since.{is_conflict, is_program_abort_of, entries_since, turns_after};
 ghost use Rattle.tx_headline.specs.Since.{all_turns_after, IsUninterrupted, Opens, CommitsAfter};
 ghost use Rattle.tx_journal.specs.declared.events.Event.{Event};
@@ -15,7 +15,7 @@ ghost use Rattle.tx_meaning.specs.Limits.{Setting};
 ghost use Rattle.tx_meaning.specs.Meaning.{IsSetting, meaning};
 ghost use Rattle.tx_meaning.specs.State.{State, is_head, cpus_of};
 ghost use Rattle.tx_meaning.specs.Stretches.{Stretch, stretch_of, stretch_after, bound, attempt_turns};
-ghost use Rattle.tx_meaning.specs.Stretches.{is_counted_turn, is_end_by, is_end_of};
+ghost use Rattle.tx_meaning.specs.Stretches.{is_counted_turn, is_end_by, is_end_of, ends_transaction};
 ghost use Rattle.tx_meaning.specs.Turn.{happen};
 
 /// The age of a stretch counts turns of its CPU: the turn that opens the stretch, which is a counted one and
@@ -88,6 +88,18 @@ pub fn the_queue_changes_for_a_reason()
         → waits_in (meaning m events).queue i ≡ true → others_before i (meaning m events).queue < cpus_of m }
     ensures head { (m : Setting) (s : State) (e : Event) (i : ℕ) → is_counted_turn m s e i ≡ true
         → (s.queue ≡ []) ⊎ (is_head s i ≡ true) }
+{}
+
+/// What these changes say of one CPU. If it waits behind an event and did not before, it has joined: it is a CPU of
+/// the machine, and its conflict aborts have become as many as lead there. If it waited and does no longer, its
+/// transaction has ended, by a commit or by a program interruption.
+pub fn who_joins_and_who_leaves()
+    ensures joins { (m : Setting) (s : State) (e : Event) (j : ℕ) → QueueChanges m s e
+        → waits_in s.queue j ≡ false → waits_in (happen m e s).state.queue j ≡ true
+        → Joins m s (happen m e s).state j }
+    ensures leaves { (m : Setting) (s : State) (e : Event) (j : ℕ) → QueueChanges m s e
+        → waits_in s.queue j ≡ true → waits_in (happen m e s).state.queue j ≡ false
+        → ends_transaction s (happen m e s).state j ≡ true }
 {}
 
 /// Where no interruption from outside comes to any CPU, a CPU in the stop queue comes to the end of its
