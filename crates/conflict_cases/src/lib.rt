@@ -6,8 +6,6 @@ mod answers;
 #[cfg(test)]
 mod constraints;
 #[cfg(test)]
-mod footprints;
-#[cfg(test)]
 mod holders;
 #[cfg(test)]
 mod shared;

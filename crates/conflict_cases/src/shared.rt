@@ -8,6 +8,7 @@ use tx_constraint::Constraint;
 use tx_control::{Begin, Exception, Nest, Why};
 use tx_footprint::{Footprint, Overflow};
 use tx_ladder::{Ladder, Next, Parms, StopQueue};
+use z_regs::{CpuImage, Guard, Storage, Touches, Waiting};
 
 /// Whether values of a type may move between threads and be shared by them.
 fn is_shared<T: Send + Sync>() -> bool {
@@ -20,5 +21,6 @@ fn values_are_shared_by_threads(rt: HostRuntime) {
     let attempts = is_shared::<(Constraint, Nest, Ladder, StopQueue)>();
     let values = is_shared::<(Answer, Asker, Mode, Begin, Exception, Why, Next, Parms)>();
     let faults = is_shared::<(Overflow, line_table::NoMemory)>();
-    assert_eq!(rt; [tables, attempts, values, faults], [true; 4]);
+    let registers = is_shared::<(CpuImage, Guard, Storage, Touches, Waiting)>();
+    assert_eq!(rt; [tables, attempts, values, faults, registers], [true; 5]);
 }

@@ -7,8 +7,6 @@ mod lines;
 mod rows;
 mod sheet;
 mod spelling;
-#[cfg(test)]
-mod tests;
 mod words;
 
 pub use laws::lines_have_a_form_or_one_fault;

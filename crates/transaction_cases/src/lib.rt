@@ -1,8 +1,10 @@
-//! Cases of aborts, nesting and the retry ladder: each call with values from outside or worked by hand.
+//! Cases of aborts, nesting, footprints and the retry ladder: each call with values from outside or worked by hand.
 #![tactic(auto)]
 
 #[cfg(test)]
 mod aborts;
+#[cfg(test)]
+mod footprints;
 #[cfg(test)]
 mod ladders;
 #[cfg(test)]

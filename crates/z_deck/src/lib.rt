@@ -15,6 +15,3 @@ pub use fault::{DeckFault, Kind, fault_line};
 pub use listing::deck_listing;
 pub use reading::{MOST_BYTES, read_deck};
 pub use writing::write_deck;
-
-#[cfg(test)]
-mod tests;

@@ -1,5 +1,5 @@
 //! Lines of reports of an independent model of the machine, and lines that are none.
-use crate::{Name, Row, fits};
+use report_form::{Name, Row, fits};
 use std::test::Fail;
 
 #[test]

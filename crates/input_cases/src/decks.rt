@@ -1,9 +1,10 @@
 //! Worked decks: a program of four instructions written, read and listed, decks that are read, and each fault
 //! at its place. What is expected is a model's that was written apart from this code.
-use crate::{CARD, DeckFault, deck_listing, fault_line, read_deck, write_deck};
+
 use std::alloc::Global;
 use std::test::Fail;
 use z_assemble::assemble;
+use z_deck::{CARD, DeckFault, deck_listing, fault_line, read_deck, write_deck};
 
 const PROGRAM: &str = " CPU START\nSTART LGHI 1,5\n LGHI 2,7\n AGR 1,2\n SVC 0\n SCHED 0*4\n END\n";
 

@@ -1,8 +1,8 @@
 //! Lists of words and what they ask for. What is taken beside plain forms is known of clap's fourth version.
 
-use crate::{Command, read_words};
 use std::alloc::{AllocError, Global};
 use std::test::Fail;
+use ztx_words::{Command, read_words};
 
 /// The words, which a bar parts.
 fn words(alloc: Global, line: &str) -> Result<Vec<String>, AllocError> {
