@@ -8,25 +8,24 @@ use Rattle.std.proofs.lemmas.Fmt.{decimal_injective}
 use Rattle.std.proofs.lemmas.List.{append_cancel_right}
 use Rattle.tx_journal.specs.Content.{Content}
 use Rattle.tx_journal.specs.declared.entries.Entry.{Entry}
-use Rattle.tx_journal.proofs.Decimals.{same_start, same_cut, lacks_number}
-use Rattle.tx_serial.specs.Flat.{FlatState, address_of, bytes_of}
+use Rattle.tx_journal.proofs.Decimals.{same_start}
+use Rattle.tx_serial.specs.Flat.{FlatState, bytes_of}
 use Rattle.tx_serial.specs.History.{replay}
 use Rattle.tx_meaning.specs.Idle.{finished_by}
-use Rattle.report_form.specs.Sheet.{HasForm, IsFirstFault, history_at}
+use Rattle.report_form.specs.Sheet.{HasForm, history_at}
 use Rattle.report_form.proofs.OneFault.{one_fault, same_counts, no_fault}
 use Rattle.report_text.specs.Shown.{Shown, ShownCpu}
 use Rattle.report_text.specs.Processor.{attempt_line, counts_line}
-use Rattle.report_text.specs.Report.{report_text, run_part, state_part, history_lines, schedule_lines}
+use Rattle.report_text.specs.Report.{report_text, run_part, state_part, history_lines}
 use Rattle.report_text.specs.declared.processors.Attempt.{Attempt}
 use Rattle.report_text.specs.declared.processors.Counts.{Counts}
 use Rattle.tx_replay.specs.Replay.{IsReplay, IsFirstMisfit}
-use Rattle.tx_replay.proofs.OneAnswer.{one_history, one_misfit, never_both}
 use Rattle.tx_check.specs.declared.checking.CheckFault.{CheckFault}
 use Rattle.tx_check.specs.declared.checking.CheckFault.TheVariants.{Memory, Form, Entry as AtEntry, State}
 use Rattle.tx_check.specs.Lines.{lines_of, FirstDifference}
-use Rattle.tx_check.specs.Told.{IsLive, IsTold, cpu_in}
+use Rattle.tx_check.specs.Told.{IsTold, cpu_in}
 use Rattle.tx_check.specs.Sound.{AreSmall, IsSmall, Believes, IsTaken, IsExpected, cpu_place}
-use Rattle.tx_check.specs.Answers.{IsDue, IsAccepted, IsDueText, HasMisfit, Differs}
+use Rattle.tx_check.specs.Answers.{IsDue, IsAccepted, HasMisfit, Differs}
 use Rattle.tx_check.proofs.ClaimLines.{counts_told, live_told, none_told}
 
 some_same : {A : Type 0} {x y : A} → Some x ≡ Some y → x ≡ y
@@ -41,9 +40,13 @@ record SameCounts (c d : Counts) : Type 0 where
   rejected : c.rejected ≡ d.rejected
 
 -- what stands behind a label in a line of counts
-behind_turns behind_asked behind_rejected : Counts → List ℕ
+abbrev behind_rejected : Counts → List ℕ
 behind_rejected c = codes "COMMITS " ++ (decimal c.commits ++ (codes " ABORTS " ++ (decimal c.aborts ++ 10 ∷ [])))
+
+abbrev behind_asked : Counts → List ℕ
 behind_asked c = codes "REJECTED " ++ (decimal c.rejected ++ 32 ∷ behind_rejected c)
+
+abbrev behind_turns : Counts → List ℕ
 behind_turns c = codes "ASKED " ++ (decimal c.asked ++ 32 ∷ behind_asked c)
 
 counts_split : (c : Counts)
@@ -69,7 +72,7 @@ one_end : (m n : ℕ) → m < 2 ^ 64 → n < 2 ^ 64 → decimal m ++ 10 ∷ [] �
 one_end m n m_in n_in is =
     decimal_injective m n m_in n_in (append_cancel_right (decimal m) (decimal n) (10 ∷ []) is)
 
-behind_depth : Attempt → List ℕ
+abbrev behind_depth : Attempt → List ℕ
 behind_depth a = codes "COMPLETED " ++ (decimal a.completed ++ 10 ∷ [])
 
 live_split : (a : Attempt)
@@ -149,8 +152,24 @@ one_list (x ∷ xs) (y ∷ ys) size each =
 
 -- ---- the report that is expected
 
-entry_lines : Content → List (List ℕ) → ℕ → List (List ℕ)
+abbrev entry_lines : Content → List (List ℕ) → ℕ → List (List ℕ)
 entry_lines image lines entries = take entries (drop (history_at image + 1) lines)
+
+-- what tx_replay says of all lines: they have one history, or one first misfit, never both
+abbrev HaveOneHistory : Type 0
+HaveOneHistory =
+    (image : Content) (lines : List (List ℕ)) (some others : List Entry) (f g : FlatState)
+    → IsReplay image lines some f → IsReplay image lines others g → some ≡ others
+
+abbrev HaveOneMisfit : Type 0
+HaveOneMisfit =
+    (image : Content) (lines : List (List ℕ)) (some other : ℕ)
+    → IsFirstMisfit image lines some → IsFirstMisfit image lines other → some ≡ other
+
+abbrev HaveNeverBoth : Type 0
+HaveNeverBoth =
+    (image : Content) (lines : List (List ℕ)) (entries : List Entry) (f : FlatState) (number : ℕ)
+    → IsReplay image lines entries f → ¬ IsFirstMisfit image lines number
 
 -- the entries of the report that is expected are read from the lines
 expected_replay : (image : Content) (lines : List (List ℕ)) (entries : ℕ) (s : Shown) (f : FlatState)
@@ -162,10 +181,10 @@ expected_replay image lines entries s f e = record {
 }
 
 -- one report is expected
-one_report : (image : Content) (lines : List (List ℕ)) (entries : ℕ) (s t : Shown) (f g : FlatState)
+one_report : HaveOneHistory → (image : Content) (lines : List (List ℕ)) (entries : ℕ) (s t : Shown) (f g : FlatState)
     → IsExpected image lines entries s f → IsExpected image lines entries t g → report_text s ≡ report_text t
 unfolding report_text run_part
-one_report image lines entries s t f g e d =
+one_report one_history image lines entries s t f g e d =
     let history : s.history ≡ t.history =
     one_history image (entry_lines image lines entries) s.history t.history f g
     (expected_replay image lines entries s f e) (expected_replay image lines entries t g d) in
@@ -209,7 +228,8 @@ one_difference xs ys m n a b =
 
 -- ---- two answers
 
-module _ (image : Content) (report : List ℕ) where
+module _ (one_history : HaveOneHistory) (one_misfit : HaveOneMisfit) (never_both : HaveNeverBoth) (image : Content)
+    (report : List ℕ) where
   -- a report with an entry that does not fit has no history
   no_replay : (entries events number : ℕ) (s : Shown) (f : FlatState) → HasForm image (lines_of report) entries events
       → IsExpected image (lines_of report) entries s f → HasMisfit image (lines_of report) number → ⊥
@@ -224,7 +244,7 @@ module _ (image : Content) (report : List ℕ) where
   no_difference entries number a d =
       let same = (same_counts image (lines_of report) d.entries d.events entries a.events d.form a.form).0 in
       let text =
-      one_report image (lines_of report) entries a.due.shown d.shown a.due.after d.after a.due.expected
+      one_report one_history image (lines_of report) entries a.due.shown d.shown a.due.after d.after a.due.expected
       (subst (λ n. IsExpected image (lines_of report) n d.shown d.after) same d.expected) in
       d.difference.differs (ap (λ (t : List ℕ). slice_get (lines_of t) d.difference.before) (a.due.told ∙ text))
 
@@ -232,7 +252,7 @@ module _ (image : Content) (report : List ℕ) where
   one_differing m n a b =
       let same = (same_counts image (lines_of report) b.entries b.events a.entries a.events b.form a.form).0 in
       let text =
-      one_report image (lines_of report) a.entries a.shown b.shown a.after b.after a.expected
+      one_report one_history image (lines_of report) a.entries a.shown b.shown a.after b.after a.expected
       (subst (λ k. IsExpected image (lines_of report) k b.shown b.after) same b.expected) in
       one_difference (lines_of report) (lines_of (report_text b.shown)) m n
       (subst (λ (t : List ℕ). FirstDifference (lines_of report) (lines_of t) m) text a.difference) b.difference
