@@ -1,4 +1,5 @@
--- Lines, words and claims; where lines stand by the form, and what stands behind the state; what is expected.
+-- Lines, words and claims; where lines stand by the form, and what stands behind the state; what is expected; that
+-- one answer is due.
 pub mod LineLemmas
 pub mod Written
 pub mod WordsRead
@@ -8,3 +9,4 @@ pub mod FormLines
 pub mod CpuLines
 pub mod Due
 pub mod Bounds
+pub mod OneAnswer
