@@ -1,11 +1,5 @@
-use Rattle.step_words.proofs.One.{parts_of, same_parts, one_holds, same_commands, same_number, never_both}
-use Rattle.step_words.proofs.laws.an_input_has_one_reading.Goals as goal
-
-pub returns-clause-parts : goal.returns-clause-parts
-returns-clause-parts c = parts_of
-
-pub returns-clause-one_pair : goal.returns-clause-one_pair
-returns-clause-one_pair c = same_parts
+use Rattle.step_words.proofs.One.{one_holds, same_commands, same_number, never_both}
+use Rattle.step_words.proofs.laws.a_text_has_one_reading.Goals as goal
 
 pub returns-clause-some : goal.returns-clause-some
 returns-clause-some c = one_holds

@@ -8,7 +8,7 @@ use Rattle.std.proofs.lemmas.List.Splits.{slice_split_at, slice_split_none}
 use Rattle.std.proofs.lemmas.Grind.{flat_map-append}
 use Rattle.std.proofs.Math.Seq.{drop-append_seam, take-append_seam, drop-length}
 use Rattle.tx_journal.specs.Numbers.{Lacks}
-use Rattle.step_words.specs.Lines.{lines_of, ended}
+use Rattle.input_parts.specs.Lines.{lines_of, ended}
 
 -- ---- one line
 
