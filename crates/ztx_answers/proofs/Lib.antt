@@ -12,3 +12,4 @@ pub mod Decked
 pub mod DecksGiven
 pub mod Steps
 pub mod Heats
+pub mod Checks
