@@ -1,7 +1,7 @@
 //! What is due to a listing with a report behind it, which is judged by the history that it tells.
 ghost use Rattle.std.specs.Prelude.{◌≡◌, ◌<◌, ◌≤◌, ◌-◌, ◌^◌, ℕ, List, Err, IfOk, length};
 ghost use Rattle.z_assemble.specs.Whole.{Stands};
-ghost use Rattle.ztx_answers.specs.Checks.{IsDueToCheck, IsVerdict, Says, checked_line};
+ghost use Rattle.ztx_answers.specs.Checks.{IsDueToCheck, IsVerdict, Says, checked_line, refused_line};
 ghost use Rattle.ztx_answers.specs.Due.{IsAnyStatus};
 
 use crate::answer::{Answer, NoMemory};
@@ -27,21 +27,29 @@ fn accept(alloc: Global, entries: u32) -> Result<Answer, NoMemory>
     })
 }
 
-/// What is said of a report that is refused: the line or the entry at which it is.
-fn refuse_report(alloc: Global, fault: CheckFault) -> Result<Answer, NoMemory>
-    ensures says { IfOk result (λ answer. Says (Err fault) answer.status answer.text.items) }
+/// What is said of a report that is refused at the line or the entry with this number.
+fn refuse_at(alloc: Global, place: &str, number: u32) -> Result<Answer, NoMemory>
     ensures status { IfOk result (λ answer. answer.status ≡ 7) }
+    ensures text { IfOk result (λ answer. answer.text.items ≡ refused_line place.now number) }
 {
-    let line = match fault {
-        CheckFault::Memory => return Err(NoMemory),
-        CheckFault::Form(line) => format!(in alloc; "ztx: report refused: form line {line}\n")?,
-        CheckFault::Entry(entry) => format!(in alloc; "ztx: report refused: entry {entry}\n")?,
-        CheckFault::State(line) => format!(in alloc; "ztx: report refused: state line {line}\n")?,
-    };
+    let line = format!(in alloc; "ztx: report refused: {place} {number}\n")?;
     Ok(Answer {
         status: 7,
         text: line.into_bytes(),
     })
+}
+
+/// What is said of a report that is refused.
+fn refuse_report(alloc: Global, fault: CheckFault) -> Result<Answer, NoMemory>
+    ensures says { IfOk result (λ answer. Says (Err fault) answer.status answer.text.items) }
+    ensures status { IfOk result (λ answer. answer.status ≡ 7) }
+{
+    match fault {
+        CheckFault::Memory => Err(NoMemory),
+        CheckFault::Form(line) => refuse_at(alloc, "form line", line),
+        CheckFault::Entry(entry) => refuse_at(alloc, "entry", entry),
+        CheckFault::State(line) => refuse_at(alloc, "state line", line),
+    }
 }
 
 /// What is said of a report by the image of its listing.
