@@ -15,8 +15,9 @@ use Rattle.z_deck.specs.declared.fault.Kind.TheVariants as kinds
 use Rattle.ztx_answers.specs.Decks.{IsDeckRefusal, IsDueToDeck, long_deck_line}
 use Rattle.ztx_answers.proofs.Decked.{one_read, one_written, read, written}
 use Rattle.ztx_answers.specs.Heats.{IsDueToHeat}
-use Rattle.ztx_answers.proofs.Checks.{long_check_ok, one_check}
+use Rattle.ztx_answers.proofs.Checks.{long_check_ok}
 use Rattle.ztx_answers.proofs.Heats.{one_heat, some_heat}
+use Rattle.ztx_answers.proofs.OneCheck.{one_check}
 use Rattle.ztx_answers.proofs.Steps.{long_step_ok, one_step, some_step}
 
 -- something is due

@@ -13,3 +13,4 @@ pub mod DecksGiven
 pub mod Steps
 pub mod Heats
 pub mod Checks
+pub mod OneCheck
