@@ -1,10 +1,9 @@
 -- Whether a line is a command: a search among all that there are decides.
-use Rattle.std.proofs.Common.{◌≡◌, ℕ, zero, suc, ◌+◌, ◌<◌, ◌≤◌, ◌^◌, ◌⊎◌, Bool, true, false, List, Decides}
-use Rattle.std.proofs.Common.{refl, subst, inl, inr, arith}
+use Rattle.std.proofs.Common.{◌≡◌, ℕ, zero, suc, ◌+◌, ◌<◌, ◌≤◌, ◌^◌, ◌⊎◌, List}
+use Rattle.std.proofs.Common.{subst, inl, inr, arith}
 use Rattle.std.specs.Prelude.{codes}
-use Rattle.std.specs.Str.{bytes_eq}
-use Rattle.std.proofs.lemmas.Bool.{cases_lt, false≢true}
-use Rattle.std.proofs.lemmas.Slice.Eq.{bytes_eq-Decides}
+use Rattle.std.proofs.lemmas.Bool.{cases_lt}
+use Rattle.input_parts.proofs.Lists.{same_or_not}
 use Rattle.step_words.specs.declared.command.StepCommand.{StepCommand}
 use Rattle.step_words.specs.declared.command.StepCommand.TheVariants.{Forward, Back, Go, Cpu, Bytes, History}
 use Rattle.step_words.specs.Commands.{command_text, AreBytes, IsKnown, IsCommand}
@@ -39,13 +38,6 @@ module _ (P : ℕ → Type 0) where
   search_below decide (suc most) = one_more most (search_below decide most) (decide most)
 
 -- ---- texts and ranges
-
-pub same_or_not : (a b : List ℕ) → (a ≡ b) ⊎ (¬ (a ≡ b))
-same_or_not a b = by (bytes_eq a b) (bytes_eq-Decides a b)
-  where
-    by : (t : Bool) → Decides t (a ≡ b) → (a ≡ b) ⊎ (¬ (a ≡ b))
-    by true d = inl (d.0 refl)
-    by false d = inr (λ e. false≢true (d.1 e))
 
 bytes_by : (first count : ℕ) → (count < 1) ⊎ (1 ≤ count) → (256 < count) ⊎ (count ≤ 256)
     → (first < 8192) ⊎ (8192 ≤ first) → (1048576 < first + count) ⊎ (first + count ≤ 1048576)

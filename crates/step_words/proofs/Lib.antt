@@ -1,6 +1,4 @@
--- Lines passed one after the other, what a line tells, and that there is one reading.
-pub mod Passing
-pub mod Marks
+-- Commands read line by line, what a line tells, and that there is one reading.
 pub mod LineByLine
 pub mod Telling
 pub mod Deciding

@@ -5,13 +5,13 @@ use Rattle.std.specs.Prelude.{◌==◌}
 use Rattle.std.proofs.lemmas.List.Elements.{All-nil, All-push, filter-append}
 use Rattle.tx_journal.specs.Numbers.{Lacks}
 use Rattle.step_words.specs.declared.command.StepCommand.{StepCommand}
-use Rattle.step_words.specs.Lines.{lines_of}
+use Rattle.input_parts.specs.Lines.{lines_of}
 use Rattle.step_words.specs.Commands.{command_text, filled, IsKnown, IsFair, AreCommands}
 use Rattle.step_words.specs.Commands.{IsFirstBad}
 use Rattle.step_words.specs.Faults.{Adds, IsBadLine, IsRefused}
 use Rattle.step_words.specs.declared.fault.CommandFault.{CommandFault}
 use Rattle.step_words.specs.declared.fault.CommandFault.TheVariants.{Memory, Line}
-use Rattle.step_words.proofs.Passing.{Passed, nothing_passed, passed_more, at_line, at_last}
+use Rattle.input_parts.proofs.Passing.{Passed, nothing_passed, passed_more, at_line, at_last}
 
 -- ---- lines so far
 

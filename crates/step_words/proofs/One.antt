@@ -1,5 +1,5 @@
--- An input has one listing and one text of commands, and that text has one reading.
-use Rattle.std.proofs.Common.{◌≡◌, ◌≢◌, ℕ, ◌+◌, ◌<◌, ◌^◌, ◌⊎◌, Bool, not, cond, List, [], ◌∷◌, ◌++◌, length, map}
+-- A text of commands has one reading.
+use Rattle.std.proofs.Common.{◌≡◌, ℕ, ◌+◌, ◌<◌, ◌^◌, ◌⊎◌, Bool, not, cond, List, [], ◌∷◌, ◌++◌, length, map}
 use Rattle.std.proofs.Common.{refl, sym, ap, ap₂, subst, ◌∙◌, inl, inr, All, arith}
 use Rattle.std.specs.Fmt.{decimal}
 use Rattle.std.proofs.lemmas.Bool.{ne_eqb}
@@ -8,125 +8,13 @@ use Rattle.std.proofs.lemmas.List.Elements.{All-nil, All-cons, All-head, All-tai
 use Rattle.tx_journal.proofs.Decimals.{same_start}
 use Rattle.step_words.specs.declared.command.StepCommand.{StepCommand}
 use Rattle.step_words.specs.declared.command.StepCommand.TheVariants.{Forward, Back, Go, Cpu, Bytes, History}
-use Rattle.step_words.specs.Lines.{lines_of, ended, joined}
-use Rattle.step_words.specs.Parts.{mark, AreUnmarked, IsParted}
+use Rattle.input_parts.specs.Lines.{lines_of}
 use Rattle.step_words.specs.Commands.{command_text, filled, AreBytes, IsKnown, IsCommand, IsFair, AreCommands}
 use Rattle.step_words.specs.Commands.{IsFirstBad}
-use Rattle.step_words.specs.Readings.{HasParts, SameParts, HasCommands, HasBadLine}
-use Rattle.step_words.proofs.Deciding.{same_or_not, command_or_not}
+use Rattle.step_words.specs.Readings.{HasCommands, HasBadLine}
+use Rattle.input_parts.proofs.Lists.{not_among, same_cut, same_lines}
+use Rattle.step_words.proofs.Deciding.{command_or_not}
 use Rattle.step_words.proofs.Telling.{Opens, opens}
-
--- ---- lists of lines
-
-record Same (x y : List ℕ) (xs ys : List (List ℕ)) : Type 0 where
-  pub head : x ≡ y
-  pub rest : xs ≡ ys
-
-same_lines : (x y : List ℕ) (xs ys : List (List ℕ)) → x ∷ xs ≡ y ∷ ys → Same x y xs ys
-same_lines x y xs ys is = record { head = cc; rest = cc }
-
-record SameCut (b b' c c' : List (List ℕ)) : Type 0 where
-  pub before : b ≡ b'
-  pub behind : c ≡ c'
-
--- a line of another kind stands at one place alone where all lines before it are of a kind
-module _ (P : List ℕ → Type 0) where
-  not_among : (before : List (List ℕ)) (line : List ℕ) (behind : List (List ℕ)) → All P (before ++ line ∷ behind)
-      → P line
-  not_among [] line behind all = All-head P line behind all
-  not_among (l ∷ ls) line behind all = not_among ls line behind (All-tail P l (ls ++ line ∷ behind) all)
-
-  same_cut : (b b' : List (List ℕ)) (x y : List ℕ) (c c' : List (List ℕ)) → All P b → All P b' → ¬ P x → ¬ P y
-      → b ++ x ∷ c ≡ b' ++ y ∷ c' → SameCut b b' c c'
-  same_cut [] [] x y c c' all all' not_x not_y is =
-      record { before = refl; behind = (same_lines x y c c' is).rest }
-  same_cut [] (l ∷ ls) x y c c' all all' not_x not_y is =
-      let e = same_lines x l c (ls ++ y ∷ c') is in
-      absurd (not_x (subst P (sym e.head) (All-head P l ls all')))
-  same_cut (l ∷ ls) [] x y c c' all all' not_x not_y is =
-      let e = same_lines l y (ls ++ x ∷ c) c' is in
-      absurd (not_y (subst P e.head (All-head P l ls all)))
-  same_cut (l ∷ ls) (k ∷ ks) x y c c' all all' not_x not_y is =
-      let e = same_lines l k (ls ++ x ∷ c) (ks ++ y ∷ c') is in
-      let more = same_cut ls ks x y c c' (All-tail P l ls all) (All-tail P k ks all') not_x not_y e.rest in
-      record {
-        before = ap₂ (λ (z : List ℕ) (zs : List (List ℕ)). z ∷ zs) e.head more.before;
-        behind = more.behind;
-      }
-
--- ---- the parts of an input
-
-abbrev IsOther : List ℕ → Type 0
-IsOther line = line ≢ mark
-
-is_mark : ¬ IsOther mark
-is_mark other = other refl
-
-pub same_parts : (input listing commands listing' commands' : List ℕ) → IsParted input listing commands
-    → IsParted input listing' commands' → SameParts listing commands listing' commands'
-same_parts input listing commands listing' commands' (inl a) (inl b) = record {
-  listing = a.listing_is ∙ sym b.listing_is;
-  commands = a.commands_is ∙ sym b.commands_is;
-}
-same_parts input listing commands listing' commands' (inl a) (inr b) =
-    absurd (not_among IsOther b.before mark b.behind (subst AreUnmarked b.lines a.unmarked) refl)
-same_parts input listing commands listing' commands' (inr a) (inl b) =
-    absurd (not_among IsOther a.before mark a.behind (subst AreUnmarked a.lines b.unmarked) refl)
-same_parts input listing commands listing' commands' (inr a) (inr b) =
-    let s = same_cut IsOther a.before b.before mark mark a.behind b.behind a.first b.first is_mark is_mark
-    (sym a.lines ∙ b.lines) in
-    record {
-      listing = a.listing_is ∙ ap ended s.before ∙ sym b.listing_is;
-      commands = a.commands_is ∙ ap joined s.behind ∙ sym b.commands_is;
-    }
-
-record Marked (lines : List (List ℕ)) : Type 0 where
-  pub before : List (List ℕ)
-  pub behind : List (List ℕ)
-  pub is : lines ≡ before ++ mark ∷ behind
-  pub first : AreUnmarked before
-
-look_more : (l : List ℕ) (ls : List (List ℕ)) → (l ≡ mark) ⊎ (¬ (l ≡ mark)) → AreUnmarked ls ⊎ Marked ls
-    → AreUnmarked (l ∷ ls) ⊎ Marked (l ∷ ls)
-look_more l ls (inl is) rest = inr record {
-  before = [];
-  behind = ls;
-  is = ap (λ (x : List ℕ). x ∷ ls) is;
-  first = All-nil IsOther;
-}
-look_more l ls (inr other) (inl none) = inl (All-cons IsOther l ls other none)
-look_more l ls (inr other) (inr m) = inr record {
-  before = l ∷ m.before;
-  behind = m.behind;
-  is = ap (λ (xs : List (List ℕ)). l ∷ xs) m.is;
-  first = All-cons IsOther l m.before other m.first;
-}
-
-look : (lines : List (List ℕ)) → AreUnmarked lines ⊎ Marked lines
-look [] = inl (All-nil IsOther)
-look (l ∷ ls) = look_more l ls (same_or_not l mark) (look ls)
-
-parts_by : (input : List ℕ) → AreUnmarked (lines_of input) ⊎ Marked (lines_of input) → HasParts input
-parts_by input (inl none) = record {
-  listing = input;
-  commands = [];
-  parted = inl record { unmarked = none; listing_is = refl; commands_is = refl };
-}
-parts_by input (inr m) = record {
-  listing = ended m.before;
-  commands = joined m.behind;
-  parted = inr record {
-    before = m.before;
-    behind = m.behind;
-    lines = m.is;
-    first = m.first;
-    listing_is = refl;
-    commands_is = refl;
-  };
-}
-
-pub parts_of : (input : List ℕ) → HasParts input
-parts_of input = parts_by input (look (lines_of input))
 
 -- ---- one command
 

@@ -5,7 +5,7 @@ use Rattle.std.specs.Fmt.{decimal}
 use Rattle.std.specs.List.{filter}
 use Rattle.step_words.specs.declared.command.StepCommand.{StepCommand}
 use Rattle.step_words.specs.declared.command.StepCommand.TheVariants.{Forward, Back, Go, Cpu, Bytes, History}
-use Rattle.step_words.specs.Lines.{lines_of}
+use Rattle.input_parts.specs.Lines.{lines_of}
 
 -- a letter, and behind a blank each its numbers
 abbrev pub command_text : StepCommand → List ℕ

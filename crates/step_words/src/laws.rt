@@ -2,15 +2,10 @@
 ghost use Rattle.std.specs.Prelude.{◌≡◌, ℕ, ◌<◌, ◌^◌, ◌⊎◌, List};
 ghost use Rattle.step_words.specs.declared.command.StepCommand.{StepCommand};
 ghost use Rattle.step_words.specs.Commands.{AreCommands, IsFirstBad};
-ghost use Rattle.step_words.specs.Parts.{IsParted};
-ghost use Rattle.step_words.specs.Readings.{HasParts, SameParts, HasCommands, HasBadLine};
+ghost use Rattle.step_words.specs.Readings.{HasCommands, HasBadLine};
 
-/// Each input has one listing and one text of commands. Each text has commands or a first bad line, never both, and
-/// one list of commands, or one such line.
-pub fn an_input_has_one_reading()
-    ensures parts { (input : List ℕ) → HasParts input }
-    ensures one_pair { (input listing commands other another : List ℕ) → IsParted input listing commands
-        → IsParted input other another → SameParts listing commands other another }
+/// Each text has commands or a first bad line, never both, and one list of commands, or one such line.
+pub fn a_text_has_one_reading()
     ensures some { (cpus : ℕ) (text : List ℕ) → HasCommands cpus text ⊎ HasBadLine cpus text }
     ensures one { (cpus : ℕ) (text : List ℕ) (cs ds : List StepCommand) → cpus < 2 ^ 64
         → AreCommands cpus text cs → AreCommands cpus text ds → cs ≡ ds }

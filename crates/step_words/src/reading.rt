@@ -5,8 +5,8 @@ ghost use Rattle.step_words.specs.Commands.{AreBytes, AreCommands, IsCommand, Te
 ghost use Rattle.step_words.specs.Faults.{Adds, IsBadLine, IsRefused};
 
 use crate::command::StepCommand;
-use crate::cutting::cut;
 use crate::fault::CommandFault;
+use input_parts::cut;
 use std::alloc::Global;
 use tx_journal::read_number;
 

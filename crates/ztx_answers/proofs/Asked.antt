@@ -1,5 +1,5 @@
 -- What is due to a request: one answer for every input, and for one that is too long a fault.
-use Rattle.std.proofs.Common.{◌≡◌, ℕ, ◌<◌, List, length, IfOk, Result, Ok, Err, inl, refl, subst, sym}
+use Rattle.std.proofs.Common.{◌≡◌, ◌≢◌, ℕ, ◌<◌, List, length, IfOk, Result, Ok, Err, inl, refl, subst, sym}
 use Rattle.std.proofs.lemmas.Bool.{lt-ltb}
 use Rattle.z_assemble.specs.Whole.{FirstFault}
 use Rattle.z_assemble.specs.Words.{fault_line}
@@ -15,17 +15,20 @@ use Rattle.z_deck.specs.declared.fault.Kind.TheVariants as kinds
 use Rattle.ztx_answers.specs.Decks.{IsDeckRefusal, IsDueToDeck, long_deck_line}
 use Rattle.ztx_answers.proofs.Decked.{one_read, one_written, read, written}
 use Rattle.ztx_answers.specs.Heats.{IsDueToHeat}
+use Rattle.ztx_answers.proofs.Checks.{long_check_ok}
 use Rattle.ztx_answers.proofs.Heats.{one_heat, some_heat}
+use Rattle.ztx_answers.proofs.OneCheck.{one_check}
 use Rattle.ztx_answers.proofs.Steps.{long_step_ok, one_step, some_step}
 
 -- something is due
-pub some_due : (r : Request) (input : List ℕ) → IsAllowed r → IsSome (IsDue r input)
-some_due request.List input allowed = listed input
-some_due (request.Run turns tick seed) input allowed = reported turns tick seed input allowed
-some_due request.Deck input allowed = written input
-some_due (request.ReadDeck origin) input allowed = read origin input
-some_due (request.Step turns tick seed) input allowed = some_step turns tick seed input
-some_due (request.Heat turns tick seed) input allowed = some_heat turns tick seed input
+pub some_due : (r : Request) (input : List ℕ) → IsAllowed r → r ≢ request.Check → IsSome (IsDue r input)
+some_due request.List input allowed other = listed input
+some_due (request.Run turns tick seed) input allowed other = reported turns tick seed input allowed
+some_due request.Deck input allowed other = written input
+some_due (request.ReadDeck origin) input allowed other = read origin input
+some_due (request.Step turns tick seed) input allowed other = some_step turns tick seed input
+some_due (request.Heat turns tick seed) input allowed other = some_heat turns tick seed input
+some_due request.Check input allowed other = absurd (other refl)
 
 -- only one thing is
 pub one_due : (r : Request) (input : List ℕ) → IsOnly (IsDue r input)
@@ -35,6 +38,7 @@ one_due request.Deck input = one_written input
 one_due (request.ReadDeck origin) input = one_read origin input
 one_due (request.Step turns tick seed) input = one_step turns tick seed input
 one_due (request.Heat turns tick seed) input = one_heat turns tick seed input
+one_due request.Check input = one_check input
 
 -- a text with too many bytes for a listing has that fault first
 pub long_listing : (input : List ℕ) (status : ℕ) (text : List ℕ) → 16777216 < length input → status ≡ 5
@@ -69,6 +73,7 @@ module _ {E : Type 0} (r : Result Answer E) (s : IfOk r (λ a. a.status ≡ 5))
   long_due (request.Step turns tick seed) no_deck = long_step_ok turns tick seed r s t
   long_due (request.Heat turns tick seed) no_deck =
       long_ok r (IsDueToHeat turns tick seed) (λ input status text refused. inl refused) s t
+  long_due request.Check no_deck = long_check_ok r s t
 
 -- bytes that are too many for a deck have that fault first
 long_deck : (origin : ℕ) (input : List ℕ) (status : ℕ) (text : List ℕ) → 16777216 < length input

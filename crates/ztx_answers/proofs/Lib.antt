@@ -12,3 +12,5 @@ pub mod Decked
 pub mod DecksGiven
 pub mod Steps
 pub mod Heats
+pub mod Checks
+pub mod OneCheck

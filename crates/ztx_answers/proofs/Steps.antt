@@ -2,13 +2,14 @@
 use Rattle.std.proofs.Common.{◌≡◌, ℕ, ◌<◌, ◌≤◌, ◌^◌, ◌⊎◌, List, length, Option, Result, Ok, Err, IfOk, refl, sym, ap}
 use Rattle.std.proofs.Common.{ap₂, subst, ◌∙◌, inl, inr, arith}
 use Rattle.std.proofs.lemmas.Bool.{cases_lt}
+use Rattle.input_parts.specs.Parts.{IsParted, Pieces}
+use Rattle.input_parts.proofs.One.{one_way, some_way}
 use Rattle.step_text.specs.Replies.{replies_from}
 use Rattle.step_words.specs.Commands.{AreCommands, IsFirstBad}
-use Rattle.step_words.specs.Parts.{IsParted}
 use Rattle.step_words.specs.Readings.{HasCommands, HasBadLine}
 use Rattle.step_words.specs.Words as words
 use Rattle.step_words.specs.declared.command.StepCommand.{StepCommand}
-use Rattle.step_words.proofs.One.{parts_of, same_parts, one_holds as one_reading, same_commands, same_number, never_both}
+use Rattle.step_words.proofs.One.{one_holds as one_reading, same_commands, same_number, never_both}
 use Rattle.tx_journal.specs.Content.{Content}
 use Rattle.tx_journal.specs.declared.events.Event.{Event}
 use Rattle.tx_machine.specs.Machine.{Seen, opened, setting_of, state_of}
@@ -28,7 +29,7 @@ use Rattle.ztx_answers.specs.declared.answer.Answer.{Answer}
 use Rattle.ztx_answers.specs.Due.{long_fault}
 use Rattle.ztx_answers.specs.One.{IsSome, IsOnly}
 use Rattle.ztx_answers.specs.Runs.{running}
-use Rattle.ztx_answers.specs.Steps.{run_of, AreReplies, IsBadCommand, IsDueToParts, IsDueToStep}
+use Rattle.ztx_answers.specs.Steps.{run_of, step_mark, AreReplies, IsBadCommand, IsDueToParts, IsDueToStep}
 use Rattle.ztx_answers.proofs.Answered.{same_refusal, refusal}
 use Rattle.ztx_answers.proofs.Ran.{IsOpened, ran_status}
 
@@ -69,13 +70,12 @@ replies_due image turns tick seed before after trace commands status out is ran 
 
 -- ---- answers that are there, unless memory ran out
 
-step_is : (turns tick : ℕ) (seed : Option ℕ) (input listing text : List ℕ) → length input ≤ 16777216
-    → IsParted input listing text → (status : ℕ) (out : List ℕ)
-    → IsDueToParts turns tick seed listing text status out → IsDueToStep turns tick seed input status out
-step_is turns tick seed input listing text short parted status out due = inr record {
+step_is : (turns tick : ℕ) (seed : Option ℕ) (input : List ℕ) (p : Pieces) → length input ≤ 16777216
+    → IsParted step_mark input p → (status : ℕ) (out : List ℕ)
+    → IsDueToParts turns tick seed p.listing p.behind status out → IsDueToStep turns tick seed input status out
+step_is turns tick seed input p short parted status out due = inr record {
   short = short;
-  listing = listing;
-  text = text;
+  pieces = p;
   parted = parted;
   is_due = due;
 }
@@ -107,21 +107,20 @@ module _ {E : Type 0} (turns tick : ℕ) (seed : Option ℕ) where
       }))
   command_refused (Err e) image text number first s t = tt
 
-  module _ (input listing text : List ℕ) (short : length input ≤ 16777216)
-      (parted : IsParted input listing text) where
-    pub step_answered : (r : Result Answer E) (image : Content) → Stands listing image
+  module _ (input : List ℕ) (p : Pieces) (short : length input ≤ 16777216) (parted : IsParted step_mark input p) where
+    pub step_answered : (r : Result Answer E) (image : Content) → Stands p.listing image
         → IfOk r (λ a. (listing : List ℕ) → Stands listing image
-        → IsDueToParts turns tick seed listing text a.status a.text.items)
+        → IsDueToParts turns tick seed listing p.behind a.status a.text.items)
         → IfOk r (λ a. IsDueToStep turns tick seed input a.status a.text.items)
     step_answered (Ok a) image stands due =
-        step_is turns tick seed input listing text short parted a.status a.text.items (due listing stands)
+        step_is turns tick seed input p short parted a.status a.text.items (due p.listing stands)
     step_answered (Err e) image stands due = tt
 
-    pub step_refused : (r : Result Answer E) (fault : ListingFault) → FirstFault listing fault
+    pub step_refused : (r : Result Answer E) (fault : ListingFault) → FirstFault p.listing fault
         → IfOk r (λ a. a.status ≡ 5) → IfOk r (λ a. a.text.items ≡ fault_line fault)
         → IfOk r (λ a. IsDueToStep turns tick seed input a.status a.text.items)
     step_refused (Ok a) fault first s t =
-        step_is turns tick seed input listing text short parted a.status a.text.items
+        step_is turns tick seed input p short parted a.status a.text.items
         (inl (record { fault = fault; first = first; status_is = s; text_is = t }))
     step_refused (Err e) fault first s t = tt
 
@@ -194,10 +193,10 @@ module _ (turns tick : ℕ) (seed : Option ℕ) (input : List ℕ) where
   one_step s t xs ys (inl a) (inr b) = absurd (omega (arith, a.long, b.short))
   one_step s t xs ys (inr a) (inl b) = absurd (omega (arith, b.long, a.short))
   one_step s t xs ys (inr a) (inr b) =
-      let same = same_parts input a.listing a.text b.listing b.text a.parted b.parted in
-      let due = subst (λ (l : List ℕ). IsDueToParts turns tick seed l a.text t ys) (sym same.listing)
-      (subst (λ (c : List ℕ). IsDueToParts turns tick seed b.listing c t ys) (sym same.commands) b.is_due) in
-      one_of_parts turns tick seed a.listing a.text s t xs ys a.is_due due
+      let same = one_way step_mark input b.pieces a.pieces b.parted a.parted in
+      let due =
+      subst (λ (p : Pieces). IsDueToParts turns tick seed p.listing p.behind t ys) same b.is_due in
+      one_of_parts turns tick seed a.pieces.listing a.pieces.behind s t xs ys a.is_due due
 
 -- ---- one there is
 
@@ -249,15 +248,14 @@ module _ (turns tick : ℕ) (seed : Option ℕ) (input : List ℕ) where
     is_due = inl (record { long = long; status_is = refl; out_is = refl });
   }
   step_by (inr short) =
-      let p = parts_of input in
-      let d = parts_due turns tick seed p.listing p.commands (one_holds p.listing) in
+      let p = some_way step_mark input in
+      let d = parts_due turns tick seed p.pieces.listing p.pieces.behind (one_holds p.pieces.listing) in
       record {
         status = d.status;
         text = d.out;
         is_due = inr (record {
           short = short;
-          listing = p.listing;
-          text = p.commands;
+          pieces = p.pieces;
           parted = p.parted;
           is_due = d.is_due;
         });

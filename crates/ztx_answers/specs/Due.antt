@@ -16,6 +16,10 @@ use Rattle.ztx_answers.specs.Serial.{IsSerialRun}
 abbrev pub IsStatus : ℕ → Type 0
 IsStatus status = (status ≡ 0) ⊎ ((status ≡ 5) ⊎ (status ≡ 6))
 
+-- and those of judged reports, which may be refused
+abbrev pub IsAnyStatus : ℕ → Type 0
+IsAnyStatus status = IsStatus status ⊎ (status ≡ 7)
+
 -- the input is no listing: 5, and the line of its first fault
 pub record IsRefusal (input : List ℕ) (status : ℕ) (text : List ℕ) : Type 0 where
   pub fault : ListingFault

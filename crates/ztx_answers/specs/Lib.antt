@@ -6,6 +6,7 @@ pub mod Due
 pub mod Decks
 pub mod Steps
 pub mod Heats
+pub mod Checks
 pub mod One
 pub mod Races
 pub mod Requests

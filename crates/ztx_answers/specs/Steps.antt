@@ -1,8 +1,8 @@
 -- What is due to a listing with commands that look at its run, forward and back.
-use Rattle.std.specs.Prelude.{◌≡◌, ℕ, ◌<◌, ◌≤◌, ◌⊎◌, List, Option, length}
+use Rattle.std.specs.Prelude.{◌≡◌, ℕ, ◌<◌, ◌≤◌, ◌⊎◌, List, Option, length, codes}
+use Rattle.input_parts.specs.Parts.{IsParted, Pieces}
 use Rattle.step_text.specs.Replies.{replies_from}
 use Rattle.step_words.specs.Commands.{AreCommands, IsFirstBad}
-use Rattle.step_words.specs.Parts.{IsParted}
 use Rattle.step_words.specs.Words as words
 use Rattle.step_words.specs.declared.command.StepCommand.{StepCommand}
 use Rattle.tx_journal.specs.Content.{Content}
@@ -13,6 +13,10 @@ use Rattle.z_assemble.specs.Whole.{Stands}
 use Rattle.z_assemble.specs.Words.{fault_line}
 use Rattle.ztx_answers.specs.Due.{IsRefusal, long_fault}
 use Rattle.ztx_answers.specs.Runs.{running}
+
+-- the line between a listing and the commands
+abbrev pub step_mark : List ℕ
+step_mark = codes "ZTX STEP"
 
 -- the run of an image with its planned schedule, all of its events ahead
 abbrev pub run_of : Content → ℕ → ℕ → Option ℕ → Traced
@@ -53,13 +57,13 @@ IsDueToParts turns tick seed listing text status out =
     IsRefusal listing status out
     ⊎ (IsBadCommand listing text status out ⊎ AreReplies turns tick seed listing text status out)
 
--- to an input that has not too many bytes: parted at its first line that is the mark
+-- to an input that has not too many bytes: the commands stand behind the first line that is the mark; without it there
+-- are none
 pub record IsStep (turns tick : ℕ) (seed : Option ℕ) (input : List ℕ) (status : ℕ) (out : List ℕ) : Type 0 where
   pub short : length input ≤ 16777216
-  pub listing : List ℕ
-  pub text : List ℕ
-  pub parted : IsParted input listing text
-  pub is_due : IsDueToParts turns tick seed listing text status out
+  pub pieces : Pieces
+  pub parted : IsParted step_mark input pieces
+  pub is_due : IsDueToParts turns tick seed pieces.listing pieces.behind status out
 
 abbrev pub IsDueToStep : ℕ → ℕ → Option ℕ → List ℕ → ℕ → List ℕ → Type 0
 IsDueToStep turns tick seed input status out =

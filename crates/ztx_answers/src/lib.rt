@@ -3,6 +3,7 @@
 #![tactic(auto)]
 
 mod answer;
+mod checked;
 mod decks;
 mod generated;
 mod heated;

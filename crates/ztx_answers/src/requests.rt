@@ -1,15 +1,19 @@
 //! What is asked of the bytes of an input.
 ghost use Rattle.std.specs.Prelude.{◌≡◌, ℕ, ◌<◌, ◌≤◌, List, IfOk, length};
-ghost use Rattle.ztx_answers.specs.Due.{IsStatus};
+ghost use Rattle.ztx_answers.specs.Due.{IsAnyStatus};
 ghost use Rattle.ztx_answers.specs.Requests.{IsAllowed, IsDue, most_of};
 
 use crate::answer::{Answer, NoMemory};
+use crate::checked::check_report;
 use crate::decks::{read_deck_of, refuse_long_deck, write_deck_of};
 use crate::heated::heat_listing;
 use crate::listed::{list, refuse_long_listing, run};
 use crate::stepped::step;
 use std::alloc::Global;
 use z_assemble::MOST_BYTES;
+
+/// How many bytes a listing and the report behind it may have.
+const MOST_WITH_REPORT: usize = 134_217_728;
 
 /// What is asked of an input.
 #[derive(Clone, Copy, Debug, PartialEq, Eq)]
@@ -42,6 +46,8 @@ pub enum Request {
         tick: u32,
         seed: Option<u64>,
     },
+    /// Whether the report behind a listing is sound: that of a legal history, and of what this leaves.
+    Check,
 }
 
 /// How many bytes an input of the request may have.
@@ -55,6 +61,7 @@ pub fn most_bytes(request: Request) -> usize
         | Request::ReadDeck { .. }
         | Request::Step { .. }
         | Request::Heat { .. } => MOST_BYTES,
+        Request::Check => MOST_WITH_REPORT,
     }
 }
 
@@ -63,7 +70,7 @@ pub fn answer_to(alloc: Global, request: Request, input: &[u8]) -> Result<Answer
     requires allowed { IsAllowed request }
     requires short { length input.now ≤ most_of request }
     ensures due { IfOk result (λ answer. IsDue request input.now answer.status answer.text.items) }
-    ensures statuses { IfOk result (λ answer. IsStatus answer.status) }
+    ensures statuses { IfOk result (λ answer. IsAnyStatus answer.status) }
 {
     match request {
         Request::List => list(alloc, input),
@@ -72,6 +79,7 @@ pub fn answer_to(alloc: Global, request: Request, input: &[u8]) -> Result<Answer
         Request::ReadDeck { origin } => read_deck_of(alloc, origin, input),
         Request::Step { turns, tick, seed } => step(alloc, input, turns, tick, seed),
         Request::Heat { turns, tick, seed } => heat_listing(alloc, input, turns, tick, seed),
+        Request::Check => check_report(alloc, input),
     }
 }
 

@@ -11,15 +11,19 @@ ghost use Rattle.ztx_answers.specs.Steps.{AreReplies, IsDueToParts, IsDueToStep}
 use crate::answer::{Answer, NoMemory};
 use crate::listed::refuse;
 use crate::machine::open;
+use input_parts::part;
 use std::alloc::Global;
 use step_text::replies;
-use step_words::{CommandFault, StepCommand, fault_line, part, read_commands};
+use step_words::{CommandFault, StepCommand, fault_line, read_commands};
 use tx_journal::Image;
 use tx_machine::machine::Machine;
 use tx_report::status;
 use tx_schedule::run_planned;
 use tx_step::Trace;
 use z_assemble::{AssembleFault, assemble};
+
+/// The line between a listing and the commands.
+const STEP_MARK: &[u8] = b"ZTX STEP";
 
 /// The line of a line that is no command.
 fn refuse_command(alloc: Global, number: u64) -> Result<Answer, NoMemory>
@@ -113,9 +117,9 @@ pub fn step(
         IsDueToStep turns tick seed input.now answer.status answer.text.items) }
     ensures statuses { IfOk result (λ answer. IsStatus answer.status) }
 {
-    let parts = part(input);
+    let parts = part(input, STEP_MARK);
     match assemble(alloc, parts.listing) {
-        Ok(image) => answer_commands(alloc, image, turns, tick, seed, parts.commands),
+        Ok(image) => answer_commands(alloc, image, turns, tick, seed, parts.behind),
         Err(AssembleFault::Memory) => Err(NoMemory),
         Err(AssembleFault::Listing(fault)) => refuse(alloc, fault),
     }

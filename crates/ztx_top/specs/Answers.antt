@@ -44,6 +44,10 @@ WasCut due left held after = Keeps held after ⊎ WroteSome due left held after
 abbrev pub IsWhole : ℕ → Type 0
 IsWhole status = (status ≢ 1) × (status ≢ 2) × (status ≢ 3)
 
+-- what was asked is done, or told to be unfinished or refused: the input was read to its end
+abbrev pub IsDone : ℕ → Type 0
+IsDone status = (status ≡ 0) ⊎ ((status ≡ 6) ⊎ (status ≡ 7))
+
 -- the text was written whole, and the answer is its status; or memory was short: the answer is 1, and a
 -- beginning of the text was written, perhaps nothing
 abbrev pub Tells : ℕ → ℕ → List ℕ → Option (List ℕ) → Option (List ℕ) → Type 0

@@ -12,7 +12,7 @@ use Rattle.ztx_words.specs.declared.Command.TheVariants as command
 use Rattle.ztx_top.specs.declared.errand.Errand.{Errand}
 use Rattle.ztx_top.specs.declared.errand.Errand.TheVariants as errand
 
--- what a command asks for; the words of one that is not built yet are answered as those that are none
+-- what a command asks for
 abbrev pub errand_of : Option Command → Errand
 errand_of None = errand.Nothing
 errand_of (Some command.List) = errand.Input request.List
@@ -20,7 +20,7 @@ errand_of (Some (command.Run turns tick seed)) = errand.Input (request.Run turns
 errand_of (Some (command.Race turns tick)) = errand.Race turns tick
 errand_of (Some (command.Generate number)) = errand.Generate number
 errand_of (Some (command.Summary number)) = errand.Summary number
-errand_of (Some command.Check) = errand.Nothing
+errand_of (Some command.Check) = errand.Input request.Check
 errand_of (Some (command.Heat turns tick seed)) = errand.Input (request.Heat turns tick seed)
 errand_of (Some (command.Deck true origin)) = errand.Input (request.ReadDeck origin)
 errand_of (Some (command.Deck false origin)) = errand.Input request.Deck

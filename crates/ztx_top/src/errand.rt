@@ -18,7 +18,7 @@ pub enum Errand {
     Generate(u64),
     /// The short summary of that listing's run.
     Summary(u64),
-    /// Nothing: the words are no command line, or ask for what is not built.
+    /// Nothing: the words are no command line.
     Nothing,
 }
 
@@ -55,6 +55,7 @@ pub fn errand_of(command: Option<Command>) -> Errand
             tick: tick as u32,
             seed,
         }),
-        _ => Errand::Nothing,
+        Some(Command::Check) => Errand::Input(Request::Check),
+        None => Errand::Nothing,
     }
 }

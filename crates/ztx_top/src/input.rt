@@ -3,7 +3,7 @@ ghost use Rattle.std.specs.Prelude.{◌≡◌, ◌≢◌, ℕ, ◌≤◌, ◌⊎
 ghost use Rattle.std.specs.Io.KnownBytes.{IsAtEnd, Keeps};
 ghost use Rattle.ztx_answers.specs.Requests.{IsAllowed, IsDue, most_of};
 ghost use Rattle.ztx_io.specs.Faults.{Rose};
-ghost use Rattle.ztx_top.specs.Answers.{IsInput, IsLong, IsWhole, Wrote, WasCut};
+ghost use Rattle.ztx_top.specs.Answers.{IsDone, IsInput, IsLong, IsWhole, Wrote, WasCut};
 
 use crate::output::tell;
 use std::alloc::Global;
@@ -30,7 +30,7 @@ fn tell_long<K: Sink>(alloc: Global, request: Request, sink: &mut K) -> u8
 fn tell_due<K: Sink>(alloc: Global, request: Request, input: &[u8], sink: &mut K) -> u8
     requires allowed { IsAllowed request }
     requires short { length input.now ≤ most_of request }
-    ensures statuses { (result ≤ 6) × (result ≢ 2) × (result ≢ 4) }
+    ensures statuses { (result ≤ 7) × (result ≢ 2) × (result ≢ 4) }
     ensures whole { (left : Option (List ℕ)) → IsInput left input.now → IsWhole result
         → Wrote (IsDue request) left result (K.held sink.old) (K.held sink.new) }
     ensures cut { (left : Option (List ℕ)) → IsInput left input.now → ((result ≡ 1) ⊎ (result ≡ 3))
@@ -52,7 +52,7 @@ pub fn answer_input<S: Source, K: Sink>(
     sink: &mut K,
 ) -> u8
     requires { IsAllowed request }
-    ensures statuses { (result ≤ 6) × (result ≢ 4) }
+    ensures statuses { (result ≤ 7) × (result ≢ 4) }
     ensures whole { IsWhole result
         → Wrote (IsDue request) (S.left source.old) result (K.held sink.old) (K.held sink.new) }
     ensures cut { ((result ≡ 1) ⊎ (result ≡ 3))
@@ -60,7 +60,7 @@ pub fn answer_input<S: Source, K: Sink>(
     ensures source { result ≡ 2
         → Rose (S.faults source.old) (S.faults source.new) × Keeps (K.held sink.old) (K.held sink.new) }
     ensures sink { result ≡ 3 → Rose (K.faults sink.old) (K.faults sink.new) }
-    ensures read { ((result ≡ 0) ⊎ (result ≡ 6)) → IsAtEnd (S.left source.new) }
+    ensures read { IsDone result → IsAtEnd (S.left source.new) }
     ensures source_count { S.faults source.old ≤ S.faults source.new }
     ensures sink_count { K.faults sink.old ≤ K.faults sink.new }
 {

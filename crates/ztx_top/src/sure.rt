@@ -21,7 +21,7 @@ pub fn sure_top<R: Threads + Wait + Sync, G: Gate>(
     sink: &mut SureSink,
     gate: &G,
 ) -> u8
-    ensures statuses { (result ≤ 6) × (result ≢ 2) × (result ≢ 3) }
+    ensures statuses { (result ≤ 7) × (result ≢ 2) × (result ≢ 3) }
     ensures whole { result ≢ 1 → Wrote (due (asked (map string_bytes words.now)))
         (⟦<SureSource as Source>⟧.left source.old) result (⟦<SureSink as Sink>⟧.held sink.old)
         (⟦<SureSink as Sink>⟧.held sink.new) }

@@ -93,6 +93,31 @@ STATUS 0
 END
 ";
 
+/// ALONE with its report behind it.
+const ALONE_REPORTED: &str = " CPU START
+START LGHI 1,5
+ SVC 0
+ZTX REPORT
+STATUS 0
+CPU 0 HALTED
+PSW 0000000000004006 CC 0 MASK 0
+GR 00 0000000000000000 0000000000000005 0000000000000000 0000000000000000
+GR 04 0000000000000000 0000000000000000 0000000000000000 0000000000000000
+GR 08 0000000000000000 0000000000000000 0000000000000000 0000000000000000
+GR 12 0000000000000000 0000000000000000 0000000000000000 0000000000000000
+AR 00 00000000 00000000 00000000 00000000 00000000 00000000 00000000 00000000
+AR 08 00000000 00000000 00000000 00000000 00000000 00000000 00000000 00000000
+TX NONE
+PENDING NONE
+COUNTS TURNS 2 ASKED 0 REJECTED 0 COMMITS 0 ABORTS 0
+HISTORY 2
+S 0
+S 0
+SCHEDULE 2
+ SCHED 0,0
+END
+";
+
 /// The calls that a reading of the listing takes, and a writing of the report, in pieces of 16 bytes.
 const READS: u64 = 13;
 
@@ -106,7 +131,7 @@ struct Case {
     text: &'static str,
 }
 
-const CASES: [Case; 19] = [
+const CASES: [Case; 22] = [
     Case {
         words: "list",
         input: " CPU START\nSTART LGHI 1,5\n SVC 0\n",
@@ -218,6 +243,24 @@ const CASES: [Case; 19] = [
     Case {
         words: "heat",
         input: " CP",
+        status: 5,
+        text: "ztx: line 1: unknown mnemonic\n",
+    },
+    Case {
+        words: "check",
+        input: ALONE_REPORTED,
+        status: 0,
+        text: "CHECKED 2\n",
+    },
+    Case {
+        words: "check",
+        input: " CPU START\nSTART LGHI 1,5\n SVC 0\nZTX REPORT\nSTATUS 6\n",
+        status: 7,
+        text: "ztx: report refused: form line 3\n",
+    },
+    Case {
+        words: "check",
+        input: " CP\nZTX REPORT\n",
         status: 5,
         text: "ztx: line 1: unknown mnemonic\n",
     },

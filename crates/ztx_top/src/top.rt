@@ -3,7 +3,7 @@ ghost use Rattle.std.specs.Prelude.{◌≡◌, ◌≢◌, ℕ, ◌≤◌, ◌⊎
 ghost use Rattle.std.specs.Io.KnownBytes.{IsAtEnd, Keeps};
 ghost use Rattle.ztx_answers.specs.Due.{IsGenerated, IsSummary};
 ghost use Rattle.ztx_io.specs.Faults.{Rose};
-ghost use Rattle.ztx_top.specs.Answers.{IsWhole, Wrote, WasCut};
+ghost use Rattle.ztx_top.specs.Answers.{IsDone, IsWhole, Wrote, WasCut};
 ghost use Rattle.ztx_top.specs.Asked.{IsBadWords, IsReady, asked, due, reads};
 
 use crate::errand::{Errand, errand_of};
@@ -75,7 +75,7 @@ fn answer<R: Threads + Wait + Sync, S: Source, K: Sink, G: Gate>(
     gate: &G,
 ) -> u8
     requires { IsReady errand }
-    ensures statuses { result ≤ 6 }
+    ensures statuses { result ≤ 7 }
     ensures whole { IsWhole result
         → Wrote (due errand) (S.left source.old) result (K.held sink.old) (K.held sink.new) }
     ensures cut { ((result ≡ 1) ⊎ (result ≡ 3))
@@ -85,7 +85,7 @@ fn answer<R: Threads + Wait + Sync, S: Source, K: Sink, G: Gate>(
     ensures sink { result ≡ 3 → Rose (K.faults sink.old) (K.faults sink.new) }
     ensures source_count { S.faults source.old ≤ S.faults source.new }
     ensures sink_count { K.faults sink.old ≤ K.faults sink.new }
-    ensures read { reads errand ≡ true → ((result ≡ 0) ⊎ (result ≡ 6)) → IsAtEnd (S.left source.new) }
+    ensures read { reads errand ≡ true → IsDone result → IsAtEnd (S.left source.new) }
     ensures unread { reads errand ≡ false → Keeps (S.left source.old) (S.left source.new) }
 {
     match errand {
@@ -101,7 +101,7 @@ fn answer<R: Threads + Wait + Sync, S: Source, K: Sink, G: Gate>(
 ///
 /// The words are those of the command line, without the program's name: `list`, `run` with `--turns`,
 /// `--tick` and `--seed`, `step` and `heat` with the same, `race` with the first two, `deck` with `--read` and
-/// `--origin`, `generate` and `summary` with a number. Everything is written to the sink. `race` makes its threads
+/// `--origin`, `generate` and `summary` with a number, and `check`. Everything is written to the sink. `race` makes its threads
 /// and waits for them by `rt`; its workers pass the gate.
 ///
 /// | Status | Comes | Written |
@@ -110,12 +110,13 @@ fn answer<R: Threads + Wait + Sync, S: Source, K: Sink, G: Gate>(
 /// | 1 | for want of memory | a beginning of what is due, perhaps nothing |
 /// | 2 | only where the source's count of faults rose | nothing |
 /// | 3 | only where the sink's count of faults rose | a beginning of what is due |
-/// | 4 | the words are no command line, or ask for what is not built | `ztx: bad words` |
+/// | 4 | the words are no command line | `ztx: bad words` |
 /// | 5 | the input is no listing, no deck, or for `step` has a bad command | the line of its first fault |
 /// | 6 | `run`, `race`, `summary`, `step` or `heat`, and some CPU is not finished | the whole text |
+/// | 7 | `check`, and the report is not sound | the line or the entry at which it is refused |
 ///
-/// The words are looked at first, then `list`, `run`, `race`, `deck`, `step` and `heat` read the source to its
-/// end, and writing comes last; the first that fails gives the status, so 0, 4, 5 and 6 come where the writing
+/// The words are looked at first, then `list`, `run`, `race`, `deck`, `step`, `heat` and `check` read the source to
+/// its end, and writing comes last; the first that fails gives the status, so 0, 4, 5, 6 and 7 come where the writing
 /// succeeded. Two races of one listing may give two reports; each is that of the events that it prints.
 pub fn ztx_top<R: Threads + Wait + Sync, S: Source, K: Sink, G: Gate>(
     rt: &R,
@@ -125,7 +126,7 @@ pub fn ztx_top<R: Threads + Wait + Sync, S: Source, K: Sink, G: Gate>(
     sink: &mut K,
     gate: &G,
 ) -> u8
-    ensures statuses { result ≤ 6 }
+    ensures statuses { result ≤ 7 }
 
     // The whole text was written that is due with this status, to these words and this input.
     ensures whole { IsWhole result → Wrote (due (asked (map string_bytes words.now))) (S.left source.old)
@@ -142,8 +143,8 @@ pub fn ztx_top<R: Threads + Wait + Sync, S: Source, K: Sink, G: Gate>(
     ensures source_count { S.faults source.old ≤ S.faults source.new }
     ensures sink_count { K.faults sink.old ≤ K.faults sink.new }
 
-    // What is read: a listing to its end, and else nothing.
-    ensures read { reads (asked (map string_bytes words.now)) ≡ true → ((result ≡ 0) ⊎ (result ≡ 6))
+    // What is read: an input to its end, and else nothing.
+    ensures read { reads (asked (map string_bytes words.now)) ≡ true → IsDone result
         → IsAtEnd (S.left source.new) }
     ensures unread { reads (asked (map string_bytes words.now)) ≡ false
         → Keeps (S.left source.old) (S.left source.new) }

@@ -2,7 +2,7 @@ use Rattle.std.proofs.Common.{◌∙◌, sym, subst, List, ℕ}
 use Rattle.std.proofs.lemmas.Result.{err_from_is_err_and}
 use Rattle.tx_journal.specs.Numbers.{Lacks}
 use Rattle.step_words.specs.Faults.{Adds, IsBadLine}
-use Rattle.step_words.proofs.Passing.{rest_of}
+use Rattle.input_parts.proofs.Passing.{rest_of}
 use Rattle.step_words.proofs.LineByLine.{read_more, line_refused, all_read, last_refused}
 use Rattle.step_words.proofs.reading.read_commands.Goals as goal
 
