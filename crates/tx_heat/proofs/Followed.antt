@@ -12,14 +12,16 @@ use Rattle.tx_meaning.specs.State.{State, is_live, attempt_of, cpus_of}
 use Rattle.tx_meaning.specs.Turn.{happen}
 use Rattle.tx_meaning.specs.Views.{GoesOnWith}
 use Rattle.tx_machine.specs.Wanted.{wanted}
-use Rattle.std.proofs.Common.{ap₂, append_assoc, Option, drop, ◌^◌}
+use Rattle.std.proofs.Common.{ap₂, append_assoc, Option, drop, ◌^◌, [], refl}
 use Rattle.std.specs.List.{flat_map}
 use Rattle.std.proofs.lemmas.List.{length-drop}
 use Rattle.tx_heat.specs.Conflicts.{Conflict, aborts_by, conflict_where, conflicts_in, entries_in, reject_of}
 use Rattle.tx_heat.specs.declared.counting.LineHeat.{LineHeat}
 use Rattle.tx_heat.proofs.Counted.{room_less}
-use Rattle.tx_heat.specs.Watched.{IsReached, Passes, AreCounted, HasRoom}
-use Rattle.tx_heat.proofs.Tracked.{touches_nothing, touches_the_same, others_stay, touches_more}
+use Rattle.tx_heat.specs.Watched.{IsReached, Passes, AreCounted, HasRoom, StaysBeside, Waits, aborts}
+use Rattle.tx_heat.proofs.Quiet.{stays_beside}
+use Rattle.tx_heat.proofs.Tracked.{touches_nothing, touches_the_same, others_stay, touches_more, wants_the_same}
+use Rattle.tx_heat.proofs.Waiting.{waiting_rests}
 
 -- a history that goes on is not shorter
 pub not_shorter : (before after : List Entry) → GoesOnWith before after → length before ≤ length after
@@ -42,6 +44,7 @@ passes m s e setting reached within j =
           ≡ (attempt_of m (meaning m reached.events) i).touched
           ++ wanted m (meaning m reached.events) (cpu_of_event e)) (sym own)
           (touches_more m setting reached.events reached.known e within);
+      wants = λ live same. wants_the_same m setting reached.events reached.known e within j live same;
     }
 
 -- the same of values that are equal to these
@@ -54,6 +57,42 @@ passes_as m n s t e cpu asked same state own wants setting reached within j =
     (subst (λ x. Passes m s (happen m e s).state x asked j) (sym own)
     (subst (λ x. Passes m s (happen m e s).state (cpu_of_event e) x j) (sym (wants ∙ ap (wanted m s) own))
     (passes m s e setting reached within j))))
+
+-- in a turn of waiting the CPU asks for nothing
+pub passes_waiting : (m n : Setting) (s t : State) (e : Event) (cpu : ℕ) → n ≡ m → t ≡ (happen m e s).state
+    → cpu ≡ cpu_of_event e → IsSetting m → IsReached m s → cpu_of_event e < cpus_of m → Waits s e → (j : ℕ)
+    → Passes n s t cpu [] j
+passes_waiting m n s t e cpu same state own setting reached within waits j =
+    let p = passes_as m n s t e cpu (wanted m s cpu) same state own refl setting reached within j in
+    record {
+      over = p.over;
+      stays = p.stays;
+      others = p.others;
+      wants = p.wants;
+      more = λ is live other. absurd (other
+          (subst (λ (u : State). is_live u j ≡ true → (u.numbers j).completed ≡ (s.numbers j).completed) (sym state)
+          (subst (λ i. is_live (happen m e s).state i ≡ true
+          → ((happen m e s).state.numbers i).completed ≡ (s.numbers i).completed) (sym (is ∙ own))
+          (waiting_rests m e s waits).own) live));
+    }
+
+-- and no attempt of another CPU is over
+pub waiting_beside : (m : Setting) (s t : State) (e : Event) (cpu : ℕ) → t ≡ (happen m e s).state
+    → cpu ≡ cpu_of_event e → Waits s e → StaysBeside s t cpu
+waiting_beside m s t e cpu state own waits =
+    subst (λ u. StaysBeside s u cpu) (sym state)
+    (subst (λ i. StaysBeside s (happen m e s).state i) (sym own)
+    record { same = (waiting_rests m e s waits).others })
+
+-- where the new entries tell of no abort
+pub quiet_beside : (m : Setting) (s t : State) (e : Event) (cpu : ℕ) (entries : List Entry)
+    → t ≡ (happen m e s).state → cpu ≡ cpu_of_event e → GoesOnWith s.history t.history
+    → entries ≡ drop (length s.history) t.history → aborts entries ≡ 0 → StaysBeside s t cpu
+quiet_beside m s t e cpu entries state own grows are none =
+    subst (λ u. StaysBeside s u cpu) (sym state)
+    (subst (λ i. StaysBeside s (happen m e s).state i) (sym own)
+    (stays_beside m s e (subst (λ (u : State). GoesOnWith s.history u.history) state grows)
+    (ap (λ (u : State). aborts (drop (length s.history) u.history)) (sym state) ∙ ap aborts (sym are) ∙ none)))
 
 -- the conflicts of an event are those that its entries tell of, and its reject
 pub counts_as : (lines : List LineHeat) (m : Setting) (s : State) (e : Event) (found : List Conflict)

@@ -1,5 +1,7 @@
 -- What events make of what attempts have touched, and marks, counts and texts of it.
 pub mod Went
+pub mod Quiet
+pub mod Waiting
 pub mod Tracked
 pub mod Ranges
 pub mod Marked
@@ -9,5 +11,6 @@ pub mod Few
 pub mod Followed
 pub mod Totals
 pub mod Measured
+pub mod Passing
 pub mod Tracks
 pub mod Rejects

@@ -16,15 +16,14 @@ use Rattle.tx_meaning.specs.Views.{AreKnown, GoesOnWith}
 use Rattle.tx_machine.specs.Machine.{Seen, setting_of, state_of, event_of, after, opened}
 use Rattle.tx_step.proofs.Followed.{Follows, begins_following, follows_on}
 use Rattle.tx_heat.specs.Conflicts.{conflicts, conflicts_in}
-use Rattle.tx_heat.specs.Marks.{Marks}
-use Rattle.tx_heat.specs.Watched.{AreTracks, AreCounted, IsReached, HasRoom}
+use Rattle.tx_heat.specs.Watched.{Tracked, AreTracks, AreCounted, IsReached, HasRoom}
 use Rattle.tx_heat.specs.declared.counting.LineHeat.{LineHeat}
 use Rattle.tx_heat.proofs.Counted.{room_counted}
 use Rattle.tx_heat.proofs.Few.{few_in, few_recorded, conflicts_more, no_conflicts}
 use Rattle.tx_heat.proofs.Followed.{not_shorter}
 
 -- the first k events have happened, the marks are those of the attempts, and the conflicts are counted
-pub record Measuring (m : Setting) (events : List Event) (k : ℕ) (machine : Seen) (tracks : List Marks)
+pub record Measuring (m : Setting) (events : List Event) (k : ℕ) (machine : Seen) (tracks : List Tracked)
     (lines : List LineHeat) : Type 0 where
   pub follows : Follows m events k machine
   pub tracks_are : AreTracks m (state_of machine) tracks
@@ -38,7 +37,7 @@ unfolding meaning_from
 begins m = refl
 
 pub measures_first : (image : Content) (limits : RunLimits) (events : List Event) (machine : Seen)
-    (tracks : List Marks) (lines : List LineHeat) → machine ≡ opened image limits
+    (tracks : List Tracked) (lines : List LineHeat) → machine ≡ opened image limits
     → AreTracks (record { image = image; limits = limits }) beginning tracks → length tracks ≡ length image.cpus
     → AreCounted lines [] → Measuring (record { image = image; limits = limits }) events 0 machine tracks lines
 measures_first image limits events machine tracks lines is marks size none =
@@ -54,7 +53,7 @@ measures_first image limits events machine tracks lines is marks size none =
     }
 
 module _ (m : Setting) (setting : IsSetting m) (events : List Event) (known : AreKnown m events)
-    (externals : count_by is_external events ≤ m.limits.externals) (k : ℕ) (before : Seen) (tracks : List Marks)
+    (externals : count_by is_external events ≤ m.limits.externals) (k : ℕ) (before : Seen) (tracks : List Tracked)
     (lines : List LineHeat) (now : Measuring m events k before tracks lines) where
   abbrev some : List Event
   some = take k events
@@ -97,7 +96,7 @@ module _ (m : Setting) (setting : IsSetting m) (events : List Event) (known : Ar
       room_counted lines (conflicts m some) (2 ^ 33) now.counted (omega (arith, now.few, few_so_far))
 
   module _ (e : Event) (within : k < length events) (at : get_or events k e ≡ e) (next : Seen)
-      (next_is : next ≡ after before e) (state_is : state_of next ≡ (event_of before e).state) (marks : List Marks)
+      (next_is : next ≡ after before e) (state_is : state_of next ≡ (event_of before e).state) (marks : List Tracked)
       (counts : List LineHeat) where
     taken : take (k + 1) events ≡ some ++ e ∷ []
     taken = take_more events k e within ∙ ap (λ x. some ++ x ∷ []) at

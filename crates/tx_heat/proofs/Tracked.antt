@@ -20,6 +20,9 @@ use Rattle.tx_serial.specs.Flat.{FlatState, Pending}
 use Rattle.tx_serial.specs.History.{replay}
 use Rattle.tx_serial.specs.Run.{run, more, more_of, after, after_fate, after_where, may_follow, outcome_of}
 use Rattle.tx_progress.specs.Local.{Local}
+use Rattle.tx_progress.specs.Progress.{Progress}
+use Rattle.tx_progress.specs.Reached.{progress_of}
+use Rattle.tx_progress.specs.Trial.{fate_by_progress}
 use Rattle.tx_progress.proofs.Parts.{followed_fate, not_live}
 use Rattle.tx_meaning.specs.Limits.{Setting}
 use Rattle.tx_meaning.specs.Meaning.{IsSetting, meaning}
@@ -29,11 +32,12 @@ use Rattle.tx_meaning.specs.Views.{AreKnown}
 use Rattle.tx_keeping.specs.Kept.{Kept, kept_flat, text_of}
 use Rattle.tx_keeping.specs.Keeping.{keeping}
 use Rattle.tx_keeping.specs.Turn.{k_happen}
+use Rattle.tx_keeping.proofs.Asking.{Keeps}
 use Rattle.tx_keeping.proofs.Events.{keeping_is, keeping_good, views_kept}
 use Rattle.tx_keeping.proofs.Truth.{Truth, flat_is, attempt_is}
 use Rattle.tx_keeping.proofs.Turning.{own_stays, own_fate, happen_ok}
 use Rattle.tx_opacity.proofs.Others.{Left, others_turn, others_interruption}
-use Rattle.tx_machine.specs.Wanted.{wanted, real_ranges, operands_of}
+use Rattle.tx_machine.specs.Wanted.{wanted, wanted_by, real_ranges, operands_of}
 use Rattle.tx_heat.proofs.Went.{More, Went, Over, Same, Further, own_turn, own_interruption, completed}
 
 -- ---- a run with one instruction more
@@ -140,6 +144,33 @@ module _ (m : Setting) (s : IsSetting m) where
         ∙ ap₂ (λ (a : Track) (f : Fate). a.touched ++ absolute_ranges a.cpu.prefix (operands_of f)) seen same_fate
         ∙ sym (ap₂ (λ a b. a ++ b) (ap (λ (p : Run). p.touched) (attempt_is m k t i)) wanted_is)
 
+-- ---- what a CPU asks for, by what is kept
+
+module _ (m : Setting) (s : IsSetting m) where
+  wanted_kept : (k : Kept) → Truth m k → (i : ℕ) → wanted m k.state i ≡ wanted_by m k.storage (k.locals i)
+  unfolding wanted wanted_by progress_of
+  wanted_kept k truth i =
+      let l = k.locals i in
+      let followed = (truth.each i).followed in
+      ap (λ (f : FlatState). absolute_ranges (cpu_of m k.state i).prefix (real_ranges (f.pending i) (f.waiting i)
+      (fate f.text (attempt_of m k.state i)))) (flat_is m k truth)
+      ∙ ap (λ (p : Run). absolute_ranges p.cpu.prefix (real_ranges l.pending l.waiting (fate (text_of m) p)))
+      (attempt_is m k truth i)
+      ∙ ap (λ (n : Option ℕ). absolute_ranges n (real_ranges l.pending l.waiting (fate (text_of m)
+      (run (kept_flat m k) i l.attempt.count)))) (ap (λ (q : Progress). q.cpu.prefix) followed.attempt)
+      ∙ ap (λ (f : Fate). absolute_ranges l.attempt.cpu.prefix (real_ranges l.pending l.waiting f))
+      (followed_fate (kept_flat m k) i l followed)
+
+  -- the same where the attempt is as it was
+  wanted_stays : (k q : Kept) (i : ℕ) → Truth m k → Truth m q → Keeps k q i
+      → wanted_by m q.storage (q.locals i) ≡ wanted_by m k.storage (k.locals i)
+  unfolding wanted_by
+  wanted_stays k q i t u keeps =
+      ap (λ (l : Local). absolute_ranges l.attempt.cpu.prefix (real_ranges l.pending l.waiting
+      (fate_by_progress (text_of m) q.storage (q.locals i).attempt))) keeps.local
+      ∙ ap (λ (f : Fate). absolute_ranges (k.locals i).attempt.cpu.prefix
+      (real_ranges (k.locals i).pending (k.locals i).waiting f)) (own_fate m s k q i t u keeps)
+
 -- ---- over events
 
 -- a CPU without a live attempt has touched nothing
@@ -179,6 +210,21 @@ module _ (m : Setting) (s : IsSetting m) (events : List Event) (known : AreKnown
   touches_the_same j live same =
       ap (λ (t : Track). t.touched) (views_kept m s events e known within j
       (lives (new.numbers j).completed (old.numbers j).completed same live) same).shows
+
+  -- and the same is asked for next
+  pub wants_the_same : (j : ℕ) → is_live old j ≡ true → (new.numbers j).completed ≡ (old.numbers j).completed
+      → wanted m new j ≡ wanted m old j
+  wants_the_same j live same =
+      let good = keeping_good m s events known in
+      let ok = happen_ok m s e now good within in
+      let keeps = ok.keeps j (ap (λ (t : State). is_live t j) (sym is_now) ∙ live)
+      (ap (λ (t : State). (t.numbers j).completed) (sym is_next) ∙ same
+      ∙ ap (λ (t : State). (t.numbers j).completed) is_now) in
+      ap (λ (t : State). wanted m t j) is_next
+      ∙ wanted_kept m s next ok.good.truth j
+      ∙ wanted_stays m s now next j good.truth ok.good.truth keeps
+      ∙ sym (wanted_kept m s now good.truth j)
+      ∙ sym (ap (λ (t : State). wanted m t j) is_now)
 
   none_live : {P : Type 0} (n : ℕ) → nat_lt 0 n ≡ true → n ≡ 0 → P
   none_live n live none = absurd (let x : true ≡ false = sym live ∙ ap (nat_lt 0) none in cc)

@@ -12,11 +12,10 @@ use borrow.Enum.Arm.{by_way}
 use Rattle.z_regs.specs.declared.ranges.Range.{Range}
 use Rattle.tx_meaning.specs.Limits.{Setting}
 use Rattle.tx_meaning.specs.State.{State, is_live}
-use Rattle.tx_heat.specs.Marks.{Marks}
-use Rattle.tx_heat.specs.Watched.{Passes}
+use Rattle.tx_heat.specs.Watched.{Tracked, Passes}
 use Rattle.tx_heat.proofs.Counted.{set_same, set_other}
 
-module _ (tracks start : List Marks) (k : ℕ) (old new : Marks) (lt : k < length tracks)
+module _ (tracks start : List Tracked) (k : ℕ) (old new : Tracked) (lt : k < length tracks)
     (at : get_or tracks k old ≡ old) (ahead : (j : ℕ) → k ≤ j → slice_get tracks j ≡ slice_get start j) where
   pub still_ahead : (j : ℕ) → k + 1 ≤ j → slice_get (set tracks k new) j ≡ slice_get start j
   still_ahead j le =
@@ -28,9 +27,9 @@ module _ (tracks start : List Marks) (k : ℕ) (old new : Marks) (lt : k < lengt
   pub old_at : slice_get start k ≡ Some old
   old_at = sym (ahead k (omega arith)) ∙ slice_get-get_or tracks k old lt ∙ ap (λ x. Some x) at
 
-  pub here_or_before : (P : ℕ → Marks → Type 0)
-      → ((j : ℕ) (marks : Marks) → j < k → slice_get tracks j ≡ Some marks → P j marks) → P k new
-      → (j : ℕ) (marks : Marks) → j < k + 1 → slice_get (set tracks k new) j ≡ Some marks → P j marks
+  pub here_or_before : (P : ℕ → Tracked → Type 0)
+      → ((j : ℕ) (marks : Tracked) → j < k → slice_get tracks j ≡ Some marks → P j marks) → P k new
+      → (j : ℕ) (marks : Tracked) → j < k + 1 → slice_get (set tracks k new) j ≡ Some marks → P j marks
   here_or_before P before here j marks low e =
       by_way (cases_eq j k)
       (λ same.

@@ -1,14 +1,19 @@
 -- What is kept while a run is watched: the octowords of live attempts, and the lines with what was counted
 -- so far.
-use Rattle.std.specs.Prelude.{◌≡◌, ◌≢◌, ℕ, ◌+◌, ◌^◌, ◌<◌, ◌≤◌, ◌++◌, true, false, List, [], length, Some}
-use Rattle.std.specs.Prelude.{slice_get}
+use Rattle.std.specs.Prelude.{◌≡◌, ◌≢◌, ℕ, ◌+◌, ◌^◌, ◌<◌, ◌≤◌, ◌++◌, Bool, true, false, List, [], length}
+use Rattle.std.specs.Prelude.{Option, Some, None, count_by, nat_lt, slice_get, All, IfSome}
 use Rattle.z_regs.specs.declared.ranges.Range.{Range}
+use Rattle.z_regs.specs.Prefix.{storage_size}
 use Rattle.line_table.specs.Sizes.{storage_lines}
+use Rattle.tx_journal.specs.declared.entries.Entry.{Entry}
+use Rattle.tx_journal.specs.declared.entries.Entry.TheVariants.{Step, Commit, Abort, Tdb, Interrupt}
 use Rattle.tx_journal.specs.declared.events.Event.{Event}
+use Rattle.tx_journal.specs.declared.events.Event.TheVariants.{Turn, External}
 use Rattle.tx_meaning.specs.Limits.{Setting}
 use Rattle.tx_meaning.specs.Meaning.{meaning}
 use Rattle.tx_meaning.specs.Views.{AreKnown}
 use Rattle.tx_meaning.specs.State.{State, is_live, attempt_of}
+use Rattle.tx_machine.specs.Wanted.{wanted}
 use Rattle.tx_heat.specs.Conflicts.{Conflict}
 use Rattle.tx_heat.specs.Heats.{line_heat}
 use Rattle.tx_heat.specs.Marks.{Marks, AreMarksOf}
@@ -20,10 +25,32 @@ pub record IsReached (m : Setting) (s : State) : Type 0 where
   pub known : AreKnown m events
   pub is : s ≡ meaning m events
 
--- the marks of each CPU are those of its attempt; a CPU that is not there has none
-pub record AreTracks (m : Setting) (s : State) (tracks : List Marks) : Type 0 where
-  pub each : (j : ℕ) (marks : Marks) → slice_get tracks j ≡ Some marks
-      → AreMarksOf marks (attempt_of m s j).touched
+-- what is kept of a CPU: the marks of its attempt, and what it asks for next, where that is known
+pub record Tracked : Type 0 where
+  pub marks : Marks
+  pub asked : Option (List Range)
+
+-- nothing is marked, and nothing known
+pub record IsUnused (t : Tracked) : Type 0 where
+  pub marks : AreMarksOf t.marks []
+  pub asked : t.asked ≡ None
+
+-- all ranges lie in storage
+abbrev pub AreInside : List Range → Type 0
+AreInside ranges = All (λ r. r.first + r.length ≤ storage_size) ranges
+
+abbrev pub IsInside : Tracked → Type 0
+IsInside t = IfSome t.asked AreInside
+
+-- the marks are those of the CPU's attempt; what it asks for next is known of a live one alone
+pub record IsTrack (m : Setting) (s : State) (j : ℕ) (t : Tracked) : Type 0 where
+  pub marks : AreMarksOf t.marks (attempt_of m s j).touched
+  pub live : (asked : List Range) → t.asked ≡ Some asked → is_live s j ≡ true
+  pub asked : (asked : List Range) → t.asked ≡ Some asked → asked ≡ wanted m s j
+
+-- of each CPU; one that is not there has no attempt
+pub record AreTracks (m : Setting) (s : State) (tracks : List Tracked) : Type 0 where
+  pub each : (j : ℕ) (t : Tracked) → slice_get tracks j ≡ Some t → IsTrack m s j t
   pub beyond : (j : ℕ) → length tracks ≤ j → is_live s j ≡ false
 
 -- these conflicts are counted, each at its line of storage
@@ -41,8 +68,7 @@ pub record HasRoom (lines : List LineHeat) (more : ℕ) : Type 0 where
   pub each : (k : ℕ) (h : LineHeat) → slice_get lines k ≡ Some h → IsBelow h more
 
 -- what a CPU's attempt has touched behind an event, by what it had touched before it and what the event's
--- CPU asked
--- for
+-- CPU asked for; and what an attempt that has completed no more asks for next
 pub record Passes (m : Setting) (before after : State) (cpu : ℕ) (asked : List Range) (j : ℕ) : Type 0 where
   pub over : is_live after j ≡ false → (attempt_of m after j).touched ≡ []
   pub stays : is_live after j ≡ true → (after.numbers j).completed ≡ (before.numbers j).completed
@@ -50,3 +76,29 @@ pub record Passes (m : Setting) (before after : State) (cpu : ℕ) (asked : List
   pub others : j ≢ cpu → is_live after j ≡ true → (after.numbers j).completed ≡ (before.numbers j).completed
   pub more : j ≡ cpu → is_live after j ≡ true → (after.numbers j).completed ≢ (before.numbers j).completed
       → (attempt_of m after j).touched ≡ (attempt_of m before j).touched ++ asked
+  pub wants : is_live before j ≡ true → (after.numbers j).completed ≡ (before.numbers j).completed
+      → wanted m after j ≡ wanted m before j
+
+-- ---- aborts
+
+-- an entry tells of an abort, for whatever cause
+abbrev pub is_abort : Entry → Bool
+is_abort (Abort i n why) = true
+is_abort (Step i) = false
+is_abort (Commit i n) = false
+is_abort (Tdb i) = false
+is_abort (Interrupt i) = false
+
+abbrev pub aborts : List Entry → ℕ
+aborts entries = count_by is_abort entries
+
+-- attempts of other CPUs have completed what they had completed
+pub record StaysBeside (before after : State) (cpu : ℕ) : Type 0 where
+  pub same : (j : ℕ) → j ≢ cpu → (after.numbers j).completed ≡ (before.numbers j).completed
+
+-- ---- turns of waiting
+
+-- the event is a turn of a CPU that has still to wait
+abbrev pub Waits : State → Event → Type 0
+Waits s (Turn i) = nat_lt 0 (s.numbers i).delay ≡ true
+Waits s (External i) = false ≡ true

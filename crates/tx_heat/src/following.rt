@@ -1,9 +1,7 @@
 //! An event more of a run whose conflicts are counted.
-ghost use Rattle.std.specs.Prelude.{◌≡◌, ℕ, ◌+◌, ◌^◌, ◌<◌, ◌≤◌, ◌++◌, ◌∷◌, [], All, List, Option, true, IfOk, length, drop};
+ghost use Rattle.std.specs.Prelude.{◌≡◌, ◌≢◌, ℕ, ◌+◌, ◌^◌, ◌<◌, ◌≤◌, ◌++◌, ◌∷◌, [], List, Option, true, false, IfOk, length, drop};
 ghost use Rattle.std.specs.Prelude.{count_by};
 ghost use Rattle.std.specs.List.{flat_map};
-ghost use Rattle.z_regs.specs.Prefix.{storage_size};
-ghost use Rattle.z_regs.specs.declared.ranges.Range.{Range};
 ghost use Rattle.tx_journal.specs.Image.{cpu_of_event};
 ghost use Rattle.tx_journal.specs.declared.events.Event.{Event};
 ghost use Rattle.tx_meaning.specs.Limits.{Setting};
@@ -15,11 +13,11 @@ ghost use Rattle.tx_machine.specs.Wanted.{wanted};
 ghost use Rattle.tx_heat.specs.Conflicts.{Conflict, line_of_cause, abort_of, reject_of};
 ghost use Rattle.tx_heat.specs.Conflicts.{conflict_where, aborts_by, conflicts_in};
 ghost use Rattle.tx_heat.specs.Octowords.{are_apart};
-ghost use Rattle.tx_heat.specs.Marks.{AreMarksOf};
-ghost use Rattle.tx_heat.specs.Watched.{AreTracks, AreCounted, HasRoom, Passes, IsReached};
+ghost use Rattle.tx_heat.specs.Watched.{AreInside, AreTracks, IsTrack, AreCounted, HasRoom, Passes, IsReached};
+ghost use Rattle.tx_heat.specs.Watched.{StaysBeside, Waits, aborts, is_abort};
 
 use crate::counting::{Clash, LineHeat, count};
-use crate::octowords::Octowords;
+use crate::track::Track;
 use std::alloc::{AllocError, Global};
 use tx_control::Why;
 use tx_journal::{Entry, Event};
@@ -30,14 +28,14 @@ use z_regs::Touches;
 /// The lines of storage.
 const LINES: u32 = 4096;
 
-/// A mark for each octoword of each CPU, of which none is set. The error is want of memory.
-pub fn no_tracks(alloc: Global, cpus: u32) -> Result<Vec<Octowords>, AllocError>
+/// What is kept of so many CPUs before the first event: nothing is marked. The error is want of memory.
+pub fn no_tracks(alloc: Global, cpus: u32) -> Result<Vec<Track>, AllocError>
     ensures tracks { IfOk result (λ tracks. (m : Setting) → AreTracks m beginning tracks.items) }
     ensures count { IfOk result (λ tracks. length tracks.items ≡ cpus) }
 {
     let mut tracks = Vec::with_capacity(alloc, cpus as usize)?;
     for _cpu in 0..cpus {
-        tracks.push(Octowords::none(alloc)?)?;
+        tracks.push(Track::none(alloc)?)?;
     }
     Ok(tracks)
 }
@@ -62,8 +60,8 @@ fn line_of(why: Why) -> Option<u32>
 }
 
 /// Whether what is asked for lies apart from what a CPU has touched of a line.
-fn are_apart(tracks: &[Octowords], asked: &Touches, holder: u32, line: u32) -> bool
-    requires inside { All (λ r. r.first + r.length ≤ storage_size) asked.now }
+fn are_apart(tracks: &[Track], asked: &Touches, holder: u32, line: u32) -> bool
+    requires inside { AreInside asked.now }
     requires line { line < 4096 }
     ensures { (m : Setting) (s : State) → AreTracks m s tracks.now
         → result ≡ are_apart asked.now (attempt_of m s holder).touched line }
@@ -78,12 +76,12 @@ fn are_apart(tracks: &[Octowords], asked: &Touches, holder: u32, line: u32) -> b
 /// Counts a conflict with this holder and line, where there is one.
 fn count_at(
     lines: &mut [LineHeat],
-    tracks: &[Octowords],
+    tracks: &[Track],
     asked: &Touches,
     at: Option<(u32, u32)>,
     rejected: bool,
 )
-    requires inside { All (λ r. r.first + r.length ≤ storage_size) asked.now }
+    requires inside { AreInside asked.now }
     requires room { HasRoom lines.old 1 }
     ensures counted { (m : Setting) (s : State) (e : Event) (found : List Conflict) → AreTracks m s tracks.now
         → asked.now ≡ wanted m s (cpu_of_event e) → AreCounted lines.old found
@@ -121,8 +119,8 @@ fn abort_in(entry: &Entry) -> Option<(u32, u32)>
 }
 
 /// Counts the aborts that entries tell of.
-fn count_aborts(lines: &mut [LineHeat], tracks: &[Octowords], asked: &Touches, entries: &[Entry])
-    requires inside { All (λ r. r.first + r.length ≤ storage_size) asked.now }
+fn count_aborts(lines: &mut [LineHeat], tracks: &[Track], asked: &Touches, entries: &[Entry])
+    requires inside { AreInside asked.now }
     requires room { HasRoom lines.old (length entries.now) }
     ensures counted { (m : Setting) (s : State) (e : Event) (found : List Conflict) → AreTracks m s tracks.now
         → asked.now ≡ wanted m s (cpu_of_event e) → AreCounted lines.old found
@@ -172,14 +170,14 @@ struct Asker {
     asked: Touches,
 }
 
-/// The octowords of a CPU's attempt, behind an event.
-fn track_one(machine: &Machine, track: &mut Octowords, cpu: u32, asker: &Asker)
+/// What is kept of a CPU, behind an event.
+fn track_one(machine: &Machine, track: &mut Track, cpu: u32, asker: &Asker)
     requires known { cpu < length machine.now.image.cpus }
-    requires inside { All (λ r. r.first + r.length ≤ storage_size) asker.now.asked }
+    requires inside { AreInside asker.now.asked }
     ensures { (s : State) → asker.now.completed ≡ (s.numbers asker.now.cpu).completed
         → Passes (setting_of machine.now) s (state_of machine.now) asker.now.cpu asker.now.asked cpu
-        → AreMarksOf track.old (attempt_of (setting_of machine.now) s cpu).touched
-        → AreMarksOf track.new (attempt_of (setting_of machine.now) (state_of machine.now) cpu).touched }
+        → IsTrack (setting_of machine.now) s cpu track.old
+        → IsTrack (setting_of machine.now) (state_of machine.now) cpu track.new }
 {
     let now = completed(machine, cpu);
     if now == 0 {
@@ -191,11 +189,11 @@ fn track_one(machine: &Machine, track: &mut Octowords, cpu: u32, asker: &Asker)
     }
 }
 
-/// The octowords of all attempts, behind an event.
-fn track_all(machine: &Machine, tracks: &mut [Octowords], asker: &Asker)
+/// What is kept of all CPUs, behind an event.
+fn track_all(machine: &Machine, tracks: &mut [Track], asker: &Asker)
     requires known { length tracks.old ≡ length machine.now.image.cpus }
     requires asker { asker.now.cpu < length machine.now.image.cpus }
-    requires inside { All (λ r. r.first + r.length ≤ storage_size) asker.now.asked }
+    requires inside { AreInside asker.now.asked }
     ensures { (s : State) → asker.now.completed ≡ (s.numbers asker.now.cpu).completed
         → ((j : ℕ) → Passes (setting_of machine.now) s (state_of machine.now) asker.now.cpu asker.now.asked j)
         → AreTracks (setting_of machine.now) s tracks.old
@@ -204,6 +202,57 @@ fn track_all(machine: &Machine, tracks: &mut [Octowords], asker: &Asker)
     for cpu in 0..machine.image().cpu_count() {
         track_one(machine, &mut tracks[cpu as usize], cpu, asker);
     }
+}
+
+/// What is kept of all CPUs, behind an event that ends no attempt of another CPU.
+fn track_own(machine: &Machine, tracks: &mut [Track], asker: &Asker)
+    requires known { length tracks.old ≡ length machine.now.image.cpus }
+    requires asker { asker.now.cpu < length machine.now.image.cpus }
+    requires inside { AreInside asker.now.asked }
+    ensures { (s : State) → asker.now.completed ≡ (s.numbers asker.now.cpu).completed
+        → ((j : ℕ) → Passes (setting_of machine.now) s (state_of machine.now) asker.now.cpu asker.now.asked j)
+        → StaysBeside s (state_of machine.now) asker.now.cpu
+        → AreTracks (setting_of machine.now) s tracks.old
+        → AreTracks (setting_of machine.now) (state_of machine.now) tracks.new }
+{
+    track_one(machine, &mut tracks[asker.cpu as usize], asker.cpu, asker);
+}
+
+/// Whether an entry tells of an abort.
+fn is_abort(entry: &Entry) -> bool
+    ensures { result ≡ is_abort entry.now }
+{
+    matches!(entry, Entry::Abort(_, _, _))
+}
+
+/// Whether entries tell of an abort.
+fn has_abort(entries: &[Entry]) -> bool
+    ensures { result ≡ false → aborts entries.now ≡ 0 }
+{
+    for entry in entries {
+        if is_abort(entry) {
+            return true;
+        }
+    }
+    false
+}
+
+/// What is kept of all CPUs, behind an event that adds these entries to the history.
+fn track(machine: &Machine, tracks: &mut [Track], entries: &[Entry], asker: &Asker)
+    requires known { length tracks.old ≡ length machine.now.image.cpus }
+    requires asker { asker.now.cpu < length machine.now.image.cpus }
+    requires inside { AreInside asker.now.asked }
+    ensures { (s : State) → asker.now.completed ≡ (s.numbers asker.now.cpu).completed
+        → ((j : ℕ) → Passes (setting_of machine.now) s (state_of machine.now) asker.now.cpu asker.now.asked j)
+        → (aborts entries.now ≡ 0 → StaysBeside s (state_of machine.now) asker.now.cpu)
+        → AreTracks (setting_of machine.now) s tracks.old
+        → AreTracks (setting_of machine.now) (state_of machine.now) tracks.new }
+{
+    if has_abort(entries) {
+        track_all(machine, tracks, asker);
+        return;
+    }
+    track_own(machine, tracks, asker);
 }
 
 /// How many entries the history has.
@@ -221,8 +270,81 @@ fn entries_behind(machine: &Machine, before: usize) -> &[Entry]
     &machine.journal()[before..]
 }
 
-/// One event more.
-pub fn follow(machine: &mut Machine, tracks: &mut [Octowords], lines: &mut [LineHeat], e: Event)
+/// What the CPU of an event asks for in it.
+fn asker_of(machine: &Machine, tracks: &mut [Track], cpu: u32) -> Asker
+    requires cpus { length tracks.old ≡ length machine.now.image.cpus }
+    requires cpu { cpu < length machine.now.image.cpus }
+    requires tracks { AreTracks (setting_of machine.now) (state_of machine.now) tracks.old }
+    ensures cpu { result.cpu ≡ cpu }
+    ensures completed { result.completed ≡ ((state_of machine.now).numbers cpu).completed }
+    ensures asked { result.asked ≡ wanted (setting_of machine.now) (state_of machine.now) cpu }
+    ensures inside { AreInside result.asked }
+    ensures tracks { AreTracks (setting_of machine.now) (state_of machine.now) tracks.new }
+{
+    Asker {
+        cpu,
+        completed: completed(machine, cpu),
+        asked: tracks[cpu as usize].take_asked(machine, cpu),
+    }
+}
+
+/// What the CPU of an event asked for in it is what it asks for next, where its attempt goes on and has completed no
+/// more.
+fn keep_asked(machine: &Machine, tracks: &mut [Track], asker: Asker)
+    requires known { length tracks.old ≡ length machine.now.image.cpus }
+    requires asker { asker.cpu < length machine.now.image.cpus }
+    requires inside { AreInside asker.asked }
+    ensures { (s : State) → asker.completed ≡ (s.numbers asker.cpu).completed
+        → asker.asked ≡ wanted (setting_of machine.now) s asker.cpu
+        → Passes (setting_of machine.now) s (state_of machine.now) asker.cpu asker.asked asker.cpu
+        → AreTracks (setting_of machine.now) (state_of machine.now) tracks.old
+        → AreTracks (setting_of machine.now) (state_of machine.now) tracks.new }
+{
+    let now = completed(machine, asker.cpu);
+    if now != 0 && now == asker.completed {
+        tracks[asker.cpu as usize].keep_asked(asker.asked);
+    }
+}
+
+/// Whether an event is a turn in which the CPU does nothing but wait, unless it is idle or interrupted from outside.
+fn waits(machine: &Machine, e: Event) -> bool
+    requires { cpu_of_event e < length machine.now.image.cpus }
+    ensures { result ≡ true → Waits (state_of machine.now) e }
+{
+    match e {
+        Event::Turn(cpu) => machine.tally(cpu).delay > 0,
+        Event::External(_) => false,
+    }
+}
+
+/// One event more, in which nothing is asked for.
+fn wait(machine: &mut Machine, tracks: &mut [Track], e: Event)
+    requires setting { IsSetting (setting_of machine.old) }
+    requires reached { IsReached (setting_of machine.old) (state_of machine.old) }
+    requires known { cpu_of_event e < length machine.old.image.cpus }
+    requires external { is_external e ≡ true
+        → count_by is_external machine.old.events < machine.old.limits.externals }
+    requires cpus { length tracks.old ≡ length machine.old.image.cpus }
+    requires tracks { AreTracks (setting_of machine.old) (state_of machine.old) tracks.old }
+    requires waits { Waits (state_of machine.old) e }
+    ensures machine { machine.new ≡ after machine.old e }
+    ensures state { state_of machine.new ≡ (event_of machine.old e).state }
+    ensures grows { GoesOnWith (state_of machine.old).history (state_of machine.new).history }
+    ensures tracks { AreTracks (setting_of machine.old) (state_of machine.new) tracks.new }
+    ensures none { conflicts_in (setting_of machine.old) (state_of machine.old) e ≡ [] }
+{
+    let cpu = cpu_of(e);
+    let asker = Asker {
+        cpu,
+        completed: completed(machine, cpu),
+        asked: Touches::none(),
+    };
+    let _outcome = machine.event(e);
+    track_own(machine, tracks, &asker);
+}
+
+/// One event more, in which the CPU asks for what its turn needs.
+fn act(machine: &mut Machine, tracks: &mut [Track], lines: &mut [LineHeat], e: Event)
     requires setting { IsSetting (setting_of machine.old) }
     requires reached { IsReached (setting_of machine.old) (state_of machine.old) }
     requires known { cpu_of_event e < length machine.old.image.cpus }
@@ -238,18 +360,38 @@ pub fn follow(machine: &mut Machine, tracks: &mut [Octowords], lines: &mut [Line
     ensures counted { (found : List Conflict) → AreCounted lines.old found → AreCounted lines.new
         (found ++ conflicts_in (setting_of machine.old) (state_of machine.old) e) }
 {
-    let cpu = cpu_of(e);
     let before = entry_count(machine);
-    let asker = Asker {
-        cpu,
-        completed: completed(machine, cpu),
-        asked: machine.wanted(cpu),
-    };
+    let asker = asker_of(machine, tracks, cpu_of(e));
     let _outcome = machine.event(e);
-    let _tally = machine.tally(cpu);
+    let _tally = machine.tally(asker.cpu);
     let entries = entries_behind(machine, before);
     count_aborts(lines, tracks, &asker.asked, entries);
     let reject = reject_in(machine.last_reject());
     count_at(lines, tracks, &asker.asked, reject, true);
-    track_all(machine, tracks, &asker);
+    track(machine, tracks, entries, &asker);
+    keep_asked(machine, tracks, asker);
+}
+
+/// One event more.
+pub fn follow(machine: &mut Machine, tracks: &mut [Track], lines: &mut [LineHeat], e: Event)
+    requires setting { IsSetting (setting_of machine.old) }
+    requires reached { IsReached (setting_of machine.old) (state_of machine.old) }
+    requires known { cpu_of_event e < length machine.old.image.cpus }
+    requires external { is_external e ≡ true
+        → count_by is_external machine.old.events < machine.old.limits.externals }
+    requires cpus { length tracks.old ≡ length machine.old.image.cpus }
+    requires tracks { AreTracks (setting_of machine.old) (state_of machine.old) tracks.old }
+    requires room { HasRoom lines.old (2 ^ 33) }
+    ensures machine { machine.new ≡ after machine.old e }
+    ensures state { state_of machine.new ≡ (event_of machine.old e).state }
+    ensures grows { GoesOnWith (state_of machine.old).history (state_of machine.new).history }
+    ensures tracks { AreTracks (setting_of machine.old) (state_of machine.new) tracks.new }
+    ensures counted { (found : List Conflict) → AreCounted lines.old found → AreCounted lines.new
+        (found ++ conflicts_in (setting_of machine.old) (state_of machine.old) e) }
+{
+    if waits(machine, e) {
+        wait(machine, tracks, e);
+    } else {
+        act(machine, tracks, lines, e);
+    }
 }

@@ -8,6 +8,7 @@ pub mod laws;
 pub mod measuring;
 pub mod octowords;
 pub mod table;
+pub mod track;
 pub mod writing;
 
 pub use counting::LineHeat;

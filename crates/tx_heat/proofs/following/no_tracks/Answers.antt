@@ -1,13 +1,29 @@
 -- Nobody has touched anything at the start.
-use Rattle.std.proofs.Common.{sym, subst, refl}
+use Rattle.std.proofs.Common.{◌∷◌, [], ◌∙◌, List, refl, sym, ap, arith, length, length-append}
+use Rattle.std.specs.Prelude.{slice_get}
 use Rattle.tx_meaning.specs.State.{beginning}
-use Rattle.tx_heat.specs.Marks.{AreMarksOf}
-use Rattle.tx_heat.proofs.Tracked.{touches_nothing}
+use Rattle.tx_heat.specs.Watched.{Tracked, IsUnused}
+use Rattle.tx_heat.proofs.Passing.{over_track, pushed}
 use Rattle.tx_heat.proofs.following.no_tracks.Goals as goal
 
 pub returns-clause-tracks : goal.returns-clause-tracks
 returns-clause-tracks c = λ m. record {
-  each = λ j marks e.
-      subst (AreMarksOf marks) (sym (touches_nothing m beginning j refl)) (c.loop-cpu.invariant.none j marks e);
+  each = λ j t e.
+      let unused = c.loop-cpu.invariant.none j t e in
+      over_track m beginning beginning j t unused.marks unused.asked refl;
   beyond = λ j lt. refl;
 }
+
+pub loop-cpu-preserved : goal.loop-cpu-preserved
+loop-cpu-preserved c =
+    let items = c.in_ok-push.ensures.items in
+    let xs = c.loop-cpu.tracks.items in
+    let x : Tracked = c.in_ok-none.field-0 in
+    let size = ap length items in
+    let longer = length-append xs (x ∷ []) in
+    let count = c.loop-cpu.invariant.count in record {
+      none = λ j t e.
+          pushed IsUnused xs x c.loop-cpu.invariant.none c.in_ok-none.ensures j t
+          (ap (λ (l : List Tracked). slice_get l j) (sym items) ∙ e);
+      count = omega (arith, size, longer, count);
+    }

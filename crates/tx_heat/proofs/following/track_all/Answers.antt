@@ -3,9 +3,8 @@ use Rattle.std.proofs.Common.{◌≡◌, ◌≢◌, ◌<◌, ◌≤◌, ◌∙�
 use Rattle.std.proofs.lemmas.List.{length-set}
 use Rattle.std.proofs.lemmas.Option.{slice_get_within}
 use Rattle.tx_journal.specs.Content.{Content}
-use Rattle.tx_meaning.specs.State.{attempt_of}
 use Rattle.tx_machine.specs.Machine.{setting_of, state_of}
-use Rattle.tx_heat.specs.Marks.{AreMarksOf}
+use Rattle.tx_heat.specs.Watched.{IsTrack}
 use Rattle.tx_heat.proofs.Tracks.{still_ahead, old_at, here_or_before, no_one_beyond}
 use Rattle.tx_heat.proofs.following.track_all.Goals as goal
 
@@ -25,10 +24,10 @@ loop-cpu-preserved c =
       size = length-set tracks k new ∙ inv.size;
       behind = λ s same passes before.
           here_or_before tracks start k old new lt is inv.ahead
-          (λ j marks. AreMarksOf marks (attempt_of (setting_of machine) (state_of machine) j).touched)
-          (λ j marks low e. inv.behind s same passes before j marks low e)
+          (IsTrack (setting_of machine) (state_of machine))
+          (λ j t low e. inv.behind s same passes before j t low e)
           (c.track_one.ensures s same (passes k)
-          (subst (λ x. AreMarksOf x (attempt_of (setting_of machine) s k).touched) c.index-tracks-cpu.is
+          (subst (IsTrack (setting_of machine) s k) c.index-tracks-cpu.is
           (before.each k old (old_at tracks start k old new lt is inv.ahead))));
       ahead = λ j le. still_ahead tracks start k old new lt is inv.ahead j le;
     }

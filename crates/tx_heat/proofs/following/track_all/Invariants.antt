@@ -1,10 +1,9 @@
 -- The octowords of the attempts so far are those behind the event.
 use Rattle.std.proofs.Common.{◌≡◌, ℕ, ◌<◌, ◌≤◌, length, Some}
 use Rattle.std.specs.Prelude.{slice_get}
-use Rattle.tx_meaning.specs.State.{State, attempt_of}
+use Rattle.tx_meaning.specs.State.{State}
 use Rattle.tx_machine.specs.Machine.{setting_of, state_of}
-use Rattle.tx_heat.specs.Marks.{Marks, AreMarksOf}
-use Rattle.tx_heat.specs.Watched.{AreTracks, Passes}
+use Rattle.tx_heat.specs.Watched.{Tracked, IsTrack, AreTracks, Passes}
 use Rattle.tx_heat.proofs.following.track_all.Given as goal
 
 abbrev pub invariant-loop-cpu : goal.invariant-loop-cpu
@@ -13,7 +12,7 @@ invariant-loop-cpu l = record {
   behind : (s : State) → l.asker.completed ≡ (s.numbers l.asker.cpu).completed
       → ((j : ℕ) → Passes (setting_of l.machine) s (state_of l.machine) l.asker.cpu l.asker.asked j)
       → AreTracks (setting_of l.machine) s l.fn.tracks
-      → (j : ℕ) (marks : Marks) → j < l.cpu → slice_get l.tracks j ≡ Some marks
-      → AreMarksOf marks (attempt_of (setting_of l.machine) (state_of l.machine) j).touched;
+      → (j : ℕ) (t : Tracked) → j < l.cpu → slice_get l.tracks j ≡ Some t
+      → IsTrack (setting_of l.machine) (state_of l.machine) j t;
   ahead : (j : ℕ) → l.cpu ≤ j → slice_get l.tracks j ≡ slice_get l.fn.tracks j;
 }
