@@ -120,7 +120,7 @@ some_instruction n h = omega (arith, h)
 -- `a` is what was kept of the run, and `b` the same with another copy
 module _ (bytes text : List ℕ) (c : Cpu) (n : ℕ) (a b : Attempt) (seen : List ℕ) (why : Why) (answer : Bool)
     (is : IsRunOf bytes text c n a) (some : n ≢ 0) (fit : Fits text a why answer) (fitting : answer ≡ true)
-    (same : b ≡ record a { seen = seen }) where
+    (same : b ≡ record a { trial = seen }) where
   its : IsEnded a why
   its = ended bytes text c n a why answer is (some_instruction n some) fit fitting
 
@@ -136,6 +136,15 @@ module _ (bytes text : List ℕ) (c : Cpu) (n : ℕ) (a b : Attempt) (seen : Lis
 
   pub has_room : HasRoom why
   has_room = its.room
+
+-- there is a run where a cause fits
+pub is_there_where_it_fits : (bytes text : List ℕ) (c : Cpu) (n : ℕ) (a : Attempt) (why : Why) (b : Bool)
+    → IsRunOf bytes text c n a → Fits text a why b → b ≡ true → mark_of a.mark ≢ run.Missing
+is_there_where_it_fits bytes text c n a why b is fit fitting =
+    let f = some_state bytes text c in
+    let r = is f 0 refl refl refl in
+    let e : fits text (runs f 0 n) why ≡ true = sym (fit f.storage (runs f 0 n) r) ∙ fitting in
+    λ gone. there_by (runs f 0 n).mark (stands text (runs f 0 n) why e) (sym r.mark ∙ gone)
 
 -- ---- what the run leaves
 
@@ -192,7 +201,7 @@ module _ (base : Storage) (a : Attempt) (p : Run) (shows : Shows base a p) where
 pub aborted : (f : FlatState) (i n : ℕ) (bytes text t : List ℕ) (s new : Slot) (a b : Attempt)
     (seen : List ℕ) (why : Why) (answer : Bool) → Holds f i bytes text s → may_act f i ≡ true → n ≢ 0
     → IsRunOf bytes text (cpu_of s.image) n a → Fits text a why answer → answer ≡ true
-    → b ≡ record a { seen = seen } → t ≡ seen_by s.image.prefix b.lasting
+    → b ≡ record a { trial = seen } → t ≡ seen_by s.image.prefix b.lasting
     → cpu_of new.image ≡ cpu_left b (cpu_of s.image) why → pending_of new.pending ≡ pending_left b why
     → new.waiting ≡ waiting_left b why → apply f (Abort i n why) ≡ Some (holding f i t new)
 unfolding apply remains

@@ -13,7 +13,8 @@ use Rattle.z_instr.specs.declared.instr.Instr.{Instr}
 use Rattle.z_effect.specs.One.{length_of}
 use Rattle.z_effect.specs.Outcome.{Outcome, Did, Divides, Aborts}
 use Rattle.z_effect.specs.Outcome as outcome
-use Rattle.z_effect.specs.After.{AreInside, ranges_of, exception}
+use Rattle.z_effect.specs.After.{AreInside, ranges_of, touched, exception}
+use Rattle.z_effect.specs.Kinds.{kind_at}
 use Rattle.line_table.specs.Sizes.{storage_lines}
 use Rattle.tx_control.specs.declared.begins.Begin.{Begin}
 use Rattle.tx_control.specs.declared.causes.Why.{Why}
@@ -40,6 +41,7 @@ use Rattle.tx_flat.specs.Shows.{Shows}
 use Rattle.tx_flat.proofs.Fetched.{copy_size}
 use Rattle.tx_flat.proofs.Inside.{inside}
 use Rattle.tx_flat.proofs.Moving.{none_refuses}
+use Rattle.tx_flat.proofs.OwnCauses.{cause_by_kind}
 use Rattle.tx_flat.proofs.Settled.{same_outcome}
 
 -- ---- by the outcome of the next instruction
@@ -99,6 +101,23 @@ cause_by base text a p i ranges shows ok passes =
     passes.passed).on_operands))
     ∙ ap (λ rs. outcome_cause p.nest i (outcome_of i rs p)) (sym passes.touches)
     ∙ sym (ap (fate_cause p) (goes_where_passes text p i ranges passes))
+
+-- and by other bytes of storage too: whether it ends by a cause of its own does not depend on them
+pub inside_other : (base : Storage) (text : List ℕ) (a : Attempt) (p : Run) (i : Instr) (ranges : List Range)
+    → Shows base a p → is_prefix p.cpu.prefix ≡ true → Passes text p i ranges → length a.trial ≡ storage_size
+    → AreInside (ranges_of i (cpu_of a.image)) a.trial
+inside_other base text a p i ranges shows ok passes size =
+    subst (λ (c : Cpu). AreInside (ranges_of i c) a.trial) shows.cpu
+    (inside text p i a.trial size (none_refuses text p i passes.passed).on_operands)
+
+pub tried_by : (base : Storage) (text : List ℕ) (a : Attempt) (p : Run) (i : Instr) (ranges : List Range)
+    → Shows base a p → is_prefix p.cpu.prefix ≡ true → Passes text p i ranges
+    → outcome_cause a.nest i (outcome_at (length a.nest) i (cpu_of a.image) a.trial)
+    ≡ fate_cause p (fate text p)
+tried_by base text a p i ranges shows ok passes =
+    cause_by_kind a.nest i (kind_at i.op.number) (length_of i) i (cpu_of a.image) (length a.nest)
+    (touched (ranges_of i (cpu_of a.image)) a.trial) (touched (ranges_of i (cpu_of a.image)) a.seen)
+    ∙ cause_by base text a p i ranges shows ok passes
 
 -- ---- by the mark
 

@@ -17,3 +17,6 @@ pub mod Room
 pub mod Aborted
 pub mod Stepping
 pub mod Machines
+pub mod Near
+pub mod Mended
+pub mod OwnCauses

@@ -11,3 +11,4 @@ pub mod Left
 pub mod Outside
 pub mod Machine
 pub mod Open
+pub mod Ready

@@ -8,18 +8,26 @@ ghost use Rattle.tx_serial.specs.Apply.{apply};
 ghost use Rattle.tx_serial.specs.Remains.{pending_after, waiting_after as waits_after};
 ghost use Rattle.tx_flat.specs.Left.{HasRoom, told_by, resumed_by, cpu_left, pending_left, waiting_left};
 ghost use Rattle.tx_flat.specs.Slots.{IsApplied, pending_of};
+ghost use Rattle.tx_flat.specs.Ready.{IsReady};
 
 use crate::attempt::{Attempt, Mark};
 use crate::ending::fits;
 use crate::entries::may_act;
+use crate::mending::{forget_plain_stores, give_up, keep};
 use crate::refusals::constrains;
 use crate::running::run;
 use crate::slot::{ApplyFault, Block, Slot};
-use crate::storing::exchanged;
 use std::alloc::Global;
 use tx_abort::{block_of, condition_of, restore};
 use tx_control::Why;
 use z_regs::{CpuImage, Guard, RunState, Storage, Waiting};
+
+/// After how many instructions an attempt ended, and by which cause.
+#[derive(Clone, Copy)]
+pub struct Ended {
+    pub count: u32,
+    pub why: Why,
+}
 
 /// The bit of an interruption code that tells of an aborted transaction.
 const ABORTED_BIT: u16 = 0x0200;
@@ -113,32 +121,37 @@ fn left(saved: &CpuImage, a: &Attempt, why: Why) -> Slot
 /// of NTSTG stay. Nothing changes where it may not be, and for want of memory.
 pub fn abort(
     alloc: Global,
+    work: &mut Attempt,
     storage: &mut Storage,
     guard: &Guard,
     slot: &mut Slot,
-    n: u32,
-    why: Why,
+    ended: Ended,
 ) -> Result<(), ApplyFault>
-    requires { length storage.old ≡ storage_size }
-    ensures { IsApplied (λ f i. apply f (entry.Abort i n why)) (items guard.now) storage.old storage.new
-        slot.old slot.new result }
+    requires size { length storage.old ≡ storage_size }
+    requires ready { IsReady storage.old work.old }
+    ensures applied { IsApplied (λ f i. apply f (entry.Abort i ended.count ended.why)) (items guard.now)
+        storage.old storage.new slot.old slot.new result }
+    ensures ready { IsReady storage.new work.new }
 {
     if !may_act(slot) {
         return Err(ApplyFault::Misfit);
     }
-    if n == 0 {
+    let Ended { count, why } = ended;
+    if count == 0 {
         return Err(ApplyFault::Misfit);
     }
-    let Ok(mut a) = run(alloc, storage, &slot.image, guard, n) else {
+    let Ok(_) = run(alloc, work, storage, &slot.image, guard, count) else {
         return Err(ApplyFault::Memory);
     };
-    if !fits(&mut a, guard, why) {
+    if !fits(work, guard, why) {
+        give_up(work, storage);
         return Err(ApplyFault::Misfit);
     }
-    let Ok(new) = exchanged(alloc, &a.lasting, slot.image.prefix) else {
+    let new = left(&slot.image, work, why);
+    forget_plain_stores(work, slot.image.prefix);
+    let Ok(_) = keep(alloc, work, storage, slot.image.prefix) else {
         return Err(ApplyFault::Memory);
     };
-    *storage = new;
-    *slot = left(&slot.image, &a, why);
+    *slot = new;
     Ok(())
 }

@@ -22,14 +22,16 @@ pub struct Told {
     pub length: u8,
 }
 
-/// A private run: the CPU, its own copy of storage and a copy with the stores of NTSTG alone, both in the
-/// order of its real addresses; the open begins; the lines and blocks that it has touched; what is kept for
-/// the constraints; the begin and the last instruction; and the mark.
+/// A private run: the CPU, its own copy of storage and a copy with the stores of NTSTG alone, both in
+/// the order of its real addresses; storage of any bytes, on which an instruction is tried; the open
+/// begins; the lines and blocks that it has touched; what is kept for the constraints; the begin and
+/// the last instruction; and the mark.
 #[derive(Drop)]
 pub struct Attempt {
     pub image: CpuImage,
     pub seen: Storage,
     pub lasting: Storage,
+    pub trial: Storage,
     pub nest: Nest,
     pub footprint: Footprint,
     pub constraint: Constraint,

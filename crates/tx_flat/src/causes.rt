@@ -9,7 +9,7 @@ ghost use Rattle.tx_serial.specs.Run.{run as run_of};
 ghost use Rattle.tx_flat.specs.Bytes.{function_of};
 
 use crate::ending::ending;
-use crate::running::run;
+use crate::running::run_apart;
 use std::alloc::Global;
 use tx_control::Why;
 use z_regs::{CpuImage, Guard, NoMemory, Storage};
@@ -28,6 +28,6 @@ pub fn own_cause(
         → f.text ≡ items guard.now → f.cpus i ≡ cpu_of image.now
         → why ≡ ending_of f.text (run_of f i n)) }
 {
-    let mut a = run(alloc, storage, image, guard, n)?;
+    let mut a = run_apart(alloc, storage, image, guard, n)?;
     Ok(ending(&mut a, guard))
 }

@@ -4,10 +4,12 @@ ghost use Rattle.std.specs.FinSet.{items};
 ghost use Rattle.z_regs.specs.Prefix.{storage_size};
 ghost use Rattle.tx_serial.specs.Apply.{apply};
 ghost use Rattle.tx_flat.specs.Machine.{of_cpu};
+ghost use Rattle.tx_flat.specs.Ready.{IsReady};
 ghost use Rattle.tx_flat.specs.Slots.{IsApplied};
 ghost use Rattle.tx_flat.specs.declared.slot.Block.{Block};
 
-use crate::abort::abort;
+use crate::abort::{Ended, abort};
+use crate::attempt::Attempt;
 use crate::entries::{commit, store_block};
 use crate::interruption::take;
 use crate::outside::step;
@@ -20,21 +22,27 @@ use z_regs::{Guard, Storage};
 /// storage.
 pub fn apply_to(
     alloc: Global,
+    work: &mut Attempt,
     storage: &mut Storage,
     guard: &Guard,
     slot: &mut Slot,
     entry: Entry,
 ) -> Result<(), ApplyFault>
     requires size { length storage.old ≡ storage_size }
+    requires ready { IsReady storage.old work.old }
     requires placed { (b : Block) → slot.old.pending ≡ Some b → b.address + 256 ≤ storage_size }
-    ensures { IsApplied (λ f i. apply f (of_cpu entry i)) (items guard.now) storage.old storage.new slot.old
+    ensures applied { IsApplied (λ f i. apply f (of_cpu entry i)) (items guard.now) storage.old storage.new slot.old
         slot.new result }
+    ensures ready { IsReady storage.new work.new }
 {
     match entry {
-        Entry::Step(_) => step(alloc, storage, guard, slot),
-        Entry::Commit(_, n) => commit(alloc, storage, guard, slot, n),
-        Entry::Abort(_, n, why) => abort(alloc, storage, guard, slot, n, why),
-        Entry::Tdb(_) => store_block(storage, slot),
-        Entry::Interrupt(_) => take(storage, slot),
+        Entry::Step(_) => step(alloc, work, storage, guard, slot),
+        Entry::Commit(_, n) => commit(alloc, work, storage, guard, slot, n),
+        Entry::Abort(_, n, why) => {
+            let ended = Ended { count: n, why };
+            abort(alloc, work, storage, guard, slot, ended)
+        }
+        Entry::Tdb(_) => store_block(work, storage, slot),
+        Entry::Interrupt(_) => take(work, storage, slot),
     }
 }

@@ -18,6 +18,7 @@ ghost use Rattle.tx_flat.specs.Shows.{Shows, Shown, IsRun, SomeRun};
 use crate::attempt::{Attempt, Mark};
 use crate::coming::{Next, cause_in, coming};
 use crate::execution::{Completion, execute};
+use crate::mending::is_whole;
 use crate::refusals::constrains;
 use line_table::LINES;
 use tx_control::codes::{FIXED_POINT_DIVIDE, FIXED_POINT_OVERFLOW};
@@ -30,15 +31,16 @@ use z_instr::lookup::line;
 use z_regs::{CpuImage, Guard, Storage};
 
 /// The cause by which an instruction that goes ends the attempt, where it does: a division that does not
-/// fit, or TABORT. It is tried, which may change the copy of storage.
-fn tried(nest: &Nest, image: &CpuImage, seen: &mut Storage, instr: &Instr) -> Option<Why>
-    requires size { length seen.old ≡ storage_size }
-    requires inside { AreInside (ranges_of instr.now (cpu_of image.now)) seen.old }
+/// fit, or TABORT. It is tried on storage of any bytes: that it ends by a cause of its own does not depend on
+/// them.
+fn tried(nest: &Nest, image: &CpuImage, trial: &mut Storage, instr: &Instr) -> Option<Why>
+    requires size { length trial.old ≡ storage_size }
+    requires inside { AreInside (ranges_of instr.now (cpu_of image.now)) trial.old }
     ensures { result ≡ outcome_cause nest.now instr.now
-        (outcome_at (length nest.now) instr.now (cpu_of image.now) seen.old) }
+        (outcome_at (length nest.now) instr.now (cpu_of image.now) trial.old) }
 {
     let mut image = *image;
-    match execute(instr, &mut image, seen, nest.depth()) {
+    match execute(instr, &mut image, trial, nest.depth()) {
         Completion::Completed => None,
         Completion::Overflowed => None,
         Completion::Divides => {
@@ -49,27 +51,28 @@ fn tried(nest: &Nest, image: &CpuImage, seen: &mut Storage, instr: &Instr) -> Op
     }
 }
 
-/// The cause by which the next instruction ends an open attempt, where it does. The copy of storage is of no
-/// use afterwards.
+/// The cause by which the next instruction ends an open attempt, where it does.
 fn cause_of_next(a: &mut Attempt, guard: &Guard) -> Option<Why>
     requires { Shown a.old }
     ensures value { (base : Bytes) (p : Run) → Shows base a.old p
         → result ≡ fate_cause p (fate (items guard.now) p) }
-    ensures rest { a.new ≡ record a.old { seen = a.new.seen } }
+    ensures rest { a.new ≡ record a.old { trial = a.new.trial } }
 {
     match coming(a, guard) {
         Next::Ends(why) => Some(why),
         Next::Stops(_) => None,
-        Next::Goes(instr, _) => tried(&a.nest, &a.image, &mut a.seen, &instr),
+        Next::Goes(instr, _) => {
+            is_whole(&a.trial);
+            tried(&a.nest, &a.image, &mut a.trial, &instr)
+        }
     }
 }
 
-/// The cause by which an attempt ends by itself, where there is one. The copy of storage is of no use
-/// afterwards.
+/// The cause by which an attempt ends by itself, where there is one.
 pub fn ending(a: &mut Attempt, guard: &Guard) -> Option<Why>
     requires { SomeRun a.old }
     ensures value { (base : Bytes) (p : Run) → IsRun base a.old p → result ≡ ending_of (items guard.now) p }
-    ensures rest { a.new ≡ record a.old { seen = a.new.seen } }
+    ensures rest { a.new ≡ record a.old { trial = a.new.trial } }
 {
     match a.mark {
         Mark::Open => cause_of_next(a, guard),
@@ -144,14 +147,12 @@ fn is_this(own: Option<Why>, why: Why) -> bool
     }
 }
 
-/// Whether an attempt may end by the cause: by itself, or while it is open from outside. The copy of storage
-/// is
-/// of no use afterwards.
+/// Whether an attempt may end by the cause: by itself, or while it is open from outside.
 pub fn fits(a: &mut Attempt, guard: &Guard, why: Why) -> bool
     requires { SomeRun a.old }
     ensures value { (base : Bytes) (p : Run) → IsRun base a.old p
         → result ≡ fits_run (items guard.now) p why }
-    ensures rest { a.new ≡ record a.old { seen = a.new.seen } }
+    ensures rest { a.new ≡ record a.old { trial = a.new.trial } }
 {
     let from_outside = may_come_from_outside(a, guard, why);
     let own = ending(a, guard);

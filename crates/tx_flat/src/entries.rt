@@ -8,11 +8,13 @@ ghost use Rattle.tx_journal.specs.declared.entries.Entry.TheVariants as entry;
 ghost use Rattle.tx_flat.specs.Slots.{IsApplied, acts, commits, pending_of};
 ghost use Rattle.tx_flat.specs.declared.slot.Block.{Block};
 ghost use Rattle.tx_flat.specs.Shows.{mark_of};
+ghost use Rattle.tx_flat.specs.Ready.{IsReady};
 
-use crate::attempt::Mark;
+use crate::attempt::{Attempt, Mark};
+use crate::mending::{follow_bytes, give_up, keep};
 use crate::running::run;
 use crate::slot::{ApplyFault, Slot};
-use crate::storing::{exchanged, store_bytes};
+use crate::storing::store_bytes;
 use std::alloc::Global;
 use z_regs::{Guard, RunState, Storage};
 
@@ -34,43 +36,54 @@ fn is_committed(mark: Mark) -> bool
 /// want of memory.
 pub fn commit(
     alloc: Global,
+    work: &mut Attempt,
     storage: &mut Storage,
     guard: &Guard,
     slot: &mut Slot,
     n: u32,
 ) -> Result<(), ApplyFault>
-    requires { length storage.old ≡ storage_size }
-    ensures { IsApplied (λ f i. apply f (entry.Commit i n)) (items guard.now) storage.old storage.new slot.old
-        slot.new result }
+    requires size { length storage.old ≡ storage_size }
+    requires ready { IsReady storage.old work.old }
+    ensures applied { IsApplied (λ f i. apply f (entry.Commit i n)) (items guard.now) storage.old storage.new
+        slot.old slot.new result }
+    ensures ready { IsReady storage.new work.new }
 {
     if !may_act(slot) {
         return Err(ApplyFault::Misfit);
     }
-    let Ok(a) = run(alloc, storage, &slot.image, guard, n) else {
+    let Ok(_) = run(alloc, work, storage, &slot.image, guard, n) else {
         return Err(ApplyFault::Memory);
     };
-    if !is_committed(a.mark) {
+    if !is_committed(work.mark) {
+        give_up(work, storage);
         return Err(ApplyFault::Misfit);
     }
-    let Ok(new) = exchanged(alloc, &a.seen, slot.image.prefix) else {
+    let image = work.image;
+    let Ok(_) = keep(alloc, work, storage, slot.image.prefix) else {
         return Err(ApplyFault::Memory);
     };
-    *storage = new;
-    slot.image = a.image;
+    slot.image = image;
     Ok(())
 }
 
 /// The block that is pending is stored, where there is one.
-pub fn store_block(storage: &mut Storage, slot: &mut Slot) -> Result<(), ApplyFault>
+pub fn store_block(
+    work: &mut Attempt,
+    storage: &mut Storage,
+    slot: &mut Slot,
+) -> Result<(), ApplyFault>
     requires size { length storage.old ≡ storage_size }
+    requires ready { IsReady storage.old work.old }
     requires placed { (b : Block) → slot.old.pending ≡ Some b → b.address + 256 ≤ storage_size }
-    ensures { (text : List ℕ) → IsApplied (λ f i. apply f (entry.Tdb i)) text storage.old storage.new slot.old
-        slot.new result }
+    ensures applied { (text : List ℕ) → IsApplied (λ f i. apply f (entry.Tdb i)) text storage.old storage.new
+        slot.old slot.new result }
+    ensures ready { IsReady storage.new work.new }
 {
     let Some(block) = slot.pending else {
         return Err(ApplyFault::Misfit);
     };
     store_bytes(storage, slot.image.prefix, block.address, &block.bytes);
+    follow_bytes(work, slot.image.prefix, block.address, &block.bytes);
     slot.pending = None;
     Ok(())
 }

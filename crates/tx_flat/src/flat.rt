@@ -12,9 +12,12 @@ ghost use Rattle.tx_serial.specs.Ending.{ending};
 ghost use Rattle.tx_serial.specs.Flat.{address_of, bytes_of};
 ghost use Rattle.tx_serial.specs.Run.{run};
 
+use crate::attempt::Attempt;
 use crate::causes::own_cause;
 use crate::dispatch::apply_to;
 use crate::interruption::code_of;
+use crate::mending::is_whole;
+use crate::running::fresh;
 use crate::showing::{OpenRun, open_run};
 use crate::slot::{ApplyFault, Slot};
 use std::alloc::Global;
@@ -27,6 +30,9 @@ use z_regs::{CpuImage, Guard, NoMemory, PAGES, Storage};
 /// pending for it and the interruption that it has still to take. Contracts speak of the flat state made of
 /// these (`state_of`).
 ///
+/// It has copies of storage to work on, which are kept the same between entries, so that an entry costs no copy
+/// of all of storage where its CPU has no prefix.
+///
 /// The type keeps that no text page ever changes: where a CPU has a prefix, its area holds no text, and
 /// neither does what is still to be stored come to lie in text.
 #[derive(Drop)]
@@ -34,6 +40,7 @@ pub struct Flat {
     storage: Storage,
     guard: Guard,
     slots: Vec<Slot>,
+    work: Attempt,
 }
 
 impl Model for Flat {
@@ -42,10 +49,12 @@ impl Model for Flat {
     ghost Value = { Parts };
 
     ghost use Rattle.tx_flat.specs.Machine.{IsSound};
+    ghost use Rattle.tx_flat.specs.Ready.{IsReady};
 
     ghost view = { λ f. parts_of f.storage f.guard f.slots.items };
 
-    ghost invariant = { λ f. IsSound (parts_of f.storage f.guard f.slots.items) };
+    ghost invariant = { λ f. IsSound (parts_of f.storage f.guard f.slots.items)
+        × IsReady f.storage f.work };
 }
 
 /// The CPU of an entry.
@@ -122,13 +131,6 @@ fn waiting_code(slot: &Slot) -> Option<u16>
     }
 }
 
-/// Storage has its size.
-fn is_whole(storage: &Storage)
-    ensures { length storage.now ≡ storage_size }
-{
-    let _bytes = storage.as_slice();
-}
-
 impl Flat {
     ghost use Rattle.std.specs.Prelude.{◌≡◌, ◌≢◌, ◌<◌, IfOk, IfSome, IfNone, length};
     ghost use Rattle.tx_flat.specs.Machine.{state_of, code_waiting, Applies};
@@ -147,10 +149,13 @@ impl Flat {
         let storage = Storage::open(alloc, image.storage.as_slice())?;
         let guard = same_pages(&image.guard);
         let slots = fresh_slots(alloc, image.cpus.as_slice())?;
+        is_whole(&storage);
+        let work = fresh(alloc, &storage)?;
         Ok(Flat {
             storage,
             guard,
             slots,
+            work,
         })
     }
 
@@ -165,7 +170,14 @@ impl Flat {
         }
         is_whole(&self.storage);
         let mut slot = self.slots[cpu];
-        match apply_to(alloc, &mut self.storage, &self.guard, &mut slot, entry) {
+        match apply_to(
+            alloc,
+            &mut self.work,
+            &mut self.storage,
+            &self.guard,
+            &mut slot,
+            entry,
+        ) {
             Err(fault) => Err(fault),
             Ok(()) => {
                 self.slots[cpu] = slot;

@@ -8,7 +8,10 @@ ghost use Rattle.tx_serial.specs.Flat.{bytes_seen};
 ghost use Rattle.tx_journal.specs.declared.entries.Entry.TheVariants as entry;
 ghost use Rattle.tx_flat.specs.Bytes.{function_of};
 ghost use Rattle.tx_flat.specs.Slots.{IsApplied};
+ghost use Rattle.tx_flat.specs.Ready.{IsReady};
 
+use crate::attempt::Attempt;
+use crate::mending::is_whole;
 use crate::slot::{ApplyFault, Slot};
 use crate::storing::store_bytes;
 use z_regs::{Bytes, CpuImage, RunState, Storage, Waiting, load_psw, place_of, psw_of};
@@ -102,11 +105,25 @@ fn store_interruption(storage: &mut Storage, image: &CpuImage, waiting: Waiting)
     store_its_block(storage, image.prefix, waiting.block);
 }
 
+/// The same goes into the copies of storage.
+fn follow_interruption(a: &mut Attempt, image: &CpuImage, waiting: Waiting)
+    ensures { (old new : List ℕ) → IsReady old a.old → length new ≡ storage_size
+        → function_of new ≡ with_stored_interruption (cpu_of image.now) waiting (function_of old)
+        → IsReady new a.new }
+{
+    is_whole(&a.seen);
+    is_whole(&a.lasting);
+    store_interruption(&mut a.seen, image, waiting);
+    store_interruption(&mut a.lasting, image, waiting);
+}
+
 /// The interruption that a CPU has still to take is taken, where there is one and no block is pending.
-pub fn take(storage: &mut Storage, slot: &mut Slot) -> Result<(), ApplyFault>
-    requires { length storage.old ≡ storage_size }
-    ensures { (text : List ℕ) → IsApplied (λ f i. apply f (entry.Interrupt i)) text storage.old storage.new
+pub fn take(work: &mut Attempt, storage: &mut Storage, slot: &mut Slot) -> Result<(), ApplyFault>
+    requires size { length storage.old ≡ storage_size }
+    requires ready { IsReady storage.old work.old }
+    ensures applied { (text : List ℕ) → IsApplied (λ f i. apply f (entry.Interrupt i)) text storage.old storage.new
         slot.old slot.new result }
+    ensures ready { IsReady storage.new work.new }
 {
     match slot.pending {
         Some(_) => Err(ApplyFault::Misfit),
@@ -114,6 +131,7 @@ pub fn take(storage: &mut Storage, slot: &mut Slot) -> Result<(), ApplyFault>
             None => Err(ApplyFault::Misfit),
             Some(waiting) => {
                 store_interruption(storage, &slot.image, waiting);
+                follow_interruption(work, &slot.image, waiting);
                 let psw = new_status(storage, slot.image.prefix);
                 load_psw(&mut slot.image, &psw);
                 slot.waiting = None;

@@ -1,5 +1,5 @@
 //! Private runs of so many instructions.
-ghost use Rattle.std.specs.Prelude.{◌≡◌, ◌≤◌, ℕ, IfOk, length};
+ghost use Rattle.std.specs.Prelude.{◌≡◌, ◌≤◌, ℕ, List, IfOk, IfErr, OnOk, length};
 ghost use Rattle.std.specs.FinSet.{items};
 ghost use Rattle.z_regs.specs.Cpu.{cpu_of};
 ghost use Rattle.z_regs.specs.Prefix.{storage_size};
@@ -7,44 +7,105 @@ ghost use Rattle.tx_serial.specs.Attempt.{at_rest};
 ghost use Rattle.tx_serial.specs.Flat.{FlatState};
 ghost use Rattle.tx_serial.specs.Run.{run as run_of};
 ghost use Rattle.tx_flat.specs.Bytes.{function_of};
+ghost use Rattle.z_regs.specs.Seen.{seen_by};
+ghost use Rattle.tx_flat.specs.Ready.{IsReady, IsTurned};
 ghost use Rattle.tx_flat.specs.Shows.{Shows, IsRun, IsRunOf};
 
 use crate::advance::advance;
 use crate::attempt::{Attempt, Mark, Told};
-use crate::storing::exchanged;
+use crate::mending::turn;
 use std::alloc::Global;
 use tx_constraint::Constraint;
 use tx_control::Nest;
 use tx_footprint::Footprint;
 use z_regs::{CpuImage, Guard, NoMemory, Storage};
 
-/// No instruction yet.
-pub fn rest(alloc: Global, storage: &Storage, image: &CpuImage) -> Result<Attempt, NoMemory>
+/// No instruction.
+const NOWHERE: Told = Told { at: 0, length: 0 };
+
+/// Copies of storage to run on, and no instruction yet.
+pub fn fresh(alloc: Global, storage: &Storage) -> Result<Attempt, NoMemory>
     requires { length storage.now ≡ storage_size }
-    ensures { IfOk result (λ a. Shows (function_of storage.now) a
-        (at_rest (function_of storage.now) (cpu_of image.now))) }
+    ensures { IfOk result (λ a. IsReady storage.now a) }
 {
-    let seen = exchanged(alloc, storage, image.prefix)?;
-    let lasting = exchanged(alloc, storage, image.prefix)?;
+    let seen = Storage::open(alloc, storage.as_slice())?;
+    let lasting = Storage::open(alloc, storage.as_slice())?;
+    let trial = Storage::open(alloc, storage.as_slice())?;
     let Ok(footprint) = Footprint::open(alloc) else {
         return Err(NoMemory);
     };
-    let nowhere = Told { at: 0, length: 0 };
     Ok(Attempt {
-        image: *image,
+        image: CpuImage::entering(0),
         seen,
         lasting,
+        trial,
         nest: Nest::none(),
         footprint,
         constraint: Constraint::begin(0),
-        begin: nowhere,
-        last: nowhere,
+        begin: NOWHERE,
+        last: NOWHERE,
         mark: Mark::Open,
     })
 }
 
-/// The run of so many instructions of a CPU alone, on copies of storage. `guard` has the text pages.
+/// No instruction of this CPU yet.
+fn restart(a: &mut Attempt, image: &CpuImage)
+    ensures rests { (bytes : List ℕ) → length bytes ≡ storage_size → IsTurned image.now.prefix bytes a.old
+        → Shows (function_of bytes) a.new (at_rest (function_of bytes) (cpu_of image.now)) }
+    ensures turned { (bytes : List ℕ) → IsTurned image.now.prefix bytes a.old
+        → IsTurned image.now.prefix bytes a.new }
+{
+    a.image = *image;
+    a.nest = Nest::none();
+    a.footprint.clear();
+    a.constraint = Constraint::begin(0);
+    a.begin = NOWHERE;
+    a.last = NOWHERE;
+    a.mark = Mark::Open;
+}
+
+/// No instruction of a CPU yet, on the copies of storage.
+pub fn rest(
+    alloc: Global,
+    a: &mut Attempt,
+    storage: &Storage,
+    image: &CpuImage,
+) -> Result<(), NoMemory>
+    requires size { length storage.now ≡ storage_size }
+    requires ready { IsReady storage.now a.old }
+    ensures shown { OnOk result (Shows (function_of storage.now) a.new
+        (at_rest (function_of storage.now) (cpu_of image.now))) }
+    ensures turned { OnOk result (IsTurned image.now.prefix storage.now a.new) }
+    ensures fault { IfErr result (λ e. IsReady storage.now a.new) }
+{
+    turn(alloc, a, storage, image.prefix)?;
+    restart(a, image);
+    Ok(())
+}
+
+/// The run of so many instructions of a CPU alone, on the copies of storage. `guard` has the text pages.
 pub fn run(
+    alloc: Global,
+    a: &mut Attempt,
+    storage: &Storage,
+    image: &CpuImage,
+    guard: &Guard,
+    n: u32,
+) -> Result<(), NoMemory>
+    requires size { length storage.now ≡ storage_size }
+    requires ready { IsReady storage.now a.old }
+    ensures run { OnOk result (IsRunOf storage.now (items guard.now) (cpu_of image.now) n a.new) }
+    ensures fault { IfErr result (λ e. IsReady storage.now a.new) }
+{
+    rest(alloc, a, storage, image)?;
+    for _k in 0..n {
+        advance(a, guard);
+    }
+    Ok(())
+}
+
+/// The run of so many instructions of a CPU alone, on copies of its own.
+pub fn run_apart(
     alloc: Global,
     storage: &Storage,
     image: &CpuImage,
@@ -54,9 +115,7 @@ pub fn run(
     requires { length storage.now ≡ storage_size }
     ensures { IfOk result (λ a. IsRunOf storage.now (items guard.now) (cpu_of image.now) n a) }
 {
-    let mut a = rest(alloc, storage, image)?;
-    for _k in 0..n {
-        advance(&mut a, guard);
-    }
+    let mut a = fresh(alloc, storage)?;
+    run(alloc, &mut a, storage, image, guard, n)?;
     Ok(a)
 }

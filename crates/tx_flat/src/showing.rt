@@ -11,7 +11,7 @@ ghost use Rattle.tx_flat.specs.Open.{IsOpen};
 ghost use Rattle.tx_flat.specs.Shows.{mark_of};
 
 use crate::attempt::Mark;
-use crate::running::run;
+use crate::running::run_apart;
 use std::alloc::Global;
 use z_regs::{CpuImage, Guard, NoMemory, Storage};
 
@@ -45,7 +45,7 @@ pub fn open_run(
     ensures none { IfOk result (λ o. IfNone o ((f : FlatState) (i : ℕ) → f.storage ≡ function_of storage.now
         → f.text ≡ items guard.now → f.cpus i ≡ cpu_of image.now → (run_of f i n).mark ≢ run.Open)) }
 {
-    let a = run(alloc, storage, image, guard, n)?;
+    let a = run_apart(alloc, storage, image, guard, n)?;
     if !is_open(a.mark) {
         return Ok(None);
     }

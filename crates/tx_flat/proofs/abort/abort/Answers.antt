@@ -1,58 +1,104 @@
-use Rattle.std.proofs.Common.{refl, false, true}
+use Rattle.std.proofs.Common.{refl, sym, ap, ◌∙◌, ◌≡◌, ◌≢◌, get_or, subst, false, true, None}
+use Rattle.z_regs.specs.Seen.{seen_by}
+use Rattle.tx_serial.specs.Attempt as run
+use Rattle.tx_flat.specs.declared.attempt.Attempt.{Attempt}
+use Rattle.tx_flat.specs.Ready.{Near}
+use Rattle.tx_flat.specs.Shows.{mark_of}
+use Rattle.tx_flat.proofs.Near.{near_seen, near_lasting, near_each}
 use Rattle.std.specs.FinSet.{items}
 use Rattle.z_regs.specs.Cpu.{cpu_of}
-use Rattle.tx_flat.proofs.Aborted.{is_begun, is_inside, has_room, aborted, may_not_abort, none_aborted, unfit}
+use Rattle.tx_flat.proofs.Aborted.{is_begun, is_inside, has_room, aborted, is_there_where_it_fits, may_not_abort, none_aborted, unfit}
 use Rattle.tx_flat.proofs.Applied.{may}
 use Rattle.tx_flat.proofs.Resting.{some_run}
 use Rattle.tx_flat.proofs.abort.abort.Goals as goal
 
-pub returns-then-not-may_act : goal.returns-then-not-may_act
-returns-then-not-may_act c = (
-  λ f i h. may_not_abort f i c.args.n c.args.why (may f i c.args.storage.now (items c.args.guard.now)
+pub returns-then-not-may_act-clause-applied : goal.returns-then-not-may_act-clause-applied
+returns-then-not-may_act-clause-applied c = (
+  λ f i h. may_not_abort f i c.args.ended.count c.args.ended.why (may f i c.args.storage.now (items c.args.guard.now)
       c.args.slot.now c.may_act.result false h c.may_act.ensures c.if-not-may_act.true),
   refl,
   refl,
 )
 
-pub returns-then-n-eq0 : goal.returns-then-n-eq0
-returns-then-n-eq0 c = (λ f i h. none_aborted f i c.args.n c.args.why c.if-n-eq0.true, refl, refl)
+pub returns-then-count-eq0-clause-applied : goal.returns-then-count-eq0-clause-applied
+returns-then-count-eq0-clause-applied c = (λ f i h. none_aborted f i c.args.ended.count c.args.ended.why c.if-count-eq0.true, refl, refl)
 
 pub fits-requires : goal.fits-requires
 fits-requires c =
-    some_run c.args.storage.now (items c.args.guard.now) (cpu_of c.args.slot.now.image) c.args.n c.in-Ok.a
-    c.in-Ok.ensures
+    some_run c.args.storage.now (items c.args.guard.now) (cpu_of c.args.slot.now.image) c.args.ended.count c.run.new.a
+    c.in-Ok.ensures.run
 
-pub returns-then-not-fits : goal.returns-then-not-fits
-returns-then-not-fits c = (
-  λ f i h. unfit f i c.args.n c.args.storage.now (items c.args.guard.now) c.args.slot.now c.in-Ok.a
-      c.args.why c.fits.result h c.in-Ok.ensures c.fits.ensures.value c.if-not-fits.true,
+pub returns-then-not-fits-clause-applied : goal.returns-then-not-fits-clause-applied
+returns-then-not-fits-clause-applied c = (
+  λ f i h. unfit f i c.args.ended.count c.args.storage.now (items c.args.guard.now) c.args.slot.now c.run.new.a
+      c.args.ended.why c.fits.result h c.in-Ok.ensures.run c.fits.ensures.value c.if-not-fits.true,
   refl,
   refl,
 )
 
-pub left-requires-clause-begun : goal.left-requires-clause-begun
-left-requires-clause-begun c =
-    is_begun c.args.storage.now (items c.args.guard.now) (cpu_of c.args.slot.now.image) c.args.n c.in-Ok.a
-    c.fits.new.a c.fits.new.a.seen c.args.why c.fits.result c.in-Ok.ensures c.if-n-eq0.false
+pub left-new-requires-clause-begun : goal.left-new-requires-clause-begun
+left-new-requires-clause-begun c =
+    is_begun c.args.storage.now (items c.args.guard.now) (cpu_of c.args.slot.now.image) c.args.ended.count c.run.new.a
+    c.fits.new.a c.fits.new.a.trial c.args.ended.why c.fits.result c.in-Ok.ensures.run c.if-count-eq0.false
     c.fits.ensures.value c.if-not-fits.false c.fits.ensures.rest
 
-pub left-requires-clause-inside : goal.left-requires-clause-inside
-left-requires-clause-inside c =
-    is_inside c.args.storage.now (items c.args.guard.now) (cpu_of c.args.slot.now.image) c.args.n c.in-Ok.a
-    c.fits.new.a c.fits.new.a.seen c.args.why c.fits.result c.in-Ok.ensures c.if-n-eq0.false
+pub left-new-requires-clause-inside : goal.left-new-requires-clause-inside
+left-new-requires-clause-inside c =
+    is_inside c.args.storage.now (items c.args.guard.now) (cpu_of c.args.slot.now.image) c.args.ended.count c.run.new.a
+    c.fits.new.a c.fits.new.a.trial c.args.ended.why c.fits.result c.in-Ok.ensures.run c.if-count-eq0.false
     c.fits.ensures.value c.if-not-fits.false c.fits.ensures.rest
 
-pub left-requires-clause-room : goal.left-requires-clause-room
-left-requires-clause-room c =
-    has_room c.args.storage.now (items c.args.guard.now) (cpu_of c.args.slot.now.image) c.args.n c.in-Ok.a
-    c.fits.new.a c.fits.new.a.seen c.args.why c.fits.result c.in-Ok.ensures c.if-n-eq0.false
+pub left-new-requires-clause-room : goal.left-new-requires-clause-room
+left-new-requires-clause-room c =
+    has_room c.args.storage.now (items c.args.guard.now) (cpu_of c.args.slot.now.image) c.args.ended.count c.run.new.a
+    c.fits.new.a c.fits.new.a.trial c.args.ended.why c.fits.result c.in-Ok.ensures.run c.if-count-eq0.false
     c.fits.ensures.value c.if-not-fits.false c.fits.ensures.rest
 
-pub returns : goal.returns
-returns c = λ f i h.
-    aborted f i c.args.n c.args.storage.now (items c.args.guard.now) c.in-Ok-exchanged.new c.args.slot.now
-    c.left.result c.in-Ok.a c.fits.new.a c.fits.new.a.seen c.args.why c.fits.result h
+pub returns-clause-applied : goal.returns-clause-applied
+returns-clause-applied c = λ f i h.
+    aborted f i c.args.ended.count c.args.storage.now (items c.args.guard.now) c.keep.new.storage c.args.slot.now
+    c.left-new.result c.run.new.a c.fits.new.a c.fits.new.a.trial c.args.ended.why c.fits.result h
     (may f i c.args.storage.now (items c.args.guard.now) c.args.slot.now c.may_act.result true h
     c.may_act.ensures c.if-not-may_act.false)
-    c.if-n-eq0.false c.in-Ok.ensures c.fits.ensures.value c.if-not-fits.false c.fits.ensures.rest
-    c.in-Ok-exchanged.ensures c.left.ensures.cpu c.left.ensures.pending c.left.ensures.waiting
+    c.if-count-eq0.false c.in-Ok.ensures.run c.fits.ensures.value c.if-not-fits.false c.fits.ensures.rest
+    (c.in-Ok-keep.ensures.kept ∙ ap (λ (x : Attempt). seen_by c.args.slot.now.image.prefix x.seen) c.forget_plain_stores.ensures) c.left-new.ensures.cpu c.left-new.ensures.pending c.left-new.ensures.waiting
+
+pub forget_plain_stores-requires : goal.forget_plain_stores-requires
+forget_plain_stores-requires c = λ none.
+    let a = c.run.new.a in
+    let s = c.args.storage.now in
+    let there =
+    is_there_where_it_fits s (items c.args.guard.now) (cpu_of c.args.slot.now.image) c.args.ended.count a
+    c.args.ended.why c.fits.result c.in-Ok.ensures.run c.fits.ensures.value c.if-not-fits.false in
+    let seen =
+    near_seen s (items c.args.guard.now) (cpu_of c.args.slot.now.image) c.args.ended.count a c.in-Ok.ensures.run
+    there c.args.slot.now.image.prefix refl none in
+    let lasting =
+    near_lasting s (items c.args.guard.now) (cpu_of c.args.slot.now.image) c.args.ended.count a c.in-Ok.ensures.run
+    there c.args.slot.now.image.prefix refl none in
+    subst (λ (x : Attempt). Near x.lasting x.footprint x.seen) (sym c.fits.ensures.rest)
+    (near_each s a.seen a.lasting a.footprint seen lasting)
+
+pub keep-requires-clause-seen : goal.keep-requires-clause-seen
+keep-requires-clause-seen c = λ none.
+    let a = c.run.new.a in
+    let s = c.args.storage.now in
+    let there =
+    is_there_where_it_fits s (items c.args.guard.now) (cpu_of c.args.slot.now.image) c.args.ended.count a
+    c.args.ended.why c.fits.result c.in-Ok.ensures.run c.fits.ensures.value c.if-not-fits.false in
+    subst (λ (x : Attempt). Near s x.footprint x.seen) (sym c.forget_plain_stores.ensures)
+    (subst (λ (x : Attempt). Near s x.footprint x.lasting) (sym c.fits.ensures.rest)
+    (near_lasting s (items c.args.guard.now) (cpu_of c.args.slot.now.image) c.args.ended.count a c.in-Ok.ensures.run
+    there c.args.slot.now.image.prefix refl none))
+
+pub keep-requires-clause-lasting : goal.keep-requires-clause-lasting
+keep-requires-clause-lasting c = λ none.
+    let a = c.run.new.a in
+    let s = c.args.storage.now in
+    let there =
+    is_there_where_it_fits s (items c.args.guard.now) (cpu_of c.args.slot.now.image) c.args.ended.count a
+    c.args.ended.why c.fits.result c.in-Ok.ensures.run c.fits.ensures.value c.if-not-fits.false in
+    subst (λ (x : Attempt). Near s x.footprint x.lasting) (sym c.forget_plain_stores.ensures)
+    (subst (λ (x : Attempt). Near s x.footprint x.lasting) (sym c.fits.ensures.rest)
+    (near_lasting s (items c.args.guard.now) (cpu_of c.args.slot.now.image) c.args.ended.count a c.in-Ok.ensures.run
+    there c.args.slot.now.image.prefix refl none))

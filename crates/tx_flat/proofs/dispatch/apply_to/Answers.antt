@@ -6,14 +6,14 @@ use Rattle.tx_flat.specs.Machine.{of_cpu}
 use Rattle.tx_flat.specs.Slots.{IsApplied}
 use Rattle.tx_flat.proofs.dispatch.apply_to.Goals as goal
 
-pub returns-in-Tdb : goal.returns-in-Tdb
-returns-in-Tdb c =
+pub returns-in-Tdb-clause-applied : goal.returns-in-Tdb-clause-applied
+returns-in-Tdb-clause-applied c =
     subst (λ (e : Entry). IsApplied (λ f i. apply f (of_cpu e i)) (items c.args.guard.now) c.args.storage.now
     c.store_block.new.storage c.args.slot.now c.store_block.new.slot c.store_block.result) (sym c.in-Tdb.is)
-    (c.store_block.ensures (items c.args.guard.now))
+    (c.store_block.ensures.applied (items c.args.guard.now))
 
-pub returns-in-Interrupt : goal.returns-in-Interrupt
-returns-in-Interrupt c =
+pub returns-in-Interrupt-clause-applied : goal.returns-in-Interrupt-clause-applied
+returns-in-Interrupt-clause-applied c =
     subst (λ (e : Entry). IsApplied (λ f i. apply f (of_cpu e i)) (items c.args.guard.now) c.args.storage.now
     c.take.new.storage c.args.slot.now c.take.new.slot c.take.result) (sym c.in-Interrupt.is)
-    (c.take.ensures (items c.args.guard.now))
+    (c.take.ensures.applied (items c.args.guard.now))

@@ -1,11 +1,13 @@
 use Rattle.std.proofs.Common.{refl, false, true}
 use Rattle.std.specs.FinSet.{items}
+use Rattle.z_regs.specs.Cpu.{cpu_of}
 use Rattle.tx_flat.specs.Shows.{mark_of}
 use Rattle.tx_flat.proofs.Applied.{may, may_not, committed, not_committed, is_committed, is_not}
+use Rattle.tx_flat.proofs.Near.{near_seen, near_lasting, committed_there}
 use Rattle.tx_flat.proofs.entries.commit.Goals as goal
 
-pub returns-then-not-may_act : goal.returns-then-not-may_act
-returns-then-not-may_act c = (
+pub returns-then-not-may_act-clause-applied : goal.returns-then-not-may_act-clause-applied
+returns-then-not-may_act-clause-applied c = (
   λ f i h. may_not f i c.args.n (may f i c.args.storage.now (items c.args.guard.now) c.args.slot.now
       c.may_act.result
       false h c.may_act.ensures c.if-not-may_act.true),
@@ -13,23 +15,39 @@ returns-then-not-may_act c = (
   refl,
 )
 
-pub returns-then-not-is_committed : goal.returns-then-not-is_committed
-returns-then-not-is_committed c = (
-  λ f i h. not_committed f i c.args.n c.args.storage.now (items c.args.guard.now) c.args.slot.now c.in-Ok.a h
-      c.in-Ok.ensures
-      (is_not (mark_of c.in-Ok.a.mark) c.is_committed.result c.is_committed.ensures
+pub returns-then-not-is_committed-clause-applied : goal.returns-then-not-is_committed-clause-applied
+returns-then-not-is_committed-clause-applied c = (
+  λ f i h. not_committed f i c.args.n c.args.storage.now (items c.args.guard.now) c.args.slot.now c.run.new.a h
+      c.in-Ok.ensures.run
+      (is_not (mark_of c.run.new.a.mark) c.is_committed.result c.is_committed.ensures
       c.if-not-is_committed.true),
   refl,
   refl,
 )
 
-pub returns : goal.returns
-returns c = λ f i h.
-    committed f i c.args.n c.args.storage.now (items c.args.guard.now) c.in-Ok-exchanged.new c.args.slot.now
-    _ c.in-Ok.a
+pub keep-requires-clause-seen : goal.keep-requires-clause-seen
+keep-requires-clause-seen c = λ none.
+    let there =
+    is_committed (mark_of c.run.new.a.mark) c.is_committed.result c.is_committed.ensures
+    c.if-not-is_committed.false in
+    near_seen c.args.storage.now (items c.args.guard.now) (cpu_of c.args.slot.now.image) c.args.n c.run.new.a
+    c.in-Ok.ensures.run (committed_there (mark_of c.run.new.a.mark) there) c.args.slot.now.image.prefix refl none
+
+pub keep-requires-clause-lasting : goal.keep-requires-clause-lasting
+keep-requires-clause-lasting c = λ none.
+    let there =
+    is_committed (mark_of c.run.new.a.mark) c.is_committed.result c.is_committed.ensures
+    c.if-not-is_committed.false in
+    near_lasting c.args.storage.now (items c.args.guard.now) (cpu_of c.args.slot.now.image) c.args.n c.run.new.a
+    c.in-Ok.ensures.run (committed_there (mark_of c.run.new.a.mark) there) c.args.slot.now.image.prefix refl none
+
+pub returns-clause-applied : goal.returns-clause-applied
+returns-clause-applied c = λ f i h.
+    committed f i c.args.n c.args.storage.now (items c.args.guard.now) c.keep.new.storage c.args.slot.now
+    _ c.run.new.a
     h (may f i c.args.storage.now (items c.args.guard.now) c.args.slot.now c.may_act.result true h
     c.may_act.ensures
-    c.if-not-may_act.false) c.in-Ok.ensures
-    (is_committed (mark_of c.in-Ok.a.mark) c.is_committed.result c.is_committed.ensures
+    c.if-not-may_act.false) c.in-Ok.ensures.run
+    (is_committed (mark_of c.run.new.a.mark) c.is_committed.result c.is_committed.ensures
     c.if-not-is_committed.false)
-    c.in-Ok-exchanged.ensures refl refl refl
+    c.in-Ok-keep.ensures.kept refl refl refl

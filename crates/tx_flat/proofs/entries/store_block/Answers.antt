@@ -3,15 +3,15 @@ use Rattle.tx_flat.specs.Slots.{pending_of}
 use Rattle.tx_flat.proofs.Applied.{no_block, block_stored}
 use Rattle.tx_flat.proofs.entries.store_block.Goals as goal
 
-pub returns-in_default : goal.returns-in_default
-returns-in_default c = λ text. (
+pub returns-in_default-clause-applied : goal.returns-in_default-clause-applied
+returns-in_default-clause-applied c = λ text. (
   λ f i h. no_block f i (h.pending ∙ ap pending_of c.in_default.is),
   refl,
   refl,
 )
 
-pub returns : goal.returns
-returns c = λ text f i h.
+pub returns-clause-applied : goal.returns-clause-applied
+returns-clause-applied c = λ text f i h.
     block_stored f i c.args.storage.now text c.store_bytes.new.storage c.args.slot.now _ c.in-Some.block h
     c.in-Some.is
     c.store_bytes.ensures.stored refl refl refl

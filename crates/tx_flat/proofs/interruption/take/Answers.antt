@@ -6,22 +6,22 @@ use Rattle.tx_flat.specs.Slots.{pending_of}
 use Rattle.tx_flat.proofs.Applied.{none_taken, none_waits, taken}
 use Rattle.tx_flat.proofs.interruption.take.Goals as goal
 
-pub returns-in-Some : goal.returns-in-Some
-returns-in-Some c = λ text. (
+pub returns-in-Some-clause-applied : goal.returns-in-Some-clause-applied
+returns-in-Some-clause-applied c = λ text. (
   λ f i h. none_taken f i _ (h.pending ∙ ap pending_of c.in-Some.is),
   refl,
   refl,
 )
 
-pub returns-in-None-waiting : goal.returns-in-None-waiting
-returns-in-None-waiting c = λ text. (
+pub returns-in-None-waiting-clause-applied : goal.returns-in-None-waiting-clause-applied
+returns-in-None-waiting-clause-applied c = λ text. (
   λ f i h. none_waits f i (h.pending ∙ ap pending_of c.in-None.is) (h.waiting ∙ c.in-None-waiting.is),
   refl,
   refl,
 )
 
-pub returns-in-Some-waiting : goal.returns-in-Some-waiting
-returns-in-Some-waiting c = λ text f i h.
+pub returns-in-Some-waiting-clause-applied : goal.returns-in-Some-waiting-clause-applied
+returns-in-Some-waiting-clause-applied c = λ text f i h.
     let new : Slot = record {
       image = c.load_psw.new.image;
       pending = c.args.slot.now.pending;

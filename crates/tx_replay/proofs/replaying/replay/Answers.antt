@@ -1,9 +1,9 @@
-use Rattle.std.proofs.Common.{◌≡◌, ℕ, suc, ◌+◌, ◌<◌, List, [], arith, length, sym, subst, ◌∙◌}
+use Rattle.std.proofs.Common.{◌≡◌, ℕ, suc, ◌+◌, ◌<◌, List, [], arith, length, refl, sym, subst, ◌∙◌}
 use Rattle.std.specs.Prelude.{map, take}
 use Rattle.std.proofs.lemmas.List.{get_or-map, length-map}
 use denote.Ref.{Bor}
 use Rattle.tx_flat.specs.Machine.{state_of}
-use Rattle.tx_replay.specs.Replay.{IsReplay}
+use Rattle.tx_replay.specs.Replay.{IsReplay, NoneFits}
 use Rattle.tx_replay.proofs.Longer.{nothing_read, one_more}
 use Rattle.tx_replay.proofs.replaying.replay.Goals as goal
 
@@ -34,3 +34,20 @@ loop-k-preserved c =
           c.in-Ok-apply_line.ensures.applied)),
       c.in-Ok-apply_line.ensures.cpus ∙ c.loop-k.invariant.1,
     )
+
+pub returns-in-Err-Misfit-clause-fault : goal.returns-in-Err-Misfit-clause-fault
+returns-in-Err-Misfit-clause-fault c =
+    let there : c.loop-k.k < length c.args.lines.now = omega arith in
+    let lines = map (λ (l : Bor (List ℕ)). l.now) c.args.lines.now in
+    record {
+      before = c.loop-k.k;
+      counted = refl;
+      within = subst (λ n. c.loop-k.k < n) (sym (length-map c.args.lines.now (λ (l : Bor (List ℕ)). l.now))) there;
+      entries = c.loop-k.entries.items;
+      after = state_of c.loop-k.flat;
+      replays = c.loop-k.invariant.0;
+      none =
+          subst (NoneFits (state_of c.loop-k.flat))
+          (sym (get_or-map (λ (l : Bor (List ℕ)). l.now) c.args.lines.now c.loop-k.k _ [] there))
+          (c.in-Err-Misfit.ensures.misfit cc);
+    }

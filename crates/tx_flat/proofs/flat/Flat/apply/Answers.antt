@@ -31,7 +31,7 @@ apply_to-requires-clause-placed c =
       c.if-cpu-len.false,
     ) in
     placed_there old.storage old.guard old.slots.items c.cpu_of_entry-cpu.result c.index.result.now inside
-    c.index.ensures c.self.invariant
+    c.index.ensures c.self.invariant.0
 
 pub returns-in-Err-clause-applied : goal.returns-in-Err-clause-applied
 returns-in-Err-clause-applied c =
@@ -46,7 +46,7 @@ returns-in-Err-clause-applied c =
     c.self.view_is
     (refused_there old.storage t old.guard old.slots.items c.cpu_of_entry-cpu.result c.index.result.now
     c.apply_to.new.slot c.args.entry c.in-Err.fault inside c.index.ensures c.cpu_of_entry-cpu.ensures
-    c.in-Err.ensures)
+    c.in-Err.ensures.applied)
 
 pub invariant_of-self-in-Ok : goal.invariant_of-self-in-Ok
 invariant_of-self-in-Ok c =
@@ -55,12 +55,14 @@ invariant_of-self-in-Ok c =
       arith,
       c.len.ensures,
       c.if-cpu-len.false,
-    ) in
-    sound_after old.storage c.apply_to.new.storage old.guard old.slots.items c.cpu_of_entry-cpu.result
-    c.apply_to.new.slot c.args.entry c.self.invariant
-    (applied_there old.storage c.apply_to.new.storage old.guard old.slots.items c.cpu_of_entry-cpu.result
-    c.index.result.now c.apply_to.new.slot c.args.entry inside c.index.ensures c.cpu_of_entry-cpu.ensures
-    c.in-Ok.ensures)
+    ) in (
+      sound_after old.storage c.apply_to.new.storage old.guard old.slots.items c.cpu_of_entry-cpu.result
+          c.apply_to.new.slot c.args.entry c.self.invariant.0
+          (applied_there old.storage c.apply_to.new.storage old.guard old.slots.items c.cpu_of_entry-cpu.result
+          c.index.result.now c.apply_to.new.slot c.args.entry inside c.index.ensures c.cpu_of_entry-cpu.ensures
+          c.in-Ok.ensures.applied),
+      c.apply_to.ensures.ready,
+    )
 
 pub returns-in-Ok-clause-applied : goal.returns-in-Ok-clause-applied
 returns-in-Ok-clause-applied c =
@@ -75,4 +77,7 @@ returns-in-Ok-clause-applied c =
     subst (λ m. apply (state_of m) c.args.entry ≡ Some (state_of new)) c.self.view_is
     (applied_there old.storage c.apply_to.new.storage old.guard old.slots.items c.cpu_of_entry-cpu.result
     c.index.result.now c.apply_to.new.slot c.args.entry inside c.index.ensures c.cpu_of_entry-cpu.ensures
-    c.in-Ok.ensures)
+    c.in-Ok.ensures.applied)
+
+pub apply_to-requires-clause-ready : goal.apply_to-requires-clause-ready
+apply_to-requires-clause-ready c = c.self.invariant.1

@@ -1,0 +1,206 @@
+-- What a run leaves differs from storage in the lines alone that it has stored into.
+use Rattle.std.proofs.Common.{◌≡◌, ◌≢◌, ◌∙◌, ap, sym, refl, subst, ℕ, ◌/◌, ◌<◌, ◌≤◌, Bool, true, false, List, [], ◌∷◌}
+use Rattle.std.proofs.Common.{length, get_or, Option, None, eqb, arith}
+use Rattle.std.specs.Prelude.{◌==◌, ◌||◌, ◌&&◌, if◌then◌else◌}
+use Rattle.std.specs.List.{list_any, All}
+use Rattle.std.proofs.lemmas.Bool.{or_parts, eq-eqb, eqb-true}
+use Rattle.z_regs.specs.Cpu.{Cpu, cpu_of}
+use Rattle.z_regs.specs.Prefix.{storage_size, is_prefix}
+use Rattle.z_regs.specs.Seen.{seen_by}
+use Rattle.z_regs.specs.Absolute.{absolute_ranges}
+use Rattle.z_regs.specs.declared.ranges.Range.{Range}
+use Rattle.z_instr.specs.declared.instr.Instr.{Instr}
+use Rattle.z_effect.specs.After.{AreInside, ranges_of, storage_after, with_stored}
+use Rattle.z_effect.specs.Outcome.{Outcome, Did, Divides, Aborts}
+use Rattle.z_effect.specs.Outcome as outcome
+use Rattle.store_cache.specs.Overlay.{Store}
+use Rattle.tx_footprint.specs.Places.{has_place, stores, IsInStorage}
+use Rattle.tx_footprint.specs.Sizes.{line_size}
+use Rattle.tx_footprint.specs.Touched.{Touched, sets_of, touching}
+use Rattle.tx_serial.specs.Attempt.{Run, at_rest, footprint}
+use Rattle.tx_serial.specs.Attempt as run
+use Rattle.tx_serial.specs.Fate.{Passes, operands}
+use Rattle.tx_serial.specs.Flat.{Storage, FlatState, at_put, bytes_of, laid_over, operand_stores}
+use Rattle.tx_serial.specs.Run.{run as runs, outcome_of}
+use Rattle.tx_serial.specs.Stored.{has_store_in}
+use Rattle.tx_serial.proofs.Copies.{run_copy, run_lasting, run_prefix}
+use Rattle.tx_serial.proofs.Listed.{bytes_below_at}
+use Rattle.tx_serial.proofs.StoredBytes.{stored_size, Fills}
+use Rattle.tx_serial.proofs.StoredPlaces.{stored_places, goes_there, has_there, operands_there, small_operands, filled}
+use Rattle.tx_flat.specs.Bytes.{function_of}
+use Rattle.tx_flat.specs.Done.{IsExecuted, outcome_at}
+use Rattle.tx_flat.specs.declared.attempt.Attempt.{Attempt}
+use Rattle.tx_flat.specs.declared.execution.Completion.{Completion}
+use Rattle.tx_flat.specs.Ready.{Near}
+use Rattle.tx_flat.specs.Shows.{Shows, IsRunOf, mark_of}
+use Rattle.tx_flat.proofs.Fetched.{copy_size}
+use Rattle.tx_flat.proofs.Inside.{inside, in_storage}
+use Rattle.tx_flat.proofs.Laid.{listed}
+use Rattle.tx_flat.proofs.Mended.{unprefixed}
+use Rattle.tx_flat.proofs.Moving.{none_refuses}
+use Rattle.tx_flat.proofs.Resting.{some_state}
+use Rattle.tx_flat.proofs.Settled.{same_outcome, stored_copy}
+
+-- ---- stores to other lines
+
+put_elsewhere : (s : Storage) (x : Store) (a : ℕ) (b : Bool) → eqb a x.address ≡ b
+    → (x.address / line_size == a / line_size) ≡ false → (if b then x.byte else s a) ≡ s a
+put_elsewhere s x a true e off =
+    let same : a ≡ x.address = eqb-true a x.address e in
+    let here : (x.address / line_size == a / line_size) ≡ true =
+    eq-eqb (x.address / line_size) (a / line_size) (ap (λ y. y / line_size) (sym same)) in
+    absurd (let y : false ≡ true = sym off ∙ here in cc)
+put_elsewhere s x a false e off = refl
+
+laid_elsewhere : (xs : List Store) (s : Storage) (a : ℕ) → has_store_in line_size xs (a / line_size) ≡ false
+    → laid_over s xs a ≡ s a
+unfolding laid_over
+laid_elsewhere [] s a off = refl
+laid_elsewhere (x ∷ rest) s a off =
+    let parts = or_parts (x.address / line_size == a / line_size) (has_store_in line_size rest (a / line_size)) off in
+    laid_elsewhere rest (at_put s x.address x.byte) a parts.1
+    ∙ put_elsewhere s x a (eqb a x.address) refl parts.0
+
+never_there : (b c : Bool) → (b ≡ true → c ≡ true) → c ≡ false → b ≡ false
+never_there true c h off = absurd (let y : false ≡ true = sym off ∙ h refl in cc)
+never_there false c h off = refl
+
+-- a list that is storage with stores laid over it
+near_by : (bytes seen : List ℕ) (t : Touched) (xs : List Store)
+    → seen ≡ bytes_of (laid_over (function_of bytes) xs)
+    → ((line : ℕ) → (sets_of t).stored line ≡ false → has_store_in line_size xs line ≡ false)
+    → Near bytes t seen
+near_by bytes seen t xs is apart = λ k within off.
+    ap (λ s. get_or s k 0) is
+    ∙ bytes_below_at storage_size (laid_over (function_of bytes) xs) k within
+    ∙ laid_elsewhere xs (function_of bytes) k (apart (k / line_size) off)
+
+-- ---- runs
+
+module _ (bytes text : List ℕ) (c : Cpu) (n : ℕ) (a : Attempt) (is : IsRunOf bytes text c n a)
+    (there : mark_of a.mark ≢ run.Missing) (prefix : Option ℕ) (same : c.prefix ≡ prefix) (none : prefix ≡ None)
+  where
+    abbrev its : FlatState
+    its = some_state bytes text c
+
+    abbrev p : Run
+    p = runs its 0 n
+
+    shows : Shows (function_of bytes) a p
+    shows = let r = is its 0 refl refl refl in r.shows (λ gone. there (r.mark ∙ gone))
+
+    bare : p.cpu.prefix ≡ None
+    bare = run_prefix its 0 n ∙ same ∙ none
+
+    ok : is_prefix c.prefix ≡ true
+    ok = ap is_prefix (same ∙ none)
+
+    unstored : (line : ℕ) → (sets_of a.footprint).stored line ≡ false → has_store_in line_size p.stores line ≡ false
+    unstored line off =
+        sym (stored_places line_size its 0 n line ok) ∙ ap (λ s. s.stored line) (sym shows.sets) ∙ off
+
+    pub near_seen : Near bytes a.footprint a.seen
+    near_seen =
+        near_by bytes a.seen a.footprint p.stores
+        (shows.copy ∙ unprefixed p.cpu.prefix (bytes_of p.copy) bare ∙ ap bytes_of (run_copy its 0 n)) unstored
+
+    pub near_lasting : Near bytes a.footprint a.lasting
+    near_lasting =
+        near_by bytes a.lasting a.footprint p.lasting
+        (shows.lasting
+        ∙ unprefixed p.cpu.prefix (bytes_of (laid_over (function_of bytes) p.lasting)) bare)
+        (λ line off. never_there (has_store_in line_size p.lasting line) (has_store_in line_size p.stores line)
+        (run_lasting (λ s. s.address / line_size == line) its 0 n) (unstored line off))
+
+-- copies that are near the same bytes are near one another
+pub near_each : (bytes some other : List ℕ) (t : Touched) → Near bytes t some → Near bytes t other → Near other t some
+near_each bytes some other t h g = λ k within off. h k within off ∙ sym (g k within off)
+
+pub committed_there : (m : run.Mark) → m ≡ run.Committed → m ≢ run.Missing
+committed_there m e h = let n : run.Committed ≡ run.Missing = sym e ∙ h in cc
+
+-- ---- one instruction outside transactions
+
+-- its operands lie in storage
+pub step_inside : (text s : List ℕ) (c : Cpu) (i : Instr) (touches absolute : List Range) → is_prefix c.prefix ≡ true
+    → Passes text (at_rest (function_of s) c) i touches → absolute ≡ absolute_ranges c.prefix touches
+    → All IsInStorage absolute
+step_inside text s c i touches absolute ok passes places =
+    let p = at_rest (function_of s) c in
+    subst (All IsInStorage) (sym (places ∙ ap (absolute_ranges c.prefix) passes.touches))
+    (in_storage text p i ok (none_refuses text p i passes.passed).on_operands)
+
+pub step_lasting : (s : List ℕ) (c : Cpu) (a : Attempt) (t : Touched) → c.prefix ≡ None → length s ≡ storage_size
+    → Shows (function_of s) a (at_rest (function_of s) c) → Near s t a.lasting
+unfolding laid_over
+step_lasting s c a t none size shows = λ k within off.
+    ap (λ xs. get_or xs k 0)
+    (shows.lasting ∙ unprefixed c.prefix (bytes_of (function_of s)) none ∙ listed s size)
+
+module _ (text s seen_after : List ℕ) (c after : Cpu) (a : Attempt) (t : Touched) (i : Instr)
+    (touches absolute : List Range) (done : Completion) (none : c.prefix ≡ None) (size : length s ≡ storage_size)
+    (shows : Shows (function_of s) a (at_rest (function_of s) c))
+    (passes : Passes text (at_rest (function_of s) c) i touches)
+    (places : absolute ≡ absolute_ranges c.prefix touches)
+    (executed : IsExecuted 0 i (cpu_of a.image) after a.seen seen_after done)
+    (sets : sets_of t ≡ touching (sets_of a.footprint) absolute) where
+  abbrev resting : Run
+  resting = at_rest (function_of s) c
+
+  fine : is_prefix c.prefix ≡ true
+  fine = ap is_prefix none
+
+  within_it : AreInside (ranges_of i c) a.seen
+  within_it =
+      inside text resting i a.seen (copy_size a.seen resting fine shows.copy)
+      (none_refuses text resting i passes.passed).on_operands
+
+  doing : outcome_at 0 i (cpu_of a.image) a.seen ≡ outcome_of i (operands i c) resting
+  doing = ap (λ (d : Cpu). outcome_at 0 i d a.seen) (sym shows.cpu) ∙ same_outcome i resting a.seen fine shows.copy within_it
+
+  ranges_there : (line : ℕ) → (sets_of t).stored line ≡ false → stores (absolute_ranges c.prefix (operands i c)) line ≡ false
+  ranges_there line off =
+      let all : absolute ≡ absolute_ranges c.prefix (operands i c) = places ∙ ap (absolute_ranges c.prefix) passes.touches in
+      ap (λ rs. stores rs line) (sym all)
+      ∙ (or_parts ((sets_of a.footprint).stored line) (stores absolute line)
+      (ap (λ x. x.stored line) (sym sets) ∙ off)).1
+
+  unstored_by : (bytes : List ℕ) → stored_size (operands i c) ≤ length bytes → (line : ℕ)
+      → (sets_of t).stored line ≡ false
+      → has_store_in line_size (operand_stores c.prefix (operands i c) bytes) line ≡ false
+  unfolding has_place
+  unstored_by bytes enough line off =
+      operands_there (λ x. x / line_size == line) c.prefix (operands i c) fine (small_operands i resting) bytes enough
+      ∙ ranges_there line off
+
+  own : a.seen ≡ s
+  own = shows.copy ∙ unprefixed c.prefix (bytes_of (function_of s)) none ∙ listed s size
+
+  stored_so : (bytes : List ℕ) → stored_size (operands i c) ≤ length bytes
+      → seen_after ≡ with_stored (ranges_of i (cpu_of a.image)) bytes a.seen → Near s t seen_after
+  stored_so bytes enough is =
+      let x = laid_over (function_of s) (operand_stores c.prefix (operands i c) bytes) in
+      near_by s seen_after t (operand_stores c.prefix (operands i c) bytes)
+      (is
+      ∙ ap (λ (d : Cpu). with_stored (ranges_of i d) bytes a.seen) (sym shows.cpu)
+      ∙ stored_copy i resting (function_of s) a.seen bytes fine shows.copy within_it
+      ∙ unprefixed c.prefix (bytes_of x) none)
+      (unstored_by bytes enough)
+
+  unstored_so : seen_after ≡ a.seen → Near s t seen_after
+  unstored_so is = λ k within off. ap (λ xs. get_or xs k 0) (is ∙ own)
+
+  by_outcome : (o : Outcome) → outcome_at 0 i (cpu_of a.image) a.seen ≡ o → Near s t seen_after
+  by_outcome (Did d bytes) e =
+      stored_so bytes (subst (Fills (stored_size (operands i c))) (sym doing ∙ e) (filled i resting))
+      (executed.storage ∙ ap (storage_after (ranges_of i (cpu_of a.image)) a.seen) e)
+  by_outcome (outcome.Overflowed d bytes) e =
+      stored_so bytes (subst (Fills (stored_size (operands i c))) (sym doing ∙ e) (filled i resting))
+      (executed.storage ∙ ap (storage_after (ranges_of i (cpu_of a.image)) a.seen) e)
+  by_outcome Divides e =
+      unstored_so (executed.storage ∙ ap (storage_after (ranges_of i (cpu_of a.image)) a.seen) e)
+  by_outcome (Aborts code) e =
+      unstored_so (executed.storage ∙ ap (storage_after (ranges_of i (cpu_of a.image)) a.seen) e)
+
+  pub near_step : Near s t seen_after
+  near_step = by_outcome (outcome_at 0 i (cpu_of a.image) a.seen) refl

@@ -1,0 +1,18 @@
+use Rattle.std.proofs.Common.{sym, ap, ◌∙◌}
+use Rattle.z_regs.specs.Cpu.{cpu_of}
+use Rattle.tx_serial.specs.Apply.{with_stored_interruption}
+use Rattle.tx_flat.specs.Bytes.{function_of}
+use Rattle.tx_flat.proofs.Mended.{same_storage}
+use Rattle.tx_flat.proofs.interruption.follow_interruption.Goals as goal
+
+pub returns : goal.returns
+returns c = λ old new ready size is. record {
+  seen = same_storage c.store_interruption.new.storage new c.store_interruption.ensures.size size
+      (c.store_interruption.ensures.stored
+      ∙ ap (λ s. with_stored_interruption (cpu_of c.args.image.now) c.args.waiting (function_of s)) ready.seen
+      ∙ sym is);
+  lasting = same_storage c.store_interruption-2.new.storage new c.store_interruption-2.ensures.size size
+      (c.store_interruption-2.ensures.stored
+      ∙ ap (λ s. with_stored_interruption (cpu_of c.args.image.now) c.args.waiting (function_of s)) ready.lasting
+      ∙ sym is);
+}
