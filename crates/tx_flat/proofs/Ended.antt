@@ -14,7 +14,7 @@ use Rattle.z_effect.specs.One.{length_of}
 use Rattle.z_effect.specs.Outcome.{Outcome, Did, Divides, Aborts}
 use Rattle.z_effect.specs.Outcome as outcome
 use Rattle.z_effect.specs.After.{AreInside, ranges_of, touched, exception}
-use Rattle.z_effect.specs.Kinds.{kind_at}
+use Rattle.z_instr.specs.Table.{kind_at}
 use Rattle.line_table.specs.Sizes.{storage_lines}
 use Rattle.tx_control.specs.declared.begins.Begin.{Begin}
 use Rattle.tx_control.specs.declared.causes.Why.{Why}

@@ -6,17 +6,18 @@ use Rattle.z_arith.specs.Sum.{add_of}
 use Rattle.z_arith.specs.Whole.{bits, modulo}
 use Rattle.z_instr.specs.declared.instr.Instr.{Instr}
 use Rattle.z_regs.specs.Cpu.{Cpu}
-use Rattle.z_effect.specs.declared.kind.Kind.{Kind}
-use Rattle.z_effect.specs.declared.kind.Kind.TheVariants as kind
-use Rattle.z_effect.specs.declared.kind.Storage.{Storage}
-use Rattle.z_effect.specs.declared.kind.Storage.TheVariants.{Compute, Compare, CompareImmediate, TestUnderMask}
-use Rattle.z_effect.specs.declared.kind.Storage.TheVariants.{InsertByte, Store, StoreImmediate, ByteLogic}
-use Rattle.z_effect.specs.declared.kind.Storage.TheVariants.{AddImmediate, LoadMany, StoreMany, CompareAndSwap}
-use Rattle.z_effect.specs.declared.kind.Storage.TheVariants.{LoadAnd, LoadSelected, StoreSelected, ByteByByte}
-use Rattle.z_effect.specs.declared.kind.Storage.TheVariants.{CompareBytes}
+use Rattle.z_instr.specs.declared.kind.Kind.{Kind}
+use Rattle.z_instr.specs.declared.kind.Kind.TheVariants as kind
+use Rattle.z_instr.specs.declared.kind.Storage.{Storage}
+use Rattle.z_instr.specs.declared.kind.Storage.TheVariants.{Compute, Compare, CompareImmediate, TestUnderMask}
+use Rattle.z_instr.specs.declared.kind.Storage.TheVariants.{InsertByte, Store, StoreImmediate, ByteLogic}
+use Rattle.z_instr.specs.declared.kind.Storage.TheVariants.{AddImmediate, LoadMany, StoreMany, CompareAndSwap}
+use Rattle.z_instr.specs.declared.kind.Storage.TheVariants.{LoadAnd, LoadSelected, StoreSelected, ByteByByte}
+use Rattle.z_instr.specs.declared.kind.Storage.TheVariants.{CompareBytes}
 use Rattle.z_effect.specs.Registers.{register, operand_in, with_register, with_condition, advanced}
 use Rattle.z_effect.specs.Operations.{combined}
-use Rattle.z_effect.specs.StorageEffect.{storage_effect, item, number, piece, stored}
+use Rattle.z_effect.specs.StorageEffect.{storage_effect, number, piece, stored}
+use Rattle.z_instr.specs.Kinds.{item}
 use Rattle.z_effect.specs.One.{effect}
 use Rattle.z_effect.specs.Outcome.{Outcome, Did, ended}
 use Rattle.z_effect.specs.Outcome as outcome
