@@ -17,7 +17,7 @@ use Rattle.ztx_answers.proofs.Decked.{one_read, one_written, read, written}
 use Rattle.ztx_answers.specs.Heats.{IsDueToHeat}
 use Rattle.ztx_answers.proofs.Checks.{long_check_ok}
 use Rattle.ztx_answers.proofs.Heats.{one_heat, some_heat}
-use Rattle.ztx_answers.proofs.OneCheck.{one_check}
+use Rattle.ztx_answers.proofs.OneCheck.{HasOneAnswer, one_check}
 use Rattle.ztx_answers.proofs.Steps.{long_step_ok, one_step, some_step}
 
 -- something is due
@@ -31,14 +31,14 @@ some_due (request.Heat turns tick seed) input allowed other = some_heat turns ti
 some_due request.Check input allowed other = absurd (other refl)
 
 -- only one thing is
-pub one_due : (r : Request) (input : List ℕ) → IsOnly (IsDue r input)
-one_due request.List input = one_list input
-one_due (request.Run turns tick seed) input = one_report turns tick seed input
-one_due request.Deck input = one_written input
-one_due (request.ReadDeck origin) input = one_read origin input
-one_due (request.Step turns tick seed) input = one_step turns tick seed input
-one_due (request.Heat turns tick seed) input = one_heat turns tick seed input
-one_due request.Check input = one_check input
+pub one_due : HasOneAnswer → (r : Request) (input : List ℕ) → IsOnly (IsDue r input)
+one_due once request.List input = one_list input
+one_due once (request.Run turns tick seed) input = one_report turns tick seed input
+one_due once request.Deck input = one_written input
+one_due once (request.ReadDeck origin) input = one_read origin input
+one_due once (request.Step turns tick seed) input = one_step turns tick seed input
+one_due once (request.Heat turns tick seed) input = one_heat turns tick seed input
+one_due once request.Check input = one_check once input
 
 -- a text with too many bytes for a listing has that fault first
 pub long_listing : (input : List ℕ) (status : ℕ) (text : List ℕ) → 16777216 < length input → status ≡ 5

@@ -26,4 +26,6 @@ pub fn one_answer_is_due()
     ensures summed { (number : ℕ) → IsSome (IsSummary number) }
     ensures one_summary { (number : ℕ) → IsOnly (IsSummary number) }
     ensures one_listing { (number : ℕ) → IsOnly (IsGenerated number) }
-{}
+{
+    tx_check::one_answer_is_due();
+}

@@ -5,7 +5,8 @@ use Rattle.std.specs.Io.KnownBytes.{Appends}
 use Rattle.std.proofs.KnownBytes.{Appends-nil, Appends-kept}
 use Rattle.ztx_answers.specs.One.{IsOnly}
 use Rattle.ztx_answers.proofs.Answered.{one_listing, one_summary}
-use Rattle.ztx_answers.proofs.Asked.{one_due as one_request}
+use Rattle.ztx_answers.specs.Requests.{IsDue}
+use Rattle.ztx_answers.specs.declared.requests.Request.{Request}
 use Rattle.ztx_io.specs.Faults.{Rose}
 use Rattle.ztx_io.specs.Writes.{AppendsPrefix}
 use Rattle.ztx_top.specs.declared.errand.Errand.{Errand}
@@ -26,12 +27,13 @@ one_refusal s t xs ys r q = record {
   texts = r.text_is ∙ sym q.text_is;
 }
 
-pub one_due : (asked : Errand) (input : List ℕ) → is_settled asked ≡ true → IsOnly (due asked input)
-one_due (errand.Input asked) input settled = one_request asked input
-one_due (errand.Race turns tick) input settled = let n : false ≡ true = settled in absurd (cc)
-one_due (errand.Generate number) input settled = one_listing number
-one_due (errand.Summary number) input settled = one_summary number
-one_due errand.Nothing input settled = one_refusal
+module _ (one_request : (request : Request) (input : List ℕ) → IsOnly (IsDue request input)) where
+  pub one_due : (asked : Errand) (input : List ℕ) → is_settled asked ≡ true → IsOnly (due asked input)
+  one_due (errand.Input asked) input settled = one_request asked input
+  one_due (errand.Race turns tick) input settled = let n : false ≡ true = settled in absurd (cc)
+  one_due (errand.Generate number) input settled = one_listing number
+  one_due (errand.Summary number) input settled = one_summary number
+  one_due errand.Nothing input settled = one_refusal
 
 -- ---- and it is told
 

@@ -8,6 +8,7 @@ use std::alloc::Global;
 use std::sync::Wait;
 use std::thread::Threads;
 use tx_race::Gate;
+use ztx_answers::laws::one_answer_is_due;
 use ztx_io::{Sink, Source, SureSink, SureSource};
 
 /// The same over a source and a sink that never fail. A text that is due came whole, or 1 for want of memory. But
@@ -31,5 +32,6 @@ pub fn sure_top<R: Threads + Wait + Sync, G: Gate>(
         → Tells result status text (⟦<SureSink as Sink>⟧.held sink.old)
         (⟦<SureSink as Sink>⟧.held sink.new)) }
 {
+    one_answer_is_due();
     ztx_top(rt, alloc, words, source, sink, gate)
 }

@@ -6,7 +6,7 @@ pub returns-clause-some : goal.returns-clause-some
 returns-clause-some c = some_due
 
 pub returns-clause-one : goal.returns-clause-one
-returns-clause-one c = one_due
+returns-clause-one c = one_due c.one_answer_is_due.ensures.once
 
 pub returns-clause-summed : goal.returns-clause-summed
 returns-clause-summed c = summed

@@ -8,7 +8,7 @@ pub returns-clause-answer : goal.returns-clause-answer
 returns-clause-answer g c = λ settled status text is_due.
     let told = c.ztx_top.ensures in
     let command = asked (map string_bytes c.args.words.now) in
-    tells (due command) _ (one_due command _ settled) status text is_due _ _ c.ztx_top.result
+    tells (due command) _ (one_due c.one_answer_is_due.ensures.one command _ settled) status text is_due _ _ c.ztx_top.result
     (λ two. no_rise (told.source two).1) (λ three. no_rise (told.sink three)) told.whole told.cut
 
 pub returns-clause-whole : goal.returns-clause-whole
