@@ -1,42 +1,12 @@
 -- Only the stored ranges change.
-use Rattle.std.proofs.Common.{◌≡◌, ℕ, ◌<◌, ◌≤◌, ◌+◌, ◌-◌, List, [], ◌∷◌, ◌++◌, length, get_or, take, drop, true, false, refl, ◌∙◌, arith, inl, inr, ◌⊎◌, cond, ap}
-use Rattle.std.proofs.lemmas.List.{length-take, length-take-le, length-drop, length-append, get_or-append_right, get_or_append_left, get_or-take, get_or-drop}
+use Rattle.std.proofs.Common.{◌≡◌, ℕ, ◌<◌, ◌≤◌, ◌+◌, List, [], ◌∷◌, length, get_or, take, drop, true, false, refl, ◌∙◌, arith, inl, inr, ◌⊎◌, cond}
+use Rattle.std.proofs.lemmas.List.{length-take}
 use Rattle.z_instr.specs.Operands.{Span}
+pub use Rattle.z_regs.proofs.Writes.{length-written, below, above}
 use Rattle.z_effect.specs.After.{written, with_stored, AreInside, IsBeside}
 
 short : (n : ℕ) (xs : List ℕ) → length (take n xs) ≤ n
 short n xs = omega (arith, length-take n xs)
-
--- what stands before the part behind
-length-head : (s : List ℕ) (first : ℕ) (bytes : List ℕ) → first ≤ length s →
-    length (take first s ++ bytes) ≡ first + length bytes
-length-head s first bytes h = grind (arith, length-append (take first s) bytes, length-take-le first s h)
-
-pub length-written : (s : List ℕ) (first : ℕ) (bytes : List ℕ) → first + length bytes ≤ length s →
-    length (written s first bytes) ≡ length s
-length-written s first bytes h =
-    grind (
-      arith,
-      length-append (take first s ++ bytes) (drop (first + length bytes) s),
-      length-head s first bytes (omega arith),
-      length-drop (first + length bytes) s,
-    )
-
-pub below : (s : List ℕ) (first : ℕ) (bytes : List ℕ) (k : ℕ) → first ≤ length s → k < first →
-    get_or (written s first bytes) k 0 ≡ get_or s k 0
-below s first bytes k h l =
-    get_or_append_left (take first s ++ bytes) (drop (first + length bytes) s) 0 k
-    (omega (arith, length-head s first bytes h))
-    ∙ get_or_append_left (take first s) bytes 0 k (omega (arith, length-take-le first s h))
-    ∙ get_or-take first s k 0 l
-
-pub above : (s : List ℕ) (first : ℕ) (bytes : List ℕ) (k : ℕ) → first ≤ length s → first + length bytes ≤ k →
-    get_or (written s first bytes) k 0 ≡ get_or s k 0
-above s first bytes k h l =
-    get_or-append_right (take first s ++ bytes) (drop (first + length bytes) s) (first + length bytes) k 0
-    (length-head s first bytes h) l
-    ∙ get_or-drop (first + length bytes) s (k - (first + length bytes)) 0
-    ∙ ap (λ j. get_or s j 0) (omega arith)
 
 at_write : (r : Span) (bytes s : List ℕ) (k : ℕ) → r.first + r.length ≤ length s →
     (k < r.first) ⊎ (r.first + r.length ≤ k) →

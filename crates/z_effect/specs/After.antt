@@ -5,23 +5,17 @@ use Rattle.tx_control.specs.Codes.{fixed_point_overflow_code, fixed_point_divide
 use Rattle.z_instr.specs.declared.instr.Instr.{Instr}
 use Rattle.z_instr.specs.Operands.{Span, spans}
 use Rattle.z_regs.specs.Cpu.{Cpu}
+pub use Rattle.z_regs.specs.Written.{range_at, written}
 use Rattle.z_effect.specs.Outcome.{Outcome, Did, Overflowed, Divides, Aborts}
 use Rattle.z_effect.specs.One.{one, length_of}
 
 -- ---- ranges of storage
-
-abbrev pub range_at : List ℕ → ℕ → ℕ → List ℕ
-range_at s first n = take n (drop first s)
 
 -- the bytes of ranges, one range after the other
 abbrev pub touched : List Span → List ℕ → List ℕ
 touched [] s = []
 touched (r ∷ []) s = range_at s r.first r.length
 touched (r ∷ q ∷ rs) s = range_at s r.first r.length ++ touched (q ∷ rs) s
-
--- other bytes from a place on
-abbrev pub written : List ℕ → ℕ → List ℕ → List ℕ
-written s first bytes = take first s ++ bytes ++ drop (first + length bytes) s
 
 -- storage where the stored ranges have new bytes, one range after the other
 abbrev pub with_stored : List Span → List ℕ → List ℕ → List ℕ

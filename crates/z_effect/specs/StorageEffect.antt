@@ -3,13 +3,12 @@ use Rattle.std.specs.Prelude.{ℕ, zero, suc, ◌-◌, ◌+◌, ◌*◌, ◌%◌
 use Rattle.std.specs.List.{list_all}
 use Rattle.byteorder.specs.Endian.{big_number, big_bytes}
 use Rattle.z_arith.specs.declared.Width.{Width}
-use Rattle.z_arith.specs.declared.Width.TheVariants as width
 use Rattle.z_arith.specs.Whole.{bits, modulo}
 use Rattle.z_arith.specs.Sum.{add_of}
 use Rattle.z_arith.specs.Comparison.{test_under_mask_of, compare_logical_of}
 use Rattle.z_instr.specs.declared.instr.Instr.{Instr}
 use Rattle.z_instr.specs.declared.operand.Size.{Size}
-use Rattle.z_instr.specs.declared.operand.Size.TheVariants.{Byte, Word, Doubleword}
+use Rattle.z_instr.specs.declared.operand.Size.TheVariants.{Byte, Doubleword}
 use Rattle.z_instr.specs.Operands.{bytes_of, first_address, second_address, selects, registers_between, length_of}
 use Rattle.z_regs.specs.Cpu.{Cpu}
 use Rattle.z_instr.specs.declared.kind.Storage.{Storage}

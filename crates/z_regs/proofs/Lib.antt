@@ -3,4 +3,8 @@ pub mod Marks
 pub mod Exchange
 pub mod MovedBytes
 pub mod Words
+pub mod Writes
+pub mod Numbers
+pub mod OneArea
+pub mod Items
 mod Examples

@@ -1,9 +1,11 @@
 //! Storage as instructions see it.
-ghost use Rattle.std.specs.Prelude.{◌≡◌, ◌<◌, ℕ, List, length, slice_index, slice_set};
+ghost use Rattle.std.specs.Prelude.{◌≡◌, ◌<◌, ◌≤◌, ◌+◌, ◌*◌, ◌^◌, ℕ, List, length, slice_index, slice_set};
+ghost use Rattle.byteorder.specs.Endian.{big_number, big_bytes};
+ghost use Rattle.z_regs.specs.Written.{range_at, written};
 
 /// Bytes by their addresses: shared storage, or what one CPU sees of it.
 ///
-/// Contracts see the whole as a list of bytes. Every call requires that the address is below the length of
+/// Contracts see the whole as a list of bytes. Every call requires that the addresses are below the length of
 /// that list.
 pub trait Bytes {
     /// All the bytes, from address 0 on.
@@ -18,4 +20,19 @@ pub trait Bytes {
     fn put(&mut self, address: u64, byte: u8)
         requires { address < length (bytes self.old) }
         ensures { bytes self.new ≡ slice_set (bytes self.old) address byte };
+
+    /// The number in the `count` bytes from an address on, one to eight of them, the leftmost first.
+    fn word(&self, address: u64, count: u8) -> u64
+        requires low { 1 ≤ count }
+        requires high { count ≤ 8 }
+        requires inside { address + count ≤ length (bytes self.now) }
+        ensures value { result ≡ big_number count (range_at (bytes self.now) address count) }
+        ensures fits { result < 2 ^ (8 * count) };
+
+    /// Changes the `count` bytes from an address on, one to eight of them, to the rightmost of a number.
+    fn put_word(&mut self, address: u64, count: u8, value: u64)
+        requires low { 1 ≤ count }
+        requires high { count ≤ 8 }
+        requires inside { address + count ≤ length (bytes self.old) }
+        ensures { bytes self.new ≡ written (bytes self.old) address (big_bytes count value) };
 }

@@ -1,8 +1,11 @@
 //! Shared storage.
-ghost use Rattle.std.specs.Prelude.{◌≡◌, List, ℕ, length, vec_len, IfOk, slice_index, slice_set};
+ghost use Rattle.std.specs.Prelude.{◌≡◌, ◌<◌, ◌≤◌, ◌+◌, ◌*◌, ◌^◌, List, ℕ, length, vec_len, IfOk, slice_index, slice_set};
 ghost use Rattle.z_regs.specs.Prefix.{storage_size};
+ghost use Rattle.z_regs.specs.Written.{range_at, written};
+ghost use Rattle.byteorder.specs.Endian.{big_number};
 
 use crate::Bytes;
+use byteorder::{BigEndian, ByteOrder};
 use std::alloc::Global;
 use std::marker::Model;
 
@@ -43,6 +46,30 @@ impl Storage {
     {
         self.bytes.as_slice()
     }
+
+    /// The number in some bytes from a place on, got one by one.
+    fn number_at(&self, first: usize, count: usize) -> u64
+        requires low { 1 ≤ count }
+        requires high { count ≤ 8 }
+        requires inside { first + count ≤ length self.now }
+        ensures value { result ≡ big_number count (range_at self.now first count) }
+        ensures fits { result < 2 ^ (8 * count) }
+    {
+        let mut item = [0u8; 8];
+        for k in 0..count {
+            item[k] = self.bytes[first + k];
+        }
+        BigEndian::read_uint(&item, count)
+    }
+
+    /// Changes the bytes from a place on.
+    #[inline(always)]
+    fn lay(&mut self, first: usize, bytes: &[u8])
+        requires { first + length bytes.now ≤ length self.old }
+        ensures { self.new ≡ written self.old first bytes.now }
+    {
+        self.bytes[first..first + bytes.len()].copy_from_slice(bytes);
+    }
 }
 
 impl Bytes for Storage {
@@ -54,5 +81,28 @@ impl Bytes for Storage {
 
     fn put(&mut self, address: u64, byte: u8) {
         self.bytes[address as usize] = byte;
+    }
+
+    fn word(&self, address: u64, count: u8) -> u64 {
+        let bytes = &self.bytes[address as usize..];
+        match count {
+            8 => BigEndian::read_u64(bytes),
+            4 => u64::from(BigEndian::read_u32(bytes)),
+            2 => u64::from(BigEndian::read_u16(bytes)),
+            1 => u64::from(bytes[0]),
+            _ => self.number_at(address as usize, usize::from(count)),
+        }
+    }
+
+    fn put_word(&mut self, address: u64, count: u8, value: u64) {
+        let item = value.to_be_bytes();
+        let first = address as usize;
+        match count {
+            8 => self.lay(first, &item),
+            4 => self.lay(first, &item[4..]),
+            2 => self.lay(first, &item[6..]),
+            1 => self.lay(first, &item[7..]),
+            _ => self.lay(first, &item[8 - usize::from(count)..]),
+        }
     }
 }

@@ -12,7 +12,7 @@ use Rattle.z_instr.specs.declared.kind.Combination.{Combination}
 use Rattle.z_effect.specs.StorageEffect.{mixed, lead, results}
 use Rattle.z_effect.specs.After.{range_at, written}
 use Rattle.z_effect.proofs.Stored.{below, above}
-use Rattle.z_storage.proofs.Writes.{written_none, written_more, inside}
+use Rattle.z_regs.proofs.Writes.{written_none, written_more, inside}
 
 -- the second operand's byte of a result, by the results before
 abbrev source_byte : ℕ → ℕ → List ℕ → List ℕ → ℕ

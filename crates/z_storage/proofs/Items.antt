@@ -16,7 +16,7 @@ use Rattle.z_effect.specs.StorageEffect.{number, stored, items, with_items}
 use Rattle.z_instr.specs.Kinds.{item}
 use Rattle.z_effect.specs.After.{range_at, written}
 use Rattle.z_effect.proofs.Stored.{length-written}
-use Rattle.z_storage.proofs.Writes.{written_none, written_then}
+use Rattle.z_regs.proofs.Writes.{written_none, written_then}
 
 -- ---- stored
 

@@ -1,6 +1,4 @@
--- Bytes that are written, numbers in them, and items of registers.
-pub mod Writes
-pub mod Numbers
+-- Storage after an operation, and items of registers.
 pub mod Ranges
 pub mod Items
 pub mod Swaps

@@ -10,7 +10,7 @@ use Rattle.z_regs.specs.Cpu.{Cpu}
 use Rattle.z_effect.specs.StorageEffect.{stored}
 use Rattle.z_effect.specs.Outcome.{Outcome, Did, Overflowed, Divides, Aborts, ended}
 use Rattle.z_effect.specs.After.{written, range_at, storage_after}
-use Rattle.z_storage.proofs.Writes.{written_same}
+use Rattle.z_regs.proofs.Writes.{written_same}
 
 -- what is only fetched stays
 pub fetched_stays : (a n : ℕ) (s : List ℕ) (o : Outcome) → storage_after (span a n false ∷ []) s o ≡ s

@@ -10,16 +10,12 @@ ghost use Rattle.z_effect.specs.StorageEffect.{number, piece, stored};
 ghost use Rattle.z_instr.specs.Kinds.{item as item_of};
 ghost use Rattle.z_effect.specs.After.{range_at, written};
 
-use byteorder::{BigEndian, ByteOrder};
 use z_arith::{Width, doubleword};
 use z_effect::extend;
 use z_instr::instr::Instr;
 use z_instr::kind::{Part, size_in};
 use z_instr::operand::Size;
 use z_regs::Bytes;
-
-/// The most bytes of an item.
-const MOST: usize = 8;
 
 /// The number in an item of storage.
 pub fn fetch<V: Bytes>(view: &V, address: u64, size: Size) -> u64
@@ -28,12 +24,7 @@ pub fn fetch<V: Bytes>(view: &V, address: u64, size: Size) -> u64
     ensures value { result ≡ number size (range_at (V.bytes view.now) address (bytes_of size)) }
     ensures fits { result < 2 ^ bits_in size }
 {
-    let count = usize::from(size.bytes());
-    let mut item = [0u8; MOST];
-    for k in 0..count {
-        item[k] = view.get(address + k as u64);
-    }
-    BigEndian::read_uint(&item, count)
+    view.word(address, size.bytes())
 }
 
 /// The number in an item that has a register's width.
@@ -75,28 +66,11 @@ pub fn immediate_byte(instr: &Instr) -> u8
     (doubleword(instr.imm) % 256) as u8
 }
 
-/// Stores bytes, one after the other.
-fn put_all<V: Bytes>(view: &mut V, address: u64, bytes: &[u8])
-    requires size { length (V.bytes view.old) ≡ storage_size }
-    requires inside { address + length bytes.now ≤ length (V.bytes view.old) }
-    ensures { V.bytes view.new ≡ written (V.bytes view.old) address bytes.now }
-{
-    for (k, byte) in bytes.iter().enumerate() {
-        view.put(address + k as u64, *byte);
-    }
-}
-
 /// Stores the rightmost bytes of a number, as many as the item has.
 pub fn store<V: Bytes>(view: &mut V, address: u64, size: Size, value: u64)
     requires size { length (V.bytes view.old) ≡ storage_size }
     requires inside { address + bytes_of size ≤ length (V.bytes view.old) }
     ensures { V.bytes view.new ≡ written (V.bytes view.old) address (stored size value) }
 {
-    let mut doubleword = [0u8; MOST];
-    BigEndian::write_u64(&mut doubleword, value);
-    put_all(
-        view,
-        address,
-        &doubleword[MOST - usize::from(size.bytes())..],
-    );
+    view.put_word(address, size.bytes(), value);
 }

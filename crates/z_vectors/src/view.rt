@@ -1,5 +1,5 @@
 //! Storage that remembers where bytes were put.
-ghost use Rattle.std.specs.Prelude.{◌≡◌, ◌<◌, All, IfOk, length, replicate};
+ghost use Rattle.std.specs.Prelude.{◌≡◌, ◌<◌, ◌≤◌, ◌+◌, All, IfOk, length, replicate};
 ghost use Rattle.z_regs.specs.Prefix.{storage_size};
 
 use crate::piece::{Piece, SIZE};
@@ -26,9 +26,16 @@ impl Bytes for Watched {
 
     fn put(&mut self, address: u64, byte: u8) {
         self.storage.put(address, byte);
-        if self.puts.push(address).is_err() {
-            self.has_forgotten = true;
-        }
+        self.remember(address);
+    }
+
+    fn word(&self, address: u64, count: u8) -> u64 {
+        self.storage.word(address, count)
+    }
+
+    fn put_word(&mut self, address: u64, count: u8, value: u64) {
+        self.storage.put_word(address, count, value);
+        self.remember_all(address, count);
     }
 }
 
@@ -42,6 +49,26 @@ impl Watched {
             puts: Vec::new(alloc),
             has_forgotten: false,
         })
+    }
+
+    /// Remembers that a byte was put at an address.
+    fn remember(&mut self, address: u64)
+        requires { address < storage_size }
+        ensures { self.new.storage ≡ self.old.storage }
+    {
+        if self.puts.push(address).is_err() {
+            self.has_forgotten = true;
+        }
+    }
+
+    /// Remembers that so many bytes were put from an address on.
+    fn remember_all(&mut self, address: u64, count: u8)
+        requires { address + count ≤ storage_size }
+        ensures { self.new.storage ≡ self.old.storage }
+    {
+        for k in 0..u64::from(count) {
+            self.remember(address + k);
+        }
     }
 
     /// Puts the bytes of pieces.

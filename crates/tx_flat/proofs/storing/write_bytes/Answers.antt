@@ -1,5 +1,5 @@
 use Rattle.std.proofs.Common.{ℕ, List, ◌≤◌, ◌+◌, ◌∙◌, length, get_or, ap, sym, subst}
-use Rattle.z_storage.proofs.Writes.{write_step}
+use Rattle.z_regs.proofs.Writes.{write_step}
 use Rattle.std.proofs.lemmas.List.{length-set}
 use Rattle.tx_flat.proofs.storing.write_bytes.Goals as goal
 

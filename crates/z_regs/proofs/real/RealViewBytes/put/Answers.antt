@@ -1,29 +1,9 @@
--- A byte is changed at its absolute address.
-use Rattle.std.proofs.Common.{◌<◌, set, ap, sym, ◌∙◌, subst}
-use Rattle.z_regs.specs.Prefix.{storage_size}
-use Rattle.z_regs.specs.Seen.{seen_by}
-use Rattle.z_regs.proofs.Exchange.{length-seen, seen_set, absolute_within}
+-- All of storage is seen.
+use Rattle.std.proofs.Common.{◌<◌, subst}
+use Rattle.z_regs.proofs.Exchange.{length-seen}
 use Rattle.z_regs.proofs.real.RealViewBytes.put.Goals as goal
 
-pub place_of-requires-clause-inside : goal.place_of-requires-clause-inside
-place_of-requires-clause-inside g c =
+pub put_byte-requires : goal.put_byte-requires
+put_byte-requires g c =
     let view = c.args.self.now in
     subst (λ n. c.args.address < n) (length-seen view.prefix _ view.prefix_in view.sized) c.requires
-
-pub put-requires : goal.put-requires
-put-requires g c =
-    let view = c.args.self.now in
-    let inside =
-    subst (λ n. c.args.address < n) (length-seen view.prefix _ view.prefix_in view.sized) c.requires in
-    let within = absolute_within view.prefix c.args.address view.prefix_in inside in
-    subst (λ n. c.place_of.result < n) (sym view.sized)
-    (subst (λ a. a < storage_size) (sym c.place_of.ensures) within)
-
-pub returns : goal.returns
-returns g c =
-    let view = c.args.self.now in
-    let below = g.V.Bytes.bytes view.below in
-    let inside =
-    subst (λ n. c.args.address < n) (length-seen view.prefix _ view.prefix_in view.sized) c.requires in
-    ap (seen_by view.prefix) (c.put.ensures ∙ ap (λ a. set below a c.args.byte) c.place_of.ensures)
-    ∙ seen_set view.prefix below c.args.address c.args.byte view.prefix_in view.sized inside

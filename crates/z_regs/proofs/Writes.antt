@@ -1,17 +1,43 @@
 -- Bytes that are written one after the other.
-use Rattle.std.proofs.Common.{◌≡◌, ℕ, ◌<◌, ◌≤◌, ◌+◌, List, [], ◌∷◌, ◌++◌, length, get_or, set, take, drop}
+use Rattle.std.proofs.Common.{◌≡◌, ℕ, ◌<◌, ◌≤◌, ◌+◌, ◌-◌, List, [], ◌∷◌, ◌++◌, length, get_or, set, take, drop}
 use Rattle.std.proofs.Common.{sym, ap, ◌∙◌, arith, length-append, length-drop, append_assoc, append-nil}
 use Rattle.std.proofs.Common.{drop-drop}
-use Rattle.std.proofs.lemmas.List.{take_more, take_at, set_at, drop_more, length-take-le, take-append-drop}
+use Rattle.std.proofs.lemmas.List.{take_more, take_at, set_at, drop_more, length-take-le, take-append-drop, get_or_append_left, get_or-append_right, get_or-take, get_or-drop}
 use Rattle.std.proofs.lemmas.List.{places}
 use Rattle.std.proofs.Math.Seq.{drop-append-add}
 use Rattle.std.proofs.Math.Nat.{add-zero}
-use Rattle.z_effect.specs.After.{range_at, written}
+use Rattle.z_regs.specs.Written.{range_at, written}
 
--- what is written begins with so many bytes
+-- what stands before the part behind
 length-before : (s : List ℕ) (first : ℕ) (bytes : List ℕ) → first ≤ length s →
     length (take first s ++ bytes) ≡ first + length bytes
-length-before s first bytes h = omega (arith, length-append (take first s) bytes, length-take-le first s h)
+length-before s first bytes h = grind (arith, length-append (take first s) bytes, length-take-le first s h)
+
+pub length-written : (s : List ℕ) (first : ℕ) (bytes : List ℕ) → first + length bytes ≤ length s →
+    length (written s first bytes) ≡ length s
+length-written s first bytes h =
+    grind (
+      arith,
+      length-append (take first s ++ bytes) (drop (first + length bytes) s),
+      length-before s first bytes (omega arith),
+      length-drop (first + length bytes) s,
+    )
+
+pub below : (s : List ℕ) (first : ℕ) (bytes : List ℕ) (k : ℕ) → first ≤ length s → k < first →
+    get_or (written s first bytes) k 0 ≡ get_or s k 0
+below s first bytes k h l =
+    get_or_append_left (take first s ++ bytes) (drop (first + length bytes) s) 0 k
+    (omega (arith, length-before s first bytes h))
+    ∙ get_or_append_left (take first s) bytes 0 k (omega (arith, length-take-le first s h))
+    ∙ get_or-take first s k 0 l
+
+pub above : (s : List ℕ) (first : ℕ) (bytes : List ℕ) (k : ℕ) → first ≤ length s → first + length bytes ≤ k →
+    get_or (written s first bytes) k 0 ≡ get_or s k 0
+above s first bytes k h l =
+    get_or-append_right (take first s ++ bytes) (drop (first + length bytes) s) (first + length bytes) k 0
+    (length-before s first bytes h) l
+    ∙ get_or-drop (first + length bytes) s (k - (first + length bytes)) 0
+    ∙ ap (λ j. get_or s j 0) (omega arith)
 
 pub inside : (s : List ℕ) (first : ℕ) (bytes : List ℕ) (k : ℕ) → first ≤ length s → k < length bytes →
     get_or (written s first bytes) (first + k) 0 ≡ get_or bytes k 0

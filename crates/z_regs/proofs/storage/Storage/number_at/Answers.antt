@@ -1,0 +1,15 @@
+use Rattle.std.proofs.Common.{◌≡◌, ◌∙◌, sym, arith}
+use Rattle.z_regs.proofs.Items.{number_copied}
+use Rattle.z_regs.proofs.Numbers.{number_fits}
+use Rattle.z_regs.proofs.storage.Storage.number_at.Goals as goal
+
+pub returns-clause-value : goal.returns-clause-value
+returns-clause-value c =
+    let count : c.loop-k.k ≡ c.args.count = omega arith in
+    c.read_uint.ensures
+    ∙ number_copied c.args.count c.loop-k.item c.args.self.now c.args.first
+    (rw (sym count) c.loop-k.invariant.copied)
+
+pub returns-clause-fits : goal.returns-clause-fits
+returns-clause-fits c =
+    number_fits c.read_uint.result c.args.count c.loop-k.item c.loop-k.invariant.bytes c.read_uint.ensures
