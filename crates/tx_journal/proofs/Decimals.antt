@@ -1,13 +1,13 @@
 -- Numbers in decimal: what the library's parser says of them, and texts that begin with one.
-use Rattle.std.proofs.Common.{◌≡◌, ◌≢◌, ℕ, ◌<◌, ◌^◌, suc, Bool, true, not, List, [], ◌∷◌, ◌++◌, Ok, Err}
-use Rattle.std.proofs.Common.{arith, sym, ◌∙◌, refl, subst}
+use Rattle.std.proofs.Common.{◌≡◌, ◌≢◌, ℕ, ◌<◌, ◌≤◌, ◌+◌, ◌/◌, ◌%◌, ◌^◌, suc, Bool, true, not, List, [], ◌∷◌, ◌++◌, Ok, Err}
+use Rattle.std.proofs.Common.{arith, ap, sym, ◌∙◌, refl, subst}
 use Rattle.std.specs.Fmt.{decimal}
 use Rattle.std.specs.Str.{IsUtf8, bytes_eq}
 use Rattle.std.proofs.lemmas.Slice.Eq.{bytes_eq-Decides}
 use Rattle.std.specs.Str.Parse.{ParsesUnsigned, AllDigits, digits_value}
 use Rattle.std.proofs.lemmas.Str.{IsUtf8-from_ascii}
 use Rattle.std.proofs.lemmas.Str.Parse.{IsNumeralModel, numerals_by_value, tells_digits, not_in_digits}
-use Rattle.std.proofs.lemmas.Fmt.{IsAscii-decimal, parse-decimal, digits_decimal, decimal_injective}
+use Rattle.std.proofs.lemmas.Fmt.{IsAscii-decimal, decimal_digit, decimal_step, parse-decimal, digits_decimal, decimal_injective}
 use Rattle.std.specs.Int.{IsInRange}
 use Rattle.tx_journal.specs.Numbers.{Lacks, number_before}
 
@@ -87,3 +87,10 @@ same_start text m n xs ys m_in n_in is also =
 -- equal texts are not found to differ
 pub not_other : (a b : List ℕ) (r : Bool) → a ≡ b → r ≡ not (bytes_eq a b) → r ≡ true → ⊥
 not_other a b r same is differs = let equal = (bytes_eq-Decides a b).1 same in let no = rw equal at is in cc
+
+-- ---- numbers of two digits
+
+pub two_digits : (n : ℕ) → 10 ≤ n → n < 100 → decimal n ≡ (48 + n / 10) ∷ (48 + n % 10) ∷ []
+two_digits n low high =
+    decimal_step n low (omega arith)
+    ∙ ap (λ ds. ds ++ (48 + n % 10) ∷ []) (decimal_digit (n / 10) (omega arith))

@@ -1,8 +1,9 @@
 //! The texts of entries and of events.
-ghost use Rattle.std.specs.Prelude.{◌≡◌, [], ◌∷◌, ◌++◌, ◌*◌, ◌+◌, ◌/◌, ◌<◌, IfOk, OnOk, length, take, drop, codes};
+ghost use Rattle.std.specs.Prelude.{◌≡◌, [], ◌∷◌, ◌++◌, ◌*◌, ◌+◌, ◌/◌, ◌<◌, ◌≤◌, IfOk, OnOk, length, take, drop, codes, vec_len, vec_capacity};
 ghost use Rattle.std.specs.Fmt.{decimal};
 ghost use Rattle.tx_journal.specs.Lines.{detail_text, reason_text, words_text, line_text, entry_text};
 ghost use Rattle.tx_journal.specs.Lines.{history_text};
+ghost use Rattle.tx_journal.specs.declared.lines.Line.TheVariants.{Step};
 ghost use Rattle.tx_journal.specs.Schedule.{event_text, further_text, events_text, row_text, rows_text};
 ghost use Rattle.tx_journal.specs.Schedule.{schedule_text};
 
@@ -24,6 +25,9 @@ const ROW_ROOM: usize = 71;
 /// six.
 const ENTRY_ROOM: usize = 32;
 
+/// The first number of more than two digits.
+const SMALL: u64 = 100;
+
 /// Adds a byte.
 fn add_byte(text: &mut Vec<u8>, byte: u8) -> Result<(), AllocError>
     ensures { OnOk result (text.new.items ≡ text.old.items ++ byte ∷ []) }
@@ -32,16 +36,40 @@ fn add_byte(text: &mut Vec<u8>, byte: u8) -> Result<(), AllocError>
     Ok(())
 }
 
-/// Adds a number in decimal. Most numbers in a long report are those of CPUs, of one digit.
-#[tactic(auto, using(std::proofs::lemmas::Fmt::decimal_digit))]
+/// Adds a number of one digit or two, where there is room for two bytes.
+#[tactic(auto, using(crate::proofs::Decimals::two_digits, std::proofs::lemmas::Fmt::decimal_digit))]
+fn push_small(text: &mut Vec<u8>, number: u64)
+    requires small { number < 100 }
+    requires room { vec_len text.old + 2 ≤ vec_capacity text.old }
+    ensures items { text.new.items ≡ text.old.items ++ decimal number }
+    ensures len { vec_len text.new ≤ vec_len text.old + 2 }
+    ensures capacity { vec_capacity text.new ≡ vec_capacity text.old }
+{
+    if number >= 10 {
+        text.push_reserved(b'0' + (number / 10) as u8);
+    }
+    text.push_reserved(b'0' + (number % 10) as u8);
+}
+
+/// Adds a number in decimal, of any length.
+#[inline(never)]
+fn add_digits(text: &mut Vec<u8>, number: u64) -> Result<(), AllocError>
+    ensures { OnOk result (text.new.items ≡ text.old.items ++ decimal number) }
+{
+    let mut digits = itoa::Buffer::new();
+    text.extend_from_slice(digits.format(number).as_bytes())
+}
+
+/// Adds a number in decimal. Most numbers in a long report are those of CPUs, of one digit or two.
 fn add_number(text: &mut Vec<u8>, number: u64) -> Result<(), AllocError>
     ensures { OnOk result (text.new.items ≡ text.old.items ++ decimal number) }
 {
-    if number < 10 {
-        return add_byte(text, b'0' + number as u8);
+    if number >= SMALL {
+        return add_digits(text, number);
     }
-    let mut digits = itoa::Buffer::new();
-    text.extend_from_slice(digits.format(number).as_bytes())
+    text.reserve(2)?;
+    push_small(text, number);
+    Ok(())
 }
 
 /// Adds the detail of an abort.
@@ -80,8 +108,15 @@ fn add_reason(text: &mut Vec<u8>, reason: Reason) -> Result<(), AllocError>
 fn add_marked(text: &mut Vec<u8>, mark: u8, number: u32) -> Result<(), AllocError>
     ensures { OnOk result (text.new.items ≡ text.old.items ++ mark ∷ decimal number) }
 {
-    add_byte(text, mark)?;
-    add_number(text, u64::from(number))
+    let number = u64::from(number);
+    if number >= SMALL {
+        add_byte(text, mark)?;
+        return add_digits(text, number);
+    }
+    text.reserve(3)?;
+    text.push_reserved(mark);
+    push_small(text, number);
+    Ok(())
 }
 
 /// Adds a letter, a blank and the number of a CPU.
@@ -113,12 +148,40 @@ fn add_words(text: &mut Vec<u8>, line: Line) -> Result<(), AllocError>
     }
 }
 
+/// Adds a line.
+#[inline(never)]
+fn add_line(text: &mut Vec<u8>, line: Line) -> Result<(), AllocError>
+    ensures { OnOk result (text.new.items ≡ text.old.items ++ line_text line) }
+{
+    add_words(text, line)?;
+    add_byte(text, b'\n')
+}
+
+/// Adds the line of a step. Most lines of a long report are such, of CPUs of one digit or two: for these, room
+/// is asked for once.
+fn add_step_line(text: &mut Vec<u8>, cpu: u32) -> Result<(), AllocError>
+    ensures { OnOk result (text.new.items ≡ text.old.items ++ line_text (Step cpu)) }
+{
+    let number = u64::from(cpu);
+    if number >= SMALL {
+        return add_line(text, Line::Step(cpu));
+    }
+    text.reserve(5)?;
+    text.push_reserved(b'S');
+    text.push_reserved(b' ');
+    push_small(text, number);
+    text.push_reserved(b'\n');
+    Ok(())
+}
+
 /// Adds the line of an entry.
 fn add_entry(text: &mut Vec<u8>, entry: &Entry) -> Result<(), AllocError>
     ensures { OnOk result (text.new.items ≡ text.old.items ++ entry_text entry.now) }
 {
-    add_words(text, Line::of(entry))?;
-    add_byte(text, b'\n')
+    match *entry {
+        Entry::Step(cpu) => add_step_line(text, cpu),
+        _ => add_line(text, Line::of(entry)),
+    }
 }
 
 /// Adds the lines of entries.
@@ -142,6 +205,19 @@ fn add_event(text: &mut Vec<u8>, event: Event) -> Result<(), AllocError>
     }
 }
 
+/// Adds an event behind a comma.
+fn add_further(text: &mut Vec<u8>, event: Event) -> Result<(), AllocError>
+    ensures { OnOk result (text.new.items ≡ text.old.items ++ 44 ∷ event_text event) }
+{
+    match event {
+        Event::Turn(cpu) => add_marked(text, b',', cpu),
+        Event::External(cpu) => {
+            add_byte(text, b',')?;
+            add_marked(text, b'X', cpu)
+        }
+    }
+}
+
 /// Adds events with commas between them.
 fn add_events(text: &mut Vec<u8>, events: &[Event]) -> Result<(), AllocError>
     ensures { OnOk result (text.new.items ≡ text.old.items ++ events_text events.now) }
@@ -151,8 +227,7 @@ fn add_events(text: &mut Vec<u8>, events: &[Event]) -> Result<(), AllocError>
     };
     add_event(text, *first)?;
     for event in others {
-        add_byte(text, b',')?;
-        add_event(text, *event)?;
+        add_further(text, *event)?;
     }
     Ok(())
 }

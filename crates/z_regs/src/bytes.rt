@@ -27,6 +27,7 @@ pub trait Bytes {
         requires high { count ≤ 8 }
         requires inside { address + count ≤ length (bytes self.now) }
         ensures value { result ≡ big_number count (range_at (bytes self.now) address count) }
+        ensures bytes { big_bytes count result ≡ range_at (bytes self.now) address count }
         ensures fits { result < 2 ^ (8 * count) };
 
     /// Changes the `count` bytes from an address on, one to eight of them, to the rightmost of a number.

@@ -1,6 +1,6 @@
 //! Storage by a CPU's real addresses.
 ghost use Rattle.std.specs.Prelude.{◌≡◌, ◌<◌, ◌≤◌, ◌+◌, ◌*◌, ◌%◌, ◌^◌, nat_le, length, slice_index, slice_set, IsTrue};
-ghost use Rattle.byteorder.specs.Endian.{big_number};
+ghost use Rattle.byteorder.specs.Endian.{big_number, big_bytes};
 ghost use Rattle.z_regs.specs.Prefix.{is_prefix, storage_size, area_size};
 ghost use Rattle.z_regs.specs.Seen.{seen_by};
 ghost use Rattle.z_regs.specs.Written.{range_at, written};
@@ -60,6 +60,8 @@ impl<V: Bytes> RealView<V> {
         requires inside { address + count ≤ storage_size }
         ensures value { result ≡
             big_number count (range_at (seen_by self.now.prefix (V.bytes self.now.below)) address count) }
+        ensures bytes { big_bytes count result ≡
+            range_at (seen_by self.now.prefix (V.bytes self.now.below)) address count }
         ensures fits { result < 2 ^ (8 * count) }
     {
         let mut item = [0u8; MOST];

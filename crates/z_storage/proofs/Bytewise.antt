@@ -1,10 +1,10 @@
 -- Steps of the loops over the bytes of two operands.
 use Rattle.std.proofs.Common.{◌≡◌, ℕ, zero, suc, ◌<◌, ◌≤◌, ◌+◌, ◌-◌, List, [], ◌∷◌, ◌++◌, length, get_or, set}
-use Rattle.std.proofs.Common.{drop, Bool, true, false, nat_eq, nat_lt, refl, sym, ap, ◌∙◌, arith, inl, inr}
+use Rattle.std.proofs.Common.{Bool, true, false, nat_eq, nat_lt, refl, sym, ap, ◌∙◌, arith, inl, inr}
 use Rattle.std.proofs.Common.{◌⊎◌}
 use Rattle.std.specs.Prelude.{if◌then◌else◌, ◌&&◌}
 use Rattle.std.specs.List.{list_all}
-use Rattle.std.proofs.lemmas.List.{length_push, get_or-take, get_or-drop}
+use Rattle.std.proofs.lemmas.List.{length_push}
 use Rattle.std.proofs.lemmas.List.Folds.{list_all-append}
 use Rattle.std.proofs.lemmas.Bool.{cases_lt, lt-ltb, le-ltb}
 use Rattle.std.proofs.Math.Numerals.{add-one}
@@ -12,6 +12,7 @@ use Rattle.z_instr.specs.declared.kind.Combination.{Combination}
 use Rattle.z_effect.specs.StorageEffect.{mixed, lead, results}
 use Rattle.z_effect.specs.After.{range_at, written}
 use Rattle.z_effect.proofs.Stored.{below, above}
+use Rattle.z_regs.proofs.OneArea.{in_range}
 use Rattle.z_regs.proofs.Writes.{written_none, written_more, inside}
 
 -- the second operand's byte of a result, by the results before
@@ -48,10 +49,10 @@ both true x m = refl
 both false x m = refl
 
 -- the first operand begins in the second, behind its first byte; or it does not
-abbrev Lead : ℕ → ℕ → ℕ → Type 0
+abbrev pub Lead : ℕ → ℕ → ℕ → Type 0
 Lead n a b = ((b < a) × (a - b < n) × (lead n a b ≡ a - b)) ⊎ (((a ≤ b) ⊎ (n ≤ a - b)) × (lead n a b ≡ n))
 
-lead_cases : (n a b : ℕ) → Lead n a b
+pub lead_cases : (n a b : ℕ) → Lead n a b
 lead_cases n a b =
     elim (cases_lt b a) [
       | inl l ↦ elim (cases_lt (a - b) n) [
@@ -90,10 +91,6 @@ within s a b k n xs l p q (inl (x, y, z)) w =
       z,
     ))
 within s a b k n xs l p q (inr (x, z)) w = absurd (omega (arith, z))
-
--- a byte of an operand
-in_range : (s : List ℕ) (a n k : ℕ) → k < n → get_or (range_at s a n) k 0 ≡ get_or s (a + k) 0
-in_range s a n k h = get_or-take n (drop a s) k 0 h ∙ get_or-drop a s k 0
 
 -- The state of the loop: the first k results are written.
 abbrev pub made : Combination → List ℕ → ℕ → ℕ → ℕ → ℕ → List ℕ

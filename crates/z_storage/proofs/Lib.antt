@@ -3,6 +3,7 @@ pub mod Ranges
 pub mod Items
 pub mod Swaps
 pub mod Bytewise
+pub mod Moves
 pub mod Order
 pub mod Whole
 pub mod Executing

@@ -1,7 +1,6 @@
 -- What an instruction leaves that works byte by byte.
-use Rattle.std.proofs.Common.{◌≡◌, ℕ, ◌+◌, ◌≤◌, List, ◌++◌, length, take, drop, Bool, nat_eq, sym, ap, ◌∙◌}
+use Rattle.std.proofs.Common.{◌≡◌, ℕ, ◌+◌, ◌≤◌, List, ◌++◌, length, take, drop, sym, ap, ◌∙◌}
 use Rattle.std.proofs.Common.{arith, length-drop, Ok}
-use Rattle.std.specs.List.{list_all}
 use Rattle.std.proofs.lemmas.List.{take_all, length-take-le, take_at, drop_at}
 use Rattle.z_instr.specs.declared.instr.Instr.{Instr}
 use Rattle.z_instr.specs.declared.operand.Operands.TheVariants.{StoredAndFetched}
@@ -48,16 +47,14 @@ outcome_is m n i c s h =
     ap (λ xs. end (results k m (lead k a b) xs (drop k both))) (firsts s a k (range_at s b k) h)
     ∙ ap (λ ys. end (results k m (lead k a b) (range_at s a k) ys)) (seconds s a k (range_at s b k) h)
 
-pub leaves_results : (m : Combination) (n : ℕ) (i : Instr) (c coded new : Cpu) (s t : List ℕ) (zero :
-    Bool) (a b k : ℕ)
+pub leaves_results : (m : Combination) (n : ℕ) (i : Instr) (c coded new : Cpu) (s t : List ℕ) (a b k : ℕ)
     → a ≡ first_address i c.general → b ≡ second_address i c.general → k ≡ length_of i
     → AreInside (ranges i c) s → t ≡ written s a (made m s a b k k)
-    → zero ≡ list_all (λ x. nat_eq x 0) (made m s a b k k)
-    → ((xs : List ℕ) → zero ≡ list_all (λ x. nat_eq x 0) xs → coded ≡ with_code_of m xs c)
+    → coded ≡ with_code_of m (made m s a b k k) c
     → new ≡ advanced n coded
     → Leaves (storage_effect (ByteByByte m) n i c (touched (ranges i c) s)) n (ranges i c) c new s t (Ok tt)
 unfolding spans_in
-leaves_results m n i c coded new s t zero a b k p q r inside view all_zero code next =
+leaves_results m n i c coded new s t a b k p q r inside view code next =
     let xs = all_made m i c s in
     let o = outcome_is m n i c s inside.0 in
     let same : made m s a b k k ≡ xs =
@@ -72,7 +69,7 @@ leaves_results m n i c coded new s t zero a b k p q r inside view all_zero code 
     )) in
     record {
       answer = sym (ap (answer_of n) o);
-      image = next ∙ ap (advanced n) (code xs (all_zero ∙ ap (list_all (λ x. nat_eq x 0)) same)) ∙
+      image = next ∙ ap (advanced n) (code ∙ ap (λ made. with_code_of m made c) same) ∙
           sym (ap (cpu_after c) o);
       view =
           view

@@ -1,12 +1,13 @@
 //! Operations on the bytes of two operands in storage, which may overlap in any way (Principles of Operation,
 //! "Move", "And", "Compare Logical": operands are processed a byte at a time, from the left).
-ghost use Rattle.std.specs.Prelude.{◌≡◌, ◌<◌, ◌≤◌, ◌+◌, ℕ, List, true, length, nat_eq};
+ghost use Rattle.std.specs.Prelude.{◌≡◌, ◌<◌, ◌≤◌, ◌+◌, ℕ, List, true, ◌||◌, length, nat_eq, nat_le};
 ghost use Rattle.z_regs.specs.Prefix.{storage_size};
 ghost use Rattle.std.specs.List.{list_all};
 ghost use Rattle.z_instr.specs.Operands.{length_of};
 ghost use Rattle.z_instr.specs.Ranges.{is_within, bounds};
 ghost use Rattle.z_regs.specs.Cpu.{cpu_of};
 ghost use Rattle.z_instr.specs.declared.kind.Storage.TheVariants.{ByteByByte, CompareBytes};
+ghost use Rattle.z_instr.specs.declared.kind.Combination.TheVariants.{Move};
 ghost use Rattle.z_effect.specs.StorageEffect.{mixed, lead, results, with_code_of, order_of_bytes};
 ghost use Rattle.z_effect.specs.After.{range_at, written, AreInside};
 ghost use Rattle.z_storage.specs.Performs.{ranges, Performs};
@@ -65,6 +66,62 @@ fn combine_bytes<V: Bytes>(
     zero
 }
 
+/// Whether no byte that is stored from the left is one that is fetched later.
+fn are_apart(target: u64, source: u64, count: u64) -> bool
+    requires { source + count ≤ storage_size }
+    ensures { result ≡ (nat_le target source || nat_le (source + count) target) }
+{
+    target <= source || source + count <= target
+}
+
+/// Moves one to eight bytes.
+fn move_item<V: Bytes>(view: &mut V, target: u64, source: u64, count: u8)
+    requires low { 1 ≤ count }
+    requires high { count ≤ 8 }
+    requires target_in { target + count ≤ length (V.bytes view.old) }
+    requires source_in { source + count ≤ length (V.bytes view.old) }
+    ensures { V.bytes view.new ≡
+        written (V.bytes view.old) target (range_at (V.bytes view.old) source count) }
+{
+    let value = view.word(source, count);
+    view.put_word(target, count, value);
+}
+
+/// Moves `count` bytes, eight at a time and then the rest.
+fn move_apart<V: Bytes>(view: &mut V, target: u64, source: u64, count: u64)
+    requires size { length (V.bytes view.old) ≡ storage_size }
+    requires target_in { target + count ≤ storage_size }
+    requires source_in { source + count ≤ storage_size }
+    requires apart { (nat_le target source || nat_le (source + count) target) ≡ true }
+    ensures { V.bytes view.new ≡
+        written (V.bytes view.old) target (range_at (V.bytes view.old) source count) }
+{
+    let whole = count / 8;
+    for k in 0..whole {
+        move_item(view, target + 8 * k, source + 8 * k, 8);
+    }
+    let rest = (count % 8) as u8;
+    if rest > 0 {
+        move_item(view, target + 8 * whole, source + 8 * whole, rest);
+    }
+}
+
+/// Moves `count` bytes as if one by one from the left: eight at a time where that is the same.
+fn move_bytes<V: Bytes>(view: &mut V, target: u64, source: u64, count: u64)
+    requires size { length (V.bytes view.old) ≡ storage_size }
+    requires target_in { target + count ≤ storage_size }
+    requires source_in { source + count ≤ storage_size }
+    ensures { V.bytes view.new ≡
+        written (V.bytes view.old) target (results count Move (lead count target source)
+        (range_at (V.bytes view.old) target count) (range_at (V.bytes view.old) source count)) }
+{
+    if are_apart(target, source, count) {
+        move_apart(view, target, source, count);
+    } else {
+        let _zero = combine_bytes(Combination::Move, view, target, source, count);
+    }
+}
+
 /// Compares `count` bytes from the left: 0 equal, 1 where the first list is low, 2 where it is high.
 fn order_in<V: Bytes>(view: &V, first: u64, second: u64, count: u64) -> u8
     requires size { length (V.bytes view.now) ≡ storage_size }
@@ -94,6 +151,35 @@ fn set_code(combination: Combination, zero: bool, image: &mut CpuImage)
     }
 }
 
+/// Makes `count` bytes of the target, from the left, each of a byte of both operands as it is by then, and sets
+/// the code where a combination sets it.
+fn combine<V: Bytes>(
+    combination: Combination,
+    image: &mut CpuImage,
+    view: &mut V,
+    target: u64,
+    source: u64,
+    count: u64,
+)
+    requires size { length (V.bytes view.old) ≡ storage_size }
+    requires target_in { target + count ≤ storage_size }
+    requires source_in { source + count ≤ storage_size }
+    ensures stored { V.bytes view.new ≡
+        written (V.bytes view.old) target (results count combination (lead count target source)
+        (range_at (V.bytes view.old) target count) (range_at (V.bytes view.old) source count)) }
+    ensures code { cpu_of image.new ≡ with_code_of combination (results count combination
+        (lead count target source) (range_at (V.bytes view.old) target count)
+        (range_at (V.bytes view.old) source count)) (cpu_of image.old) }
+{
+    match combination {
+        Combination::Move => move_bytes(view, target, source, count),
+        Combination::Logic(_) => {
+            let zero = combine_bytes(combination, view, target, source, count);
+            set_code(combination, zero, image);
+        }
+    }
+}
+
 /// MVC, NC, OC and XC, the instruction having `n` bytes. From the left, each byte of the first operand
 /// becomes that of the combination with the byte of the second, where later bytes see the results of earlier
 /// ones. The code becomes 0 where all results are zero and 1 where one is not; a move leaves it. There is no
@@ -115,8 +201,7 @@ pub fn byte_by_byte<V: Bytes>(
 {
     let target = first_address(instr, &image.general);
     let source = second_address(instr, &image.general);
-    let zero = combine_bytes(combination, view, target, source, bytes_named(instr));
-    set_code(combination, zero, image);
+    combine(combination, image, view, target, source, bytes_named(instr));
     advance(image, n);
     Ok(())
 }

@@ -5,7 +5,7 @@ use Rattle.z_storage.proofs.lists.byte_by_byte.Goals as goal
 pub returns : goal.returns
 returns g c =
     leaves_results c.args.combination c.args.n c.args.instr.now (cpu_of c.args.image.now)
-    (cpu_of c.set_code.new.image) _ _ _ c.combine_bytes-zero.result _ _ _
+    (cpu_of c.combine.new.image) _ _ _ _ _ _
     c.first_address-target.ensures c.second_address-source.ensures c.bytes_named.ensures.count
     c.requires.inside
-    c.combine_bytes-zero.ensures.stored c.combine_bytes-zero.ensures.zero c.set_code.ensures c.advance.ensures
+    c.combine.ensures.stored c.combine.ensures.code c.advance.ensures

@@ -43,3 +43,15 @@ returns-then-are_in_one_area-clause-value g c =
     ∙ ap (big_number c.args.count)
     (range_seen view.prefix below c.args.address c.args.count view.prefix_in view.sized inside
     c.requires.low one)
+
+pub returns-then-are_in_one_area-clause-bytes : goal.returns-then-are_in_one_area-clause-bytes
+returns-then-are_in_one_area-clause-bytes g c =
+    let view = c.args.self.now in
+    let below = g.V.Bytes.bytes view.below in
+    let inside : c.args.address + c.args.count ≤ storage_size =
+    omega (arith, length-seen view.prefix _ view.prefix_in view.sized, c.requires.inside) in
+    let one : c.args.address % 8192 + c.args.count ≤ 8192 = grind (arith, nat_tests) in
+    c.word.ensures.bytes
+    ∙ ap (λ a. range_at below a c.args.count) c.place_of.ensures
+    ∙ range_seen view.prefix below c.args.address c.args.count view.prefix_in view.sized inside
+    c.requires.low one
