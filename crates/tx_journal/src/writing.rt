@@ -37,7 +37,7 @@ fn add_byte(text: &mut Vec<u8>, byte: u8) -> Result<(), AllocError>
 }
 
 /// Adds a number of one digit or two, where there is room for two bytes.
-#[tactic(auto, using(crate::proofs::Decimals::two_digits, std::proofs::lemmas::Fmt::decimal_digit))]
+#[tactic(auto, using(std::proofs::lemmas::Fmt::decimal_digit))]
 fn push_small(text: &mut Vec<u8>, number: u64)
     requires small { number < 100 }
     requires room { vec_len text.old + 2 ≤ vec_capacity text.old }
@@ -45,9 +45,11 @@ fn push_small(text: &mut Vec<u8>, number: u64)
     ensures len { vec_len text.new ≤ vec_len text.old + 2 }
     ensures capacity { vec_capacity text.new ≡ vec_capacity text.old }
 {
-    if number >= 10 {
-        text.push_reserved(b'0' + (number / 10) as u8);
+    if number < 10 {
+        text.push_reserved(b'0' + number as u8);
+        return;
     }
+    text.push_reserved(b'0' + (number / 10) as u8);
     text.push_reserved(b'0' + (number % 10) as u8);
 }
 
