@@ -2,3 +2,4 @@
 pub mod Words
 pub mod Marks
 pub mod Counts
+pub mod Used
