@@ -3,3 +3,4 @@ pub mod Words
 pub mod Marks
 pub mod Counts
 pub mod Used
+pub mod Runs

@@ -1,11 +1,11 @@
 //! The set, over its words.
 ghost use Rattle.std.specs.Prelude.{◌≡◌, ℕ, ◌*◌, ◌<◌, ◌≤◌, ◌↔◌, Bool, true, false, List, length, replicate};
 ghost use Rattle.std.specs.Prelude.{slice_set, slice_index_or, nat_lt, if◌then◌else◌, IsTrue, IfOk, IfSome};
-ghost use Rattle.std.specs.Prelude.{IfNone};
-ghost use Rattle.bit_set.specs.Bits.{bits_of, IsNext, NoneMarked};
+ghost use Rattle.std.specs.Prelude.{IfNone, ◌+◌, ◌/◌, ◌||◌};
+ghost use Rattle.bit_set.specs.Bits.{bits_of, lies_in, IsNext, NoneMarked};
 ghost use Rattle.bit_set.specs.Used.{IsZeroOutside};
 
-use crate::word::{has_bit, lowest_from, with_bit, without_bit};
+use crate::word::{has_bit, lowest_from, with_bit, with_run, without_bit};
 use std::alloc::{AllocError, Global};
 use std::marker::Model;
 
@@ -59,6 +59,37 @@ impl BitSet {
         *word = with_bit(*word, (at % 64) as u32);
         self.low = self.low.min(at / 64);
         self.high = self.high.max(at / 64 + 1);
+    }
+
+    /// Adds the numbers from `from` on and below `end`.
+    pub fn insert_run(&mut self, from: usize, end: usize)
+        requires order { from ≤ end }
+        requires within { end ≤ length self.old }
+        ensures size { length self.new ≡ length self.old }
+        ensures marks { (k : ℕ) → slice_index_or self.new k false
+            ≡ (slice_index_or self.old k false || lies_in from end k) }
+    {
+        let mut at = from;
+        while at < end {
+            let stop = at + (64 - at % 64).min(end - at);
+            self.insert_in_word(at, stop);
+            at = stop;
+        }
+    }
+
+    /// Adds the numbers of one word from `from` on and below `end`.
+    fn insert_in_word(&mut self, from: usize, end: usize)
+        requires some { from < end }
+        requires word { end ≤ from / 64 * 64 + 64 }
+        requires within { end ≤ length self.old }
+        ensures size { length self.new ≡ length self.old }
+        ensures marks { (k : ℕ) → slice_index_or self.new k false
+            ≡ (slice_index_or self.old k false || lies_in from end k) }
+    {
+        let word = &mut self.words[from / 64];
+        *word = with_run(*word, (from % 64) as u32, (end - from / 64 * 64) as u32);
+        self.low = self.low.min(from / 64);
+        self.high = self.high.max(from / 64 + 1);
     }
 
     /// Takes a number away.
