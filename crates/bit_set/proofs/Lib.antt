@@ -2,3 +2,5 @@
 pub mod Words
 pub mod Marks
 pub mod Counts
+pub mod Used
+pub mod Runs

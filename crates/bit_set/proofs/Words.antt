@@ -1,15 +1,17 @@
 -- One word: its bits as tests, and what is read from them.
 use Rattle.std.proofs.Common.{◌≡◌, ◌≢◌, ℕ, ◌-◌, ◌*◌, ◌%◌, ◌^◌, ◌<◌, ◌≤◌, min, Bool, true, false, cond, eqb}
-use Rattle.std.proofs.Common.{refl, sym, ap, ◌∙◌, arith, w64, bit_and}
-use Rattle.std.specs.Prelude.{not}
+use Rattle.std.proofs.Common.{refl, sym, ap, ◌∙◌, arith, w64, bit_and, bit_or}
+use Rattle.std.proofs.Common.{◌/◌, max, ltb, leb}
+use Rattle.std.specs.Prelude.{not, ◌||◌, ◌&&◌}
 use Rattle.std.specs.Int.{bit_at, trailing_zeros}
-use Rattle.std.proofs.lemmas.Bool.{cases_lt, cases_eq, eq-eqb, ne_eqb, eqb-true, eqb-false}
+use Rattle.std.proofs.lemmas.Bool.{cases_lt, cases_eq, eq-eqb, ne_eqb, eqb-true, eqb-false, lt-ltb, le-ltb}
+use Rattle.std.proofs.lemmas.Bool.{le-leb, lt-leb}
 use Rattle.std.proofs.lemmas.Nat.Bits.{bit_at-lt, bit_at_and, bit_at_mask_inside, bit_at_mask_below}
 use Rattle.std.proofs.lemmas.Nat.Bits.{bit_at-trailing_zeros, bit_at-zero, ones_shl, and_pow}
-use Rattle.std.proofs.lemmas.Nat.Bits.{same_from_bits_below}
+use Rattle.std.proofs.lemmas.Nat.Bits.{same_from_bits_below, bit_at_or, bit_at_ones, bit_at_ones_above, ones_shr}
 use Rattle.std.proofs.lemmas.Nat.{one_shl, pow_pos, and_le_l}
 use borrow.Enum.Arm.{by_way}
-use Rattle.bit_set.specs.Bits.{bit, IsLowestBit}
+use Rattle.bit_set.specs.Bits.{bit, lies_in, IsLowestBit}
 
 pub bit_of_one : (word i : ℕ) → bit_at word i ≡ 1 → bit word i ≡ true
 unfolding bit
@@ -101,3 +103,50 @@ tested word at lt =
     ap (λ m. not (eqb (bit_and word m) 0)) (one_shl at 64 lt)
     ∙ ap (λ n. not (eqb n 0)) (and_pow word at)
     ∙ product_test (bit_at word at) (2 ^ at) (bit_at-lt word at) (pow_pos at)
+
+-- ---- a run of bits
+
+abbrev pub run_of : ℕ → ℕ → ℕ
+run_of from end = bit_and ((2 ^ 64 - 1) * 2 ^ from % 2 ^ 64) ((2 ^ 64 - 1) / 2 ^ (64 - end))
+
+-- a bit of a run as a number
+run_at : (from end i : ℕ) → from < end → end ≤ 64 → i < 64 → bit_at (run_of from end) i ≡ cond (lies_in from end i) 1 0
+run_at from end i some within lt =
+    bit_at_and ((2 ^ 64 - 1) * 2 ^ from % 2 ^ 64) ((2 ^ 64 - 1) / 2 ^ (64 - end)) i
+    ∙ ap (λ n. min n (bit_at ((2 ^ 64 - 1) / 2 ^ (64 - end)) i)) high ∙ ap (min (cond (leb from i) 1 0)) low
+    ∙ both (leb from i) (ltb i end)
+  where
+    high : bit_at ((2 ^ 64 - 1) * 2 ^ from % 2 ^ 64) i ≡ cond (leb from i) 1 0
+    high =
+        ap (λ n. bit_at n i) (ones_shl 64 from (omega (arith, some, within)))
+        ∙ by_way (cases_lt i from)
+        (λ below. bit_at_mask_below from 64 i below ∙ sym (ap (λ b. cond b 1 0) (lt-leb from i below)))
+        (λ up. bit_at_mask_inside from 64 i up lt ∙ sym (ap (λ b. cond b 1 0) (le-leb from i up)))
+
+    low : bit_at ((2 ^ 64 - 1) / 2 ^ (64 - end)) i ≡ cond (ltb i end) 1 0
+    low =
+        let left : 64 - (64 - end) ≡ end = omega (arith, within) in
+        ap (λ n. bit_at n i) (ones_shr 64 (64 - end) (omega arith) ∙ ap (λ n. 2 ^ n - 1) left)
+        ∙ by_way (cases_lt i end)
+        (λ under. bit_at_ones end i under ∙ sym (ap (λ b. cond b 1 0) (lt-ltb i end under)))
+        (λ past. bit_at_ones_above end i past ∙ sym (ap (λ b. cond b 1 0) (le-ltb i end past)))
+
+    both : (a b : Bool) → min (cond a 1 0) (cond b 1 0) ≡ cond (a && b) 1 0
+    both true true = refl
+    both true false = refl
+    both false true = refl
+    both false false = refl
+
+pub run_set : (word from end i : ℕ) → from < end → end ≤ 64 → i < 64
+    → bit (bit_or word (run_of from end)) i ≡ (bit word i || lies_in from end i)
+unfolding bit
+run_set word from end i some within lt =
+    ap (λ n. eqb n 1) (bit_at_or word (run_of from end) i ∙ ap (max (bit_at word i)) (run_at from end i some within lt)
+    ∙ ap (λ n. max n (cond (lies_in from end i) 1 0)) (bit_at_is word i))
+    ∙ either (bit word i) (lies_in from end i)
+  where
+    either : (a b : Bool) → eqb (max (cond a 1 0) (cond b 1 0)) 1 ≡ (a || b)
+    either true true = refl
+    either true false = refl
+    either false true = refl
+    either false false = refl

@@ -1,5 +1,6 @@
 -- Bits of words, and places among marks.
-use Rattle.std.specs.Prelude.{◌≡◌, ℕ, ◌*◌, ◌/◌, ◌%◌, ◌<◌, ◌≤◌, Bool, true, false, ◌==◌, List, length, map}
+use Rattle.std.specs.Prelude.{◌≡◌, ℕ, ◌*◌, ◌/◌, ◌%◌, ◌<◌, ◌≤◌, Bool, true, false, ◌&&◌, ◌==◌, nat_le, nat_lt, List}
+use Rattle.std.specs.Prelude.{length, map}
 use Rattle.std.specs.Int.{bit_at}
 use Rattle.std.specs.List.{slice_index_or, range_with_len}
 
@@ -29,3 +30,7 @@ pub record IsNext (marks : List Bool) (from end at : ℕ) : Type 0 where
 -- no place from `from` on and below `end` is marked
 abbrev pub NoneMarked : List Bool → ℕ → ℕ → Type 0
 NoneMarked marks from end = (k : ℕ) → from ≤ k → k < end → slice_index_or marks k false ≡ false
+
+-- whether a number lies from `first` on and below `end`
+abbrev pub lies_in : ℕ → ℕ → ℕ → Bool
+lies_in first end k = nat_le first k && nat_lt k end

@@ -1,28 +1,33 @@
 //! The set, over its words.
 ghost use Rattle.std.specs.Prelude.{◌≡◌, ℕ, ◌*◌, ◌<◌, ◌≤◌, ◌↔◌, Bool, true, false, List, length, replicate};
 ghost use Rattle.std.specs.Prelude.{slice_set, slice_index_or, nat_lt, if◌then◌else◌, IsTrue, IfOk, IfSome};
-ghost use Rattle.std.specs.Prelude.{IfNone};
-ghost use Rattle.bit_set.specs.Bits.{bits_of, IsNext, NoneMarked};
+ghost use Rattle.std.specs.Prelude.{IfNone, ◌+◌, ◌/◌, ◌||◌};
+ghost use Rattle.bit_set.specs.Bits.{bits_of, lies_in, IsNext, NoneMarked};
+ghost use Rattle.bit_set.specs.Used.{IsZeroOutside};
 
-use crate::word::{has_bit, lowest_from, with_bit, without_bit};
+use crate::word::{has_bit, lowest_from, with_bit, with_run, without_bit};
 use std::alloc::{AllocError, Global};
 use std::marker::Model;
 
-/// A set of the numbers below a multiple of 64, seen as one mark for each of them.
+/// A set of the numbers below a multiple of 64, seen as one mark for each of them. The words from `low` on and
+/// below `high` are those in use: no other one has a member.
 #[derive(Drop)]
 pub struct BitSet {
     words: Vec<u64>,
+    low: usize,
+    high: usize,
 }
 
 impl Model for BitSet {
-    ghost use Rattle.std.specs.Prelude.{Bool, List, ◌<◌, ◌^◌, All};
+    ghost use Rattle.std.specs.Prelude.{Bool, List};
     ghost use Rattle.bit_set.specs.Bits.{bits_of};
+    ghost use Rattle.bit_set.specs.Used.{IsKept};
 
     ghost Value = { List Bool };
 
     ghost view = { λ s. bits_of s.words.items };
 
-    ghost invariant = { λ s. All (λ word. word < 2 ^ 64) s.words.items };
+    ghost invariant = { λ s. IsKept s.words.items s.low s.high };
 }
 
 impl BitSet {
@@ -32,6 +37,8 @@ impl BitSet {
     {
         Ok(BitSet {
             words: vec![in alloc; 0; words]?,
+            low: words,
+            high: 0,
         })
     }
 
@@ -50,6 +57,39 @@ impl BitSet {
     {
         let word = &mut self.words[at / 64];
         *word = with_bit(*word, (at % 64) as u32);
+        self.low = self.low.min(at / 64);
+        self.high = self.high.max(at / 64 + 1);
+    }
+
+    /// Adds the numbers from `from` on and below `end`.
+    pub fn insert_run(&mut self, from: usize, end: usize)
+        requires order { from ≤ end }
+        requires within { end ≤ length self.old }
+        ensures size { length self.new ≡ length self.old }
+        ensures marks { (k : ℕ) → slice_index_or self.new k false
+            ≡ (slice_index_or self.old k false || lies_in from end k) }
+    {
+        let mut at = from;
+        while at < end {
+            let stop = at + (64 - at % 64).min(end - at);
+            self.insert_in_word(at, stop);
+            at = stop;
+        }
+    }
+
+    /// Adds the numbers of one word from `from` on and below `end`.
+    fn insert_in_word(&mut self, from: usize, end: usize)
+        requires some { from < end }
+        requires word { end ≤ from / 64 * 64 + 64 }
+        requires within { end ≤ length self.old }
+        ensures size { length self.new ≡ length self.old }
+        ensures marks { (k : ℕ) → slice_index_or self.new k false
+            ≡ (slice_index_or self.old k false || lies_in from end k) }
+    {
+        let word = &mut self.words[from / 64];
+        *word = with_run(*word, (from % 64) as u32, (end - from / 64 * 64) as u32);
+        self.low = self.low.min(from / 64);
+        self.high = self.high.max(from / 64 + 1);
     }
 
     /// Takes a number away.
@@ -73,11 +113,13 @@ impl BitSet {
         }
     }
 
-    /// Takes all numbers away.
+    /// Takes all numbers away. Only words in use are written.
     pub fn clear(&mut self)
         ensures { self.new ≡ replicate (length self.old) false }
     {
-        self.words.fill(0);
+        zero(&mut self.words, self.low, self.high);
+        self.low = self.words.len();
+        self.high = 0;
     }
 
     /// Makes this set equal to one of the same room.
@@ -86,6 +128,8 @@ impl BitSet {
         ensures { self.new ≡ other.now }
     {
         self.words.copy_from_slice(&other.words);
+        self.low = other.low;
+        self.high = other.high;
     }
 
     /// Whether two sets are equal, room included.
@@ -102,6 +146,17 @@ impl BitSet {
         ensures none { IfNone result (NoneMarked self.now from end) }
     {
         next_in(&self.words, from, end)
+    }
+}
+
+/// Makes all words zero, of which those from `low` on and below `high` may be others.
+fn zero(words: &mut [u64], low: usize, high: usize)
+    requires end { high ≤ length words.old }
+    requires used { IsZeroOutside words.old low high }
+    ensures { words.new ≡ replicate (length words.old) 0 }
+{
+    for at in low..high {
+        words[at] = 0;
     }
 }
 

@@ -1,7 +1,7 @@
 //! One word of 64 bits.
 
-ghost use Rattle.std.specs.Prelude.{◌≡◌, ◌≢◌, ℕ, ◌<◌, ◌≤◌, true, false, IfSome, IfNone};
-ghost use Rattle.bit_set.specs.Bits.{bit, IsLowestBit};
+ghost use Rattle.std.specs.Prelude.{◌≡◌, ◌≢◌, ℕ, ◌<◌, ◌≤◌, true, false, ◌||◌, IfSome, IfNone};
+ghost use Rattle.bit_set.specs.Bits.{bit, lies_in, IsLowestBit};
 
 /// Whether bit `at` of the word is one.
 pub fn has_bit(word: u64, at: u32) -> bool
@@ -18,6 +18,16 @@ pub fn with_bit(word: u64, at: u32) -> u64
     ensures others { (i : ℕ) → i < 64 → i ≢ at → bit result i ≡ bit word i }
 {
     word | (1 << at)
+}
+
+/// The word with the bits from `from` on and below `end` set to one.
+pub fn with_run(word: u64, from: u32, end: u32) -> u64
+    requires some { from < end }
+    requires within { end ≤ 64 }
+    ensures { (i : ℕ) → i < 64 → bit result i ≡ (bit word i || lies_in from end i) }
+{
+    let run = (u64::MAX << from) & (u64::MAX >> (64 - end));
+    word | run
 }
 
 /// The word with bit `at` set to zero.

@@ -7,10 +7,15 @@ use std::test::Fail;
 fn finds_what_was_added(rt: HostRuntime) -> Result<(), Fail> {
     let mut set = BitSet::open(rt.alloc(), 3)?;
     set.insert(5);
-    set.insert(64);
+    set.insert_run(62, 66);
     set.insert(191);
-    let found = [set.next(6, 192), set.next(65, 191), set.next(65, 192)];
-    assert_eq!(rt; found, [Some(64), None, Some(191)]);
+    let found = [
+        set.next(6, 192),
+        set.next(65, 191),
+        set.next(66, 191),
+        set.next(66, 192),
+    ];
+    assert_eq!(rt; found, [Some(62), Some(65), None, Some(191)]);
     Ok(())
 }
 

@@ -41,13 +41,10 @@ fn zeros(alloc: Global) -> Result<Storage, Fail> {
 /// A cache with the doubleword 3 by NTSTG, and 4 stored over it.
 fn three_then_four(alloc: Global) -> Result<StoreCache, Fail> {
     let mut cache = StoreCache::open(alloc)?;
-    let mut done = ntstg(&mut cache, PLACE, 3);
-    for (at, byte) in FOUR.iter().enumerate() {
-        done &= store(&mut cache, PLACE + at as u64, *byte);
-    }
-    if !done {
+    if !ntstg(&mut cache, PLACE, 3) || !cache.has_room((PLACE / BLOCK_SIZE as u64) as u32) {
         return Err("no room")?;
     }
+    cache.store_bytes(PLACE, &FOUR);
     Ok(cache)
 }
 

@@ -1,11 +1,11 @@
 -- What a store cache shows of its entries, and its invariant after each change.
 use Rattle.std.proofs.Common.{◌≡◌, ◌≢◌, ℕ, ◌+◌, ◌*◌, ◌/◌, ◌%◌, ◌<◌, ◌≤◌, Bool, true, false, cond, eqb}
-use Rattle.std.proofs.Common.{ltb, List, [], ◌∷◌, ◌++◌, length, get_or, set, take, Some, None}
+use Rattle.std.proofs.Common.{ltb, List, [], ◌∷◌, ◌++◌, length, get_or, set, Some, None}
 use Rattle.std.proofs.Common.{is_some, replicate, inl, inr, refl, sym, ap, subst, ◌∙◌, arith}
 use Rattle.std.specs.Prelude.{◌||◌}
 use Rattle.std.proofs.lemmas.Bool.{cases_eq, cases_lt, cases_Bool, cond-true, cond-false, eq-eqb, ne_eqb}
-use Rattle.std.proofs.lemmas.Bool.{or_left, ltb-true}
-use Rattle.std.proofs.lemmas.List.{length-set, get_or-set_other, get_or-replicate, get_or_past, length-replicate, length_push, length-take-le}
+use Rattle.std.proofs.lemmas.Bool.{ltb-true}
+use Rattle.std.proofs.lemmas.List.{length-set, get_or-set_other, get_or-replicate, get_or_past, length-replicate, length_push}
 use Rattle.bit_set.specs.Counts.{count_below}
 use Rattle.bit_set.proofs.Counts.{count_agree}
 use Rattle.slot_index.specs.Slots.{Slots, slot_in, is_key}
@@ -15,7 +15,7 @@ use Rattle.store_cache.specs.Sizes.{storage_blocks, block_size, block_doubleword
 use Rattle.store_cache.specs.Overlay.{Overlay, with_one, with_bytes, has_block, block_count}
 use Rattle.store_cache.specs.Stores.{Stores, no_stores, has_room, IsSound}
 use Rattle.store_cache.specs.Entries.{Entries, items_of, stores_of, IsKept}
-use Rattle.store_cache.proofs.Overlays.{with_bytes-none, with_bytes-inside}
+use Rattle.store_cache.proofs.Overlays.{with_bytes-inside}
 use Rattle.store_cache.proofs.Blocks.{has_block-at, has_block-here, has_block-other, has_block-nothing}
 use Rattle.store_cache.proofs.Cells.{items_of-none, items_of-empty, items_of-add, items_of-store}
 
@@ -267,18 +267,3 @@ has_block-with_bytes overlay address bytes some =
     (omega arith)
     (ap (λ n. is_some (with_bytes overlay address bytes n)) same
     ∙ ap is_some (with_bytes-inside overlay address bytes address (omega arith) (omega (arith, some))))
-
-pub room_stays : (overlay : Overlay) (address n : ℕ) (bytes : List ℕ) → n ≤ length bytes
-    → has_room overlay (address / block_size) ≡ true
-    → has_room (with_bytes overlay address (take n bytes)) (address / block_size) ≡ true
-room_stays overlay address n bytes le room =
-    by_way (cases_lt 0 n)
-    (λ some. or_left (has_block (with_bytes overlay address (take n bytes)) (address / block_size))
-    (ltb (block_count (with_bytes overlay address (take n bytes))) block_limit)
-    (has_block-with_bytes overlay address (take n bytes)
-    (omega (arith, some, length-take-le n bytes le))))
-    (λ none.
-    let zero : n ≡ 0 = omega arith in
-    ap (λ k. has_room (with_bytes overlay address (take k bytes)) (address / block_size)) zero
-    ∙ ap (λ (o : Overlay). has_room o (address / block_size)) (with_bytes-none overlay address)
-    ∙ room)

@@ -3,3 +3,4 @@ pub mod Blocks
 pub mod Cells
 pub mod Laid
 pub mod Kept
+pub mod Runs

@@ -1,9 +1,9 @@
 //! The store cache.
 ghost use Rattle.std.specs.Prelude.{◌≡◌, ℕ, ◌+◌, ◌*◌, ◌/◌, ◌%◌, ◌<◌, ◌≤◌, true, is_some, None, Some, IfOk, length};
-ghost use Rattle.std.specs.Prelude.{false, if◌then◌else◌, ◌++◌, ◌∷◌, []};
+ghost use Rattle.std.specs.Prelude.{false, if◌then◌else◌, ◌++◌, ◌∷◌, [], slice_index};
 ghost use Rattle.bit_set.specs.Counts.{count_below};
 ghost use Rattle.slot_index.specs.Slots.{slot_in, is_key};
-ghost use Rattle.store_cache.specs.Overlay.{with_one, bytes_through, has_block, block_count};
+ghost use Rattle.store_cache.specs.Overlay.{with_one, with_bytes, bytes_through, has_block, block_count};
 ghost use Rattle.store_cache.specs.Stores.{no_stores, with_store, with_ntstg, lasting_bytes, has_room};
 ghost use Rattle.store_cache.specs.Stores.{IsSound};
 ghost use Rattle.store_cache.specs.Entries.{stores_of};
@@ -135,6 +135,24 @@ impl StoreCache {
         self.marks.insert(cell);
     }
 
+    /// Stores bytes that lie in one block, one at least. Their block must have room.
+    pub fn store_bytes(&mut self, address: u64, bytes: &[u8])
+        requires within { address < STORAGE_SIZE }
+        requires some { 0 < length bytes.now }
+        requires block { address % BLOCK_SIZE + length bytes.now ≤ BLOCK_SIZE }
+        requires room { has_room (stores_of self.old).overlay (address / BLOCK_SIZE) ≡ true }
+        ensures { stores_of self.new
+            ≡ record (stores_of self.old) {
+              overlay = with_bytes (stores_of self.old).overlay address bytes.now;
+            } }
+    {
+        let address = address as usize;
+        let slot = slot_for(&mut self.index, address / BLOCK_SIZE);
+        let cell = slot * BLOCK_SIZE + address % BLOCK_SIZE;
+        copy_into(&mut self.bytes, cell, bytes);
+        self.marks.insert_run(cell, cell + bytes.len());
+    }
+
     /// Stores a doubleword as NONTRANSACTIONAL STORE does. The address must be that of a doubleword, whose
     /// block has room.
     pub fn ntstg(&mut self, address: u64, value: u64)
@@ -145,9 +163,7 @@ impl StoreCache {
     {
         let mut doubleword = [0u8; 8];
         BigEndian::write_u64(&mut doubleword, value);
-        for (at, byte) in doubleword.iter().enumerate() {
-            self.store(address + at as u64, *byte);
-        }
+        self.store_bytes(address, &doubleword);
         self.keep(address as usize / 8, value);
     }
 
@@ -206,6 +222,19 @@ impl StoreCache {
         self.value_marks.clear();
         self.index.clear();
     }
+}
+
+/// Copies the bytes to their place among others.
+fn copy_into(others: &mut [u8], at: usize, bytes: &[u8])
+    requires { at + length bytes.now ≤ length others.old }
+    ensures size { length others.new ≡ length others.old }
+    ensures bytes { (k : ℕ) → k < length bytes.now
+        → slice_index others.new (at + k) ≡ slice_index bytes.now k }
+    ensures before { (k : ℕ) → k < at → slice_index others.new k ≡ slice_index others.old k }
+    ensures behind { (k : ℕ) → at + length bytes.now ≤ k
+        → slice_index others.new k ≡ slice_index others.old k }
+{
+    others[at..at + bytes.len()].copy_from_slice(bytes);
 }
 
 /// The entry of a block, a new one where it has none.

@@ -160,6 +160,8 @@ fn the_outermost_begin_decides(rt: HostRuntime) {
     assert_eq!(rt; nest.mask(), 0xC0);
     assert_eq!(rt; nest.block(), None);
     assert!(rt; nest.constrained());
+    nest.clear();
+    assert_eq!(rt; nest.depth(), 0);
 }
 
 #[test]

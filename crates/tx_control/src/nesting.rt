@@ -109,6 +109,13 @@ impl Nest {
         self.depth -= 1;
     }
 
+    /// Closes all begins.
+    pub fn clear(&mut self)
+        ensures { self.new ≡ [] }
+    {
+        self.depth = 0;
+    }
+
     /// How many begins are open, 0 to 16.
     pub fn depth(&self) -> u32
         ensures open { result ≡ length self.now }

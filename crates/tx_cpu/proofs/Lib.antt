@@ -12,6 +12,7 @@ pub mod Stored
 pub mod Completing
 pub mod Beginnings
 pub mod GatheredBlocks
+pub mod GatheredRuns
 pub mod LastingDoublewords
 pub mod GatheredStores
 pub mod Advances

@@ -382,7 +382,7 @@ impl Attempt {
         ensures size { length (V.bytes base.new) ≡ storage_size }
     {
         self.stores.commit(base);
-        self.nest = Nest::none();
+        self.nest.clear();
         self.footprint.clear();
         self.constraint = None;
         self.count = 0;
@@ -398,7 +398,7 @@ impl Attempt {
         ensures size { length (V.bytes base.new) ≡ storage_size }
     {
         self.stores.abort(base);
-        self.nest = Nest::none();
+        self.nest.clear();
         self.footprint.clear();
         self.constraint = None;
         self.count = 0;

@@ -16,22 +16,26 @@ ghost use Rattle.tx_cpu.specs.Performed.{StoresFirst, first_size};
 ghost use Rattle.tx_cpu.specs.Gathered.{HasRoomFor, IsDoubleword, with_gathered};
 
 use crate::performing::MOST_BYTES;
-use store_cache::StoreCache;
+use store_cache::{BLOCK_SIZE, StoreCache};
 use z_instr::instr::Instr;
 use z_instr::kind::{Kind, Transaction};
 use z_instr::lookup::line;
 use z_instr::op::Op;
 use z_regs::{Range, Touches, place_of};
 
-/// Gathers bytes that are stored from a real address on.
+/// Gathers bytes that are stored from a real address on, block by block.
 pub fn gather(stores: &mut StoreCache, bytes: &[u8], first: u64, prefix: Option<u32>)
     requires prefix_in { IsTrue (is_prefix prefix) }
     requires end { first + length bytes.now ≤ storage_size }
     requires room { HasRoomFor (stores_of stores.old).overlay prefix first (length bytes.now) }
     ensures { stores_of stores.new ≡ with_gathered prefix first bytes.now (stores_of stores.old) }
 {
-    for k in 0..bytes.len() {
-        stores.store(place_of(prefix, first + k as u64), bytes[k]);
+    let mut done = 0;
+    while done < bytes.len() {
+        let from = first + done as u64;
+        let count = (bytes.len() - done).min(BLOCK_SIZE - from as usize % BLOCK_SIZE);
+        stores.store_bytes(place_of(prefix, from), &bytes[done..done + count]);
+        done += count;
     }
 }
 

@@ -3,3 +3,4 @@ pub mod Marking
 pub mod Spans
 pub mod Bounds
 pub mod Limits
+pub mod Ones

@@ -1,16 +1,16 @@
 //! The footprint, over sets of lines and blocks.
-ghost use Rattle.std.specs.Prelude.{◌≡◌, ℕ, ◌<◌, ◌≤◌, ◌↔◌, All, IsTrue, IfOk, Ok, Err};
+ghost use Rattle.std.specs.Prelude.{◌≡◌, ℕ, ◌<◌, ◌≤◌, ◌↔◌, All, IsTrue, IfOk, Ok, Err, [], ◌∷◌};
 ghost use Rattle.tx_footprint.specs.Places.{IsInStorage};
 ghost use Rattle.tx_footprint.specs.Touched.{Touched, untouched, touching, line_count, block_count, fit_of};
 ghost use Rattle.tx_footprint.specs.Touched.{sets_of};
 
 pub use crate::places::BLOCKS;
-use crate::places::{Kind, added, mark, mark_new, most_places};
+use crate::places::{Kind, added, mark, mark_new, mark_span, mark_span_new, most_places, span_of};
 use bit_set::BitSet;
 use line_table::{LINES, MOST_HELD};
 use std::alloc::{AllocError, Global};
 use std::marker::Model;
-use z_regs::Touches;
+use z_regs::{Range, Touches};
 
 /// How many lines a footprint may have; as many as a CPU may hold.
 pub const MOST_LINES: u32 = MOST_HELD;
@@ -121,10 +121,25 @@ impl Footprint {
         if touches.count() == 0 {
             return;
         }
+        if touches.count() == 1 {
+            return self.add_one(touches.at(0));
+        }
         self.line_count += mark_new(&mut self.touched, touches, Kind::Line);
         self.block_count += mark_new(&mut self.blocks, touches, Kind::StoredBlock);
         mark(&mut self.fetched, touches, Kind::FetchedLine);
         mark(&mut self.stored, touches, Kind::StoredLine);
+    }
+
+    /// One range, by absolute addresses, is touched too.
+    pub fn add_one(&mut self, range: Range)
+        requires in_storage { IsInStorage range }
+        requires fits { fit_of (touching (sets_of self.old) (range ∷ [])) ≡ Ok tt }
+        ensures { sets_of self.new ≡ touching (sets_of self.old) (range ∷ []) }
+    {
+        self.line_count += mark_span_new(&mut self.touched, span_of(range, Kind::Line));
+        self.block_count += mark_span_new(&mut self.blocks, span_of(range, Kind::StoredBlock));
+        mark_span(&mut self.fetched, span_of(range, Kind::FetchedLine));
+        mark_span(&mut self.stored, span_of(range, Kind::StoredLine));
     }
 
     /// Whether both have fetched and stored the same lines and stored the same blocks.

@@ -72,7 +72,7 @@ fn is_recorded(kind: Kind, store: bool) -> bool
 }
 
 /// The places of one kind that a range touches.
-fn span_of(range: Range, kind: Kind) -> Span
+pub fn span_of(range: Range, kind: Kind) -> Span
     requires { IsInStorage range }
     ensures places { (k : ℕ) → lies_in result.first result.end k ≡ covers kind range k }
     ensures order { result.first ≤ result.end }
@@ -165,7 +165,7 @@ pub fn added(set: &BitSet, touches: &Touches, kind: Kind) -> u32
 }
 
 /// Adds the numbers of a span to the set.
-fn mark_span(set: &mut BitSet, span: Span)
+pub fn mark_span(set: &mut BitSet, span: Span)
     requires order { span.first ≤ span.end }
     requires within { span.end ≤ length set.old }
     ensures size { length set.new ≡ length set.old }
@@ -203,7 +203,7 @@ fn insert_new(set: &mut BitSet, place: usize) -> bool
 }
 
 /// Adds the numbers of a span to the set, and tells how many of them were not there before.
-fn mark_span_new(set: &mut BitSet, span: Span) -> u32
+pub fn mark_span_new(set: &mut BitSet, span: Span) -> u32
     requires order { span.first ≤ span.end }
     requires within { span.end ≤ length set.old }
     requires few { length set.old ≤ BLOCKS }

@@ -9,6 +9,6 @@ returns c =
     let equal = bytes_decides c.self.inside.words.items c.other.inside.words.items in (
       λ yes. sym c.self.view_is ∙ ap bits_of (equal.0 (sym c.eq.ensures ∙ yes)) ∙ c.other.view_is,
       λ same. c.eq.ensures
-          ∙ equal.1 (same_words _ _ c.self.invariant c.other.invariant (c.self.view_is ∙ same
+          ∙ equal.1 (same_words _ _ c.self.invariant.fits c.other.invariant.fits (c.self.view_is ∙ same
           ∙ sym c.other.view_is)),
     )

@@ -10,11 +10,11 @@ use Rattle.tx_cpu.proofs.Storages.{storage_of-bytes_through}
 use Rattle.tx_cpu.proofs.attempt.Attempt.abort.Goals as goal
 
 pub invariant_of-self : goal.invariant_of-self
-invariant_of-self g c = rested-sound _ _ _ c.none-self-inside.ensures c.clear.ensures c.abort.ensures.empty
+invariant_of-self g c = rested-sound _ _ _ c.clear.ensures c.clear-2.ensures c.abort.ensures.empty
 
 pub returns-clause-rests : goal.returns-clause-rests
 returns-clause-rests g c cpu =
-    progress-rests _ cpu refl (rested _ _ _ c.none-self-inside.ensures c.clear.ensures c.abort.ensures.empty)
+    progress-rests _ cpu refl (rested _ _ _ c.clear.ensures c.clear-2.ensures c.abort.ensures.empty)
 
 pub returns-clause-bytes : goal.returns-clause-bytes
 returns-clause-bytes g c =

@@ -1,5 +1,8 @@
-use Rattle.std.proofs.Common.{sym, ◌∙◌, arith}
-use Rattle.tx_footprint.specs.Touched.{Sets, touching, sets_of}
+use Rattle.std.proofs.Common.{List, sym, ap, ◌∙◌, arith}
+use Rattle.z_regs.specs.declared.ranges.Range.{Range}
+use Rattle.tx_footprint.specs.Touched.{Sets, touching, sets_of, fit_of}
+use Rattle.tx_footprint.proofs.Marking.{storage_at}
+use Rattle.tx_footprint.proofs.Ones.{only}
 use Rattle.tx_footprint.proofs.Limits.{lines_marked, blocks_marked, fits_from, added_kept, nothing_more}
 use Rattle.tx_footprint.proofs.footprint.Footprint.add.Goals as goal
 
@@ -7,6 +10,22 @@ pub returns-then-count-eq0 : goal.returns-then-count-eq0
 returns-then-count-eq0 c =
     sym (nothing_more (sets_of c.args.self.now) c.args.touches.now
     (sym c.count.ensures.value ∙ c.if-count-eq0.true))
+
+pub add_one-requires-clause-in_storage : goal.add_one-requires-clause-in_storage
+add_one-requires-clause-in_storage c =
+    storage_at c.args.touches.now 0 c.at.result c.requires.in_storage c.at.ensures
+
+pub add_one-requires-clause-fits : goal.add_one-requires-clause-fits
+add_one-requires-clause-fits c =
+    let one = only c.args.touches.now c.at.result (sym c.count-2.ensures.value ∙ c.if-count-eq1.true)
+    c.at.ensures in
+    ap (λ (rs : List Range). fit_of (touching (sets_of c.args.self.now) rs)) (sym one) ∙ c.requires.fits
+
+pub returns-then-count-eq1 : goal.returns-then-count-eq1
+returns-then-count-eq1 c =
+    let one = only c.args.touches.now c.at.result (sym c.count-2.ensures.value ∙ c.if-count-eq1.true)
+    c.at.ensures in
+    c.add_one.ensures ∙ ap (touching (sets_of c.args.self.now)) (sym one)
 
 pub overflow_add-self : goal.overflow_add-self
 overflow_add-self c =
