@@ -1,18 +1,16 @@
 -- The instruction that bytes read as, computed: the row whose opcode they have in its place, the fields that
 -- they hold by its format, and both kept where the instruction is spelled with these very bytes.
 use Rattle.std.specs.Prelude.{◌≡◌, ℕ, ◌+◌, ◌-◌, ◌*◌, ◌/◌, ◌%◌, ◌^◌, ℤ, pos, negsuc, nat_eq, nat_lt}
-use Rattle.std.specs.Prelude.{Bool, true, false, ◌||◌, T, cond, if◌then◌else◌, List, get_or, Option, Some, None}
+use Rattle.std.specs.Prelude.{Bool, true, false, T, cond, if◌then◌else◌, List, get_or, Option, Some, None}
 use Rattle.std.specs.List.{position_or_len}
 use Rattle.std.specs.Str.{bytes_eq}
 use Rattle.std.proofs.Common.{refl, lit<}
-use Rattle.z_instr.specs.declared.format.Format.{Format}
-use Rattle.z_instr.specs.declared.format.Format.TheVariants.{SIY}
 use Rattle.z_instr.specs.declared.instr.Fields.{Fields}
 use Rattle.z_instr.specs.declared.instr.Instr.{Instr}
 use Rattle.z_instr.specs.declared.table.TheConstants.{ROWS}
 use Rattle.z_instr.specs.declared.layout.Digit.{Digit}
 use Rattle.z_instr.specs.Layout.{place}
-use Rattle.z_instr.specs.Layouts.{layout_of, taken, width}
+use Rattle.z_instr.specs.Layouts.{layout_of, taken, width, has_signed_immediate, has_signed_displacement}
 use Rattle.z_instr.specs.Made.{no_fields}
 use Rattle.z_instr.specs.Places.{opcode_at}
 use Rattle.z_instr.specs.Ranges.{are_within, limits_of}
@@ -38,10 +36,6 @@ signed_number k n = if nat_lt n (2 ^ (k - 1)) then pos n else negsuc (2 ^ k - 1 
 abbrev pub number : Bool → ℕ → ℕ → ℤ
 number signed k n = cond signed (signed_number k n) (pos n)
 
--- a displacement of five digits has a sign, and so has a byte in the place of the second one
-abbrev pub displacement_in : ℕ → ℕ → ℤ
-displacement_in n bits = number (nat_eq n 5 || nat_eq n 2) (4 * n) bits
-
 -- the fields that bytes hold by a layout, with an immediate that has a sign or not
 abbrev pub fields_in : List Digit → Bool → List ℕ → Fields
 fields_in ds signed bytes =
@@ -51,20 +45,12 @@ fields_in ds signed bytes =
       r3 = taken ds bytes 3;
       x = taken ds bytes 4;
       b = taken ds bytes 5;
-      d = displacement_in (width ds 6) (taken ds bytes 6);
+      d = number (has_signed_displacement (width ds 6)) (4 * width ds 6) (taken ds bytes 6);
       b2 = taken ds bytes 7;
-      d2 = displacement_in (width ds 8) (taken ds bytes 8);
+      d2 = number (has_signed_displacement (width ds 8)) (4 * width ds 8) (taken ds bytes 8);
       imm = number signed (4 * width ds 9) (taken ds bytes 9);
       mask = taken ds bytes 10;
     }
-
--- the immediate of a row has a sign: also where it is a byte added to storage
-abbrev pub is_byte_added : Format → Bool
-is_byte_added SIY = true
-is_byte_added _ = false
-
-abbrev pub has_sign : Entry → Bool
-has_sign e = e.signed || is_byte_added e.format
 
 -- ---- the instruction
 
@@ -124,7 +110,7 @@ only_if_spelled bytes (Some i) = if bytes_eq bytes (spelling (entry_at i.op.numb
 abbrev pub reading_in : ℕ → List ℕ → Option Instr
 reading_in n bytes =
     let e = entry_at n in
-    only_if_spelled bytes (instruction_of n (fields_in (layout_of e) (has_sign e) bytes))
+    only_if_spelled bytes (instruction_of n (fields_in (layout_of e) (has_signed_immediate e) bytes))
 
 -- the instruction that the bytes read as; None where they read as none
 unfoldable pub reading_of : List ℕ → Option Instr

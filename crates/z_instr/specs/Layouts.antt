@@ -124,6 +124,20 @@ number_in (d ∷ ds) (h ∷ hs) r = (if is_of r d then h * 16 ^ d.index else 0) 
 abbrev pub taken : List Digit → List ℕ → ℕ → ℕ
 taken ds bytes r = number_in ds (digits_from (length ds / 2) 0 bytes) r
 
+-- ---- signs
+
+-- the immediate of a row has a sign: also where it is a byte that is added to storage
+abbrev pub is_byte_added : Format → Bool
+is_byte_added SIY = true
+is_byte_added _ = false
+
+abbrev pub has_signed_immediate : Entry → Bool
+has_signed_immediate e = e.signed || is_byte_added e.format
+
+-- a displacement of five digits has a sign, and so has a byte in the place of one
+abbrev pub has_signed_displacement : ℕ → Bool
+has_signed_displacement n = nat_eq n 5 || nat_eq n 2
+
 -- ---- what makes a layout whole
 
 -- the field of a rank has a digit of an index there

@@ -1,4 +1,3 @@
-use Rattle.z_instr.proofs.Digits.{taken_spelled}
 use Rattle.z_instr.proofs.SameInstr.{same_instr}
 use Rattle.z_instr.proofs.laws.fields_make_instructions.Goals as goal
 
