@@ -1,5 +1,5 @@
 -- The layout of each row is whole, and gives its length, the place of its opcode and the limits of its fields.
-use Rattle.std.proofs.Common.{◌≡◌, ℕ, ◌+◌, ◌*◌, ◌/◌, ◌%◌, ◌^◌, ◌<◌, ◌≤◌, true, false, Bool, ◌&&◌, ◌||◌, not, nat_eq, nat_le}
+use Rattle.std.proofs.Common.{◌≡◌, ℕ, zero, suc, ◌+◌, ◌*◌, ◌/◌, ◌%◌, ◌^◌, ◌<◌, ◌≤◌, true, false, Bool, ◌&&◌, ◌||◌, not, nat_eq, nat_le}
 use Rattle.std.proofs.Common.{List, [], ◌∷◌, map, length, get_or, refl, sym, ap, subst, ◌∙◌, arith}
 use Rattle.std.specs.List.{list_all}
 use Rattle.z_instr.specs.declared.format.Format.{Format}
@@ -26,6 +26,10 @@ limits_at = at_row limits_of limits_by refl
 -- the opcode has as many values as its place has room for
 pub room_at : (n : ℕ) → n < ROWS → room (place (entry_at n).format) ≡ 16 ^ width (layout_of (entry_at n)) 0
 room_at = at_row (λ e. room (place e.format)) (λ e. 16 ^ width (layout_of e) 0) refl
+
+-- the length is two digits a byte
+pub length_at : (n : ℕ) → n < ROWS → length (layout_of (entry_at n)) ≡ 2 * format_length (entry_at n).format
+length_at = at_row (λ e. length (layout_of e)) (λ e. 2 * format_length e.format) refl
 
 -- a number with or without a sign has so many digits as rows have
 abbrev pub is_known : Bool → ℕ → Bool
@@ -104,6 +108,22 @@ place_holds RIEc m o bytes = omega arith
 
 abbrev pub ranks : List ℕ
 ranks = 0 ∷ 1 ∷ 2 ∷ 3 ∷ 4 ∷ 5 ∷ 6 ∷ 7 ∷ 8 ∷ 9 ∷ 10 ∷ 11 ∷ []
+
+-- each rank stands in its own place
+pub rank_own : (r : ℕ) → r < 12 → get_or ranks r 0 ≡ r
+rank_own zero h = refl
+rank_own (suc zero) h = refl
+rank_own (suc (suc zero)) h = refl
+rank_own (suc (suc (suc zero))) h = refl
+rank_own (suc (suc (suc (suc zero)))) h = refl
+rank_own (suc (suc (suc (suc (suc zero))))) h = refl
+rank_own (suc (suc (suc (suc (suc (suc zero)))))) h = refl
+rank_own (suc (suc (suc (suc (suc (suc (suc zero))))))) h = refl
+rank_own (suc (suc (suc (suc (suc (suc (suc (suc zero)))))))) h = refl
+rank_own (suc (suc (suc (suc (suc (suc (suc (suc (suc zero))))))))) h = refl
+rank_own (suc (suc (suc (suc (suc (suc (suc (suc (suc (suc zero)))))))))) h = refl
+rank_own (suc (suc (suc (suc (suc (suc (suc (suc (suc (suc (suc zero))))))))))) h = refl
+rank_own (suc (suc (suc (suc (suc (suc (suc (suc (suc (suc (suc (suc n)))))))))))) h = absurd (omega arith)
 
 even : (n : ℕ) → (nat_eq n 4 || (nat_eq n 8 || nat_eq n 12)) ≡ true → n ≡ n / 2 * 2
 even n h = grind arith
