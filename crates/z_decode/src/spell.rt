@@ -1,12 +1,12 @@
 //! The bytes of an instruction, by the layout of its row.
-ghost use Rattle.std.specs.Prelude.{◌≡◌, ◌<◌, ◌≤◌, true, get_or, length, nat_lt};
+ghost use Rattle.std.specs.Prelude.{◌≡◌, ℕ, ◌<◌, ◌≤◌, true, get_or, length};
 ghost use Rattle.std.specs.List.{list_all};
 ghost use Rattle.z_instr.specs.Ranges.{is_within, bounds};
 ghost use Rattle.z_instr.specs.Reading.{modulo, numbers, number_of, code};
 ghost use Rattle.z_instr.specs.Made.{fields_of};
 ghost use Rattle.z_instr.specs.Layouts.{digit, spelled};
 ghost use Rattle.z_instr.specs.Table.{entry_at};
-ghost use Rattle.z_decode.specs.Code.{is_small, digit_by};
+ghost use Rattle.z_decode.specs.Code.{is_small, six};
 
 use z_instr::instr::Instr;
 use z_instr::layout::{Digit, rank_of};
@@ -24,6 +24,7 @@ fn last_bits(number: i64) -> u32
 }
 
 /// The numbers of the fields of an instruction, by their ranks.
+#[tactic(auto, using(crate::proofs::Rows::wide_immediate))]
 fn numbers_of(opcode: u16, instr: &Instr) -> [u32; 12]
     ensures { result ≡ numbers opcode (fields_of instr.now) }
 {
@@ -44,12 +45,12 @@ fn numbers_of(opcode: u16, instr: &Instr) -> [u32; 12]
 }
 
 /// The digit of a number.
-fn digit_in(numbers: &[u32; 12], digit: Digit) -> u8
-    requires { digit.index < 8 }
-    ensures digit { result ≡ digit_by (λ rank. get_or numbers.now rank 0) digit }
+fn digit_in(numbers: &[u32; 12], wanted: Digit) -> u8
+    requires { wanted.index < 8 }
+    ensures digit { result ≡ digit (λ rank. get_or numbers.now rank 0) wanted }
     ensures few { result < 16 }
 {
-    (numbers[usize::from(rank_of(digit.field))] >> (4 * digit.index) & 15) as u8
+    ((numbers[usize::from(rank_of(wanted.field))] >> (4 * wanted.index)) % 16) as u8
 }
 
 /// The byte of a place, 0 behind the last one.
@@ -68,8 +69,7 @@ fn byte_at(layout: &[Digit], numbers: &[u32; 12], place: usize) -> u8
 /// The bytes of an instruction, by the layout of its row and its opcode, and zeros behind them.
 pub fn spell(layout: &[Digit], opcode: u16, instr: &Instr) -> [u8; 6]
     requires small { list_all is_small layout.now ≡ true }
-    ensures { (k : ℕ) → get_or result k 0 ≡
-        get_or (take 6 (spelled layout.now (number_of opcode (fields_of instr.now)))) k 0 }
+    ensures { result ≡ six (spelled layout.now (number_of opcode (fields_of instr.now))) }
 {
     let numbers = numbers_of(opcode, instr);
     [
