@@ -1,7 +1,8 @@
 -- What the layouts of rows have, and what instructions have by their rows.
 use Rattle.std.proofs.Common.{◌≡◌, ℕ, zero, suc, ◌+◌, ◌*◌, ◌/◌, ◌%◌, ◌^◌, ◌<◌, ◌≤◌, true, false, Bool, ◌&&◌, ◌||◌, nat_eq, nat_lt, nat_le}
 use Rattle.std.proofs.Common.{List, [], ◌∷◌, length, take, drop, get_or, refl, sym, ap, ap₂, subst, ◌∙◌, arith, lit<, eq-eqb}
-use Rattle.std.proofs.Common.{FitsSigned, w64}
+use Rattle.std.proofs.Common.{FitsSigned, w32, w64, to_z, of_z, lt-ltb}
+use Rattle.std.proofs.Math.Facts.{to_z-of_z}
 use Rattle.std.specs.List.{list_all}
 use Rattle.std.specs.Prelude.{ℤ, pos, negsuc, if◌then◌else◌, ◌-◌}
 use Rattle.std.proofs.Math.Seq.{drop-cons}
@@ -14,6 +15,8 @@ use Rattle.z_instr.specs.declared.limits.Bounds.{Bounds}
 use Rattle.z_instr.specs.declared.table.TheConstants.{ROWS}
 use Rattle.z_instr.specs.Table.{Entry, entry_at}
 use Rattle.z_instr.specs.Layouts.{layout_of, width, rank, is_of, digit, spelled, digits_from, number_in, taken}
+use Rattle.z_instr.specs.Computing.{number}
+use Rattle.z_instr.proofs.Wholes.{whole, taken_below}
 use Rattle.z_instr.specs.Ranges.{is_within, bounds, limits_of}
 use Rattle.z_instr.proofs.Passing.{and_left, and_right}
 use Rattle.z_instr.proofs.TableFacts.{passes_row}
@@ -207,3 +210,46 @@ one_width ds i n r whole d h e =
 pub wide_fits : (z : ℤ) → is_within (bounds 2147483648 4294967296) z ≡ true → FitsSigned w64 z
 wide_fits (pos n) h = grind arith
 wide_fits (negsuc n) h = grind arith
+
+-- ---- what bytes hold by the layout of a row
+
+pub row_below : (n : ℕ) (bytes : List ℕ) (r : ℕ) → n < ROWS → ((k : ℕ) → get_or bytes k 0 < 256) →
+    taken (layout_of (entry_at n)) bytes r < 16 ^ width (layout_of (entry_at n)) r
+row_below n bytes r h b = taken_below (layout_of (entry_at n)) bytes r (whole n h) b
+
+pub below_power : (t w x q : ℕ) → x ≡ t → q ≡ w → t < 16 ^ w → x < 2 ^ (4 * q)
+below_power t w x q e f h =
+    subst (λ y. y < 2 ^ (4 * q)) (sym e) (subst (λ j. t < 2 ^ (4 * j)) (sym f) (subst (λ m. t < m) (sixteen w) h))
+
+-- a number of at most 20 bits
+number_low : (s : Bool) (k n : ℕ) → k ≤ 20 → n < 2 ^ k → is_within (bounds 1048576 1048576) (number s k n) ≡ true
+number_low true k n h l =
+    let most : 2 ^ k ≤ 2 ^ 20 = pow-le-pow_right (lit< tt) h in
+    elim (nat_lt n (2 ^ (k - 1))) as (λ b. is_within (bounds 1048576 1048576) (if b then pos n else negsuc (2 ^ k - 1 - n)) ≡ true) [
+      | true ↦ lt-ltb _ _ (omega (arith, most, l))
+      | false ↦ lt-ltb _ _ (omega (arith, most, l))
+    ]
+number_low false k n h l =
+    let most : 2 ^ k ≤ 2 ^ 20 = pow-le-pow_right (lit< tt) h in
+    lt-ltb _ _ (omega (arith, most, l))
+
+narrow_fits : (z : ℤ) → is_within (bounds 1048576 1048576) z ≡ true → FitsSigned w32 z
+narrow_fits (pos n) h = grind arith
+narrow_fits (negsuc n) h = grind arith
+
+long_fits : (z : ℤ) → is_within (bounds 1048576 1048576) z ≡ true → FitsSigned w64 z
+long_fits (pos n) h = grind arith
+long_fits (negsuc n) h = grind arith
+
+pub low_number : (s : Bool) (w n x q : ℕ) (z : ℤ) → w ≤ 5 → n < 16 ^ w → x ≡ n → q ≡ w → z ≡ number s (4 * q) x →
+    is_within (bounds 1048576 1048576) z ≡ true
+low_number s w n x q z h l e f g =
+    subst (λ y. is_within (bounds 1048576 1048576) y ≡ true) (sym g)
+    (number_low s (4 * q) x (omega (arith, f, h)) (below_power n w x q e f l))
+
+pub cast_fits : (z : ℤ) → is_within (bounds 1048576 1048576) z ≡ true → FitsSigned w32 (to_z w64 (of_z w64 z))
+cast_fits z h = subst (λ y. FitsSigned w32 y) (sym (to_z-of_z (long_fits z h))) (narrow_fits z h)
+
+pub cast_is : (z : ℤ) → is_within (bounds 1048576 1048576) z ≡ true →
+    to_z w32 (of_z w32 (to_z w64 (of_z w64 z))) ≡ z
+cast_is z h = ap (λ y. to_z w32 (of_z w32 y)) (to_z-of_z (long_fits z h)) ∙ to_z-of_z (narrow_fits z h)

@@ -81,6 +81,13 @@ fn number_of(signed: bool, count: u8, bits: u64) -> i64
     }
 }
 
+/// Whether a displacement of so many digits has a sign.
+fn is_signed_displacement(width: u8) -> bool
+    ensures { result ≡ has_signed_displacement width }
+{
+    width == 5 || width == 2
+}
+
 /// A displacement: one of five digits has a sign, and so has a byte.
 fn displacement(layout: &[Digit], bytes: &[u8], rank: u8) -> i32
     requires small { list_all is_small layout.now ≡ true }
@@ -92,7 +99,11 @@ fn displacement(layout: &[Digit], bytes: &[u8], rank: u8) -> i32
         (taken layout.now bytes.now rank) }
 {
     let width = width_of(layout, rank);
-    number_of(width == 5 || width == 2, 4 * width, taken_from(layout, bytes, rank)) as i32
+    number_of(
+        is_signed_displacement(width),
+        4 * width,
+        taken_from(layout, bytes, rank),
+    ) as i32
 }
 
 /// Whether the immediate of a line has a sign.

@@ -6,7 +6,7 @@ use Rattle.std.proofs.Math.Arith.{mod-mul}
 use Rattle.std.proofs.Math.Nat.{pow-suc}
 use Rattle.std.proofs.lemmas.Bool.{eqb-true, ltb-true, cases_lt}
 use Rattle.std.proofs.lemmas.List.{length-map}
-use Rattle.std.proofs.lemmas.Nat.{mod_below}
+use Rattle.std.proofs.lemmas.Nat.{mod_below, mul-add-lt}
 use Rattle.z_instr.specs.declared.layout.Digit.{Digit}
 use Rattle.z_instr.specs.Layouts.{rank, is_of, width, digit, paired, spelled, digits_from, number_in, taken, has, is_once, has_last}
 use Rattle.z_instr.proofs.Passing.{and_left, and_right}
@@ -208,3 +208,31 @@ paired_bytes [] h k = omega arith
 paired_bytes (a ∷ []) h k = omega arith
 paired_bytes (a ∷ (b ∷ hs)) h zero = omega (arith, h.0, h.1.0)
 paired_bytes (a ∷ (b ∷ hs)) h (suc k) = paired_bytes hs h.1.1 k
+
+-- ---- what bytes hold has no more digits than the field
+
+sum_below : (n : ℕ) (g : ℕ → ℕ) → ((k : ℕ) → g k < 16) → sum n g < 16 ^ n
+sum_below zero g h = omega arith
+sum_below (suc n) g h =
+    subst (λ m. sum (suc n) g < m) (sym (pow-suc 16 n)) (mul-add-lt (g n) (16 ^ n) (sum n g) 16 (h n) (sum_below n g h))
+
+digit_below : (ds : List Digit) (hs : List ℕ) → AreDigits hs → (r k : ℕ) → digit_at ds hs r k < 16
+digit_below [] hs a r k = omega arith
+digit_below (d ∷ ds) [] a r k = omega arith
+digit_below (d ∷ ds) (h ∷ hs) a r k =
+    elim (is_of r d && nat_eq d.index k) as (λ b. (if b then h else digit_at ds hs r k) < 16) [
+      | true ↦ a.0
+      | false ↦ digit_below ds hs a.1 r k
+    ]
+
+pub digits_of_bytes : (n k : ℕ) (bytes : List ℕ) → ((j : ℕ) → get_or bytes j 0 < 256) →
+    AreDigits (digits_from n k bytes)
+digits_of_bytes zero k bytes b = tt
+digits_of_bytes (suc n) k bytes b =
+    (omega (arith, b k), (mod_below (get_or bytes k 0) 16 (omega arith), digits_of_bytes n (suc k) bytes b))
+
+pub number_below : (ds : List Digit) (hs : List ℕ) (r : ℕ) → AreDigits hs → is_once ds ≡ true →
+    list_all (is_under (width ds)) ds ≡ true → number_in ds hs r < 16 ^ width ds r
+number_below ds hs r a o u =
+    subst (λ n. n < 16 ^ width ds r) (sym (number_is_sum (width ds) ds hs r o u))
+    (sum_below (width ds r) (digit_at ds hs r) (digit_below ds hs a r))

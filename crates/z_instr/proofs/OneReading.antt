@@ -15,7 +15,7 @@ use Rattle.z_instr.proofs.TakenApart.{taken_apart}
 abbrev apart : List ℕ → ℕ → Fields
 apart bytes n = fields_in (layout_of (entry_at n)) (has_signed_immediate (entry_at n)) bytes
 
-own : (bytes : List ℕ) (i : Instr) → Reads bytes i → apart bytes i.op.number ≡ fields_of i
+pub own : (bytes : List ℕ) (i : Instr) → Reads bytes i → apart bytes i.op.number ≡ fields_of i
 own bytes i r = ap (λ s. apart s i.op.number) r ∙ taken_apart i
 
 pub one_reading : (bytes : List ℕ) (i j : Instr) → AreBytes bytes → Reads bytes i → Reads bytes j →

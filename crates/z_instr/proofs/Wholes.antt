@@ -9,10 +9,10 @@ use Rattle.z_instr.specs.declared.limits.Limits.{Limits}
 use Rattle.z_instr.specs.declared.table.TheConstants.{ROWS}
 use Rattle.z_instr.specs.Table.{Entry, entry_at}
 use Rattle.z_instr.specs.Layout.{place, room, format_length}
-use Rattle.z_instr.specs.Layouts.{layout, layout_of, width, digit, spelled, taken, is_once, has_last, is_low, is_whole, has_signed_immediate, has_signed_displacement}
+use Rattle.z_instr.specs.Layouts.{layout, layout_of, width, digit, spelled, digits_from, taken, is_once, has_last, is_low, is_whole, has_signed_immediate, has_signed_displacement}
 use Rattle.z_instr.specs.Places.{opcode_at}
 use Rattle.z_instr.specs.Ranges.{limits_of, limits_by}
-use Rattle.z_instr.proofs.Digits.{is_under, taken_spelled}
+use Rattle.z_instr.proofs.Digits.{taken_spelled, number_below, digits_of_bytes}
 use Rattle.z_instr.proofs.Passing.{passes, and_left, and_right}
 use Rattle.z_instr.proofs.TableFacts.{passes_row, at_row}
 
@@ -139,3 +139,10 @@ taken_whole ds v r h k same =
     let sized = and_right _ _ (and_right (list_all (λ q. has_last (width ds q) ds q) ranks) _ after_low) in
     taken_spelled ds v r (and_left (is_once ds) _ h) (and_left (list_all (is_low ds) ds) _ after_once)
     (subst (λ q. has_last (width ds q) ds q ≡ true) same has) (even (length ds) sized)
+
+-- what bytes hold of a field is below the limit of its digits
+pub taken_below : (ds : List Digit) (bytes : List ℕ) (r : ℕ) → is_whole ds ≡ true →
+    ((k : ℕ) → get_or bytes k 0 < 256) → taken ds bytes r < 16 ^ width ds r
+taken_below ds bytes r h b =
+    number_below ds (digits_from (length ds / 2) 0 bytes) r (digits_of_bytes (length ds / 2) 0 bytes b)
+    (and_left (is_once ds) _ h) (and_left (list_all (is_low ds) ds) _ (and_right (is_once ds) _ h))
