@@ -187,7 +187,7 @@ pub over : (ds : List Digit) (bytes : List ℕ) (n r k whole : ℕ) → length b
 over ds bytes n r k whole h e =
     let none : length bytes - k ≡ 0 = omega arith in
     let f : n + 0 ≡ whole =
-        ap (λ m. n + m) (sym (nothing (drop (2 * k) ds) r)) ∙ ap (λ j. n + number_in (drop (2 * k) ds) (digits_from j k bytes) r) (sym none) ∙ e in
+    ap (λ m. n + m) (sym (nothing (drop (2 * k) ds) r)) ∙ ap (λ j. n + number_in (drop (2 * k) ds) (digits_from j k bytes) r) (sym none) ∙ e in
     omega (arith, f)
   where
     nothing : (ds : List Digit) (r : ℕ) → number_in ds [] r ≡ 0
@@ -203,6 +203,7 @@ one_width ds i n r whole d h e =
   where
     next : (i : ℕ) → suc i ≡ i + 1
     next i = omega arith
+
     counted : (b : Bool) (n w : ℕ) → (if b then n + 1 else n) + w ≡ n + (if b then suc w else w)
     counted true n w = omega arith
     counted false n w = refl

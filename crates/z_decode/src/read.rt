@@ -129,7 +129,11 @@ pub fn fields_from(op: Op, line: &Line, bytes: &[u8]) -> Fields
         d: displacement(layout, bytes, 6),
         b2: taken_from(layout, bytes, 7) as u8,
         d2: displacement(layout, bytes, 8),
-        imm: number_of(is_signed(line), 4 * width_of(layout, 9), taken_from(layout, bytes, 9)),
+        imm: number_of(
+            is_signed(line),
+            4 * width_of(layout, 9),
+            taken_from(layout, bytes, 9),
+        ),
         mask: taken_from(layout, bytes, 10) as u8,
     }
 }

@@ -7,8 +7,8 @@ ghost use Rattle.z_instr.specs.Places.{HasOpcode, is_spare_zero};
 ghost use Rattle.z_instr.specs.Reading.{Reads};
 ghost use Rattle.z_instr.specs.declared.instr.Instr.{Instr};
 
-use crate::finding::find_row;
 use crate::encoding::encode;
+use crate::finding::find_row;
 use crate::read::fields_from;
 use z_instr::instr::Instr;
 use z_instr::lookup::line;

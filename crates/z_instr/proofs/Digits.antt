@@ -72,10 +72,12 @@ one_more (suc n) i h g l e = elim (cases_lt i n) [
   where
     swapped : (a b c : ℕ) → a + (b + c) ≡ b + (a + c)
     swapped a b c = omega arith
+
     nothing : (a m s : ℕ) → a ≡ 0 → s ≡ a * m + s
     nothing a m s z =
         let none : s ≡ 0 * m + s = omega arith in
         none ∙ ap (λ x. x * m + s) (sym z)
+
     last : i ≡ n → sum (suc n) (with_digit i h g) ≡ h * 16 ^ i + sum (suc n) g
     last same =
         ap₂ (λ x y. x * 16 ^ n + y) (subst (λ k. with_digit i h g k ≡ h) same (own_digit i h g))
@@ -118,8 +120,10 @@ number_is_sum most (d ∷ ds) (h ∷ hs) r o u =
   where
     absent : (r : ℕ) → not (has ds r d.index) ≡ true → digit_at ds hs r d.index ≡ 0
     absent r n = not_there ds hs r d.index (grind arith)
+
     turned : (k : ℕ) → with_digit d.index h (digit_at ds hs r) k ≡ (if true && nat_eq d.index k then h else digit_at ds hs r k)
     turned k = refl
+
     by_field : (b : Bool) → is_of r d ≡ b → not (has ds (rank d.field) d.index) ≡ true → d.index < most (rank d.field)
         → number_in ds hs r ≡ sum (most r) (digit_at ds hs r)
         → (if is_of r d then h * 16 ^ d.index else 0) + number_in ds hs r ≡ sum (most r) (λ k. if is_of r d && nat_eq d.index k then h else digit_at ds hs r k)

@@ -25,7 +25,7 @@ pub reads_opcode : (bytes : List ℕ) (i : Instr) → Reads bytes i → HasOpcod
 reads_opcode bytes i r =
     let e = entry_at i.op.number in
     let room : e.opcode < 16 ^ width (layout_of e) 0 =
-        subst (λ n. e.opcode < n) (room_at i.op.number i.op.known) (opcode_room i.op.number i.op.known) in
+    subst (λ n. e.opcode < n) (room_at i.op.number i.op.known) (opcode_room i.op.number i.op.known) in
     place_holds e.format e.masked e.single bytes
     ∙ ap (λ s. taken (layout_of e) s 0) r ∙ taken_of i 0 (lit< tt) refl ∙ mod-eq_of_lt room
 
@@ -40,7 +40,7 @@ pub reads_spare : (bytes : List ℕ) (i : Instr) → Reads bytes i →
 reads_spare bytes i r =
     let e = entry_at i.op.number in
     let zeros : taken (layout_of e) bytes 11 ≡ 0 % 16 ^ width (layout_of e) 11 =
-        ap (λ s. taken (layout_of e) s 11) r ∙ taken_of i 11 (lit< tt) refl in
+    ap (λ s. taken (layout_of e) s 11) r ∙ taken_of i 11 (lit< tt) refl in
     eq-eqb _ _ (zeros ∙ none (width (layout_of e) 11))
   where
     none : (n : ℕ) → 0 % 16 ^ n ≡ 0

@@ -8,10 +8,11 @@ loop-place-preserved c =
     let k = c.loop-place.place in
     let layout = c.args.layout.now in
     let bytes = c.args.bytes.now in
-    let below = c.loop-place.invariant.0 in
-    (omega (arith, below, c.part_of-left.ensures.small, c.part_of-right.ensures.small),
-    ap₂ (λ x y. c.loop-place.number + (x + y)
-    + number_in (drop (2 * (k + 1)) layout) (digits_from (length bytes - (k + 1)) (k + 1) bytes) c.args.rank)
-    c.part_of-left.ensures.part c.part_of-right.ensures.part
-    ∙ one_place layout bytes k c.loop-place.number c.args.rank _ _ (omega (arith, c.loop-place-test.true, c.requires.length))
-    c.loop-place-test.true c.loop-place.invariant.1)
+    let below = c.loop-place.invariant.0 in (
+      omega (arith, below, c.part_of-left.ensures.small, c.part_of-right.ensures.small),
+      ap₂ (λ x y. c.loop-place.number + (x + y)
+          + number_in (drop (2 * (k + 1)) layout) (digits_from (length bytes - (k + 1)) (k + 1) bytes) c.args.rank)
+          c.part_of-left.ensures.part c.part_of-right.ensures.part
+          ∙ one_place layout bytes k c.loop-place.number c.args.rank _ _ (omega (arith, c.loop-place-test.true, c.requires.length))
+          c.loop-place-test.true c.loop-place.invariant.1,
+    )
