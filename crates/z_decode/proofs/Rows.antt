@@ -11,7 +11,6 @@ use Rattle.std.proofs.lemmas.Nat.{pow-add}
 use Rattle.std.proofs.Math.Nat.{pow-suc, pow-le-pow_right, mod-eq_of_lt, lt_of_le_of_lt}
 use Rattle.z_instr.specs.declared.instr.Instr.{Instr}
 use Rattle.z_instr.specs.declared.layout.Digit.{Digit}
-use Rattle.z_instr.specs.declared.limits.Bounds.{Bounds}
 use Rattle.z_instr.specs.declared.table.TheConstants.{ROWS}
 use Rattle.z_instr.specs.Table.{Entry, entry_at}
 use Rattle.z_instr.specs.Layouts.{layout_of, width, rank, is_of, digit, spelled, digits_from, number_in, taken}

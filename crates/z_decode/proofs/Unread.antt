@@ -9,7 +9,7 @@ use Rattle.z_instr.specs.Layouts.{layout_of, has_signed_immediate}
 use Rattle.z_instr.specs.Made.{IsAllowed, Has, fields_of}
 use Rattle.z_instr.specs.Places.{HasOpcode}
 use Rattle.z_instr.specs.Ranges.{are_within, limits_of}
-use Rattle.z_instr.specs.Reading.{AreBytes, AreSame, Reads}
+use Rattle.z_instr.specs.Reading.{AreBytes, Reads}
 use Rattle.z_instr.specs.Computing.{fields_in}
 use Rattle.z_instr.proofs.Distinct.{one_row}
 use Rattle.z_instr.proofs.OneReading.{own}

@@ -1,8 +1,8 @@
 -- No bytes have two readings.
-use Rattle.std.proofs.Common.{◌≡◌, ℕ, List, sym, ap, subst, ◌∙◌}
+use Rattle.std.proofs.Common.{◌≡◌, ℕ, List, sym, ap, ◌∙◌}
 use Rattle.z_instr.specs.declared.instr.Instr.{Instr}
 use Rattle.z_instr.specs.declared.instr.Fields.{Fields}
-use Rattle.z_instr.specs.Table.{Entry, entry_at}
+use Rattle.z_instr.specs.Table.{entry_at}
 use Rattle.z_instr.specs.Layouts.{layout_of, has_signed_immediate}
 use Rattle.z_instr.specs.Made.{fields_of}
 use Rattle.z_instr.specs.Reading.{AreBytes, AreSame, Reads}

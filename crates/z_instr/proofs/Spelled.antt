@@ -1,12 +1,12 @@
 -- What the bytes of an instruction say of its row.
-use Rattle.std.proofs.Common.{◌≡◌, ℕ, ◌<◌, ◌%◌, ◌^◌, true, refl, List, length, get_or, ap, sym, subst, ◌∙◌, eq-eqb, lit<}
+use Rattle.std.proofs.Common.{◌≡◌, ℕ, ◌<◌, ◌%◌, ◌^◌, true, refl, List, length, get_or, ap, subst, ◌∙◌, eq-eqb, lit<}
 use Rattle.std.proofs.Math.Nat.{mod-eq_of_lt}
 use Rattle.z_instr.specs.declared.instr.Instr.{Instr}
-use Rattle.z_instr.specs.Table.{Entry, entry_at}
-use Rattle.z_instr.specs.Layout.{place, format_length}
+use Rattle.z_instr.specs.Table.{entry_at}
+use Rattle.z_instr.specs.Layout.{format_length}
 use Rattle.z_instr.specs.Layouts.{layout_of, width, taken}
 use Rattle.z_instr.specs.Made.{fields_of}
-use Rattle.z_instr.specs.Places.{opcode_at, HasOpcode, is_spare_zero}
+use Rattle.z_instr.specs.Places.{HasOpcode, is_spare_zero}
 use Rattle.z_instr.specs.Reading.{Reads, number_of, spelling}
 use Rattle.z_instr.proofs.TableFacts.{opcode_room}
 use Rattle.z_instr.proofs.Wholes.{whole, room_at, length_spelled, place_holds, ranks, taken_whole}

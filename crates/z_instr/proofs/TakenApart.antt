@@ -1,16 +1,15 @@
 -- The fields that are taken apart from the bytes of an instruction are its own.
-use Rattle.std.proofs.Common.{◌≡◌, ℕ, ◌<◌, ◌≤◌, ◌+◌, ◌-◌, ◌*◌, ◌/◌, ◌%◌, ◌^◌, true, false, Bool, ◌&&◌, ◌||◌, not, cond, nat_lt, nat_le, nat_eq}
-use Rattle.std.proofs.Common.{if◌then◌else◌, arith, refl, sym, ap, subst, ◌∙◌, lt-ltb, le-ltb, lit<, lit≤}
+use Rattle.std.proofs.Common.{◌≡◌, ℕ, ◌<◌, ◌≤◌, ◌+◌, ◌-◌, ◌*◌, ◌%◌, ◌^◌, true, false, Bool, ◌||◌, nat_lt, nat_le, nat_eq}
+use Rattle.std.proofs.Common.{if◌then◌else◌, arith, refl, sym, ap, subst, ◌∙◌, lt-ltb, le-ltb, lit<}
 use Rattle.std.proofs.Math.Nat.{mod-eq_of_lt, pow-le-pow_right}
 use Rattle.std.proofs.lemmas.Bool.{eqb-true, leb-true}
 use Rattle.std.specs.Prelude.{ℤ, pos, negsuc}
 use Rattle.z_instr.specs.declared.instr.Instr.{Instr}
 use Rattle.z_instr.specs.declared.instr.Fields.{Fields}
-use Rattle.z_instr.specs.declared.table.TheConstants.{ROWS}
 use Rattle.z_instr.specs.Table.{Entry, entry_at}
-use Rattle.z_instr.specs.Layouts.{layout_of, width, taken, is_whole, has_signed_immediate, has_signed_displacement}
+use Rattle.z_instr.specs.Layouts.{layout_of, width, is_whole, has_signed_immediate, has_signed_displacement}
 use Rattle.z_instr.specs.Made.{fields_of}
-use Rattle.z_instr.specs.Ranges.{is_within, bounds, bounds_by, limits_of, limits_by}
+use Rattle.z_instr.specs.Ranges.{is_within, bounds, bounds_by, limits_by}
 use Rattle.z_instr.specs.Reading.{modulo, number_of, spelling}
 use Rattle.z_instr.specs.Computing.{fields_in, signed_number, number}
 use Rattle.z_instr.proofs.Passing.{and_left, and_right}

@@ -1,15 +1,14 @@
 -- The layout of each row is whole, and gives its length, the place of its opcode and the limits of its fields.
-use Rattle.std.proofs.Common.{◌≡◌, ℕ, zero, suc, ◌+◌, ◌*◌, ◌/◌, ◌%◌, ◌^◌, ◌<◌, ◌≤◌, true, false, Bool, ◌&&◌, ◌||◌, not, nat_eq, nat_le}
-use Rattle.std.proofs.Common.{List, [], ◌∷◌, map, length, get_or, refl, sym, ap, subst, ◌∙◌, arith}
+use Rattle.std.proofs.Common.{◌≡◌, ℕ, zero, suc, ◌*◌, ◌/◌, ◌%◌, ◌^◌, ◌<◌, true, false, Bool, ◌&&◌, ◌||◌, not, nat_eq, nat_le}
+use Rattle.std.proofs.Common.{List, [], ◌∷◌, length, get_or, refl, subst, arith}
 use Rattle.std.specs.List.{list_all}
 use Rattle.z_instr.specs.declared.format.Format.{Format}
 use Rattle.z_instr.specs.declared.format.Format.TheVariants.{RR, I, RX, RRE, RRFa, RRFc, RXY, RI, RIL, RS, RSY, SI, SIY, SIL, S, SS, RIEb, RIEc}
 use Rattle.z_instr.specs.declared.layout.Digit.{Digit}
-use Rattle.z_instr.specs.declared.limits.Limits.{Limits}
 use Rattle.z_instr.specs.declared.table.TheConstants.{ROWS}
 use Rattle.z_instr.specs.Table.{Entry, entry_at}
 use Rattle.z_instr.specs.Layout.{place, room, format_length}
-use Rattle.z_instr.specs.Layouts.{layout, layout_of, width, digit, spelled, digits_from, taken, is_once, has_last, is_low, is_whole, has_signed_immediate, has_signed_displacement}
+use Rattle.z_instr.specs.Layouts.{layout, layout_of, width, spelled, digits_from, taken, is_once, has_last, is_low, is_whole, has_signed_immediate, has_signed_displacement}
 use Rattle.z_instr.specs.Places.{opcode_at}
 use Rattle.z_instr.specs.Ranges.{limits_of, limits_by}
 use Rattle.z_instr.proofs.Digits.{taken_spelled, number_below, digits_of_bytes}

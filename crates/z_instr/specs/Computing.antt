@@ -1,7 +1,7 @@
 -- The instruction that bytes read as, computed: the row whose opcode they have in its place, the fields that
 -- they hold by its format, and both kept where the instruction is spelled with these very bytes.
-use Rattle.std.specs.Prelude.{◌≡◌, ℕ, ◌+◌, ◌-◌, ◌*◌, ◌/◌, ◌%◌, ◌^◌, ℤ, pos, negsuc, nat_eq, nat_lt}
-use Rattle.std.specs.Prelude.{Bool, true, false, T, cond, if◌then◌else◌, List, get_or, Option, Some, None}
+use Rattle.std.specs.Prelude.{◌≡◌, ℕ, ◌-◌, ◌*◌, ◌^◌, ℤ, pos, negsuc, nat_eq, nat_lt}
+use Rattle.std.specs.Prelude.{Bool, true, false, T, cond, if◌then◌else◌, List, Option, Some, None}
 use Rattle.std.specs.List.{position_or_len}
 use Rattle.std.specs.Str.{bytes_eq}
 use Rattle.std.proofs.Common.{refl, lit<}
@@ -11,7 +11,6 @@ use Rattle.z_instr.specs.declared.table.TheConstants.{ROWS}
 use Rattle.z_instr.specs.declared.layout.Digit.{Digit}
 use Rattle.z_instr.specs.Layout.{place}
 use Rattle.z_instr.specs.Layouts.{layout_of, taken, width, has_signed_immediate, has_signed_displacement}
-use Rattle.z_instr.specs.Made.{no_fields}
 use Rattle.z_instr.specs.Places.{opcode_at}
 use Rattle.z_instr.specs.Ranges.{are_within, limits_of}
 use Rattle.z_instr.specs.Reading.{spelling}

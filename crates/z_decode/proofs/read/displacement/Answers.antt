@@ -1,7 +1,6 @@
-use Rattle.std.proofs.Common.{◌≡◌, true, ◌*◌, ap, ap₂, ◌∙◌}
+use Rattle.std.proofs.Common.{◌*◌, ap, ap₂, ◌∙◌}
 use Rattle.z_instr.specs.Computing.{number}
 use Rattle.z_instr.specs.Layouts.{width, taken, has_signed_displacement}
-use Rattle.z_instr.specs.Ranges.{is_within, bounds}
 use Rattle.z_decode.proofs.Rows.{below_power, low_number, cast_fits, cast_is}
 use Rattle.z_decode.proofs.read.displacement.Goals as goal
 

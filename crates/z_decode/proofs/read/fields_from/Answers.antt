@@ -1,4 +1,4 @@
-use Rattle.std.proofs.Common.{◌<◌, ◌^◌, ℕ, List, sym, subst, refl, get_or, arith, ap, ◌∙◌}
+use Rattle.std.proofs.Common.{◌<◌, ◌^◌, List, sym, subst, arith, ap, ◌∙◌}
 use Rattle.z_instr.specs.declared.layout.Digit.{Digit}
 use Rattle.z_instr.specs.Layouts.{layout_of, taken, width}
 use Rattle.z_instr.specs.Reading.{AreBytes}

@@ -1,4 +1,4 @@
-use Rattle.std.proofs.Common.{◌+◌, ◌*◌, ◌-◌, ◌≡◌, length, drop, ap₂, ◌∙◌, arith}
+use Rattle.std.proofs.Common.{◌+◌, ◌*◌, ◌-◌, length, drop, ap₂, ◌∙◌, arith}
 use Rattle.z_instr.specs.Layouts.{number_in, digits_from}
 use Rattle.z_decode.proofs.Rows.{one_place}
 use Rattle.z_decode.proofs.read.taken_from.Goals as goal

@@ -1,4 +1,4 @@
-use Rattle.std.proofs.Common.{◌≡◌, ℕ, ◌<◌, get_or, sym, subst, arith}
+use Rattle.std.proofs.Common.{sym, subst, arith}
 use Rattle.z_instr.specs.Reading.{AreBytes, Reads}
 use Rattle.z_instr.proofs.Spelled.{reads_opcode}
 use Rattle.z_decode.proofs.Unread.{found, allowed, made}

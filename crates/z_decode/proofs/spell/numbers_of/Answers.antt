@@ -1,4 +1,4 @@
-use Rattle.std.proofs.Common.{◌≡◌, true, sym, subst, to_z, of_z, w64}
+use Rattle.std.proofs.Common.{◌≡◌, true, sym, subst}
 use Rattle.std.proofs.Math.Facts.{to_z-of_z}
 use Rattle.z_instr.specs.Ranges.{is_within, bounds}
 use Rattle.z_decode.proofs.Rows.{wide_immediate, wide_fits}

@@ -1,4 +1,4 @@
-use Rattle.z_instr.specs.Table.{Entry, entry_at}
+use Rattle.z_instr.specs.Table.{entry_at}
 use Rattle.z_instr.proofs.Wholes.{whole, length_at, limits_at, place_holds}
 use Rattle.z_instr.proofs.laws.layouts_are_whole.Goals as goal
 
