@@ -31,7 +31,6 @@ use Rattle.z_operands.specs.declared.operand.Operand.TheVariants.{Plain, Short, 
 use Rattle.z_operands.specs.declared.operation.Operation.{Operation}
 use Rattle.z_operands.specs.declared.operation.Operation.TheVariants.{Instruction}
 use Rattle.z_operands.proofs.Rows.{row_found}
-use Rattle.z_operands.proofs.Spelled.{plain_code}
 use Rattle.z_list.specs.declared.parts.Operand.{Operand}
 use Rattle.z_list.specs.declared.parts.Operand.TheVariants.{Number, Target, Indexed, Based, Counted}
 use Rattle.z_list.specs.Operands.{fields_of, operands_of, instruction_text}
@@ -238,4 +237,3 @@ module _ (i : Instr) (labels : Table) (here : ℕ) where
       >>= λ f. Ok (code_of e f)) (all_have_values here (operands_of i))
       ∙ ap (λ o. allowed e o >>= λ f. Ok (code_of e f)) fields
       ∙ ap (λ b. (if b then Ok (fields_of i) else Err OutOfRange) >>= λ f. Ok (code_of e f)) (instr_fits i)
-      ∙ ap Ok (sym (plain_code e.format e.opcode i))

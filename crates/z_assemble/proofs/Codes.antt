@@ -7,16 +7,13 @@ use Rattle.std.proofs.lemmas.List.Elements.{All-cons, All-head, All-tail, All-ni
 use Rattle.z_instr.proofs.Within.{below_sixteen}
 use Rattle.z_instr.specs.Layout.{format_length}
 use Rattle.z_instr.specs.Ranges.{limits_of}
-use Rattle.z_instr.specs.Reading.{Reads}
+use Rattle.z_instr.specs.Reading.{Reads, code, number_of}
 use Rattle.z_instr.specs.Table.{Entry, entry_at}
-use Rattle.z_instr.specs.declared.format.Format.{Format}
-use Rattle.z_instr.specs.declared.format.Format.TheVariants.{RR, I, RX, RRE, RRFa, RRFc, RXY, RI, RIL, RS}
-use Rattle.z_instr.specs.declared.format.Format.TheVariants.{RSY, SI, SIY, SIL, S, SS, RIEb, RIEc}
 use Rattle.z_instr.specs.declared.instr.Fields.{Fields}
 use Rattle.z_instr.specs.declared.instr.Instr.{Instr}
 use Rattle.z_instr.specs.declared.table.TheConstants.{ROWS}
 use Rattle.z_text.specs.declared.token.Token.{Token}
-use Rattle.z_operands.specs.Code.{code_in, code_of, code_for}
+use Rattle.z_operands.specs.Code.{code_of, code_for}
 use Rattle.z_assemble.specs.Listing.{Task, operands_in, operation_in, field_behind, heads_in}
 use Rattle.z_assemble.specs.Machine.{Machine, Known, entry_line, register_line, shown, show_line, block_line}
 use Rattle.z_assemble.specs.Machine.{parameter_line, prefix_line, schedule_line, code_line, named_parameter}
@@ -38,29 +35,12 @@ use Rattle.z_assemble.specs.declared.parameter.Parameter.{Parameter}
 use Rattle.z_assemble.proofs.Over.{write_size, write_other, write_inside}
 use Rattle.z_assemble.proofs.Passed.{then_ok, where_ok, unless_ok, same_ok, is_true}
 use Rattle.z_assemble.proofs.Plans.{Places, PlacesAt, AreApart, IsWithin, IsInTable, IsInRoom}
-use Rattle.z_operands.proofs.Spelled.{plain_code}
+use Rattle.z_instr.proofs.Wholes.{length_spelled}
 
 -- ---- the code of an instruction
 
-pub size_in : (format : Format) (o : ℕ) (f : Fields) → length (code_in format o f) ≡ format_length format
-size_in RR o f = refl
-size_in I o f = refl
-size_in RX o f = refl
-size_in RRE o f = refl
-size_in RRFa o f = refl
-size_in RRFc o f = refl
-size_in RXY o f = refl
-size_in RI o f = refl
-size_in RIL o f = refl
-size_in RS o f = refl
-size_in RSY o f = refl
-size_in SI o f = refl
-size_in SIY o f = refl
-size_in SIL o f = refl
-size_in S o f = refl
-size_in SS o f = refl
-size_in RIEb o f = refl
-size_in RIEc o f = refl
+pub size_in : (e : Entry) (f : Fields) → length (code e f) ≡ format_length e.format
+size_in e f = length_spelled e.format e.masked e.single (number_of e.opcode f)
 
 -- the bytes read as an instruction, and have the row's size
 pub record IsCode (row : ℕ) (bytes : List ℕ) : Type 0 where
@@ -95,7 +75,7 @@ is_code row f known a =
       mask_in = b.mask_in;
       shaped = is_true _ a;
     } in
-    record { instr = i; reads = sym (plain_code e.format e.opcode i); size = size_in e.format e.opcode f }
+    record { instr = i; reads = refl; size = size_in e f }
 
 allowed_holds : (e : Entry) (o : Option Fields) (f : Fields) → allowed e o ≡ Ok f → are_allowed e f ≡ true
 allowed_holds e None f h = absurd (cc)

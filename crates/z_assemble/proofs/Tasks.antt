@@ -252,7 +252,7 @@ task_step_writes k t m r e = read_step t.operation k t (tokens_in t.text) m r e
 
 code_size : (e : Entry) (f : Fields) → length (code_of e f) ≡ format_length e.format
 unfolding code_of
-code_size e f = size_in e.format e.opcode f
+code_size e f = size_in e f
 
 pub bytes_size : (k : Known) (row : ℕ) (mask : Option ℕ) (here : ℕ) (text : List ℕ) (operands : List Token)
     (bytes : List ℕ) → code_on k row mask here text operands ≡ Ok bytes → length bytes ≡ size_of_row row

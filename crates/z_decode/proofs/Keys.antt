@@ -1,6 +1,6 @@
 -- The rows stand in the order of their keys, so a binary search finds the row of a key.
 use Rattle.std.proofs.Common.{◌≡◌, ℕ, ◌<◌, ◌≤◌, ◌/◌, zero, suc, true, false, refl, List, [], ◌∷◌, length}
-use Rattle.std.proofs.Common.{get_or, nat_eq, nat_le, map, arith, sym, ap, ◌∙◌, inl, inr, Ok, Err}
+use Rattle.std.proofs.Common.{get_or, nat_le, map, arith, sym, ap, ◌∙◌, inl, inr, Ok, Err}
 use Rattle.std.specs.List.{list_all}
 use Rattle.std.specs.List.Sorted.{IsBinarySearchResult}
 use Rattle.std.specs.Ordering.{nat_cmp, ordering_index}
@@ -16,7 +16,7 @@ use Rattle.z_instr.specs.declared.kind.Kind.TheVariants.{Branch}
 use Rattle.z_instr.specs.declared.kind.Branch.TheVariants.{ServiceCall}
 use Rattle.z_instr.specs.declared.format.Place.{Place}
 use Rattle.z_instr.specs.declared.format.Place.TheVariants.{First, FirstTwo, FirstHalf, Ends}
-use Rattle.z_instr.specs.Table.{Entry, entry_at}
+use Rattle.z_instr.specs.Table.{entry_at}
 use Rattle.z_instr.specs.Lines.{entry_of}
 use Rattle.z_instr.specs.Layout.{place, lead}
 use Rattle.z_instr.specs.Facts.{is_same_place}

@@ -1,496 +1,139 @@
-//! The fields of an instruction's bytes, format by format.
-ghost use Rattle.std.specs.Prelude.{◌≡◌, ℕ, ◌<◌, ◌≤◌, ◌+◌, ◌*◌, ◌%◌, ◌^◌, length, true, false, slice_index};
-ghost use Rattle.std.specs.Prelude.{negsuc, pos, cond};
+//! The fields that the bytes of an instruction hold, by the layout of its row.
+ghost use Rattle.std.specs.Prelude.{◌≡◌, ◌<◌, ◌≤◌, ◌*◌, ◌^◌, true, length};
+ghost use Rattle.std.specs.List.{list_all};
+ghost use Rattle.z_instr.specs.Layout.{format_length};
+ghost use Rattle.z_instr.specs.Layouts.{taken, width, layout_of, has_signed_immediate, has_signed_displacement};
+ghost use Rattle.z_instr.specs.Computing.{fields_in, number};
 ghost use Rattle.z_instr.specs.Table.{entry_at};
-ghost use Rattle.z_instr.specs.Ranges.{is_within, half, full, long, signed_byte};
-ghost use Rattle.z_instr.specs.Reading.{Reads, modulo};
-ghost use Rattle.z_instr.specs.Places.{HasOpcode, is_spare_zero};
-ghost use Rattle.z_instr.specs.declared.format.Format.TheVariants.{RR, I, RX, RRE, RRFa, RRFc, RXY, RI, RIL};
-ghost use Rattle.z_instr.specs.declared.format.Format.TheVariants.{RS, RSY, SI, SIY, SIL, S, SS, RIEb, RIEc};
+ghost use Rattle.z_instr.specs.Lines.{entry_of};
+ghost use Rattle.z_decode.specs.Code.{is_small, part};
 
-use z_instr::instr::Instr;
+use z_instr::format::Format;
+use z_instr::instr::Fields;
+use z_instr::layout::{Digit, digits_of, rank_of};
 use z_instr::op::Op;
+use z_instr::table::Line;
 
-/// A displacement of 12 bits, whose high four stand beside a base.
-fn short(high: u8, low: u8) -> i32
-    ensures { result ≡ pos (high % 16 * 256 + low) }
+/// How many digits the field of a rank has.
+fn width_of(layout: &[Digit], rank: u8) -> u8
+    requires { length layout.now ≤ 12 }
+    ensures { result ≡ width layout.now rank }
 {
-    (high as u32 % 16 * 256 + low as u32) as i32
+    let mut count = 0u8;
+    for digit in layout {
+        if rank_of(digit.field) == rank {
+            count += 1;
+        }
+    }
+    count
 }
 
-/// A displacement of 20 bits with a sign, whose high eight have a byte of their own.
-fn long(high: u8, low: u8, highest: u8) -> i32
-    ensures bits { modulo 20 result ≡ highest * 4096 + high % 16 * 256 + low }
-    ensures within { is_within long result ≡ true }
+/// What half a byte adds to the number of a field.
+fn part_of(digit: Digit, half: u8, rank: u8) -> u64
+    requires small { digit.index < 8 }
+    requires half { half < 16 }
+    ensures part { result ≡ part digit half rank }
+    ensures small { result < 2 ^ 32 }
 {
-    let bits = highest as u32 * 4096 + high as u32 % 16 * 256 + low as u32;
-    if bits < 0x80000 {
-        bits as i32
+    if rank_of(digit.field) == rank {
+        u64::from(half) << (4 * digit.index)
     } else {
-        bits as i32 - 0x100000
+        0
     }
 }
 
-/// An immediate of 16 bits.
-fn immediate(signed: bool, high: u8, low: u8) -> i64
-    ensures bits { modulo 16 result ≡ high * 256 + low }
-    ensures within { is_within (half signed) result ≡ true }
+/// The number of the field of a rank.
+fn taken_from(layout: &[Digit], bytes: &[u8], rank: u8) -> u64
+    requires small { list_all is_small layout.now ≡ true }
+    requires length { length layout.now ≡ 2 * length bytes.now }
+    requires few { length bytes.now ≤ 6 }
+    ensures { result ≡ taken layout.now bytes.now rank }
 {
-    let bits = high as u64 * 256 + low as u64;
-    if signed && bits >= 0x8000 {
-        bits as i64 - 0x10000
+    let mut number = 0u64;
+    for place in 0..bytes.len() {
+        let left = part_of(layout[2 * place], bytes[place] / 16, rank);
+        let right = part_of(layout[2 * place + 1], bytes[place] % 16, rank);
+        number += left + right;
+    }
+    number
+}
+
+/// A power of two.
+fn power(bits: u8) -> u64
+    requires { bits ≤ 32 }
+    ensures power { result ≡ 2 ^ bits }
+    ensures small { result ≤ 2 ^ 32 }
+{
+    1u64 << bits
+}
+
+/// So many bits as a number with a sign or without.
+fn number_of(signed: bool, count: u8, bits: u64) -> i64
+    requires few { count ≤ 32 }
+    requires below { bits < 2 ^ count }
+    ensures { result ≡ number signed count bits }
+{
+    let all = power(count);
+    if signed && bits >= power(count.saturating_sub(1)) {
+        bits as i64 - all as i64
     } else {
         bits as i64
     }
 }
 
-/// An immediate of 32 bits.
-fn wide(signed: bool, highest: u8, higher: u8, high: u8, low: u8) -> i64
-    ensures bits { modulo 32 result ≡ highest * 2 ^ 24 + higher * 2 ^ 16 + high * 256 + low }
-    ensures within { is_within (full signed) result ≡ true }
+/// Whether a displacement of so many digits has a sign.
+fn is_signed_displacement(width: u8) -> bool
+    ensures { result ≡ has_signed_displacement width }
 {
-    let bits = highest as u64 * 0x100_0000
-        + higher as u64 * 0x1_0000
-        + high as u64 * 256
-        + low as u64;
-    if signed && bits >= 0x8000_0000 {
-        bits as i64 - 0x1_0000_0000
-    } else {
-        bits as i64
-    }
+    width == 5 || width == 2
 }
 
-/// A byte with a sign.
-fn signed_byte(byte: u8) -> i32
-    ensures bits { modulo 8 result ≡ byte }
-    ensures within { is_within signed_byte result ≡ true }
+/// A displacement: one of five digits has a sign, and so has a byte.
+fn displacement(layout: &[Digit], bytes: &[u8], rank: u8) -> i32
+    requires small { list_all is_small layout.now ≡ true }
+    requires length { length layout.now ≡ 2 * length bytes.now }
+    requires few { length bytes.now ≤ 6 }
+    requires narrow { width layout.now rank ≤ 5 }
+    requires below { taken layout.now bytes.now rank < 16 ^ width layout.now rank }
+    ensures { result ≡ number (has_signed_displacement (width layout.now rank)) (4 * width layout.now rank)
+        (taken layout.now bytes.now rank) }
 {
-    if byte < 128 {
-        byte as i32
-    } else {
-        byte as i32 - 256
-    }
+    let width = width_of(layout, rank);
+    number_of(
+        is_signed_displacement(width),
+        4 * width,
+        taken_from(layout, bytes, rank),
+    ) as i32
 }
 
-/// A byte with a sign, as an immediate.
-fn signed_immediate(byte: u8) -> i64
-    ensures bits { modulo 8 result ≡ byte }
-    ensures within { is_within signed_byte result ≡ true }
+/// Whether the immediate of a line has a sign.
+fn is_signed(line: &Line) -> bool
+    ensures { result ≡ has_signed_immediate (entry_of line.now) }
 {
-    if byte < 128 {
-        byte as i64
-    } else {
-        byte as i64 - 256
-    }
+    line.signed || matches!(line.format, Format::SIY)
 }
 
-/// The instruction of bytes of the format RR.
-pub fn read_rr(op: Op, bytes: &[u8], masked: bool) -> Instr
-    requires length { length bytes.now ≡ 2 }
-    requires format { (entry_at op.number).format ≡ RR }
-    requires opcode { HasOpcode (entry_at op.number) bytes.now }
-    requires mask { (entry_at op.number).masked ≡ masked }
-    requires spare { is_spare_zero RR (entry_at op.number).single bytes.now ≡ true }
-    ensures { Reads bytes.now result }
+/// The fields that the bytes of an operation's instruction hold.
+pub fn fields_from(op: Op, line: &Line, bytes: &[u8]) -> Fields
+    requires row { entry_of line.now ≡ entry_at op.number }
+    requires length { length bytes.now ≡ format_length line.now.format }
+    ensures { result ≡ fields_in (layout_of (entry_at op.number)) (has_signed_immediate (entry_at op.number)) bytes.now }
 {
-    Instr {
-        op,
-        r1: if masked { 0 } else { bytes[1] / 16 },
-        r2: bytes[1] % 16,
-        r3: 0,
-        x: 0,
-        b: 0,
-        d: 0,
-        b2: 0,
-        d2: 0,
-        imm: 0,
-        mask: if masked { bytes[1] / 16 } else { 0 },
-    }
-}
-
-/// The instruction of bytes of the format I.
-pub fn read_i(op: Op, bytes: &[u8]) -> Instr
-    requires length { length bytes.now ≡ 2 }
-    requires format { (entry_at op.number).format ≡ I }
-    requires opcode { HasOpcode (entry_at op.number) bytes.now }
-    ensures { Reads bytes.now result }
-{
-    Instr {
-        op,
-        r1: 0,
-        r2: 0,
-        r3: 0,
-        x: 0,
-        b: 0,
-        d: 0,
-        b2: 0,
-        d2: 0,
-        imm: bytes[1] as i64,
-        mask: 0,
-    }
-}
-
-/// The instruction of bytes of the format RX.
-pub fn read_rx(op: Op, bytes: &[u8], masked: bool) -> Instr
-    requires length { length bytes.now ≡ 4 }
-    requires format { (entry_at op.number).format ≡ RX }
-    requires opcode { HasOpcode (entry_at op.number) bytes.now }
-    requires mask { (entry_at op.number).masked ≡ masked }
-    ensures { Reads bytes.now result }
-{
-    Instr {
-        op,
-        r1: if masked { 0 } else { bytes[1] / 16 },
-        r2: 0,
-        r3: 0,
-        x: bytes[1] % 16,
-        b: bytes[2] / 16,
-        d: short(bytes[2], bytes[3]),
-        b2: 0,
-        d2: 0,
-        imm: 0,
-        mask: if masked { bytes[1] / 16 } else { 0 },
-    }
-}
-
-/// The instruction of bytes of the format RRE.
-pub fn read_rre(op: Op, bytes: &[u8]) -> Instr
-    requires length { length bytes.now ≡ 4 }
-    requires format { (entry_at op.number).format ≡ RRE }
-    requires opcode { HasOpcode (entry_at op.number) bytes.now }
-    requires spare { is_spare_zero RRE (entry_at op.number).single bytes.now ≡ true }
-    ensures { Reads bytes.now result }
-{
-    Instr {
-        op,
-        r1: bytes[3] / 16,
-        r2: bytes[3] % 16,
-        r3: 0,
-        x: 0,
-        b: 0,
-        d: 0,
-        b2: 0,
-        d2: 0,
-        imm: 0,
-        mask: 0,
-    }
-}
-
-/// The instruction of bytes of the format RRFa.
-pub fn read_rrfa(op: Op, bytes: &[u8]) -> Instr
-    requires length { length bytes.now ≡ 4 }
-    requires format { (entry_at op.number).format ≡ RRFa }
-    requires opcode { HasOpcode (entry_at op.number) bytes.now }
-    requires spare { is_spare_zero RRFa (entry_at op.number).single bytes.now ≡ true }
-    ensures { Reads bytes.now result }
-{
-    Instr {
-        op,
-        r1: bytes[3] / 16,
-        r2: bytes[3] % 16,
-        r3: bytes[2] / 16,
-        x: 0,
-        b: 0,
-        d: 0,
-        b2: 0,
-        d2: 0,
-        imm: 0,
-        mask: 0,
-    }
-}
-
-/// The instruction of bytes of the format RRFc.
-pub fn read_rrfc(op: Op, bytes: &[u8]) -> Instr
-    requires length { length bytes.now ≡ 4 }
-    requires format { (entry_at op.number).format ≡ RRFc }
-    requires opcode { HasOpcode (entry_at op.number) bytes.now }
-    requires spare { is_spare_zero RRFc (entry_at op.number).single bytes.now ≡ true }
-    ensures { Reads bytes.now result }
-{
-    Instr {
-        op,
-        r1: bytes[3] / 16,
-        r2: bytes[3] % 16,
-        r3: 0,
-        x: 0,
-        b: 0,
-        d: 0,
-        b2: 0,
-        d2: 0,
-        imm: 0,
-        mask: bytes[2] / 16,
-    }
-}
-
-/// The instruction of bytes of the format RXY.
-pub fn read_rxy(op: Op, bytes: &[u8]) -> Instr
-    requires length { length bytes.now ≡ 6 }
-    requires format { (entry_at op.number).format ≡ RXY }
-    requires opcode { HasOpcode (entry_at op.number) bytes.now }
-    ensures { Reads bytes.now result }
-{
-    Instr {
-        op,
-        r1: bytes[1] / 16,
-        r2: 0,
-        r3: 0,
-        x: bytes[1] % 16,
-        b: bytes[2] / 16,
-        d: long(bytes[2], bytes[3], bytes[4]),
-        b2: 0,
-        d2: 0,
-        imm: 0,
-        mask: 0,
-    }
-}
-
-/// The instruction of bytes of the format RI.
-pub fn read_ri(op: Op, bytes: &[u8], signed: bool, masked: bool) -> Instr
-    requires length { length bytes.now ≡ 4 }
-    requires format { (entry_at op.number).format ≡ RI }
-    requires opcode { HasOpcode (entry_at op.number) bytes.now }
-    requires sign { (entry_at op.number).signed ≡ signed }
-    requires mask { (entry_at op.number).masked ≡ masked }
-    ensures { Reads bytes.now result }
-{
-    Instr {
-        op,
-        r1: if masked { 0 } else { bytes[1] / 16 },
-        r2: 0,
-        r3: 0,
-        x: 0,
-        b: 0,
-        d: 0,
-        b2: 0,
-        d2: 0,
-        imm: immediate(signed, bytes[2], bytes[3]),
-        mask: if masked { bytes[1] / 16 } else { 0 },
-    }
-}
-
-/// The instruction of bytes of the format RIL.
-pub fn read_ril(op: Op, bytes: &[u8], signed: bool, masked: bool) -> Instr
-    requires length { length bytes.now ≡ 6 }
-    requires format { (entry_at op.number).format ≡ RIL }
-    requires opcode { HasOpcode (entry_at op.number) bytes.now }
-    requires sign { (entry_at op.number).signed ≡ signed }
-    requires mask { (entry_at op.number).masked ≡ masked }
-    ensures { Reads bytes.now result }
-{
-    Instr {
-        op,
-        r1: if masked { 0 } else { bytes[1] / 16 },
-        r2: 0,
-        r3: 0,
-        x: 0,
-        b: 0,
-        d: 0,
-        b2: 0,
-        d2: 0,
-        imm: wide(signed, bytes[2], bytes[3], bytes[4], bytes[5]),
-        mask: if masked { bytes[1] / 16 } else { 0 },
-    }
-}
-
-/// The instruction of bytes of the format RS.
-pub fn read_rs(op: Op, bytes: &[u8]) -> Instr
-    requires length { length bytes.now ≡ 4 }
-    requires format { (entry_at op.number).format ≡ RS }
-    requires opcode { HasOpcode (entry_at op.number) bytes.now }
-    requires spare { is_spare_zero RS (entry_at op.number).single bytes.now ≡ true }
-    ensures { Reads bytes.now result }
-{
-    Instr {
-        op,
-        r1: bytes[1] / 16,
-        r2: 0,
-        r3: bytes[1] % 16,
-        x: 0,
-        b: bytes[2] / 16,
-        d: short(bytes[2], bytes[3]),
-        b2: 0,
-        d2: 0,
-        imm: 0,
-        mask: 0,
-    }
-}
-
-/// The instruction of bytes of the format RSY.
-pub fn read_rsy(op: Op, bytes: &[u8], masked: bool) -> Instr
-    requires length { length bytes.now ≡ 6 }
-    requires format { (entry_at op.number).format ≡ RSY }
-    requires opcode { HasOpcode (entry_at op.number) bytes.now }
-    requires mask { (entry_at op.number).masked ≡ masked }
-    ensures { Reads bytes.now result }
-{
-    Instr {
-        op,
-        r1: bytes[1] / 16,
-        r2: 0,
-        r3: if masked { 0 } else { bytes[1] % 16 },
-        x: 0,
-        b: bytes[2] / 16,
-        d: long(bytes[2], bytes[3], bytes[4]),
-        b2: 0,
-        d2: 0,
-        imm: 0,
-        mask: if masked { bytes[1] % 16 } else { 0 },
-    }
-}
-
-/// The instruction of bytes of the format SI.
-pub fn read_si(op: Op, bytes: &[u8]) -> Instr
-    requires length { length bytes.now ≡ 4 }
-    requires format { (entry_at op.number).format ≡ SI }
-    requires opcode { HasOpcode (entry_at op.number) bytes.now }
-    ensures { Reads bytes.now result }
-{
-    Instr {
-        op,
-        r1: 0,
-        r2: 0,
-        r3: 0,
-        x: 0,
-        b: bytes[2] / 16,
-        d: short(bytes[2], bytes[3]),
-        b2: 0,
-        d2: 0,
-        imm: bytes[1] as i64,
-        mask: 0,
-    }
-}
-
-/// The instruction of bytes of the format SIY.
-pub fn read_siy(op: Op, bytes: &[u8]) -> Instr
-    requires length { length bytes.now ≡ 6 }
-    requires format { (entry_at op.number).format ≡ SIY }
-    requires opcode { HasOpcode (entry_at op.number) bytes.now }
-    ensures { Reads bytes.now result }
-{
-    Instr {
-        op,
-        r1: 0,
-        r2: 0,
-        r3: 0,
-        x: 0,
-        b: bytes[2] / 16,
-        d: long(bytes[2], bytes[3], bytes[4]),
-        b2: 0,
-        d2: 0,
-        imm: signed_immediate(bytes[1]),
-        mask: 0,
-    }
-}
-
-/// The instruction of bytes of the format SIL.
-pub fn read_sil(op: Op, bytes: &[u8], signed: bool) -> Instr
-    requires length { length bytes.now ≡ 6 }
-    requires format { (entry_at op.number).format ≡ SIL }
-    requires opcode { HasOpcode (entry_at op.number) bytes.now }
-    requires sign { (entry_at op.number).signed ≡ signed }
-    ensures { Reads bytes.now result }
-{
-    Instr {
-        op,
-        r1: 0,
-        r2: 0,
-        r3: 0,
-        x: 0,
-        b: bytes[2] / 16,
-        d: short(bytes[2], bytes[3]),
-        b2: 0,
-        d2: 0,
-        imm: immediate(signed, bytes[4], bytes[5]),
-        mask: 0,
-    }
-}
-
-/// The instruction of bytes of the format S.
-pub fn read_s(op: Op, bytes: &[u8]) -> Instr
-    requires length { length bytes.now ≡ 4 }
-    requires format { (entry_at op.number).format ≡ S }
-    requires opcode { HasOpcode (entry_at op.number) bytes.now }
-    requires spare { is_spare_zero S (entry_at op.number).single bytes.now ≡ true }
-    ensures { Reads bytes.now result }
-{
-    Instr {
-        op,
-        r1: 0,
-        r2: 0,
-        r3: 0,
-        x: 0,
-        b: bytes[2] / 16,
-        d: short(bytes[2], bytes[3]),
-        b2: 0,
-        d2: 0,
-        imm: 0,
-        mask: 0,
-    }
-}
-
-/// The instruction of bytes of the format SS.
-pub fn read_ss(op: Op, bytes: &[u8]) -> Instr
-    requires length { length bytes.now ≡ 6 }
-    requires format { (entry_at op.number).format ≡ SS }
-    requires opcode { HasOpcode (entry_at op.number) bytes.now }
-    ensures { Reads bytes.now result }
-{
-    Instr {
-        op,
-        r1: 0,
-        r2: 0,
-        r3: 0,
-        x: 0,
-        b: bytes[2] / 16,
-        d: short(bytes[2], bytes[3]),
-        b2: bytes[4] / 16,
-        d2: short(bytes[4], bytes[5]),
-        imm: bytes[1] as i64,
-        mask: 0,
-    }
-}
-
-/// The instruction of bytes of the format RIEb.
-pub fn read_rieb(op: Op, bytes: &[u8]) -> Instr
-    requires length { length bytes.now ≡ 6 }
-    requires format { (entry_at op.number).format ≡ RIEb }
-    requires opcode { HasOpcode (entry_at op.number) bytes.now }
-    requires spare { is_spare_zero RIEb (entry_at op.number).single bytes.now ≡ true }
-    ensures { Reads bytes.now result }
-{
-    Instr {
-        op,
-        r1: bytes[1] / 16,
-        r2: bytes[1] % 16,
-        r3: 0,
-        x: 0,
-        b: 0,
-        d: 0,
-        b2: 0,
-        d2: 0,
-        imm: immediate(true, bytes[2], bytes[3]),
-        mask: bytes[4] / 16,
-    }
-}
-
-/// The instruction of bytes of the format RIEc.
-pub fn read_riec(op: Op, bytes: &[u8]) -> Instr
-    requires length { length bytes.now ≡ 6 }
-    requires format { (entry_at op.number).format ≡ RIEc }
-    requires opcode { HasOpcode (entry_at op.number) bytes.now }
-    ensures { Reads bytes.now result }
-{
-    Instr {
-        op,
-        r1: bytes[1] / 16,
-        r2: 0,
-        r3: 0,
-        x: 0,
-        b: 0,
-        d: 0,
-        b2: 0,
-        d2: signed_byte(bytes[4]),
-        imm: immediate(true, bytes[2], bytes[3]),
-        mask: bytes[1] % 16,
+    let layout = digits_of(line);
+    Fields {
+        r1: taken_from(layout, bytes, 1) as u8,
+        r2: taken_from(layout, bytes, 2) as u8,
+        r3: taken_from(layout, bytes, 3) as u8,
+        x: taken_from(layout, bytes, 4) as u8,
+        b: taken_from(layout, bytes, 5) as u8,
+        d: displacement(layout, bytes, 6),
+        b2: taken_from(layout, bytes, 7) as u8,
+        d2: displacement(layout, bytes, 8),
+        imm: number_of(
+            is_signed(line),
+            4 * width_of(layout, 9),
+            taken_from(layout, bytes, 9),
+        ),
+        mask: taken_from(layout, bytes, 10) as u8,
     }
 }

@@ -19,7 +19,9 @@ use Rattle.z_instr.proofs.Within.{instr_fits}
 use Rattle.z_instr.proofs.Distinct.{one_row}
 use Rattle.z_instr.proofs.Spelled.{reads_opcode}
 use Rattle.z_instr.proofs.Bytes.{reads_bytes}
-use Rattle.z_instr.proofs.SameInstr.{fields_of, from_fields}
+use Rattle.z_instr.specs.Layouts.{layout_of, has_signed_immediate}
+use Rattle.z_instr.specs.Made.{fields_of}
+use Rattle.z_instr.proofs.SameInstr.{from_fields}
 use Rattle.z_instr.proofs.TakenApart.{taken_apart}
 
 -- ---- the row is the instruction's
@@ -77,9 +79,8 @@ kept bytes i r =
 own_row : (bytes : List ℕ) (i : Instr) → Reads bytes i → reading_in i.op.number bytes ≡ Some i
 own_row bytes i r =
     let e = entry_at i.op.number in
-    let taken = fields_in e.format e.signed e.masked in
-    let own = taken_apart e.signed e.masked e.single e.opcode i e.format (instr_fits i) in
-    let f : taken bytes ≡ fields_of i = ap taken r ∙ own in
+    let apart = fields_in (layout_of e) (has_signed_immediate e) in
+    let f : apart bytes ≡ fields_of i = ap apart r ∙ taken_apart i in
     ap (λ g. only_if_spelled bytes (instruction_of i.op.number g)) f
     ∙ ap (only_if_spelled bytes) (own_instruction i)
     ∙ kept bytes i r

@@ -1,6 +1,8 @@
 pub mod Named
 pub mod Passing
 pub mod TableFacts
+pub mod Digits
+pub mod Wholes
 pub mod Within
 pub mod OneSpelling
 pub mod Bytes

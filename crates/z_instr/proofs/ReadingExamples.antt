@@ -7,7 +7,7 @@ use Rattle.z_instr.specs.Computing.{reading_of, row_number}
 use Rattle.z_instr.specs.Made.{no_fields}
 use Rattle.z_instr.specs.Table.{entry_at, table}
 use Rattle.z_instr.proofs.Named.{number_of}
-use Rattle.z_instr.proofs.SameInstr.{fields_of}
+use Rattle.z_instr.specs.Made.{fields_of}
 
 -- the name and the fields of an instruction
 abbrev shown : Option Instr → Option (List ℕ × Fields)

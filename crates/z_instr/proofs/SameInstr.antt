@@ -2,28 +2,11 @@
 use Rattle.std.proofs.Common.{◌≡◌, ◌<◌}
 use Rattle.std.proofs.Props.{props}
 use mathlib.Core.HLevel.{is_prop→PathP}
-use Rattle.z_instr.specs.declared.instr.Fields.{Fields}
 use Rattle.z_instr.specs.declared.instr.Instr.{Instr}
 use Rattle.z_instr.specs.declared.op.Op.{Op}
 use Rattle.z_instr.specs.declared.table.TheConstants.{ROWS}
-use Rattle.z_instr.specs.Made.{IsAllowed}
+use Rattle.z_instr.specs.Made.{IsAllowed, fields_of}
 use Rattle.z_instr.specs.Reading.{AreSame}
-
--- the plain fields of an instruction
-abbrev pub fields_of : Instr → Fields
-fields_of i =
-    record {
-      r1 = i.r1;
-      r2 = i.r2;
-      r3 = i.r3;
-      x = i.x;
-      b = i.b;
-      d = i.d;
-      b2 = i.b2;
-      d2 = i.d2;
-      imm = i.imm;
-      mask = i.mask;
-    }
 
 same_op : (o p : Op) → o.number ≡ p.number → o ≡ p
 same_op o p e =

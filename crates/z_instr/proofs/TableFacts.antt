@@ -23,7 +23,7 @@ unfolding entry_at
 line_is n d h = sym (get_or-map entry_of TABLE n d no_entry h) ∙ ap (λ t. get_or t n no_entry) same_table
 
 -- what is alike in all rows
-at_row : {X : Type 0} (f g : Entry → X) → map f (map entry_of TABLE) ≡ map g (map entry_of TABLE) → (n : ℕ) →
+pub at_row : {X : Type 0} (f g : Entry → X) → map f (map entry_of TABLE) ≡ map g (map entry_of TABLE) → (n : ℕ) →
     n < ROWS → f (entry_at n) ≡ g (entry_at n)
 unfolding entry_at
 at_row f g e n h =

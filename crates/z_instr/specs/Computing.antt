@@ -1,18 +1,16 @@
 -- The instruction that bytes read as, computed: the row whose opcode they have in its place, the fields that
 -- they hold by its format, and both kept where the instruction is spelled with these very bytes.
-use Rattle.std.specs.Prelude.{◌≡◌, ℕ, ◌+◌, ◌-◌, ◌*◌, ◌/◌, ◌%◌, ◌^◌, ℤ, pos, negsuc, nat_eq, nat_lt}
-use Rattle.std.specs.Prelude.{Bool, true, false, T, cond, if◌then◌else◌, List, get_or, Option, Some, None}
+use Rattle.std.specs.Prelude.{◌≡◌, ℕ, ◌-◌, ◌*◌, ◌^◌, ℤ, pos, negsuc, nat_eq, nat_lt}
+use Rattle.std.specs.Prelude.{Bool, true, false, T, cond, if◌then◌else◌, List, Option, Some, None}
 use Rattle.std.specs.List.{position_or_len}
 use Rattle.std.specs.Str.{bytes_eq}
 use Rattle.std.proofs.Common.{refl, lit<}
-use Rattle.z_instr.specs.declared.format.Format.{Format}
-use Rattle.z_instr.specs.declared.format.Format.TheVariants.{RR, I, RX, RRE, RRFa, RRFc, RXY, RI, RIL, RS}
-use Rattle.z_instr.specs.declared.format.Format.TheVariants.{RSY, SI, SIY, SIL, S, SS, RIEb, RIEc}
 use Rattle.z_instr.specs.declared.instr.Fields.{Fields}
 use Rattle.z_instr.specs.declared.instr.Instr.{Instr}
 use Rattle.z_instr.specs.declared.table.TheConstants.{ROWS}
+use Rattle.z_instr.specs.declared.layout.Digit.{Digit}
 use Rattle.z_instr.specs.Layout.{place}
-use Rattle.z_instr.specs.Made.{no_fields}
+use Rattle.z_instr.specs.Layouts.{layout_of, taken, width, has_signed_immediate, has_signed_displacement}
 use Rattle.z_instr.specs.Places.{opcode_at}
 use Rattle.z_instr.specs.Ranges.{are_within, limits_of}
 use Rattle.z_instr.specs.Reading.{spelling}
@@ -37,126 +35,20 @@ signed_number k n = if nat_lt n (2 ^ (k - 1)) then pos n else negsuc (2 ^ k - 1 
 abbrev pub number : Bool → ℕ → ℕ → ℤ
 number signed k n = cond signed (signed_number k n) (pos n)
 
-abbrev pub left_half : List ℕ → ℕ → ℕ
-left_half bytes k = get_or bytes k 0 / 16
-
-abbrev pub right_half : List ℕ → ℕ → ℕ
-right_half bytes k = get_or bytes k 0 % 16
-
--- the 16 bits, and the 32, from a place on
-abbrev pub halfword_at : List ℕ → ℕ → ℕ
-halfword_at bytes k = get_or bytes k 0 * 256 + get_or bytes (k + 1) 0
-
-abbrev pub word_at : List ℕ → ℕ → ℕ
-word_at bytes k = halfword_at bytes k * 65536 + halfword_at bytes (k + 2)
-
--- the displacement of 12 bits, and that of 20, whose base stands in a place
-abbrev pub short_at : List ℕ → ℕ → ℕ
-short_at bytes k = right_half bytes k * 256 + get_or bytes (k + 1) 0
-
-abbrev pub long_at : List ℕ → ℕ → ℕ
-long_at bytes k = get_or bytes (k + 2) 0 * 4096 + short_at bytes k
-
--- four bits that are a register where the row is not masked
-abbrev pub register_unless : Bool → ℕ → ℕ
-register_unless masked n = cond masked 0 n
-
--- four bits that are a mask where the row is masked
-abbrev pub mask_where : Bool → ℕ → ℕ
-mask_where masked n = cond masked n 0
-
--- the fields that bytes hold by a format, and by whether the row is signed and masked
-abbrev pub fields_in : Format → Bool → Bool → List ℕ → Fields
-fields_in RR s m bytes =
-    record no_fields {
-      r1 = register_unless m (left_half bytes 1);
-      r2 = right_half bytes 1;
-      mask = mask_where m (left_half bytes 1);
-    }
-fields_in I s m bytes = record no_fields { imm = pos (get_or bytes 1 0) }
-fields_in RX s m bytes =
-    record no_fields {
-      r1 = register_unless m (left_half bytes 1);
-      x = right_half bytes 1;
-      b = left_half bytes 2;
-      d = pos (short_at bytes 2);
-      mask = mask_where m (left_half bytes 1);
-    }
-fields_in RRE s m bytes = record no_fields { r1 = left_half bytes 3; r2 = right_half bytes 3 }
-fields_in RRFa s m bytes =
-    record no_fields { r1 = left_half bytes 3; r2 = right_half bytes 3; r3 = left_half bytes 2 }
-fields_in RRFc s m bytes =
-    record no_fields { r1 = left_half bytes 3; r2 = right_half bytes 3; mask = left_half bytes 2 }
-fields_in RXY s m bytes =
-    record no_fields {
-      r1 = left_half bytes 1;
-      x = right_half bytes 1;
-      b = left_half bytes 2;
-      d = signed_number 20 (long_at bytes 2);
-    }
-fields_in RI s m bytes =
-    record no_fields {
-      r1 = register_unless m (left_half bytes 1);
-      imm = number s 16 (halfword_at bytes 2);
-      mask = mask_where m (left_half bytes 1);
-    }
-fields_in RIL s m bytes =
-    record no_fields {
-      r1 = register_unless m (left_half bytes 1);
-      imm = number s 32 (word_at bytes 2);
-      mask = mask_where m (left_half bytes 1);
-    }
-fields_in RS s m bytes =
-    record no_fields {
-      r1 = left_half bytes 1;
-      r3 = right_half bytes 1;
-      b = left_half bytes 2;
-      d = pos (short_at bytes 2);
-    }
-fields_in RSY s m bytes =
-    record no_fields {
-      r1 = left_half bytes 1;
-      r3 = register_unless m (right_half bytes 1);
-      b = left_half bytes 2;
-      d = signed_number 20 (long_at bytes 2);
-      mask = mask_where m (right_half bytes 1);
-    }
-fields_in SI s m bytes =
-    record no_fields { b = left_half bytes 2; d = pos (short_at bytes 2); imm = pos (get_or bytes 1 0) }
-fields_in SIY s m bytes =
-    record no_fields {
-      b = left_half bytes 2;
-      d = signed_number 20 (long_at bytes 2);
-      imm = signed_number 8 (get_or bytes 1 0);
-    }
-fields_in SIL s m bytes =
-    record no_fields {
-      b = left_half bytes 2;
-      d = pos (short_at bytes 2);
-      imm = number s 16 (halfword_at bytes 4);
-    }
-fields_in S s m bytes = record no_fields { b = left_half bytes 2; d = pos (short_at bytes 2) }
-fields_in SS s m bytes =
-    record no_fields {
-      b = left_half bytes 2;
-      d = pos (short_at bytes 2);
-      b2 = left_half bytes 4;
-      d2 = pos (short_at bytes 4);
-      imm = pos (get_or bytes 1 0);
-    }
-fields_in RIEb s m bytes =
-    record no_fields {
-      r1 = left_half bytes 1;
-      r2 = right_half bytes 1;
-      imm = signed_number 16 (halfword_at bytes 2);
-      mask = left_half bytes 4;
-    }
-fields_in RIEc s m bytes =
-    record no_fields {
-      r1 = left_half bytes 1;
-      d2 = signed_number 8 (get_or bytes 4 0);
-      imm = signed_number 16 (halfword_at bytes 2);
-      mask = right_half bytes 1;
+-- the fields that bytes hold by a layout, with an immediate that has a sign or not
+abbrev pub fields_in : List Digit → Bool → List ℕ → Fields
+fields_in ds signed bytes =
+    record {
+      r1 = taken ds bytes 1;
+      r2 = taken ds bytes 2;
+      r3 = taken ds bytes 3;
+      x = taken ds bytes 4;
+      b = taken ds bytes 5;
+      d = number (has_signed_displacement (width ds 6)) (4 * width ds 6) (taken ds bytes 6);
+      b2 = taken ds bytes 7;
+      d2 = number (has_signed_displacement (width ds 8)) (4 * width ds 8) (taken ds bytes 8);
+      imm = number signed (4 * width ds 9) (taken ds bytes 9);
+      mask = taken ds bytes 10;
     }
 
 -- ---- the instruction
@@ -217,7 +109,7 @@ only_if_spelled bytes (Some i) = if bytes_eq bytes (spelling (entry_at i.op.numb
 abbrev pub reading_in : ℕ → List ℕ → Option Instr
 reading_in n bytes =
     let e = entry_at n in
-    only_if_spelled bytes (instruction_of n (fields_in e.format e.signed e.masked bytes))
+    only_if_spelled bytes (instruction_of n (fields_in (layout_of e) (has_signed_immediate e) bytes))
 
 -- the instruction that the bytes read as; None where they read as none
 unfoldable pub reading_of : List ℕ → Option Instr

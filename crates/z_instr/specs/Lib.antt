@@ -1,5 +1,6 @@
 pub mod Kinds
 pub mod Table
+pub mod Layouts
 pub mod Lines
 pub mod Layout
 pub mod Ranges

@@ -29,3 +29,19 @@ pub record Has (o : Op) (f : Fields) (i : Instr) : Type 0 where
   pub d2 : i.d2 ≡ f.d2
   pub imm : i.imm ≡ f.imm
   pub mask : i.mask ≡ f.mask
+
+-- the plain fields of an instruction
+abbrev pub fields_of : Instr → Fields
+fields_of i =
+    record {
+      r1 = i.r1;
+      r2 = i.r2;
+      r3 = i.r3;
+      x = i.x;
+      b = i.b;
+      d = i.d;
+      b2 = i.b2;
+      d2 = i.d2;
+      imm = i.imm;
+      mask = i.mask;
+    }

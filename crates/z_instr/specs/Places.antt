@@ -1,11 +1,10 @@
 -- What bytes show of the row that they belong to: an opcode in its place, and zeros where no field stands.
-use Rattle.std.specs.Prelude.{◌≡◌, ℕ, ◌+◌, ◌*◌, ◌%◌, List, get_or, Bool, true, false, ◌&&◌, nat_eq}
-use Rattle.z_instr.specs.declared.format.Format.{Format}
-use Rattle.z_instr.specs.declared.format.Format.TheVariants.{RR, RRE, RRFa, RRFc, RS, S, RIEb}
+use Rattle.std.specs.Prelude.{◌≡◌, ℕ, ◌+◌, ◌*◌, ◌%◌, List, get_or, Bool, nat_eq}
 use Rattle.z_instr.specs.declared.format.Place.{Place}
 use Rattle.z_instr.specs.declared.format.Place.TheVariants.{First, FirstTwo, FirstHalf, Ends}
 use Rattle.z_instr.specs.Table.{Entry}
 use Rattle.z_instr.specs.Layout.{place}
+use Rattle.z_instr.specs.Layouts.{layout_of, taken}
 
 -- the opcode that bytes have in a place
 abbrev pub opcode_at : Place → List ℕ → ℕ
@@ -18,14 +17,6 @@ opcode_at Ends bytes = get_or bytes 0 0 * 256 + get_or bytes 5 0
 abbrev pub HasOpcode : Entry → List ℕ → Type 0
 HasOpcode e bytes = opcode_at (place e.format) bytes ≡ e.opcode
 
--- the bits that no field uses are zero; in a single row those of the field that is left out too
-abbrev pub is_spare_zero : Format → Bool → List ℕ → Bool
-is_spare_zero RR true bytes = nat_eq (get_or bytes 1 0 % 16) 0
-is_spare_zero RRE true bytes = nat_eq (get_or bytes 2 0) 0 && nat_eq (get_or bytes 3 0 % 16) 0
-is_spare_zero RRE false bytes = nat_eq (get_or bytes 2 0) 0
-is_spare_zero RRFa _ bytes = nat_eq (get_or bytes 2 0 % 16) 0
-is_spare_zero RRFc _ bytes = nat_eq (get_or bytes 2 0 % 16) 0
-is_spare_zero RS true bytes = nat_eq (get_or bytes 1 0 % 16) 0
-is_spare_zero S true bytes = nat_eq (get_or bytes 2 0) 0 && nat_eq (get_or bytes 3 0) 0
-is_spare_zero RIEb _ bytes = nat_eq (get_or bytes 4 0 % 16) 0
-is_spare_zero _ _ bytes = true
+-- the bits that no field uses are zero
+abbrev pub is_spare_zero : Entry → List ℕ → Bool
+is_spare_zero e bytes = nat_eq (taken (layout_of e) bytes 11) 0

@@ -1,11 +1,12 @@
 -- Which values the fields of an instruction may have: those of its format, and 0 where the format has no such
 -- field.
-use Rattle.std.specs.Prelude.{ℕ, ◌<◌, ℤ, pos, negsuc, Bool, true, ◌&&◌, nat_lt, cond}
+use Rattle.std.specs.Prelude.{ℕ, ◌<◌, ◌/◌, ◌^◌, ℤ, pos, negsuc, Bool, true, ◌&&◌, nat_lt, cond}
 use Rattle.z_instr.specs.declared.limits.Bounds.{Bounds}
 use Rattle.z_instr.specs.declared.limits.Limits.{Limits}
 use Rattle.z_instr.specs.declared.format.Format.{Format}
 use Rattle.z_instr.specs.declared.format.Format.TheVariants.{RR, I, RX, RRE, RRFa, RRFc, RXY, RI, RIL, RS, RSY, SI, SIY, SIL, S, SS, RIEb, RIEc}
 use Rattle.z_instr.specs.Table.{Entry}
+use Rattle.z_instr.specs.Layouts.{layout_of, width, has_signed_immediate, has_signed_displacement}
 
 -- from -below up to above, which is not among them
 abbrev pub bounds : ℕ → ℕ → Bounds
@@ -77,6 +78,19 @@ limits_in RIEc s m o = limit 16 1 1 1 1 zero_alone 1 signed_byte (half true) 16
 
 abbrev pub limits_of : Entry → Limits
 limits_of e = limits_in e.format e.signed e.masked e.single
+
+-- as many digits, with a sign or without
+abbrev pub bounds_by : Bool → ℕ → Bounds
+bounds_by signed n = cond signed (bounds (16 ^ n / 2) (16 ^ n / 2)) (bounds 0 (16 ^ n))
+
+-- the limits that the layout of a row gives: all numbers that its digits can hold
+abbrev pub limits_by : Entry → Limits
+limits_by e =
+    let n = width (layout_of e) in
+    limit (16 ^ n 1) (16 ^ n 2) (16 ^ n 3) (16 ^ n 4) (16 ^ n 5)
+    (bounds_by (has_signed_displacement (n 6)) (n 6)) (16 ^ n 7)
+    (bounds_by (has_signed_displacement (n 8)) (n 8))
+    (bounds_by (has_signed_immediate e) (n 9)) (16 ^ n 10)
 
 -- the registers and the mask are among their values
 abbrev pub are_registers_within : Limits → ℕ → ℕ → ℕ → ℕ → ℕ → ℕ → ℕ → Bool

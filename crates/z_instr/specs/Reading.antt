@@ -1,8 +1,9 @@
 -- Which bytes read as an instruction.
-use Rattle.std.specs.Prelude.{◌≡◌, ℕ, ◌<◌, ◌+◌, ◌*◌, ◌/◌, ◌%◌, ◌-◌, ◌^◌, ℤ, pos, negsuc, List, [], ◌∷◌, get_or}
-use Rattle.z_instr.specs.declared.format.Format.{Format}
-use Rattle.z_instr.specs.declared.format.Format.TheVariants.{RR, I, RX, RRE, RRFa, RRFc, RXY, RI, RIL, RS, RSY, SI, SIY, SIL, S, SS, RIEb, RIEc}
+use Rattle.std.specs.Prelude.{◌≡◌, ℕ, ◌<◌, ◌%◌, ◌-◌, ◌^◌, ℤ, pos, negsuc, List, [], ◌∷◌, get_or}
 use Rattle.z_instr.specs.declared.instr.Instr.{Instr}
+use Rattle.z_instr.specs.declared.instr.Fields.{Fields}
+use Rattle.z_instr.specs.Layouts.{layout_of, spelled}
+use Rattle.z_instr.specs.Made.{fields_of}
 use Rattle.z_instr.specs.Table.{Entry, entry_at}
 
 -- each is a byte
@@ -14,50 +15,21 @@ abbrev pub modulo : ℕ → ℤ → ℕ
 modulo k (pos n) = n % 2 ^ k
 modulo k (negsuc n) = 2 ^ k - 1 - n % 2 ^ k
 
--- a byte of two halves
-abbrev pub halves : ℕ → ℕ → ℕ
-halves left right = left * 16 + right
+-- the numbers of the fields, by their ranks: those of numbers with a sign are their last 32 bits
+abbrev pub numbers : ℕ → Fields → List ℕ
+numbers opcode f =
+    opcode ∷ f.r1 ∷ f.r2 ∷ f.r3 ∷ f.x ∷ f.b ∷ modulo 32 f.d ∷ f.b2 ∷ modulo 32 f.d2 ∷ modulo 32 f.imm ∷ f.mask
+    ∷ 0 ∷ []
 
--- what follows a base and a displacement of 12 bits
-abbrev pub short_address : ℕ → ℤ → List ℕ → List ℕ
-short_address b d rest = halves b (modulo 12 d / 256) ∷ modulo 12 d % 256 ∷ rest
+abbrev pub number_of : ℕ → Fields → ℕ → ℕ
+number_of opcode f rank = get_or (numbers opcode f) rank 0
 
--- what follows a base and a displacement of 20 bits, whose high eight stand behind the low twelve
-abbrev pub long_address : ℕ → ℤ → List ℕ → List ℕ
-long_address b d rest = halves b (modulo 20 d % 4096 / 256) ∷ modulo 20 d % 256 ∷ modulo 20 d / 4096 ∷ rest
-
--- what follows 16 bits
-abbrev pub halfword : ℤ → List ℕ → List ℕ
-halfword z rest = modulo 16 z / 256 ∷ modulo 16 z % 256 ∷ rest
-
--- 32 bits
-abbrev pub word : ℤ → List ℕ
-word z = modulo 32 z / 2 ^ 24 ∷ modulo 32 z / 2 ^ 16 % 256 ∷ modulo 32 z / 256 % 256 ∷ modulo 32 z % 256 ∷ []
-
--- the bytes of an instruction of a format, by its opcode; of a register and a mask that stand in one place,
--- one is 0
-abbrev pub spelled : Format → ℕ → Instr → List ℕ
-spelled RR o i = o ∷ halves (i.r1 + i.mask) i.r2 ∷ []
-spelled I o i = o ∷ modulo 8 i.imm ∷ []
-spelled RX o i = o ∷ halves (i.r1 + i.mask) i.x ∷ short_address i.b i.d []
-spelled RRE o i = o / 256 ∷ o % 256 ∷ 0 ∷ halves i.r1 i.r2 ∷ []
-spelled RRFa o i = o / 256 ∷ o % 256 ∷ halves i.r3 0 ∷ halves i.r1 i.r2 ∷ []
-spelled RRFc o i = o / 256 ∷ o % 256 ∷ halves i.mask 0 ∷ halves i.r1 i.r2 ∷ []
-spelled RXY o i = o / 256 ∷ halves i.r1 i.x ∷ long_address i.b i.d (o % 256 ∷ [])
-spelled RI o i = o / 16 ∷ halves (i.r1 + i.mask) (o % 16) ∷ halfword i.imm []
-spelled RIL o i = o / 16 ∷ halves (i.r1 + i.mask) (o % 16) ∷ word i.imm
-spelled RS o i = o ∷ halves i.r1 i.r3 ∷ short_address i.b i.d []
-spelled RSY o i = o / 256 ∷ halves i.r1 (i.r3 + i.mask) ∷ long_address i.b i.d (o % 256 ∷ [])
-spelled SI o i = o ∷ modulo 8 i.imm ∷ short_address i.b i.d []
-spelled SIY o i = o / 256 ∷ modulo 8 i.imm ∷ long_address i.b i.d (o % 256 ∷ [])
-spelled SIL o i = o / 256 ∷ o % 256 ∷ short_address i.b i.d (halfword i.imm [])
-spelled S o i = o / 256 ∷ o % 256 ∷ short_address i.b i.d []
-spelled SS o i = o ∷ modulo 8 i.imm ∷ short_address i.b i.d (short_address i.b2 i.d2 [])
-spelled RIEb o i = o / 256 ∷ halves i.r1 i.r2 ∷ halfword i.imm (halves i.mask 0 ∷ o % 256 ∷ [])
-spelled RIEc o i = o / 256 ∷ halves i.r1 i.mask ∷ halfword i.imm (modulo 8 i.d2 ∷ o % 256 ∷ [])
+-- the bytes of a row's instruction of these fields
+abbrev pub code : Entry → Fields → List ℕ
+code e f = spelled (layout_of e) (number_of e.opcode f)
 
 abbrev pub spelling : Entry → Instr → List ℕ
-spelling e i = spelled e.format e.opcode i
+spelling e i = code e (fields_of i)
 
 -- the bytes read as the instruction
 abbrev pub Reads : List ℕ → Instr → Type 0

@@ -1,18 +1,20 @@
 //! What holds of the whole table, and of every reading. Each law is the contract of a function that does
 //! nothing.
 ghost use Rattle.std.specs.Prelude.{◌≡◌, ◌<◌, ℕ, List, length, get_or, true, nat_eq, ◌≤◌, All};
-ghost use Rattle.std.specs.Prelude.{◌↔◌, Some, None};
+ghost use Rattle.std.specs.Prelude.{◌↔◌, Some, None, ◌*◌, ◌%◌, ◌^◌};
 ghost use Rattle.std.specs.List.{list_any};
 ghost use Rattle.z_instr.specs.Operands.{Span, IsSmall, pieces, spans, HoldsByteOf};
 ghost use Rattle.z_instr.specs.Kinds.{operands_of, demand_of};
 ghost use Rattle.z_instr.specs.Table.{table, entry_at, kind_at};
 ghost use Rattle.z_instr.specs.Layout.{length_by, format_length, place, room};
 ghost use Rattle.z_instr.specs.Facts.{has_fitting_name, is_refused_alike, has_two_lists, is_service, is_begin};
-ghost use Rattle.z_instr.specs.Ranges.{is_within, bounds};
-ghost use Rattle.z_instr.specs.Places.{HasOpcode};
+ghost use Rattle.z_instr.specs.Layouts.{layout_of, is_whole, taken, spelled, width};
+ghost use Rattle.z_instr.specs.Ranges.{is_within, bounds, limits_of, limits_by};
+ghost use Rattle.z_instr.specs.Places.{HasOpcode, opcode_at};
 ghost use Rattle.z_instr.specs.Reading.{AreBytes, AreSame, Reads};
 ghost use Rattle.z_instr.specs.Computing.{reading_of};
 ghost use Rattle.z_instr.specs.declared.instr.Instr.{Instr};
+ghost use Rattle.z_instr.specs.declared.layout.Digit.{Digit};
 ghost use Rattle.z_instr.specs.declared.table.TheConstants.{ROWS};
 
 /// The code's number of rows is that of the defined table, which has 188.
@@ -88,4 +90,21 @@ pub fn reading_computes()
     ensures there { (bytes : List ℕ) (i : Instr) → Reads bytes i → reading_of bytes ≡ Some i }
     ensures reads { (bytes : List ℕ) (i : Instr) → reading_of bytes ≡ Some i → Reads bytes i }
     ensures none { (bytes : List ℕ) → (reading_of bytes ≡ None) ↔ ((i : Instr) → Reads bytes i → ⊥) }
+{}
+
+/// Each field stands whole and once in the layout of a row, and the layout gives the length of the row's
+/// instructions, the place of their opcode and which numbers their fields may have.
+pub fn layouts_are_whole()
+    ensures whole { (n : ℕ) → n < ROWS → is_whole (layout_of (entry_at n)) ≡ true }
+    ensures length { (n : ℕ) → n < ROWS →
+        length (layout_of (entry_at n)) ≡ 2 * format_length (entry_at n).format }
+    ensures opcodes { (n : ℕ) (bytes : List ℕ) → n < ROWS →
+        opcode_at (place (entry_at n).format) bytes ≡ taken (layout_of (entry_at n)) bytes 0 }
+    ensures limits { (n : ℕ) → n < ROWS → limits_of (entry_at n) ≡ limits_by (entry_at n) }
+{}
+
+/// What is spelled by a whole layout holds each field's number, as many bits of it as the layout has.
+pub fn layouts_keep_fields()
+    ensures { (ds : List Digit) (v : ℕ → ℕ) (r : ℕ) → is_whole ds ≡ true → r < 12 →
+        taken ds (spelled ds v) r ≡ v r % 16 ^ width ds r }
 {}

@@ -8,6 +8,7 @@ pub mod format;
 pub mod instr;
 pub mod kind;
 pub mod laws;
+pub mod layout;
 pub mod limits;
 pub mod lookup;
 pub mod name;

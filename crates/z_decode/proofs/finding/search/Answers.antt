@@ -1,4 +1,4 @@
-use Rattle.std.proofs.Common.{rules, arith}
+use Rattle.std.proofs.Common.{rules}
 use Rattle.std.proofs.lemmas.List.Sorted.{answers_always}
 use Rattle.z_instr.specs.declared.table.Line.{Line}
 use Rattle.z_instr.specs.Lines.{entry_of}

@@ -1,0 +1,255 @@
+-- What the layouts of rows have, and what instructions have by their rows.
+use Rattle.std.proofs.Common.{◌≡◌, ℕ, zero, suc, ◌+◌, ◌*◌, ◌/◌, ◌%◌, ◌^◌, ◌<◌, ◌≤◌, true, false, Bool, ◌&&◌, ◌||◌, nat_eq, nat_lt, nat_le}
+use Rattle.std.proofs.Common.{List, [], ◌∷◌, length, take, drop, get_or, refl, sym, ap, ap₂, subst, ◌∙◌, arith, lit<, eq-eqb}
+use Rattle.std.proofs.Common.{FitsSigned, w32, w64, to_z, of_z, lt-ltb}
+use Rattle.std.proofs.Math.Facts.{to_z-of_z}
+use Rattle.std.specs.List.{list_all}
+use Rattle.std.specs.Prelude.{ℤ, pos, negsuc, if◌then◌else◌, ◌-◌}
+use Rattle.std.proofs.Math.Seq.{drop-cons}
+use Rattle.std.proofs.lemmas.Bool.{leb-true}
+use Rattle.std.proofs.lemmas.Nat.{pow-add}
+use Rattle.std.proofs.Math.Nat.{pow-suc, pow-le-pow_right, mod-eq_of_lt, lt_of_le_of_lt}
+use Rattle.z_instr.specs.declared.instr.Instr.{Instr}
+use Rattle.z_instr.specs.declared.layout.Digit.{Digit}
+use Rattle.z_instr.specs.declared.table.TheConstants.{ROWS}
+use Rattle.z_instr.specs.Table.{Entry, entry_at}
+use Rattle.z_instr.specs.Layouts.{layout_of, width, rank, is_of, digit, spelled, digits_from, number_in, taken}
+use Rattle.z_instr.specs.Computing.{number}
+use Rattle.z_instr.proofs.Wholes.{whole, taken_below}
+use Rattle.z_instr.specs.Ranges.{is_within, bounds, limits_of}
+use Rattle.z_instr.proofs.Passing.{and_left, and_right}
+use Rattle.z_instr.proofs.TableFacts.{passes_row}
+use Rattle.z_instr.proofs.Within.{instr_fits, numbers_of}
+use Rattle.z_decode.specs.Code.{is_small, six, zeros_after, part}
+
+pub small_at : (n : ℕ) → n < ROWS → list_all is_small (layout_of (entry_at n)) ≡ true
+small_at = passes_row (λ e. list_all is_small (layout_of e)) refl
+
+-- ---- immediates
+
+abbrev is_wide : Entry → Bool
+is_wide e = nat_le (limits_of e).imm.below 2147483648 && nat_le (limits_of e).imm.above 4294967296
+
+within_more : (z : ℤ) (l h m n : ℕ) → l ≤ m → h ≤ n → is_within (bounds l h) z ≡ true → is_within (bounds m n) z ≡ true
+within_more (pos k) l h m n a b e = grind arith
+within_more (negsuc k) l h m n a b e = grind arith
+
+pub wide_immediate : (i : Instr) → is_within (bounds 2147483648 4294967296) i.imm ≡ true
+wide_immediate i =
+    let e = entry_at i.op.number in
+    let w = passes_row is_wide refl i.op.number i.op.known in
+    within_more i.imm (limits_of e).imm.below (limits_of e).imm.above 2147483648 4294967296
+    (leb-true _ _ (and_left _ _ w)) (leb-true _ _ (and_right _ _ w)) (numbers_of (limits_of e) i (instr_fits i)).imm_in
+
+-- ---- powers of sixteen
+
+pub sixteen : (k : ℕ) → 16 ^ k ≡ 2 ^ (4 * k)
+sixteen zero = refl
+sixteen (suc k) =
+    pow-suc 16 k ∙ ap (λ n. n * 16) (sixteen k) ∙ sym (pow-add 2 (4 * k) 4) ∙ ap (λ n. 2 ^ n) (later k)
+  where
+    later : (k : ℕ) → 4 * k + 4 ≡ 4 * suc k
+    later k = omega arith
+
+pub power_is : (k : ℕ) → k ≤ 32 → 1 * 2 ^ k % 18446744073709551616 ≡ 2 ^ k
+power_is k h =
+    let few : 2 ^ k ≤ 2 ^ 32 = pow-le-pow_right (lit< tt) h in
+    ap (λ n. n % 18446744073709551616) (one_times (2 ^ k)) ∙ mod-eq_of_lt (lt_of_le_of_lt few (lit< tt))
+  where
+    one_times : (n : ℕ) → 1 * n ≡ n
+    one_times n = omega arith
+
+pub power_small : (k : ℕ) → k ≤ 32 → 2 ^ k ≤ 2 ^ 32
+power_small k h = pow-le-pow_right (lit< tt) h
+
+-- a half of a byte in the place of a digit
+pub half_small : (h k : ℕ) → h < 16 → k < 8 → h * 16 ^ k < 4294967296
+half_small h zero a b = omega arith
+half_small h (suc zero) a b = omega arith
+half_small h (suc (suc zero)) a b = omega arith
+half_small h (suc (suc (suc zero))) a b = omega arith
+half_small h (suc (suc (suc (suc zero)))) a b = omega arith
+half_small h (suc (suc (suc (suc (suc zero))))) a b = omega arith
+half_small h (suc (suc (suc (suc (suc (suc zero)))))) a b = omega arith
+half_small h (suc (suc (suc (suc (suc (suc (suc zero))))))) a b = omega arith
+half_small h (suc (suc (suc (suc (suc (suc (suc (suc k)))))))) a b = absurd (omega arith)
+
+pub half_is : (h k : ℕ) → h < 16 → k < 8 → h * 2 ^ (4 * k) % 18446744073709551616 ≡ h * 16 ^ k
+half_is h k a b =
+    let small = half_small h k a b in
+    ap (λ n. h * n % 18446744073709551616) (sym (sixteen k)) ∙ mod-eq_of_lt (omega arith)
+
+-- ---- six bytes
+
+pub first_of_six : (s : List ℕ) (n : ℕ) → length s ≡ n → (nat_eq n 2 || (nat_eq n 4 || nat_eq n 6)) ≡ true →
+    take n (six s) ≡ s
+first_of_six s n e h = subst (λ m. take m (six s) ≡ s) e (own s (subst (λ m. (nat_eq m 2 || (nat_eq m 4 || nat_eq m 6)) ≡ true) (sym e) h))
+  where
+    own : (s : List ℕ) → (nat_eq (length s) 2 || (nat_eq (length s) 4 || nat_eq (length s) 6)) ≡ true → take (length s) (six s) ≡ s
+    own [] h = absurd (cc)
+    own (a ∷ []) h = absurd (cc)
+    own (a ∷ b ∷ []) h = refl
+    own (a ∷ b ∷ c ∷ []) h = absurd (cc)
+    own (a ∷ b ∷ c ∷ d ∷ []) h = refl
+    own (a ∷ b ∷ c ∷ d ∷ e ∷ []) h = absurd (cc)
+    own (a ∷ b ∷ c ∷ d ∷ e ∷ f ∷ []) h = refl
+    own (a ∷ b ∷ c ∷ d ∷ e ∷ f ∷ g ∷ rest) h = absurd (grind arith)
+
+pub rest_of_six : (s : List ℕ) (n : ℕ) → length s ≡ n → (nat_eq n 2 || (nat_eq n 4 || nat_eq n 6)) ≡ true →
+    drop n (six s) ≡ zeros_after n
+rest_of_six s n e h = subst (λ m. drop m (six s) ≡ zeros_after m) e (own s (subst (λ m. (nat_eq m 2 || (nat_eq m 4 || nat_eq m 6)) ≡ true) (sym e) h))
+  where
+    own : (s : List ℕ) → (nat_eq (length s) 2 || (nat_eq (length s) 4 || nat_eq (length s) 6)) ≡ true → drop (length s) (six s) ≡ zeros_after (length s)
+    own [] h = absurd (cc)
+    own (a ∷ []) h = absurd (cc)
+    own (a ∷ b ∷ []) h = refl
+    own (a ∷ b ∷ c ∷ []) h = absurd (cc)
+    own (a ∷ b ∷ c ∷ d ∷ []) h = refl
+    own (a ∷ b ∷ c ∷ d ∷ e ∷ []) h = absurd (cc)
+    own (a ∷ b ∷ c ∷ d ∷ e ∷ f ∷ []) h = refl
+    own (a ∷ b ∷ c ∷ d ∷ e ∷ f ∷ g ∷ rest) h = absurd (grind arith)
+
+-- ---- digits one by one
+
+pub digit_is : (xs : List ℕ) (r q k : ℕ) → q ≡ r → get_or xs q 0 / 2 ^ (4 * k) % 16 ≡ get_or xs r 0 / 16 ^ k % 16
+digit_is xs r q k e =
+    ap (λ n. get_or xs n 0 / 2 ^ (4 * k) % 16) e ∙ ap (λ m. get_or xs r 0 / m % 16) (sym (sixteen k))
+
+pub part_there : (d : Digit) (h q r x : ℕ) → q ≡ rank d.field → q ≡ r → x ≡ h → h < 16 → d.index < 8 →
+    x * 2 ^ (4 * d.index) % 18446744073709551616 ≡ part d h r
+part_there d h q r x e f g a b =
+    let same : is_of r d ≡ true = eq-eqb _ _ (sym e ∙ f) in
+    ap (λ n. n * 2 ^ (4 * d.index) % 18446744073709551616) g ∙ half_is h d.index a b
+    ∙ ap (λ t. if t then h * 16 ^ d.index else 0) (sym same)
+
+-- a byte in its place, and none behind the last one
+pub byte_there : (ds : List Digit) (v : ℕ → ℕ) (k : ℕ) (d : Digit) → 2 * k + 1 < length ds →
+    digit v (get_or ds (2 * k) d) * 16 + digit v (get_or ds (2 * k + 1) d) ≡ get_or (spelled ds v) k 0
+byte_there [] v k d h = absurd (omega arith)
+byte_there (a ∷ []) v k d h = absurd (omega arith)
+byte_there (a ∷ (b ∷ ds)) v zero d h = refl
+byte_there (a ∷ (b ∷ ds)) v (suc k) d h =
+    let first : 2 * suc k ≡ suc (suc (2 * k)) = omega arith in
+    let second : 2 * suc k + 1 ≡ suc (suc (2 * k + 1)) = omega arith in
+    ap₂ (λ x y. digit v (get_or (a ∷ (b ∷ ds)) x d) * 16 + digit v (get_or (a ∷ (b ∷ ds)) y d)) first second
+    ∙ byte_there ds v k d (omega arith)
+
+pub none_behind : (ds : List Digit) (v : ℕ → ℕ) (k : ℕ) → length ds ≤ 2 * k + 1 → 0 ≡ get_or (spelled ds v) k 0
+none_behind [] v k h = refl
+none_behind (a ∷ []) v k h = refl
+none_behind (a ∷ (b ∷ ds)) v zero h = absurd (omega arith)
+none_behind (a ∷ (b ∷ ds)) v (suc k) h = none_behind ds v k (omega arith)
+
+-- what so many bytes hold, and the next one
+next_digits : (n k : ℕ) (bytes : List ℕ) → k < n →
+    digits_from (n - k) k bytes ≡ get_or bytes k 0 / 16 ∷ (get_or bytes k 0 % 16 ∷ digits_from (n - (k + 1)) (k + 1) bytes)
+next_digits n k bytes h =
+    let one : n - k ≡ suc (n - (k + 1)) = omega arith in
+    let next : suc k ≡ k + 1 = omega arith in
+    ap (λ m. digits_from m k bytes) one
+    ∙ ap (λ j. get_or bytes k 0 / 16 ∷ (get_or bytes k 0 % 16 ∷ digits_from (n - (k + 1)) j bytes)) next
+
+two_dropped : (ds : List Digit) (k : ℕ) (d : Digit) → 2 * k + 1 < length ds →
+    drop (2 * k) ds ≡ get_or ds (2 * k) d ∷ (get_or ds (2 * k + 1) d ∷ drop (2 * (k + 1)) ds)
+two_dropped ds k d h =
+    let next : suc (2 * k) ≡ 2 * k + 1 = omega arith in
+    let after : suc (2 * k + 1) ≡ 2 * (k + 1) = omega arith in
+    drop-cons ds (2 * k) d (omega arith)
+    ∙ ap (λ j. get_or ds (2 * k) d ∷ drop j ds) next
+    ∙ ap (λ l. get_or ds (2 * k) d ∷ l) (drop-cons ds (2 * k + 1) d h)
+    ∙ ap (λ j. get_or ds (2 * k) d ∷ (get_or ds (2 * k + 1) d ∷ drop j ds)) after
+
+pub one_place : (ds : List Digit) (bytes : List ℕ) (k n r whole : ℕ) (d : Digit) → 2 * k + 1 < length ds →
+    k < length bytes →
+    n + number_in (drop (2 * k) ds) (digits_from (length bytes - k) k bytes) r ≡ whole →
+    n + (part (get_or ds (2 * k) d) (get_or bytes k 0 / 16) r + part (get_or ds (2 * k + 1) d) (get_or bytes k 0 % 16) r)
+    + number_in (drop (2 * (k + 1)) ds) (digits_from (length bytes - (k + 1)) (k + 1) bytes) r ≡ whole
+one_place ds bytes k n r whole d h l e =
+    grouped n (part (get_or ds (2 * k) d) (get_or bytes k 0 / 16) r) (part (get_or ds (2 * k + 1) d) (get_or bytes k 0 % 16) r)
+    (number_in (drop (2 * (k + 1)) ds) (digits_from (length bytes - (k + 1)) (k + 1) bytes) r)
+    ∙ ap₂ (λ xs hs. n + number_in xs hs r) (sym (two_dropped ds k d h)) (sym (next_digits (length bytes) k bytes l)) ∙ e
+  where
+    grouped : (n a b c : ℕ) → n + (a + b) + c ≡ n + (a + (b + c))
+    grouped n a b c = omega arith
+
+pub begun : (ds : List Digit) (bytes : List ℕ) (r : ℕ) → length ds ≡ 2 * length bytes →
+    0 + number_in ds (digits_from (length bytes) 0 bytes) r ≡ taken ds bytes r
+begun ds bytes r h =
+    let n : length bytes ≡ length ds / 2 = omega arith in
+    none (number_in ds (digits_from (length bytes) 0 bytes) r) ∙ ap (λ m. number_in ds (digits_from m 0 bytes) r) n
+  where
+    none : (n : ℕ) → 0 + n ≡ n
+    none n = omega arith
+
+pub over : (ds : List Digit) (bytes : List ℕ) (n r k whole : ℕ) → length bytes ≤ k →
+    n + number_in (drop (2 * k) ds) (digits_from (length bytes - k) k bytes) r ≡ whole → n ≡ whole
+over ds bytes n r k whole h e =
+    let none : length bytes - k ≡ 0 = omega arith in
+    let f : n + 0 ≡ whole =
+    ap (λ m. n + m) (sym (nothing (drop (2 * k) ds) r)) ∙ ap (λ j. n + number_in (drop (2 * k) ds) (digits_from j k bytes) r) (sym none) ∙ e in
+    omega (arith, f)
+  where
+    nothing : (ds : List Digit) (r : ℕ) → number_in ds [] r ≡ 0
+    nothing [] r = refl
+    nothing (d ∷ ds) r = refl
+
+-- how many digits a field has, one by one
+pub one_width : (ds : List Digit) (i n r whole : ℕ) (d : Digit) → i < length ds → n + width (drop i ds) r ≡ whole →
+    (if is_of r (get_or ds i d) then n + 1 else n) + width (drop (i + 1) ds) r ≡ whole
+one_width ds i n r whole d h e =
+    counted (is_of r (get_or ds i d)) n (width (drop (i + 1) ds) r)
+    ∙ ap (λ l. n + width l r) (sym (drop-cons ds i d h ∙ ap (λ j. get_or ds i d ∷ drop j ds) (next i))) ∙ e
+  where
+    next : (i : ℕ) → suc i ≡ i + 1
+    next i = omega arith
+
+    counted : (b : Bool) (n w : ℕ) → (if b then n + 1 else n) + w ≡ n + (if b then suc w else w)
+    counted true n w = omega arith
+    counted false n w = refl
+
+pub wide_fits : (z : ℤ) → is_within (bounds 2147483648 4294967296) z ≡ true → FitsSigned w64 z
+wide_fits (pos n) h = grind arith
+wide_fits (negsuc n) h = grind arith
+
+-- ---- what bytes hold by the layout of a row
+
+pub row_below : (n : ℕ) (bytes : List ℕ) (r : ℕ) → n < ROWS → ((k : ℕ) → get_or bytes k 0 < 256) →
+    taken (layout_of (entry_at n)) bytes r < 16 ^ width (layout_of (entry_at n)) r
+row_below n bytes r h b = taken_below (layout_of (entry_at n)) bytes r (whole n h) b
+
+pub below_power : (t w x q : ℕ) → x ≡ t → q ≡ w → t < 16 ^ w → x < 2 ^ (4 * q)
+below_power t w x q e f h =
+    subst (λ y. y < 2 ^ (4 * q)) (sym e) (subst (λ j. t < 2 ^ (4 * j)) (sym f) (subst (λ m. t < m) (sixteen w) h))
+
+-- a number of at most 20 bits
+number_low : (s : Bool) (k n : ℕ) → k ≤ 20 → n < 2 ^ k → is_within (bounds 1048576 1048576) (number s k n) ≡ true
+number_low true k n h l =
+    let most : 2 ^ k ≤ 2 ^ 20 = pow-le-pow_right (lit< tt) h in
+    elim (nat_lt n (2 ^ (k - 1))) as (λ b. is_within (bounds 1048576 1048576) (if b then pos n else negsuc (2 ^ k - 1 - n)) ≡ true) [
+      | true ↦ lt-ltb _ _ (omega (arith, most, l))
+      | false ↦ lt-ltb _ _ (omega (arith, most, l))
+    ]
+number_low false k n h l =
+    let most : 2 ^ k ≤ 2 ^ 20 = pow-le-pow_right (lit< tt) h in
+    lt-ltb _ _ (omega (arith, most, l))
+
+narrow_fits : (z : ℤ) → is_within (bounds 1048576 1048576) z ≡ true → FitsSigned w32 z
+narrow_fits (pos n) h = grind arith
+narrow_fits (negsuc n) h = grind arith
+
+long_fits : (z : ℤ) → is_within (bounds 1048576 1048576) z ≡ true → FitsSigned w64 z
+long_fits (pos n) h = grind arith
+long_fits (negsuc n) h = grind arith
+
+pub low_number : (s : Bool) (w n x q : ℕ) (z : ℤ) → w ≤ 5 → n < 16 ^ w → x ≡ n → q ≡ w → z ≡ number s (4 * q) x →
+    is_within (bounds 1048576 1048576) z ≡ true
+low_number s w n x q z h l e f g =
+    subst (λ y. is_within (bounds 1048576 1048576) y ≡ true) (sym g)
+    (number_low s (4 * q) x (omega (arith, f, h)) (below_power n w x q e f l))
+
+pub cast_fits : (z : ℤ) → is_within (bounds 1048576 1048576) z ≡ true → FitsSigned w32 (to_z w64 (of_z w64 z))
+cast_fits z h = subst (λ y. FitsSigned w32 y) (sym (to_z-of_z (long_fits z h))) (narrow_fits z h)
+
+pub cast_is : (z : ℤ) → is_within (bounds 1048576 1048576) z ≡ true →
+    to_z w32 (of_z w32 (to_z w64 (of_z w64 z))) ≡ z
+cast_is z h = ap (λ y. to_z w32 (of_z w32 y)) (to_z-of_z (long_fits z h)) ∙ to_z-of_z (narrow_fits z h)
