@@ -6,3 +6,6 @@ pub mod Terms
 pub mod Longest
 pub mod Filled
 pub mod Causes
+pub mod Capitals
+pub mod Keys
+pub mod Added

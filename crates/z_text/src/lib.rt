@@ -3,6 +3,7 @@
 
 mod expressions;
 mod fields;
+mod key;
 mod labels;
 mod line;
 mod number;
@@ -13,5 +14,5 @@ mod token;
 
 pub use expressions::{expression, expression_end};
 pub use labels::Labels;
-pub use line::tokens;
+pub use line::{read_tokens, tokens};
 pub use token::{ExprFault, NoMemory, TextFault, Token, TokenKind};
