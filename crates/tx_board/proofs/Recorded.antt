@@ -12,7 +12,7 @@ use Rattle.tx_meaning.specs.Turn.{happen}
 use Rattle.tx_meaning.specs.declared.outcome.Outcome.{Outcome}
 use Rattle.tx_meaning.proofs.Books.{idle_or_not, turn_booked, unready_stays}
 use Rattle.tx_meaning.proofs.IdleTurns.{outcome_tells}
-use Rattle.tx_race.specs.Shares.{recorded_by}
+use Rattle.tx_board.specs.Shares.{recorded_by}
 
 -- a CPU is ready where no outcome is kept for its turn
 none_kept : (o : Option Outcome) → is_none o ≡ true → o ≡ None
