@@ -1,5 +1,5 @@
 -- The events recorded before and behind a turn are those of the meaning.
-use Rattle.std.proofs.Common.{◌≡◌, ◌+◌, ◌∙◌, length, sym, ap}
+use Rattle.std.proofs.Common.{◌+◌, ◌∙◌, length, sym, ap}
 use Rattle.tx_journal.specs.declared.events.Event.TheVariants.{Turn}
 use Rattle.tx_machine.specs.Machine.{Seen, setting_of, state_of, event_of}
 use Rattle.tx_meaning.specs.declared.outcome.Outcome.{Outcome}
