@@ -1,3 +1,2 @@
--- How many events a turn records.
-pub mod Recorded
+-- What a machine starts from.
 pub mod Settings

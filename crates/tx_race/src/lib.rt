@@ -2,16 +2,13 @@
 //! machine, and a ledger beside it keeps how many events each thread has made.
 #![tactic(auto)]
 
-mod board;
-mod finish;
 mod gate;
 mod racing;
-mod turns;
 mod workers;
 
-pub use board::{Blank, Board, Raced, Share};
 pub use gate::{Gate, OpenGate};
 pub use racing::race;
+pub use tx_board::{Blank, Board, Raced, Share};
 
 #[cfg(test)]
 mod tests;

@@ -1,12 +1,12 @@
 //! A race: workers for all CPUs, and then the rest of the round.
 ghost use Rattle.std.specs.Prelude.{◌≡◌, ◌+◌, ◌≤◌, [], length, IfOk};
-ghost use Rattle.tx_race.specs.Shares.{IsOfSameRun, HasTurnsAlone, shares_for};
+ghost use Rattle.tx_board.specs.Shares.{IsOfSameRun, HasTurnsAlone, shares_for};
 ghost use Rattle.tx_schedule.specs.Ran.{HasNoneReady};
 
-use crate::board::{Blank, Board, Raced};
-use crate::finish::{finish_round, is_of_run, run_again};
+use tx_board::{Blank, Board, Raced};
+use tx_board::{finish_round, is_of_run, run_again};
 use crate::gate::Gate;
-use crate::turns::cpu_count;
+use tx_board::cpu_count;
 use crate::workers::{Job, jobs_of, work};
 use std::alloc::Global;
 use std::marker::Brand;

@@ -1,9 +1,9 @@
 //! The workers: each makes the turns of one CPU, one locking after the other.
 ghost use Rattle.std.specs.Prelude.{◌≡◌, ◌≤◌, IfOk, vec_len};
 
-use crate::board::{Board, Share};
+use tx_board::{Board, Share};
 use crate::gate::Gate;
-use crate::turns::cpu_count;
+use tx_board::cpu_count;
 use std::alloc::Global;
 use std::sync::ledger::Ledger;
 use std::sync::{Mutex, Wait};

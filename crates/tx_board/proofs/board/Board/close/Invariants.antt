@@ -1,6 +1,6 @@
 -- What has been merged so far: as many parts as shares, and their turns.
 use Rattle.std.proofs.Common.{◌≡◌, ◌+◌, length, sum_by}
-use Rattle.tx_race.proofs.board.Board.close.Given as goal
+use Rattle.tx_board.proofs.board.Board.close.Given as goal
 
 abbrev pub invariant-loop-share : goal.invariant-loop-share
 invariant-loop-share g l = record {

@@ -4,7 +4,7 @@ ghost use Rattle.tx_journal.specs.declared.events.Event.TheVariants.{Turn};
 ghost use Rattle.tx_machine.specs.Machine.{after, event_of, setting_of, state_of, most_events};
 ghost use Rattle.tx_meaning.specs.Idle.{is_ready};
 ghost use Rattle.tx_meaning.specs.IdleOutcomes.{is_idle_outcome};
-ghost use Rattle.tx_race.specs.Shares.{recorded_by};
+ghost use Rattle.tx_board.specs.Shares.{recorded_by};
 
 use tx_journal::Event;
 use tx_machine::Machine;

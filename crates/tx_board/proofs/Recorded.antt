@@ -1,18 +1,17 @@
 -- How many events a turn records: one where the CPU is ready, and else none.
-use Rattle.std.proofs.Common.{◌≡◌, ℕ, ◌+◌, List, [], ◌∷◌, ◌++◌, Bool, true, false, Option, Some, None, length, refl, sym}
-use Rattle.std.proofs.Common.{ap, ◌∙◌, arith, Result, Ok, Err, IfOk}
+use Rattle.std.proofs.Common.{◌≡◌, ℕ, ◌+◌, [], ◌∷◌, Bool, true, false, Option, Some, None, length, refl, sym}
+use Rattle.std.proofs.Common.{ap, ◌∙◌, arith}
 use Rattle.std.specs.Prelude.{not, is_none, if◌then◌else◌}
 use Rattle.std.proofs.lemmas.List.{length-append}
-use Rattle.tx_journal.specs.declared.events.Event.{Event}
 use Rattle.tx_journal.specs.declared.events.Event.TheVariants.{Turn}
 use Rattle.tx_meaning.specs.Idle.{idle, is_ready}
 use Rattle.tx_meaning.specs.Limits.{Setting}
 use Rattle.tx_meaning.specs.State.{State}
 use Rattle.tx_meaning.specs.Turn.{happen}
 use Rattle.tx_meaning.specs.declared.outcome.Outcome.{Outcome}
-use Rattle.tx_meaning.proofs.Books.{idle_or_not, turn_booked, unready_stays}
+use Rattle.tx_meaning.proofs.Books.{turn_booked, unready_stays}
 use Rattle.tx_meaning.proofs.IdleTurns.{outcome_tells}
-use Rattle.tx_race.specs.Shares.{recorded_by}
+use Rattle.tx_board.specs.Shares.{recorded_by}
 
 -- a CPU is ready where no outcome is kept for its turn
 none_kept : (o : Option Outcome) → is_none o ≡ true → o ≡ None

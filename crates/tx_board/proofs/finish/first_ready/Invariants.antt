@@ -2,7 +2,7 @@
 use Rattle.std.proofs.Common.{◌≡◌, ℕ, ◌<◌, ◌≤◌, false}
 use Rattle.tx_machine.specs.Machine.{setting_of, state_of}
 use Rattle.tx_meaning.specs.Idle.{is_ready}
-use Rattle.tx_race.proofs.finish.first_ready.Given as goal
+use Rattle.tx_board.proofs.finish.first_ready.Given as goal
 
 abbrev pub invariant-loop-cpu : goal.invariant-loop-cpu
 invariant-loop-cpu l =

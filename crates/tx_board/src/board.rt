@@ -5,7 +5,7 @@ ghost use Rattle.std.specs.List.{All};
 ghost use Rattle.tx_journal.specs.declared.events.Event.TheVariants.{Turn};
 ghost use Rattle.tx_machine.specs.Machine.{after, event_of, setting_of, state_of, most_events};
 ghost use Rattle.tx_meaning.specs.Idle.{is_ready};
-ghost use Rattle.tx_race.specs.Shares.{shares_for, recorded_by};
+ghost use Rattle.tx_board.specs.Shares.{shares_for, recorded_by};
 
 use crate::turns::{cpu_count, is_idle, make_turn};
 use std::alloc::Global;

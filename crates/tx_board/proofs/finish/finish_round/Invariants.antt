@@ -1,8 +1,8 @@
 -- Each turn of the round records an event, and only so many can be recorded.
 use Rattle.std.proofs.Common.{◌-◌, length}
 use Rattle.tx_machine.specs.Machine.{most_events, setting_of}
-use Rattle.tx_race.specs.Shares.{IsOfSameRun}
-use Rattle.tx_race.proofs.finish.finish_round.Given as goal
+use Rattle.tx_board.specs.Shares.{IsOfSameRun}
+use Rattle.tx_board.proofs.finish.finish_round.Given as goal
 
 abbrev pub invariant-loop-cpu : goal.invariant-loop-cpu
 invariant-loop-cpu g l = IsOfSameRun l.initial.board.machine l.board.machine

@@ -1,7 +1,7 @@
 -- The parts that are left, and the shares that are made.
 use Rattle.std.proofs.Common.{◌≡◌, ◌+◌, vec_len}
 use Rattle.std.specs.List.{All}
-use Rattle.tx_race.proofs.board.shares_of.Given as goal
+use Rattle.tx_board.proofs.board.shares_of.Given as goal
 
 abbrev pub invariant-loop-number : goal.invariant-loop-number
 invariant-loop-number g l = record {

@@ -3,7 +3,7 @@ ghost use Rattle.std.specs.Prelude.{◌≡◌, ℕ, ◌+◌, ◌<◌, ◌≤◌,
 ghost use Rattle.std.specs.Arc.{arc_value};
 ghost use Rattle.tx_machine.specs.Machine.{opened, setting_of, state_of};
 ghost use Rattle.tx_meaning.specs.Idle.{is_ready};
-ghost use Rattle.tx_race.specs.Shares.{IsOfSameRun};
+ghost use Rattle.tx_board.specs.Shares.{IsOfSameRun};
 ghost use Rattle.tx_schedule.specs.Ran.{HasNoneReady};
 
 use crate::board::{Board, Raced, Share};

@@ -1,0 +1,2 @@
+-- How many events a turn records.
+pub mod Recorded
