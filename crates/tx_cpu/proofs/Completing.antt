@@ -1,58 +1,27 @@
 -- What is kept of a CPU after an instruction outside transactions.
-use Rattle.std.proofs.Common.{◌≡◌, ℕ, Bool, true, false, List, [], Option, None, refl, sym, ap, ◌∙◌, arith}
-use Rattle.std.specs.Prelude.{nat_lt, nat_eq, codes}
-use Rattle.std.proofs.lemmas.Bool.Decides.{nat_tests}
+use Rattle.std.proofs.Common.{◌≡◌, ℕ, false, List, [], Option, None, sym, ap, ◌∙◌}
+use Rattle.std.specs.Prelude.{nat_lt}
 use Rattle.z_regs.specs.Cpu.{Cpu}
 use Rattle.z_regs.specs.declared.ranges.Range.{Range}
 use Rattle.z_regs.specs.declared.waiting.Waiting.{Waiting}
 use Rattle.z_instr.specs.declared.instr.Instr.{Instr}
-use Rattle.z_instr.specs.Table.{entry_at}
 use Rattle.z_effect.specs.After.{cpu_after, exception}
 use Rattle.z_effect.specs.One.{length_of}
 use Rattle.z_effect.specs.Outcome.{Outcome, Did, Overflowed, Divides, Aborts}
 use Rattle.z_effect.specs.Interrupted.{cpu_outside, with_interruption, interrupted_by}
 use Rattle.tx_control.specs.Codes.{fixed_point_overflow_code, fixed_point_divide_code}
-use Rattle.tx_serial.specs.Flat.{Storage, laid_over, operand_stores}
+use Rattle.tx_serial.specs.Flat.{Storage}
 use Rattle.tx_serial.specs.Remains.{waiting_with}
-use Rattle.tx_progress.proofs.Rows.{any_row}
 use Rattle.tx_progress.specs.Progress.{resting}
 use Rattle.tx_progress.specs.Doing.{Executed, outside, done_outside, told_of}
 use Rattle.z_effect.specs.TransactionEffect.{delay_given}
 use Rattle.tx_progress.specs.declared.done.Done.{Done}
 use Rattle.tx_cpu.specs.declared.performing.Ended.{Ended}
-use Rattle.tx_cpu.specs.declared.performing.Ended.TheVariants as ended
-use Rattle.tx_cpu.specs.Performed.{ended_of, outcome_from, trimmed, first_size, StoresFirst}
-use Rattle.tx_cpu.specs.Performed.{waiting_outside, storage_outside}
+use Rattle.tx_cpu.specs.Performed.{ended_of, outcome_from, waiting_outside, storage_left, IsLeftOutside}
 use Rattle.tx_cpu.specs.Tracked.{progress}
 use Rattle.tx_cpu.specs.Parts.{Parts, local_of, beside, storage_of}
 use Rattle.tx_cpu.proofs.Ends.{cpu-rests}
 use Rattle.tx_cpu.proofs.Resting.{local-rests}
-use Rattle.tx_cpu.proofs.Stored.{trimmed-stores}
-
--- ---- how the instruction ended
-
-pub ended-back : (e : Ended) (c : Cpu) (bytes : List ℕ) → ended_of (outcome_from e c bytes) ≡ e
-ended-back ended.Completed c bytes = refl
-ended-back ended.Exceeded c bytes = refl
-ended-back ended.Suppressed c bytes = refl
-ended-back (ended.Aborting code) c bytes = refl
-
-pub ended-trimmed : (n : ℕ) (o : Outcome) → ended_of (trimmed n o) ≡ ended_of o
-ended-trimmed n (Did c bytes) = refl
-ended-trimmed n (Overflowed c bytes) = refl
-ended-trimmed n Divides = refl
-ended-trimmed n (Aborts code) = refl
-
--- it ended as its outcome says
-pub ended-so : (e : Ended) (c : Cpu) (bytes : List ℕ) (n : ℕ) (o : Outcome)
-    → outcome_from e c bytes ≡ trimmed n o → e ≡ ended_of o
-ended-so e c bytes n o h = sym (ended-back e c bytes) ∙ ap ended_of h ∙ ended-trimmed n o
-
-abbrev pub stored_in : Outcome → List ℕ
-stored_in (Did c bytes) = bytes
-stored_in (Overflowed c bytes) = bytes
-stored_in Divides = []
-stored_in (Aborts code) = []
 
 -- ---- what is left and told
 
@@ -95,13 +64,12 @@ unchanged-is p old d live rests =
       told = told_of (same j).state d;
     }
 
-outside-by : (p : Parts) (i : Instr) (need : List Range) (o : Outcome) (c image : Cpu) (bytes : List ℕ)
+outside-by : (p : Parts) (i : Instr) (need : List Range) (o : Outcome) (c image : Cpu)
     (w : Option Waiting) (old new : List ℕ) (told : Done) (turns : ℕ) → nat_lt 0 p.attempt.count ≡ false
-    → ((x : Cpu) → progress p.attempt x ≡ resting x) → StoresFirst need
-    → outcome_from (ended_of o) c bytes ≡ trimmed (first_size need) o → c ≡ cpu_after p.image o
+    → ((x : Cpu) → progress p.attempt x ≡ resting x) → c ≡ cpu_after p.image o
     → image ≡ cpu_outside (length_of i) c (outcome_from (ended_of o) c [])
     → w ≡ waiting_outside image.prefix (length_of i) (ended_of o) p.waiting
-    → storage_of new ≡ storage_outside p.image.prefix need (ended_of o) bytes (storage_of old)
+    → storage_of new ≡ storage_left p.image.prefix need o (storage_of old)
     → turns ≡ delay_given i p.image → told ≡ told_of image.state turns
     → ◌≡◌ {A = Executed} (record {
       after = beside
@@ -109,27 +77,18 @@ outside-by : (p : Parts) (i : Instr) (need : List Range) (o : Outcome) (c image 
       told = told;
     })
     (done_outside i (beside p old) (outside i need (beside p old) o))
-outside-by p i need (Did x all) c image bytes w old new told turns live rests first eo ec ei ew es ed et =
-    let stored : storage_of new ≡ laid_over (storage_of old) (operand_stores p.image.prefix need all) =
-    es ∙ ap (λ (bs : List ℕ). laid_over (storage_of old) (operand_stores p.image.prefix need bs))
-    (ap stored_in eo)
-    ∙ ap (laid_over (storage_of old)) (trimmed-stores p.image.prefix need all first) in
-    after-is p image x w p.waiting new _ told turns (delay_given i (local_of p).cpu) rests (ei ∙ ec) ew stored
+outside-by p i need (Did x all) c image w old new told turns live rests ec ei ew es ed et =
+    after-is p image x w p.waiting new _ told turns (delay_given i (local_of p).cpu) rests (ei ∙ ec) ew es
     (ed ∙ ap (delay_given i) (sym (cpu-rests p live))) et
-outside-by p i need (Overflowed x all) c image bytes w old new told turns live rests first eo ec ei ew es ed
-    et =
-    let stored : storage_of new ≡ laid_over (storage_of old) (operand_stores p.image.prefix need all) =
-    es ∙ ap (λ (bs : List ℕ). laid_over (storage_of old) (operand_stores p.image.prefix need bs))
-    (ap stored_in eo)
-    ∙ ap (laid_over (storage_of old)) (trimmed-stores p.image.prefix need all first) in
+outside-by p i need (Overflowed x all) c image w old new told turns live rests ec ei ew es ed et =
     let same : image ≡ with_interruption fixed_point_overflow_code x =
     ei ∙ ap (with_interruption fixed_point_overflow_code) ec in
     let waits : w ≡ waiting_with x.prefix (length_of i) None =
     ew ∙ ap (λ (y : Cpu). waiting_with y.prefix (length_of i) None) same in
     after-is p image (with_interruption fixed_point_overflow_code x) w _ new _ told turns
-    (delay_given i (local_of p).cpu) rests same waits stored
+    (delay_given i (local_of p).cpu) rests same waits es
     (ed ∙ ap (delay_given i) (sym (cpu-rests p live))) et
-outside-by p i need Divides c image bytes w old new told turns live rests first eo ec ei ew es ed et =
+outside-by p i need Divides c image w old new told turns live rests ec ei ew es ed et =
     let e = exception fixed_point_divide_code (length_of i) in
     let same : image ≡ interrupted_by e (local_of p).cpu =
     ei ∙ ap (interrupted_by e) (ec ∙ sym (cpu-rests p live)) in
@@ -138,18 +97,17 @@ outside-by p i need Divides c image bytes w old new told turns live rests first 
     after-is p image (interrupted_by e (local_of p).cpu) w _ new _ told turns
     (delay_given i (local_of p).cpu) rests same waits es
     (ed ∙ ap (delay_given i) (sym (cpu-rests p live))) et
-outside-by p i need (Aborts code) c image bytes w old new told turns live rests first eo ec ei ew es ed et =
+outside-by p i need (Aborts code) c image w old new told turns live rests ec ei ew es ed et =
     after-is p image p.image w p.waiting new (storage_of old) told turns (delay_given i
     (local_of p).cpu) rests
     (ei ∙ ec) ew es (ed ∙ ap (delay_given i) (sym (cpu-rests p live))) et
     ∙ unchanged-is p old (delay_given i (local_of p).cpu) live rests
 
 pub outside-is : (p : Parts) (i : Instr) (need : List Range) (o : Outcome) (e : Ended) (c image : Cpu)
-    (bytes : List ℕ) (w : Option Waiting) (old new : List ℕ) (told : Done) (turns n : ℕ)
-    → nat_lt 0 p.attempt.count ≡ false → ((x : Cpu) → progress p.attempt x ≡ resting x) → StoresFirst need
-    → outcome_from e c bytes ≡ trimmed (first_size need) o → c ≡ cpu_after p.image o → n ≡ length_of i
+    (w : Option Waiting) (old new : List ℕ) (told : Done) (turns n : ℕ)
+    → nat_lt 0 p.attempt.count ≡ false → ((x : Cpu) → progress p.attempt x ≡ resting x)
+    → IsLeftOutside need p.image c old new e o → n ≡ length_of i
     → image ≡ cpu_outside n c (outcome_from e c []) → w ≡ waiting_outside image.prefix n e p.waiting
-    → storage_of new ≡ storage_outside p.image.prefix need e bytes (storage_of old)
     → turns ≡ delay_given i p.image → told ≡ told_of image.state turns
     → ◌≡◌ {A = Executed} (record {
       after = beside
@@ -157,10 +115,7 @@ pub outside-is : (p : Parts) (i : Instr) (need : List Range) (o : Outcome) (e : 
       told = told;
     })
     (done_outside i (beside p old) (outside i need (beside p old) o))
-outside-is p i need o e c image bytes w old new told turns n live rests first eo ec en ei ew es ed et =
-    let ee : e ≡ ended_of o = ended-so e c bytes (first_size need) o eo in
-    outside-by p i need o c image bytes w old new told turns live rests first
-    (sym (ap (λ (x : Ended). outcome_from x c bytes) ee) ∙ eo) ec
-    (ei ∙ (λ j. cpu_outside (en j) c (outcome_from (ee j) c [])))
-    (ew ∙ (λ j. waiting_outside image.prefix (en j) (ee j) p.waiting))
-    (es ∙ ap (λ (x : Ended). storage_outside p.image.prefix need x bytes (storage_of old)) ee) ed et
+outside-is p i need o e c image w old new told turns n live rests left en ei ew ed et =
+    outside-by p i need o c image w old new told turns live rests left.image
+    (ei ∙ (λ j. cpu_outside (en j) c (outcome_from (left.told j) c [])))
+    (ew ∙ (λ j. waiting_outside image.prefix (en j) (left.told j) p.waiting)) left.storage ed et

@@ -36,7 +36,7 @@ use Rattle.tx_cpu.specs.declared.performing.Ended.TheVariants as ended
 use Rattle.tx_cpu.specs.Performed.{outcome_from, trimmed, first_size, StoresFirst}
 use Rattle.tx_cpu.specs.Tracked.{Tracked, progress}
 use Rattle.tx_cpu.specs.Parts.{Parts, local_of, beside, storage_of}
-use Rattle.tx_cpu.proofs.Completing.{stored_in}
+use Rattle.tx_cpu.proofs.Laying.{stored_in}
 use Rattle.tx_cpu.proofs.Resting.{local-rests}
 use Rattle.tx_cpu.proofs.Stored.{trimmed-stores}
 

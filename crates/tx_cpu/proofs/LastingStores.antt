@@ -24,7 +24,7 @@ use Rattle.tx_cpu.specs.declared.performing.Ended.{Ended}
 use Rattle.tx_cpu.specs.Gathered.{IsDoubleword}
 use Rattle.tx_cpu.specs.Going.{IsStoredDoubleword}
 use Rattle.tx_cpu.specs.Performed.{outcome_from, trimmed, first_size}
-use Rattle.tx_cpu.proofs.Completing.{ended-so, stored_in}
+use Rattle.tx_cpu.proofs.Laying.{ended-so, stored_in}
 
 abbrev is_lasting : Transaction → Bool
 is_lasting transaction.StoreLasting = true

@@ -9,6 +9,9 @@ pub mod Effects
 pub mod SmallCodes
 pub mod Agreeing
 pub mod Stored
+pub mod Returning
+pub mod Lent
+pub mod Laying
 pub mod Completing
 pub mod Beginnings
 pub mod GatheredBlocks

@@ -82,7 +82,7 @@ first-size (r ∷ rs) h = let rest = none-size rs h in omega arith
 
 -- ---- what is found there
 
-none-written : (rs : List Range) (bytes s : List ℕ) → StoresNone rs
+pub none-written : (rs : List Range) (bytes s : List ℕ) → StoresNone rs
     → with_stored (map span_of rs) bytes s ≡ s
 none-written [] bytes s h = refl
 none-written (r ∷ rs) bytes s h =

@@ -17,6 +17,7 @@ use Rattle.tx_control.specs.declared.exceptions.Exception.{Exception}
 use Rattle.z_regs.specs.declared.waiting.Waiting.{Waiting}
 use Rattle.tx_serial.specs.Flat.{Storage, laid_over, operand_stores}
 use Rattle.tx_serial.specs.Remains.{waiting_with}
+use Rattle.tx_cpu.specs.Parts.{storage_of}
 use Rattle.tx_cpu.specs.declared.performing.Ended.{Ended}
 use Rattle.tx_cpu.specs.declared.performing.Ended.TheVariants as ended
 
@@ -57,6 +58,10 @@ outcome_from (ended.Aborting code) c bytes = outcome.Aborts code
 abbrev pub first_size : List Range → ℕ
 first_size [] = 0
 first_size (r ∷ rs) = cond r.store r.length 0
+
+-- the operand that is not there
+abbrev pub no_range : Range
+no_range = record { first = 0; length = 0; store = false }
 
 -- each byte of a range is that of storage, by real addresses
 abbrev pub IsFetched : Option ℕ → Storage → List ℕ → Range → Type 0
@@ -103,6 +108,20 @@ waiting_outside prefix n ended.Completed before = before
 waiting_outside prefix n ended.Exceeded before = waiting_with prefix n None
 waiting_outside prefix n ended.Suppressed before = waiting_with prefix n None
 waiting_outside prefix n (ended.Aborting code) before = before
+
+-- storage after its outcome
+abbrev pub storage_left : Option ℕ → List Range → Outcome → Storage → Storage
+storage_left prefix ranges (Did c bytes) s = laid_over s (operand_stores prefix ranges bytes)
+storage_left prefix ranges (Overflowed c bytes) s = laid_over s (operand_stores prefix ranges bytes)
+storage_left prefix ranges Divides s = s
+storage_left prefix ranges (Aborts code) s = s
+
+-- outside transactions, an instruction has ended as its outcome says, and has left the CPU and storage so
+pub record IsLeftOutside (ranges : List Range) (old new : Cpu) (s t : List ℕ) (e : Ended) (o : Outcome)
+    : Type 0 where
+  pub told : e ≡ ended_of o
+  pub image : new ≡ cpu_after old o
+  pub storage : storage_of t ≡ storage_left old.prefix ranges o (storage_of s)
 
 -- storage after it, with the bytes of its operands that are stored
 abbrev pub storage_outside : Option ℕ → List Range → Ended → List ℕ → Storage → Storage

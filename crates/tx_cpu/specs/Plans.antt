@@ -5,7 +5,7 @@ use Rattle.z_instr.specs.declared.instr.Instr.{Instr}
 use Rattle.tx_control.specs.declared.causes.Why.{Why}
 use Rattle.tx_control.specs.declared.causes.Why.TheVariants.{Program}
 use Rattle.tx_serial.specs.Fate.{Fate, Goes, Ends, Stops}
-use Rattle.tx_serial.specs.Flat.{Storage, Pending}
+use Rattle.tx_serial.specs.Flat.{Storage}
 use Rattle.tx_serial.specs.Remains.{aborted_bit}
 use Rattle.tx_progress.specs.Progress.{Progress, is_live}
 use Rattle.tx_progress.specs.Trial.{fate_by_progress}

@@ -1,5 +1,4 @@
-//! One CPU: its registers, its attempt, the block that is pending for it and the interruption that it has
-//! still
+//! One CPU: its registers, its attempt, the block that is pending for it and the interruption that it has still
 //! to take. Each call is one equation with the definitions of tx_progress.
 #![tactic(auto)]
 
@@ -8,6 +7,7 @@ mod attempt;
 mod gathering;
 mod interruption;
 pub mod laws;
+mod lending;
 mod one;
 mod outside;
 mod pending;

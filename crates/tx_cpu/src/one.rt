@@ -23,7 +23,7 @@ ghost use Rattle.tx_cpu.specs.Same.{AreSameAttempts};
 
 use crate::attempt::Attempt;
 use crate::interruption::{leave, load, store, waiting_after, waiting_with};
-use crate::outside::{delay_after, end_outside, store_outside, told, wait_outside};
+use crate::outside::{delay_after, end_outside, perform_outside, told, wait_outside};
 use crate::pending::{Block, pending_after};
 use crate::performing::{Ended, MOST_BYTES, perform};
 use crate::plan::{Plan, next_plan};
@@ -42,11 +42,10 @@ use z_instr::format::length_in;
 use z_instr::instr::Instr;
 use z_instr::lookup::line;
 use z_instr::roles::{begins, is_end};
-use z_regs::{Bytes, CpuImage, NoMemory, STORAGE_SIZE, Storage, Touches, Waiting};
+use z_regs::{Bytes, CpuImage, NoMemory, Touches, Waiting};
 
 /// One CPU. Contracts speak of what is kept of it (`local_of`): the CPU as the history leaves it, its
-/// attempt, the block that is pending for it and the interruption that waits. The bytes of operands are
-/// brought into a storage of its own, in which nothing lasts.
+/// attempt, the block that is pending for it and the interruption that waits.
 #[derive(Drop)]
 pub struct Cpu {
     image: CpuImage,
@@ -54,7 +53,6 @@ pub struct Cpu {
     attempt: Attempt,
     pending: Option<Block>,
     waiting: Option<Waiting>,
-    scratch: Storage,
 }
 
 impl Model for Cpu {
@@ -81,16 +79,12 @@ impl Cpu {
     pub fn open(alloc: Global, start: CpuImage) -> Result<Cpu, NoMemory>
         ensures { IfOk result (λ cpu. local_of cpu ≡ settled (cpu_of start)) }
     {
-        let Ok(zeros) = vec![in alloc; 0u8; STORAGE_SIZE as usize] else {
-            return Err(NoMemory);
-        };
         Ok(Cpu {
             image: start,
             saved: start,
             attempt: Attempt::open(alloc)?,
             pending: None,
             waiting: None,
-            scratch: Storage::open(alloc, zeros.as_slice())?,
         })
     }
 
@@ -194,27 +188,16 @@ impl Cpu {
         ensures size { length (V.bytes base.new) ≡ storage_size }
     {
         self.attempt.is_sound();
-        let prefix = self.image.prefix;
         let turns = delay_after(instr, &self.image);
         let length = length_in(line(instr.op).format);
-        let mut stored = [0; MOST_BYTES];
-        let ended = perform(
-            &self.attempt,
-            instr,
-            need,
-            &mut self.image,
-            &mut self.scratch,
-            &mut stored,
-            base,
-        );
-        store_outside(need, ended, &stored, prefix, base);
+        let ended = perform_outside(&self.attempt, instr, need, &mut self.image, base);
         end_outside(&mut self.image, ended, length);
         wait_outside(&mut self.waiting, self.image.prefix, length, ended);
         told(self.image.state, turns)
     }
 
     /// Executes the outermost begin.
-    fn execute_begin<V: Bytes>(&mut self, instr: &Instr, need: &Touches, base: &V) -> Done
+    fn execute_begin<V: Bytes>(&mut self, instr: &Instr, need: &Touches, base: &mut V) -> Done
         requires rests { is_live (local_of self.old).attempt ≡ false }
         requires begins { is_begun (entry_at instr.now.op.number) ≡ true }
         requires need { need.now ≡ operands instr.now (local_of self.old).attempt.cpu }
@@ -222,10 +205,11 @@ impl Cpu {
         requires block { (a : ℕ) → block_named instr.now (local_of self.old).attempt.cpu.general ≡ Some a
             → a + 256 ≤ storage_size }
         requires place { (local_of self.old).attempt.cpu.address < storage_size }
-        requires size { length (V.bytes base.now) ≡ storage_size }
-        ensures { record { after = beside self.new (V.bytes base.now); told = result } ≡
-            executed_where false true instr.now need.now (beside self.old (V.bytes base.now))
-            (outcome_by (storage_of (V.bytes base.now)) instr.now need.now (local_of self.old).attempt) }
+        requires size { length (V.bytes base.old) ≡ storage_size }
+        ensures value { record { after = beside self.new (V.bytes base.new); told = result } ≡
+            executed_where false true instr.now need.now (beside self.old (V.bytes base.old))
+            (outcome_by (storage_of (V.bytes base.old)) instr.now need.now (local_of self.old).attempt) }
+        ensures size { length (V.bytes base.new) ≡ storage_size }
     {
         self.attempt.is_sound();
         let before = self.image;
@@ -235,7 +219,6 @@ impl Cpu {
             instr,
             need,
             &mut self.image,
-            &mut self.scratch,
             &mut stored,
             base,
         );
@@ -272,7 +255,6 @@ impl Cpu {
             instr,
             need,
             &mut self.image,
-            &mut self.scratch,
             &mut stored,
             base,
         );

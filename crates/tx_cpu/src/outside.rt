@@ -1,17 +1,23 @@
 //! What an instruction outside transactions leaves and tells.
 ghost use Rattle.std.specs.Prelude.{◌≡◌, [], take, All, IsTrue, length};
+ghost use Rattle.z_regs.specs.Cpu.{Cpu};
 ghost use Rattle.z_regs.specs.Cpu.{cpu_of};
 ghost use Rattle.z_regs.specs.Prefix.{is_prefix, storage_size};
 ghost use Rattle.z_regs.specs.Absolute.{IsAccessible};
 ghost use Rattle.z_effect.specs.Interrupted.{cpu_outside};
+ghost use Rattle.tx_serial.specs.Fate.{operands};
+ghost use Rattle.tx_progress.specs.Progress.{resting};
+ghost use Rattle.tx_progress.specs.Trial.{outcome_by};
 ghost use Rattle.tx_progress.specs.Doing.{told_of};
 ghost use Rattle.z_effect.specs.TransactionEffect.{delay_given};
 ghost use Rattle.tx_cpu.specs.Parts.{storage_of};
 ghost use Rattle.tx_cpu.specs.Performed.{outcome_from, first_size, StoresFirst};
-ghost use Rattle.tx_cpu.specs.Performed.{waiting_outside as waits_outside, storage_outside};
+ghost use Rattle.tx_cpu.specs.Performed.{waiting_outside as waits_outside, storage_outside, IsLeftOutside};
+ghost use Rattle.tx_cpu.specs.Tracked.{progress};
 
+use crate::attempt::Attempt;
 use crate::interruption::waiting_with;
-use crate::performing::{Ended, MOST_BYTES};
+use crate::performing::{Ended, MOST_BYTES, execute_plain, perform, transaction_of};
 use crate::storing::put_stored;
 use tx_control::codes::{FIXED_POINT_DIVIDE, FIXED_POINT_OVERFLOW};
 use tx_progress::done::Done;
@@ -74,7 +80,7 @@ pub fn wait_outside(waiting: &mut Option<Waiting>, prefix: Option<u32>, length: 
 }
 
 /// Stores what the instruction stores; nothing where it is suppressed.
-pub fn store_outside<V: Bytes>(
+fn store_outside<V: Bytes>(
     need: &Touches,
     ended: Ended,
     stored: &[u8; MOST_BYTES],
@@ -95,4 +101,52 @@ pub fn store_outside<V: Bytes>(
         Ended::Suppressed => {}
         Ended::Aborting(_) => {}
     }
+}
+
+/// Performs an instruction on the bytes of its operands, and then stores what it stores.
+fn perform_apart<V: Bytes>(
+    attempt: &Attempt,
+    instr: &Instr,
+    need: &Touches,
+    image: &mut CpuImage,
+    base: &mut V,
+) -> Ended
+    requires rests { (c : Cpu) → progress attempt.now c ≡ resting c }
+    requires need { need.now ≡ operands instr.now (cpu_of image.old) }
+    requires accessible { All (IsAccessible image.old.prefix) need.now }
+    requires size { length (V.bytes base.old) ≡ storage_size }
+    ensures left { IsLeftOutside need.now (cpu_of image.old) (cpu_of image.new) (V.bytes base.old)
+        (V.bytes base.new) result (outcome_by (storage_of (V.bytes base.old)) instr.now need.now
+        (resting (cpu_of image.old))) }
+    ensures size { length (V.bytes base.new) ≡ storage_size }
+{
+    let prefix = image.prefix;
+    let mut stored = [0; MOST_BYTES];
+    let ended = perform(attempt, instr, need, image, &mut stored, base);
+    store_outside(need, ended, &stored, prefix, base);
+    ended
+}
+
+/// Performs an instruction outside transactions and stores what it stores. A CPU without a prefix sees storage
+/// as it is, so there the instruction is executed on storage itself.
+pub fn perform_outside<V: Bytes>(
+    attempt: &Attempt,
+    instr: &Instr,
+    need: &Touches,
+    image: &mut CpuImage,
+    base: &mut V,
+) -> Ended
+    requires rests { (c : Cpu) → progress attempt.now c ≡ resting c }
+    requires need { need.now ≡ operands instr.now (cpu_of image.old) }
+    requires accessible { All (IsAccessible image.old.prefix) need.now }
+    requires size { length (V.bytes base.old) ≡ storage_size }
+    ensures left { IsLeftOutside need.now (cpu_of image.old) (cpu_of image.new) (V.bytes base.old)
+        (V.bytes base.new) result (outcome_by (storage_of (V.bytes base.old)) instr.now need.now
+        (resting (cpu_of image.old))) }
+    ensures size { length (V.bytes base.new) ≡ storage_size }
+{
+    if image.prefix.is_some() || transaction_of(instr.op).is_some() {
+        return perform_apart(attempt, instr, need, image, base);
+    }
+    execute_plain(instr, need, image, base)
 }

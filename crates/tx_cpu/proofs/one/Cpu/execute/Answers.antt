@@ -63,7 +63,7 @@ returns-then-begins-clause-value g c =
     let quiet : nat_lt 0 c.args.self.now.attempt.count ≡ false =
     sym (ap (λ (p : Parts). nat_lt 0 p.attempt.count) c.self.view_is) ∙ sym c.is_live.ensures
     ∙ c.if-is_live.false in
-    c.execute_begin.ensures
+    c.execute_begin.ensures.value
     ∙ sym (executed_is c.args.instr.now c.args.need.now
     (beside c.args.self.now (g.V.Bytes.bytes c.args.base.now)) false true quiet
     (sym c.begins.ensures ∙ c.if-begins.true))

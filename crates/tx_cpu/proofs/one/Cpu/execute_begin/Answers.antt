@@ -14,8 +14,8 @@ use Rattle.tx_cpu.proofs.Beginnings.{began-is}
 use Rattle.tx_cpu.proofs.Ends.{none_of}
 use Rattle.tx_cpu.proofs.one.Cpu.execute_begin.Goals as goal
 
-pub returns : goal.returns
-returns g c =
+pub returns-clause-value : goal.returns-clause-value
+returns-clause-value g c =
     let p = the_view c.self.inside in
     let i = c.args.instr.now in
     let need = c.args.need.now in
@@ -23,7 +23,7 @@ returns g c =
     ap (λ (q : Parts). nat_lt 0 q.attempt.count) c.self.view_is ∙ c.requires.rests in
     let role : (begins (entry_at i.op.number) || is_end (entry_at i.op.number)) ≡ true =
     or_left (begins (entry_at i.op.number)) (is_end (entry_at i.op.number)) c.requires.begins in
-    rw (← c.self.view_is)
+    rw (← c.self.view_is, c.perform.ensures.same)
     (began-is p i need
     (outcome_by (storage_of (g.V.Bytes.bytes c.args.base.now)) i need (progress p.attempt p.image)) _ _ _
     (role_done i p.image _ _ role) live (c.is_sound.ensures.rests (none_of _ live))

@@ -1,5 +1,5 @@
 -- What an instruction inside a transaction leaves and tells.
-use Rattle.std.proofs.Common.{◌≡◌, ◌+◌, ◌<◌, true, refl, ap, sym, subst, ◌∙◌, length, take}
+use Rattle.std.proofs.Common.{◌≡◌, ◌+◌, ◌<◌, List, ℕ, true, refl, ap, sym, subst, ◌∙◌, length, take}
 use Rattle.std.proofs.Common.{arith}
 use Rattle.std.specs.Prelude.{◌&&◌, nat_lt, nat_eq}
 use Rattle.std.proofs.lemmas.Bool.{and_parts}
@@ -11,6 +11,8 @@ use Rattle.z_instr.specs.Table.{Entry, entry_at}
 use Rattle.z_effect.specs.After.{exception}
 use Rattle.tx_control.specs.Codes.{fixed_point_overflow_code, fixed_point_divide_code}
 use Rattle.tx_serial.specs.Fate.{cause_in}
+use Rattle.store_cache.specs.Entries.{stores_of}
+use Rattle.tx_progress.specs.Progress.{seen_through}
 use Rattle.tx_progress.specs.Trial.{outcome_by}
 use Rattle.tx_cpu.specs.Going.{MayGo}
 use Rattle.tx_cpu.specs.Performed.{StoresFirst, first_size}
@@ -49,7 +51,9 @@ returns-then-is_last-clause-value g c =
     (cpu_of c.perform-ended.new.image) c.perform-ended.new.stored _ _ _ _ parts.0
     (equal-so (length p.attempt.nest) 1 parts.1)
     (c.requires.goes.operands_are ∙ end-bare i c.args.self.now.image parts.0)
-    c.in-Completed.ensures.value c.commit.ensures.rests c.commit.ensures.bytes
+    c.in-Completed.ensures.value c.commit.ensures.rests
+    (c.commit.ensures.bytes ∙ ap (λ (b : List ℕ). seen_through (stores_of p.attempt.stores).overlay
+    (storage_of b)) c.perform-ended.ensures.same)
     (ap (λ n. n + 1) c.count-count.ensures))
 
 pub returns-else-is_last-clause-value : goal.returns-else-is_last-clause-value
@@ -61,7 +65,7 @@ returns-else-is_last-clause-value g c =
     ap (λ (q : Parts). nat_lt 0 q.attempt.count) c.self.view_is ∙ c.requires.live in
     let first : StoresFirst need =
     subst StoresFirst (sym c.requires.goes.operands_are) (operands-first i c.args.self.now.image) in
-    rw (← c.self.view_is)
+    rw (← c.self.view_is, c.perform-ended.ensures.same)
     (stepped-is p i need
     (outcome_by (storage_of (g.V.Bytes.bytes c.args.base.now)) i need (progress p.attempt p.image))
     (cpu_of c.perform-ended.new.image) c.perform-ended.new.stored c.advance.new.self _ live
@@ -79,7 +83,7 @@ returns-in-Exceeded-clause-value g c =
     subst StoresFirst (sym c.requires.goes.operands_are) (operands-first i c.args.self.now.image) in
     let length = c.length_in-length.ensures ∙ ap (λ (e : Entry). format_length e.format) c.line.ensures.row in
     let raised = c.exception-overflow.ensures ∙ ap (exception fixed_point_overflow_code) length in
-    rw (← c.self.view_is)
+    rw (← c.self.view_is, c.perform-ended.ensures.same)
     (exceeded-is p i need
     (outcome_by (storage_of (g.V.Bytes.bytes c.args.base.now)) i need (progress p.attempt p.image))
     (cpu_of c.perform-ended.new.image) c.perform-ended.new.stored c.advance-in-Exceeded.new.self _
@@ -96,7 +100,7 @@ returns-in-Suppressed-clause-value g c =
     ap (λ (q : Parts). nat_lt 0 q.attempt.count) c.self.view_is ∙ c.requires.live in
     let length = c.length_in-length.ensures ∙ ap (λ (e : Entry). format_length e.format) c.line.ensures.row in
     let raised = c.exception-divide.ensures ∙ ap (exception fixed_point_divide_code) length in
-    rw (← c.self.view_is)
+    rw (← c.self.view_is, c.perform-ended.ensures.same)
     (suppressed-is p i need
     (outcome_by (storage_of (g.V.Bytes.bytes c.args.base.now)) i need (progress p.attempt p.image))
     (cpu_of c.perform-ended.new.image) (cpu_of c.perform-ended.new.image)
@@ -111,7 +115,7 @@ returns-in-Aborting-clause-value g c =
     let need = c.args.need.now in
     let live : nat_lt 0 c.self.inside.attempt.count ≡ true =
     ap (λ (q : Parts). nat_lt 0 q.attempt.count) c.self.view_is ∙ c.requires.live in
-    rw (← c.self.view_is)
+    rw (← c.self.view_is, c.perform-ended.ensures.same)
     (aborting-is p i need
     (outcome_by (storage_of (g.V.Bytes.bytes c.args.base.now)) i need (progress p.attempt p.image))
     (cpu_of c.perform-ended.new.image) (cpu_of c.perform-ended.new.image)

@@ -1,0 +1,56 @@
+//! Storage lends the places of operands to an attempt: while an instruction is performed, the bytes that the attempt
+//! sees there stand in storage, and then those of storage come back.
+ghost use Rattle.std.specs.Prelude.{◌≡◌, ◌≤◌, ◌+◌, length, take, drop, slice_get, get_or, IsTrue, All};
+ghost use Rattle.z_regs.specs.Prefix.{is_prefix, storage_size};
+ghost use Rattle.z_regs.specs.Absolute.{IsAccessible};
+ghost use Rattle.z_effect.specs.After.{range_at, written};
+ghost use Rattle.store_cache.specs.Entries.{stores_of};
+ghost use Rattle.tx_serial.specs.Flat.{bytes_seen};
+ghost use Rattle.tx_progress.specs.Progress.{seen_through};
+ghost use Rattle.tx_cpu.specs.Parts.{storage_of};
+ghost use Rattle.tx_cpu.specs.Performed.{no_range};
+
+use crate::attempt::Attempt;
+use z_regs::{Bytes, Range, Touches, place_of};
+
+/// The operand with that number; no bytes where there is none.
+pub fn operand(need: &Touches, number: u8) -> Range
+    ensures { result ≡ get_or need.now number no_range }
+{
+    if number < need.count() {
+        return need.at(number);
+    }
+    Range {
+        first: 0,
+        length: 0,
+        store: false,
+    }
+}
+
+/// The bytes that the attempt sees from a real address on.
+pub fn see<V: Bytes>(attempt: &Attempt, bytes: &mut [u8], first: u64, prefix: Option<u32>, base: &V)
+    requires prefix_in { IsTrue (is_prefix prefix) }
+    requires end { first + length bytes.old ≤ storage_size }
+    requires size { length (V.bytes base.now) ≡ storage_size }
+    ensures { bytes.new ≡ bytes_seen prefix (seen_through (stores_of attempt.now.stores).overlay
+        (storage_of (V.bytes base.now))) first (length bytes.old) }
+{
+    for k in 0..bytes.len() {
+        bytes[k] = attempt.seen(place_of(prefix, first + k as u64), base);
+    }
+}
+
+/// The bytes change places with those of storage from an address on.
+pub fn exchange<V: Bytes>(bytes: &mut [u8], first: u64, base: &mut V)
+    requires end { first + length bytes.old ≤ length (V.bytes base.old) }
+    requires size { length (V.bytes base.old) ≡ storage_size }
+    ensures bytes { bytes.new ≡ range_at (V.bytes base.old) first (length bytes.old) }
+    ensures storage { V.bytes base.new ≡ written (V.bytes base.old) first bytes.old }
+{
+    for k in 0..bytes.len() {
+        let address = first + k as u64;
+        let byte = base.get(address);
+        base.put(address, bytes[k]);
+        bytes[k] = byte;
+    }
+}
