@@ -14,19 +14,6 @@ use Rattle.z_effect.specs.After.{range_at, touched, AreInside}
 use Rattle.tx_serial.specs.Flat.{Storage, operand_bytes}
 use Rattle.tx_cpu.specs.Performed.{IsFetched}
 
--- a true byte that is put leaves true bytes true
-pub true-put : (s : List ℕ) (f : ℕ → ℕ) (a b x : ℕ) → a < length s → b ≡ f a → get_or s x 0 ≡ f x
-    → get_or (set s a b) x 0 ≡ f x
-true-put s f a b x h e t = elim (cases_eq x a) [
-  | inl same ↦ ap (λ k. get_or (set s a b) k 0) same ∙ get_or-set_same s a b 0 h ∙ e ∙ ap f (sym same)
-  | inr other ↦ get_or-set_other s a x b 0 other ∙ t
-]
-
-pub put-true : (s : List ℕ) (f : ℕ → ℕ) (a b x : ℕ) → a < length s → b ≡ f a → x ≡ a
-    → get_or (set s a b) x 0 ≡ f x
-put-true s f a b x h e same =
-    ap (λ k. get_or (set s a b) k 0) same ∙ get_or-set_same s a b 0 h ∙ e ∙ ap f (sym same)
-
 pub taken-moved : (n a b : ℕ) (t : List ℕ) (f : ℕ → ℕ) → ((k : ℕ) → k < n → get_or t (a + k) 0 ≡ f (b + k))
     → a + n ≤ length t → take n (drop a t) ≡ map f (from_up b n)
 taken-moved zero a b t f at h = refl

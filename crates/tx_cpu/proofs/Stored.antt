@@ -125,35 +125,6 @@ first-stored [] bytes s first inside fills = refl
 first-stored (r ∷ rs) bytes s first inside fills =
     first-written r rs bytes s r.store refl first inside.0 fills
 
--- the bytes from a place on
-found : (t : List ℕ) (a n : ℕ) → a + n ≤ length t
-    → bytes_seen None (storage_of t) a n ≡ range_at t a n
-found t a n h = sym (taken-at n a t (storage_of t) (λ k lt. refl) h)
-
-seen-size : (s : Storage) (a n : ℕ) → length (bytes_seen None s a n) ≡ n
-seen-size s a zero = refl
-seen-size s a (suc n) = ap suc (seen-size s (suc a) n)
-
-copied-in : (r : Range) (s xs rest : List ℕ) (n : ℕ) (b : Bool) → b ≡ true → n ≡ r.length
-    → r.first + r.length ≤ length s → xs ≡ bytes_seen None (storage_of s) r.first n
-    → take (cond b r.length 0) (xs ++ rest) ≡ cond b (range_at s r.first r.length) []
-copied-in r s xs rest n false e en inside es = absurd (cc)
-copied-in r s xs rest n true e en inside es =
-    let size : length xs ≡ r.length = ap length es ∙ seen-size (storage_of s) r.first n ∙ en in
-    ap (λ m. take m (xs ++ rest)) (sym size) ∙ take-append_seam xs rest ∙ es
-    ∙ ap (bytes_seen None (storage_of s) r.first) en ∙ found s r.first r.length inside
-
-pub copied : (rs : List Range) (r : Range) (s xs rest : List ℕ) (n : ℕ) → slice_get rs 0 ≡ Some r
-    → r.store ≡ true → n ≡ r.length → AreInside (map span_of rs) s
-    → xs ≡ bytes_seen None (storage_of s) r.first n
-    → take (first_size rs) (xs ++ rest) ≡ first_bytes rs s
-copied [] r s xs rest n get e en inside es = absurd (cc)
-copied (q ∷ rs) r s xs rest n get e en inside es =
-    let same : q ≡ r = cc in
-    copied-in q s xs rest n q.store (ap (λ (x : Range). x.store) same ∙ e)
-    (en ∙ sym (ap (λ (x : Range). x.length) same)) inside.0
-    (es ∙ sym (ap (λ (x : Range). bytes_seen None (storage_of s) x.first n) same))
-
 small-at : (b : Bool) (n : ℕ) → n ≤ 256 → cond b n 0 ≤ 256
 small-at true n h = h
 small-at false n h = omega arith

@@ -133,19 +133,38 @@ fn permitted(
     attempt.admit_touches(need, image.prefix)
 }
 
-/// What comes of this instruction.
-fn tried(attempt: &Attempt, image: &CpuImage, instr: Instr, guard: &Guard) -> Plan
+/// What comes of an instruction that is fetched and read.
+fn tried(attempt: &Attempt, image: &CpuImage, instr: &Instr, guard: &Guard) -> Plan
     ensures { (storage : Storage) → let q = progress attempt.now (cpu_of image.now) in
-        fate_of result ≡ tried_by q instr (first_refusal (tests_by (items guard.now) storage q instr)) }
+        fate_of result ≡ tried_by q instr.now (first_refusal (tests_by (items guard.now) storage q instr.now)) }
 {
     let nest = attempt.nest();
-    if let Err(refusal) = admitted(attempt, image, &instr) {
+    if let Err(refusal) = admitted(attempt, image, instr) {
         return after_refusal(nest, refusal);
     }
-    let need = ranges(&instr, image);
-    match permitted(attempt, image, &instr, &need, guard) {
+    let need = ranges(instr, image);
+    match permitted(attempt, image, instr, &need, guard) {
         Err(refusal) => after_refusal(nest, refusal),
-        Ok(()) => Plan::Go { instr, need },
+        Ok(()) => Plan::Go {
+            instr: *instr,
+            need,
+        },
+    }
+}
+
+/// What comes of an instruction that is read, and has so many bytes.
+fn fetched(attempt: &Attempt, image: &CpuImage, program: &Program, length: u8, instr: &Instr) -> Plan
+    requires length { let q = progress attempt.now (cpu_of image.now) in
+        length ≡ length_at (at_hand (storage_of program.now.storage) q) }
+    requires reading { let q = progress attempt.now (cpu_of image.now) in
+        instruction_at (at_hand (storage_of program.now.storage) q) ≡ Some instr.now }
+    ensures { fate_of result ≡ fate_by_progress (items program.now.guard) (storage_of program.now.storage)
+        (progress attempt.now (cpu_of image.now)) }
+{
+    let guard = program.guard();
+    match fetchable(image, guard, length) {
+        Err(e) => after_refusal(attempt.nest(), Refusal::Excepts(e)),
+        Ok(()) => tried(attempt, image, instr, guard),
     }
 }
 
@@ -156,18 +175,13 @@ fn next_instruction(attempt: &Attempt, image: &CpuImage, program: &Program) -> (
     ensures reading { let q = progress attempt.now (cpu_of image.now) in
         result.1 ≡ instruction_at (at_hand (storage_of program.now.storage) q) }
 {
-    if let Some(place) = attempt.text_place(image.address, image.prefix) {
-        let length = length_of(program.bytes()[place as usize]);
-        return (length, program.reading_at(place));
-    }
     let bytes = attempt.text_bytes(image.address, image.prefix, program.bytes());
     let length = length_of(bytes[0]);
     (length, read(&bytes[..length as usize]))
 }
 
-/// What comes of the next instruction, whose bytes are those that the attempt sees over the storage of the
-/// program.
-pub fn next_plan(attempt: &Attempt, image: &CpuImage, program: &Program) -> Plan
+/// What comes of the next instruction, which has not been read before.
+fn next_unread(attempt: &Attempt, image: &CpuImage, program: &Program) -> Plan
     ensures { fate_of result ≡ fate_by_progress (items program.now.guard) (storage_of program.now.storage)
         (progress attempt.now (cpu_of image.now)) }
 {
@@ -176,9 +190,24 @@ pub fn next_plan(attempt: &Attempt, image: &CpuImage, program: &Program) -> Plan
     let (length, reading) = next_instruction(attempt, image, program);
     match fetchable(image, guard, length) {
         Err(e) => after_refusal(nest, Refusal::Excepts(e)),
-        Ok(()) => match reading {
+        Ok(()) => match &reading {
             None => after_refusal(nest, unreadable(length)),
             Some(instr) => tried(attempt, image, instr, guard),
         },
     }
+}
+
+/// What comes of the next instruction, whose bytes are those that the attempt sees over the storage of the
+/// program.
+pub fn next_plan(attempt: &Attempt, image: &CpuImage, program: &Program) -> Plan
+    ensures { fate_of result ≡ fate_by_progress (items program.now.guard) (storage_of program.now.storage)
+        (progress attempt.now (cpu_of image.now)) }
+{
+    if let Some(place) = attempt.text_place(image.address, image.prefix) {
+        if let Some(instr) = program.known(place) {
+            let length = length_of(program.bytes()[place as usize]);
+            return fetched(attempt, image, program, length, instr);
+        }
+    }
+    next_unread(attempt, image, program)
 }

@@ -173,8 +173,8 @@ impl Program {
         &self.image.guard
     }
 
-    /// An instruction that was read at an absolute address.
-    fn known(&self, place: u64) -> Option<&Instr>
+    /// The instruction that was read at an absolute address, where there is one.
+    pub fn known(&self, place: u64) -> Option<&Instr>
         ensures { IfSome result (λ i. read_at self.now.storage place ≡ Some i.now) }
     {
         if place % 2 == 1 {
@@ -185,17 +185,5 @@ impl Program {
             return None;
         }
         nth(&self.instrs, number - 1)
-    }
-
-    /// What the bytes of storage from an absolute address on read as, as many as the first of them says. It is at
-    /// least six bytes before the end of storage.
-    pub fn reading_at(&self, place: u64) -> Option<Instr>
-        requires { place + 6 ≤ storage_size }
-        ensures { result ≡ read_at self.now.storage place }
-    {
-        match self.known(place) {
-            Some(instr) => Some(*instr),
-            None => read_from(self.bytes(), place as usize),
-        }
     }
 }

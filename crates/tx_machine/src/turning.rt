@@ -171,13 +171,14 @@ impl Works {
             k_attempting m cpu k (fate_by_progress (text_of m) k.storage (k.locals cpu).attempt) }
         ensures size { IsSameSize self.old self.new }
     {
-        match self.plan(cpu, program) {
-            Plan::Go { instr, need } => self.go(cpu, &instr, &need),
+        let plan = self.plan(cpu, program);
+        match &plan {
+            Plan::Go { instr, need } => self.go(cpu, instr, need),
             Plan::Ends(why) => {
                 let at = self.next_address(cpu);
-                self.end_by(cpu, why, at)
+                self.end_by(cpu, *why, at)
             }
-            Plan::Stops(e) => self.stop(cpu, e),
+            Plan::Stops(e) => self.stop(cpu, *e),
         }
     }
 

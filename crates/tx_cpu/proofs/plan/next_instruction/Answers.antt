@@ -10,30 +10,16 @@ use Rattle.tx_progress.specs.Progress.{seen_through}
 use Rattle.tx_progress.specs.Trial.{at_hand}
 use Rattle.tx_cpu.specs.Tracked.{progress}
 use Rattle.tx_cpu.specs.Parts.{storage_of}
-use Rattle.tx_cpu.proofs.Programs.{plain_length, plain_reading}
 use Rattle.tx_cpu.proofs.Tests.{bytes_seen-taken}
 use Rattle.tx_cpu.proofs.plan.next_instruction.Goals as goal
-
-pub returns-in-Some-clause-length : goal.returns-in-Some-clause-length
-returns-in-Some-clause-length c =
-    let q = progress c.args.attempt.now (cpu_of c.args.image.now) in
-    c.length_of-length.ensures
-    ∙ ap (λ (bs : List ℕ). length_by (get_or bs c.in-Some.place 0)) c.bytes.ensures.value
-    ∙ plain_length q c.args.program.now.storage c.in-Some.place c.in-Some.ensures
-
-pub returns-in-Some-clause-reading : goal.returns-in-Some-clause-reading
-returns-in-Some-clause-reading c =
-    let q = progress c.args.attempt.now (cpu_of c.args.image.now) in
-    c.reading_at.ensures
-    ∙ plain_reading q c.args.program.now.storage c.in-Some.place c.bytes.ensures.size c.in-Some.ensures
 
 pub returns-clause-length : goal.returns-clause-length
 returns-clause-length c =
     let i = c.args.image.now in
     let overlay = (progress c.args.attempt.now (cpu_of i)).overlay in
-    c.length_of-length-2.ensures ∙ ap (λ (bs : List ℕ). length_by (get_or bs 0 0)) c.text_bytes-bytes.ensures
+    c.length_of-length.ensures ∙ ap (λ (bs : List ℕ). length_by (get_or bs 0 0)) c.text_bytes-bytes.ensures
     ∙ ap (λ (bs : List ℕ). length_by (seen_through overlay (storage_of bs) (absolute_of i.prefix i.address)))
-    c.bytes-2.ensures.value
+    c.bytes.ensures.value
 
 pub returns-clause-reading : goal.returns-clause-reading
 returns-clause-reading c =
@@ -43,10 +29,10 @@ returns-clause-reading c =
     let seen : Storage = seen_through q.overlay storage in
     let bytes = c.text_bytes-bytes.ensures
     ∙ ap (λ (bs : List ℕ). bytes_seen i.prefix (seen_through q.overlay (storage_of bs)) i.address 6)
-    c.bytes-2.ensures.value in
-    let count : c.length_of-length-2.result ≡ length_at (at_hand storage q) = c.length_of-length-2.ensures
+    c.bytes.ensures.value in
+    let count : c.length_of-length.result ≡ length_at (at_hand storage q) = c.length_of-length.ensures
     ∙ ap (λ (bs : List ℕ). length_by (get_or bs 0 0)) bytes in
     c.read.ensures
-    ∙ ap reading_of (ap (take c.length_of-length-2.result) bytes
+    ∙ ap reading_of (ap (take c.length_of-length.result) bytes
     ∙ ap (λ n. take n (bytes_seen i.prefix seen i.address 6)) count
     ∙ bytes_seen-taken i.prefix seen i.address (seen (absolute_of i.prefix i.address)))
