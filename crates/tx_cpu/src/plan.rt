@@ -153,7 +153,13 @@ fn tried(attempt: &Attempt, image: &CpuImage, instr: &Instr, guard: &Guard) -> P
 }
 
 /// What comes of an instruction that is read, and has so many bytes.
-fn fetched(attempt: &Attempt, image: &CpuImage, program: &Program, length: u8, instr: &Instr) -> Plan
+fn fetched(
+    attempt: &Attempt,
+    image: &CpuImage,
+    program: &Program,
+    length: u8,
+    instr: &Instr,
+) -> Plan
     requires length { let q = progress attempt.now (cpu_of image.now) in
         length ≡ length_at (at_hand (storage_of program.now.storage) q) }
     requires reading { let q = progress attempt.now (cpu_of image.now) in
