@@ -163,12 +163,6 @@ differs_next xs ys k line rest here whole other =
     let n = next_line xs ys k line rest (omega (arith, here)) whole in
     differ_here xs ys k here n.there n.same (λ e. other (e ∙ n.is))
 
-pub same_next : (xs ys : List (List ℕ)) (k : ℕ) (line : List ℕ) (rest : List (List ℕ)) → k < length xs
-    → take k xs ++ line ∷ rest ≡ ys → get_or xs k [] ≡ line → take (k + 1) xs ++ rest ≡ ys
-same_next xs ys k line rest here whole is =
-    ap (λ (ls : List (List ℕ)). ls ++ rest) (take_more xs k [] here ∙ ap (λ l. take k xs ++ l ∷ []) is)
-    ∙ append_assoc (take k xs) (line ∷ []) rest ∙ whole
-
 some_first : (b : ℕ) (ls : List (List ℕ)) (t : Bool) → 0 < length (if t then (b ∷ []) ∷ ls else in_front b ls)
 some_first b ls true = omega arith
 some_first b [] false = omega arith

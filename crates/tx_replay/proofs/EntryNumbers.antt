@@ -4,9 +4,7 @@ use Rattle.tx_control.specs.declared.causes.Why.{Why}
 use Rattle.tx_journal.specs.declared.entries.Entry.{Entry}
 use Rattle.tx_journal.specs.declared.entries.Entry.TheVariants as entry
 use Rattle.tx_journal.specs.declared.entries.EntryText.{EntryText}
-use Rattle.tx_journal.specs.Lines.{Spells, entry_text, line_text, fields_of}
-use Rattle.tx_journal.specs.declared.lines.Line.{Line}
-use Rattle.tx_journal.specs.declared.lines.Line.TheVariants as line
+use Rattle.tx_journal.specs.Lines.{Spells, entry_text}
 use Rattle.tx_journal.specs.Sound.{IsSound, IsCause}
 use Rattle.tx_journal.proofs.ToldEntries.{read_exactly}
 use Rattle.tx_serial.specs.Apply.{apply}
@@ -54,53 +52,6 @@ the_interruption (entry.Commit i n) t is kind = absurd (omega (arith, kinds is, 
 the_interruption (entry.Abort i n why) t is kind = absurd (omega (arith, kinds is, kind))
 the_interruption (entry.Tdb i) t is kind = absurd (omega (arith, kinds is, kind))
 the_interruption (entry.Interrupt i) t is kind = ap entry.Interrupt (ap (λ (u : EntryText). u.cpu) is)
-
--- ---- their lines
-
-step_line : (l : Line) (t : EntryText) → t ≡ fields_of l → t.kind ≡ 83 → entry_text (entry.Step t.cpu) ≡ line_text l
-step_line (line.Step i) t is kind = ap (λ (u : EntryText). entry_text (entry.Step u.cpu)) is
-step_line (line.Commit i n) t is kind = absurd (omega (arith, kinds is, kind))
-step_line (line.Abort i n reason) t is kind = absurd (omega (arith, kinds is, kind))
-step_line (line.Tdb i) t is kind = absurd (omega (arith, kinds is, kind))
-step_line (line.Interrupt i) t is kind = absurd (omega (arith, kinds is, kind))
-
-commit_line : (l : Line) (t : EntryText) → t ≡ fields_of l → t.kind ≡ 67
-    → entry_text (entry.Commit t.cpu t.count) ≡ line_text l
-commit_line (line.Step i) t is kind = absurd (omega (arith, kinds is, kind))
-commit_line (line.Commit i n) t is kind = ap (λ (u : EntryText). entry_text (entry.Commit u.cpu u.count)) is
-commit_line (line.Abort i n reason) t is kind = absurd (omega (arith, kinds is, kind))
-commit_line (line.Tdb i) t is kind = absurd (omega (arith, kinds is, kind))
-commit_line (line.Interrupt i) t is kind = absurd (omega (arith, kinds is, kind))
-
-block_line : (l : Line) (t : EntryText) → t ≡ fields_of l → t.kind ≡ 84 → entry_text (entry.Tdb t.cpu) ≡ line_text l
-block_line (line.Step i) t is kind = absurd (omega (arith, kinds is, kind))
-block_line (line.Commit i n) t is kind = absurd (omega (arith, kinds is, kind))
-block_line (line.Abort i n reason) t is kind = absurd (omega (arith, kinds is, kind))
-block_line (line.Tdb i) t is kind = ap (λ (u : EntryText). entry_text (entry.Tdb u.cpu)) is
-block_line (line.Interrupt i) t is kind = absurd (omega (arith, kinds is, kind))
-
-interruption_line : (l : Line) (t : EntryText) → t ≡ fields_of l → t.kind ≡ 73
-    → entry_text (entry.Interrupt t.cpu) ≡ line_text l
-interruption_line (line.Step i) t is kind = absurd (omega (arith, kinds is, kind))
-interruption_line (line.Commit i n) t is kind = absurd (omega (arith, kinds is, kind))
-interruption_line (line.Abort i n reason) t is kind = absurd (omega (arith, kinds is, kind))
-interruption_line (line.Tdb i) t is kind = absurd (omega (arith, kinds is, kind))
-interruption_line (line.Interrupt i) t is kind = ap (λ (u : EntryText). entry_text (entry.Interrupt u.cpu)) is
-
--- a line of one of these kinds is that of the entry with its numbers
-pub step_told : (text : List ℕ) (t : EntryText) → Spells text t → t.kind ≡ 83 → entry_text (entry.Step t.cpu) ≡ text
-step_told text t spells kind = step_line spells.line t spells.fields kind ∙ sym spells.text_is
-
-pub commit_told : (text : List ℕ) (t : EntryText) → Spells text t → t.kind ≡ 67
-    → entry_text (entry.Commit t.cpu t.count) ≡ text
-commit_told text t spells kind = commit_line spells.line t spells.fields kind ∙ sym spells.text_is
-
-pub block_told : (text : List ℕ) (t : EntryText) → Spells text t → t.kind ≡ 84 → entry_text (entry.Tdb t.cpu) ≡ text
-block_told text t spells kind = block_line spells.line t spells.fields kind ∙ sym spells.text_is
-
-pub interruption_told : (text : List ℕ) (t : EntryText) → Spells text t → t.kind ≡ 73
-    → entry_text (entry.Interrupt t.cpu) ≡ text
-interruption_told text t spells kind = interruption_line spells.line t spells.fields kind ∙ sym spells.text_is
 
 -- an abort, by its numbers
 pub record IsAbort (e : Entry) (t : EntryText) : Type 0 where

@@ -1,7 +1,7 @@
 //! The entry that a line means, on a machine behind the entries before it.
-ghost use Rattle.std.specs.Prelude.{◌≡◌, ◌≢◌, ℕ, List, IfSome, IfOk, IfErr, Some, Err, length};
+ghost use Rattle.std.specs.Prelude.{◌≡◌, IfSome, IfOk, IfErr, Some, Err, length};
 ghost use Rattle.tx_journal.specs.declared.entries.Entry.{Entry};
-ghost use Rattle.tx_journal.specs.Lines.{entry_text, Spells};
+ghost use Rattle.tx_journal.specs.Lines.{entry_text};
 ghost use Rattle.tx_journal.specs.Sound.{IsSound};
 ghost use Rattle.tx_serial.specs.Apply.{apply};
 ghost use Rattle.tx_flat.specs.Machine.{state_of};
@@ -30,12 +30,11 @@ fn abort_of(flat: &mut Flat, text: EntryText) -> Option<Entry>
     }
 }
 
-/// The entry that the numbers of a line mean. No other entry fits that has such a line, and it has that line where
-/// it is no abort. The machine stays as it is.
+/// The entry that the numbers of a line mean. No other entry fits that has such a line. The machine stays as it
+/// is.
 fn entry_of(flat: &mut Flat, text: EntryText) -> Option<Entry>
     ensures sound { IfSome result IsSound }
     ensures only { (e : Entry) → IsSound e → TellsEntry e text → Fits (state_of flat.old) e → result ≡ Some e }
-    ensures told { IfSome result (λ e. text.kind ≢ 65 → (line : List ℕ) → Spells line text → entry_text e ≡ line) }
     ensures unchanged { flat.new ≡ flat.old }
 {
     match text.kind {
@@ -78,9 +77,6 @@ fn entry_with(flat: &mut Flat, alloc: Global, line: &[u8]) -> Result<Option<Entr
     match entry_of(flat, text) {
         None => Ok(None),
         Some(entry) => {
-            if text.kind != b'A' {
-                return Ok(Some(entry));
-            }
             let found = with_line(alloc, entry, line)?;
             Ok(found)
         }
