@@ -17,7 +17,7 @@ fn an_interruption_waits(rt: HostRuntime) -> Result<(), Fail> {
     assert!(rt; apply_line(&mut flat, alloc, b"S 0\n").is_ok());
     assert!(rt; flat.cpu_count() == 1);
     assert_eq!(rt; flat.interruption(0), Some(9));
-    assert!(rt; flat.apply(alloc, Entry::Interrupt(0)).is_ok());
+    assert!(rt; flat.apply(Entry::Interrupt(0)).is_ok());
     assert!(rt; flat.cpu_count() == 1);
     assert_eq!(rt; flat.interruption(0), None);
     assert_eq!(rt; flat.byte(0xA08F), 9);

@@ -1,9 +1,9 @@
 -- Lines of a text, the first one and the others.
-use Rattle.std.proofs.Common.{◌≡◌, ◌≢◌, ◌∙◌, ap, sym, refl, ℕ, ◌+◌, ◌<◌, ◌≤◌, arith}
+use Rattle.std.proofs.Common.{◌≡◌, ◌≢◌, ◌∙◌, ap, sym, refl, ℕ, ◌+◌, ◌-◌, ◌<◌, ◌≤◌, arith}
 use Rattle.std.proofs.Common.{List, [], ◌∷◌, ◌++◌, length, take, drop, append_assoc, Bool, true, false}
 use Rattle.std.proofs.Common.{ap₂, get_or, append-nil, length-append, Some, None}
 use Rattle.std.specs.Prelude.{◌==◌, if◌then◌else◌}
-use Rattle.std.proofs.lemmas.List.{take_all, take_more, drop_all}
+use Rattle.std.proofs.lemmas.List.{take_all, take_more, drop_all, length-take-le, get_or-append_right}
 use Rattle.std.proofs.lemmas.Option.{slice_get-get_or, slice_get_past}
 use Rattle.std.proofs.Math.Seq.{drop-append_seam, take-append_seam, drop-length}
 use Rattle.tx_journal.specs.Numbers.{Lacks}
@@ -125,3 +125,66 @@ pub same_more : (xs ys : List (List ℕ)) (k : ℕ) → k < length xs → k < le
     → get_or xs k [] ≡ get_or ys k [] → take (k + 1) xs ≡ take (k + 1) ys
 same_more xs ys k here there same is =
     take_more xs k [] here ∙ ap₂ (λ a b. a ++ b ∷ []) same is ∙ sym (take_more ys k [] there)
+
+-- ---- a text that is read line by line beside lines
+
+-- where the text has ended
+pub ended_at : (xs ys : List (List ℕ)) (k : ℕ) → k < length xs → take k xs ≡ ys → FirstDifference xs ys (k + 1)
+ended_at xs ys k here is =
+    let many : length ys ≡ k = ap (λ (ls : List (List ℕ)). length ls) (sym is) ∙ length-take-le k xs (omega (arith, here)) in
+    first_longer xs ys k here (omega (arith, many)) (is ∙ sym (take_all k ys (omega (arith, many))))
+
+-- the line that comes next in the text
+pub record IsNextLine (xs ys : List (List ℕ)) (k : ℕ) (line : List ℕ) : Type 0 where
+  pub there : k < length ys
+  pub same : take k xs ≡ take k ys
+  pub is : get_or ys k [] ≡ line
+
+pub next_line : (xs ys : List (List ℕ)) (k : ℕ) (line : List ℕ) (rest : List (List ℕ)) → k ≤ length xs
+    → take k xs ++ line ∷ rest ≡ ys → IsNextLine xs ys k line
+next_line xs ys k line rest within whole =
+    let many : length (take k xs) ≡ k = length-take-le k xs within in
+    record {
+      there =
+          let l = length-append (take k xs) (line ∷ rest) in
+          let n = ap (λ (ls : List (List ℕ)). length ls) whole in omega (arith, l, n, many);
+      same =
+          sym (take-append_seam (take k xs) (line ∷ rest)) ∙ ap (λ n. take n (take k xs ++ line ∷ rest)) many
+          ∙ ap (take k) whole;
+      is =
+          ap (λ (ls : List (List ℕ)). get_or ls k []) (sym whole)
+          ∙ get_or-append_right (take k xs) (line ∷ rest) k k [] many (omega arith)
+          ∙ ap (λ n. get_or (line ∷ rest) n []) (let e : k - k ≡ 0 = omega arith in e);
+    }
+
+pub differs_next : (xs ys : List (List ℕ)) (k : ℕ) (line : List ℕ) (rest : List (List ℕ)) → k < length xs
+    → take k xs ++ line ∷ rest ≡ ys → get_or xs k [] ≢ line → FirstDifference xs ys (k + 1)
+differs_next xs ys k line rest here whole other =
+    let n = next_line xs ys k line rest (omega (arith, here)) whole in
+    differ_here xs ys k here n.there n.same (λ e. other (e ∙ n.is))
+
+some_first : (b : ℕ) (ls : List (List ℕ)) (t : Bool) → 0 < length (if t then (b ∷ []) ∷ ls else in_front b ls)
+some_first b ls true = omega arith
+some_first b [] false = omega arith
+some_first b (l ∷ ls) false = omega arith
+
+-- a text with bytes has a line
+some_lines : (text : List ℕ) → 0 < length text → 0 < length (lines_of text)
+unfolding lines_of
+some_lines [] some = absurd (omega arith)
+some_lines (b ∷ rest) some = some_first b (lines_of rest) (b == 10)
+
+-- where the lines have ended, and the text has not
+pub text_longer : (xs ys : List (List ℕ)) (text : List ℕ) (k : ℕ) → k ≡ length xs → 0 < length text
+    → take k xs ++ lines_of text ≡ ys → FirstDifference xs ys (k + 1)
+text_longer xs ys text k past some whole =
+    let more = some_lines text some in
+    let many : length (take k xs) ≡ k = length-take-le k xs (omega (arith, past)) in
+    first_shorter xs ys k (omega (arith, past))
+    (let l = length-append (take k xs) (lines_of text) in
+    let n = ap (λ (ls : List (List ℕ)). length ls) whole in omega (arith, l, n, many, more))
+    (sym (take-append_seam (take k xs) (lines_of text)) ∙ ap (λ n. take n (take k xs ++ lines_of text)) many
+    ∙ ap (take k) whole)
+
+pub text_same : (xs ys : List (List ℕ)) (k : ℕ) → k ≡ length xs → take k xs ≡ ys → xs ≡ ys
+text_same xs ys k past is = sym (take_all k xs (omega (arith, past))) ∙ is

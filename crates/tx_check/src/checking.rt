@@ -136,10 +136,7 @@ pub fn check(alloc: Global, image: &Image, report: &[u8]) -> Result<u32, CheckFa
     let Ok(text) = expected(alloc, image, &lines, sheet, &replayed) else {
         return Err(CheckFault::Memory);
     };
-    let Ok(due) = cut_lines(alloc, &text) else {
-        return Err(CheckFault::Memory);
-    };
-    match first_difference(&lines, &due) {
+    match first_difference(&lines, &text) {
         Some(place) => Err(CheckFault::State(place as u32 + 1)),
         None => Ok(sheet.entries as u32),
     }

@@ -24,7 +24,8 @@ fn first_size(text: &[u8]) -> usize
 pub(crate) fn cut_lines(alloc: Global, text: &[u8]) -> Result<Vec<&[u8]>, AllocError>
     ensures { IfOk result (λ lines. map (λ l. l.now) lines.items ≡ lines_of text.now) }
 {
-    let mut lines = Vec::new(alloc);
+    let ends = text.iter().filter(|byte| **byte == b'\n').count();
+    let mut lines = Vec::with_capacity(alloc, ends)?;
     let mut from = 0;
     while from < text.len() {
         let size = first_size(&text[from..]);
@@ -51,33 +52,34 @@ fn is_same(one: &[u8], other: &[u8]) -> bool
     one == other
 }
 
-/// Whether two texts have the same line at a place that both have.
-fn same_at(some: &[&[u8]], others: &[&[u8]], place: usize) -> bool
-    requires here { place < length some.now }
-    requires there { place < length others.now }
-    ensures { IsTrue result ↔ (get_or (map (λ l. l.now) some.now) place []
-        ≡ get_or (map (λ l. l.now) others.now) place []) }
+/// Whether a line is the one at a place of a text that has so many bytes there.
+fn same_at(lines: &[&[u8]], place: usize, line: &[u8]) -> bool
+    requires here { place < length lines.now }
+    ensures { IsTrue result ↔ (get_or (map (λ l. l.now) lines.now) place [] ≡ line.now) }
 {
-    is_same(some[place], others[place])
+    is_same(lines[place], line)
 }
 
-/// The number, counted from 0, of the first line at which texts differ; None exactly where they are the same.
-pub(crate) fn first_difference(some: &[&[u8]], others: &[&[u8]]) -> Option<usize>
-    ensures some { IfSome result (λ k. FirstDifference (map (λ l. l.now) some.now) (map (λ l. l.now) others.now)
-        (k + 1)) }
-    ensures within { IfSome result (λ k. k ≤ length some.now) }
-    ensures none { IfNone result (map (λ l. l.now) some.now ≡ map (λ l. l.now) others.now) }
+/// The number, counted from 0, of the first line at which a text differs from these lines; None exactly where they
+/// are its lines.
+pub(crate) fn first_difference(lines: &[&[u8]], text: &[u8]) -> Option<usize>
+    ensures some { IfSome result (λ k. FirstDifference (map (λ l. l.now) lines.now) (lines_of text.now) (k + 1)) }
+    ensures within { IfSome result (λ k. k ≤ length lines.now) }
+    ensures none { IfNone result (map (λ l. l.now) lines.now ≡ lines_of text.now) }
 {
-    for k in 0..some.len() {
-        if k >= others.len() {
+    let mut from = 0;
+    for k in 0..lines.len() {
+        if from >= text.len() {
             return Some(k);
         }
-        if !same_at(some, others, k) {
+        let size = first_size(&text[from..]);
+        if !same_at(lines, k, &text[from..from + size]) {
             return Some(k);
         }
+        from += size;
     }
-    if some.len() < others.len() {
-        return Some(some.len());
+    if from < text.len() {
+        return Some(lines.len());
     }
     None
 }

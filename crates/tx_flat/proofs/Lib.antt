@@ -20,3 +20,4 @@ pub mod Machines
 pub mod Near
 pub mod Mended
 pub mod OwnCauses
+pub mod Kept

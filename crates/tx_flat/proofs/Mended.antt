@@ -1,100 +1,220 @@
 -- Copies of storage that become the same, line by line.
-use Rattle.std.proofs.Common.{◌≡◌, ◌≢◌, ◌∙◌, ap, sym, subst, ℕ, suc, ◌+◌, ◌*◌, ◌/◌, ◌<◌, ◌≤◌, ◌⊎◌, inl, inr, arith}
-use Rattle.std.proofs.Common.{List, length, get_or, set, Bool, true, false, Option, None, Some, refl}
-use Rattle.std.specs.Prelude.{is_some, not}
+use Rattle.std.proofs.Common.{◌≡◌, ◌≢◌, ◌∙◌, ap, sym, subst, refl, ℕ, suc, ◌+◌, ◌-◌, ◌*◌, ◌/◌, ◌<◌, ◌≤◌, ◌⊎◌, inl, inr, arith}
+use Rattle.std.proofs.Common.{List, length, get_or, set, true, false, Option, None, Some}
 use Rattle.std.proofs.lemmas.Bool.{cases_lt}
 use Rattle.std.proofs.lemmas.List.{ext_get_or, get_or-set_same, get_or-set_other, length-set}
-use Rattle.z_regs.specs.Prefix.{storage_size}
+use Rattle.z_regs.specs.Prefix.{storage_size, is_prefix, absolute_of}
 use Rattle.z_regs.specs.Seen.{seen_by}
-use Rattle.tx_footprint.specs.Sizes.{line_size}
-use Rattle.tx_footprint.specs.Touched.{Touched, sets_of}
+use Rattle.z_regs.proofs.Exchange.{area, moves, absolute_within, seen_at, length-seen}
+use Rattle.z_regs.proofs.MovedBytes.{along}
 use Rattle.tx_flat.specs.Bytes.{function_of}
-use Rattle.tx_flat.specs.Ready.{Near}
+use Rattle.tx_flat.specs.declared.attempt.Attempt.{Attempt}
+use Rattle.tx_flat.specs.Ready.{IsReady, IsTurned}
 use Rattle.tx_flat.proofs.Laid.{listed}
 use Rattle.tx_serial.specs.Flat.{bytes_of}
 
--- the bytes from one place to another are copied, and no others
-pub record Copied (from old to : List ℕ) (first end : ℕ) : Type 0 where
-  pub copied : (j : ℕ) → first ≤ j → j < end → get_or to j 0 ≡ get_or from j 0
-  pub others : (j : ℕ) → (j < first) ⊎ (end ≤ j) → get_or to j 0 ≡ get_or old j 0
+-- ---- byte by byte
+
+-- so many bytes are copied from one place to another, and no others change
+pub record Copied (from old to : List ℕ) (first from_first k : ℕ) : Type 0 where
+  pub copied : (j : ℕ) → j < k → get_or to (first + j) 0 ≡ get_or from (from_first + j) 0
+  pub others : (j : ℕ) → (j < first) ⊎ (first + k ≤ j) → get_or to j 0 ≡ get_or old j 0
   pub size : length to ≡ storage_size
 
-pub copy_more : (from old to new : List ℕ) (first end b : ℕ) → Copied from old to first end → first ≤ end
-    → end < storage_size → new ≡ set to end b → b ≡ get_or from end 0 → Copied from old new first (end + 1)
-copy_more from old to new first end b h begun within is same = record {
-  copied = λ j above below. by_copied j above below (cases_lt j end);
+pub copy_more : (from old to new : List ℕ) (first from_first k b : ℕ) → Copied from old to first from_first k
+    → first + k < storage_size → new ≡ set to (first + k) b → b ≡ get_or from (from_first + k) 0
+    → Copied from old new first from_first (k + 1)
+copy_more from old to new first from_first k b h within is same = record {
+  copied = λ j below. by_copied j below (cases_lt j k);
   others = λ j apart.
-      let e : j ≢ end = apart_from j apart in
-      ap (λ xs. get_or xs j 0) is ∙ get_or-set_other to end j b 0 e ∙ h.others j (wider j apart);
-  size = ap (λ (xs : List ℕ). length xs) is ∙ length-set to end b ∙ h.size;
+      ap (λ xs. get_or xs j 0) is ∙ get_or-set_other to (first + k) j b 0 (apart_from j apart)
+      ∙ h.others j (wider j apart);
+  size = ap (λ (xs : List ℕ). length xs) is ∙ length-set to (first + k) b ∙ h.size;
 }
   where
-    apart_from : (j : ℕ) → (j < first) ⊎ (end + 1 ≤ j) → j ≢ end
-    apart_from j (inl low) e = omega (arith, low, begun, e)
+    apart_from : (j : ℕ) → (j < first) ⊎ (first + (k + 1) ≤ j) → j ≢ first + k
+    apart_from j (inl low) e = omega (arith, low, e)
     apart_from j (inr high) e = omega (arith, high, e)
 
-    wider : (j : ℕ) → (j < first) ⊎ (end + 1 ≤ j) → (j < first) ⊎ (end ≤ j)
+    wider : (j : ℕ) → (j < first) ⊎ (first + (k + 1) ≤ j) → (j < first) ⊎ (first + k ≤ j)
     wider j (inl low) = inl low
     wider j (inr high) = inr (omega (arith, high))
 
-    by_copied : (j : ℕ) → first ≤ j → j < end + 1 → (j < end) ⊎ (end ≤ j) → get_or new j 0 ≡ get_or from j 0
-    by_copied j above below (inl low) =
-        ap (λ xs. get_or xs j 0) is ∙ get_or-set_other to end j b 0 (λ e. omega (arith, low, e))
-        ∙ h.copied j above low
-    by_copied j above below (inr high) =
-        let here : j ≡ end = omega (arith, below, high) in
-        let room : end < length to = let s = h.size in omega (arith, s, within) in
-        ap (λ xs. get_or xs j 0) is ∙ ap (λ k. get_or (set to end b) k 0) here
-        ∙ get_or-set_same to end b 0 room ∙ same ∙ ap (λ k. get_or from k 0) (sym here)
+    by_copied : (j : ℕ) → j < k + 1 → (j < k) ⊎ (k ≤ j) → get_or new (first + j) 0 ≡ get_or from (from_first + j) 0
+    by_copied j below (inl low) =
+        ap (λ xs. get_or xs (first + j) 0) is
+        ∙ get_or-set_other to (first + k) (first + j) b 0 (λ e. omega (arith, low, e))
+        ∙ h.copied j low
+    by_copied j below (inr high) =
+        let here : j ≡ k = omega (arith, below, high) in
+        let room : first + k < length to = let s = h.size in omega (arith, s, within) in
+        ap (λ xs. get_or xs (first + j) 0) is ∙ ap (λ i. get_or (set to (first + k) b) (first + i) 0) here
+        ∙ get_or-set_same to (first + k) b 0 room ∙ same ∙ ap (λ i. get_or from (from_first + i) 0) (sym here)
 
--- ---- line by line
+-- ---- the lines that a CPU sees
 
--- so many lines are the same
-abbrev pub SameBelow : List ℕ → List ℕ → ℕ → Type 0
-SameBelow from to lines = (j : ℕ) → j < 256 * lines → get_or to j 0 ≡ get_or from j 0
+-- a line lies in one piece
+pub line_stays : (prefix : Option ℕ) (line k : ℕ) → is_prefix prefix ≡ true → k < 256
+    → absolute_of prefix (256 * line + k) ≡ absolute_of prefix (256 * line) + k
+line_stays None line k ok within = refl
+line_stays (Some p) line k ok within = along p (256 * line) k (area p ok) (omega (arith, within))
 
-pub one_line_more : (from old to : List ℕ) (line : ℕ) → SameBelow from old line
-    → ((j : ℕ) → 256 * line ≤ j → j < 256 * line + 256 → get_or to j 0 ≡ get_or from j 0)
-    → ((j : ℕ) → (j < 256 * line) ⊎ (256 * line + 256 ≤ j) → get_or to j 0 ≡ get_or old j 0)
-    → SameBelow from to (line + 1)
-one_line_more from old to line before copied others = λ j below. by j below (cases_lt j (256 * line))
+-- and begins at a line
+pub line_begins : (prefix : Option ℕ) (line : ℕ) → is_prefix prefix ≡ true
+    → 256 * (absolute_of prefix (256 * line) / 256) ≡ absolute_of prefix (256 * line)
+line_begins None line ok = omega arith
+line_begins (Some p) line ok =
+    let r = area p ok in
+    let a = 256 * line in
+    let m = moves p a r.low in
+    elim (cases_lt a 8192) [
+      | inl low ↦ omega (arith, m.first low, r.aligned)
+      | inr high ↦ elim (cases_lt a p) [
+        | inl below ↦ omega (arith, m.between high below)
+        | inr from ↦ elim (cases_lt a (p + 8192)) [
+          | inl own ↦ omega (arith, m.own from own, r.aligned)
+          | inr past ↦ omega (arith, m.beyond past)
+        ]
+      ]
+    ]
+
+pub line_moves : (prefix : Option ℕ) (line seen : ℕ) → is_prefix prefix ≡ true
+    → seen ≡ absolute_of prefix (256 * line) / 256 → (k : ℕ) → k < 256
+    → absolute_of prefix (256 * line + k) ≡ 256 * seen + k
+line_moves prefix line seen ok is k within =
+    line_stays prefix line k ok within
+    ∙ ap (λ x. x + k) (sym (line_begins prefix line ok) ∙ ap (λ x. 256 * x) (sym is))
+
+pub line_within : (prefix : Option ℕ) (line : ℕ) → is_prefix prefix ≡ true → line < 4096
+    → absolute_of prefix (256 * line) / 256 < 4096
+line_within prefix line ok within =
+    let h = absolute_within prefix (256 * line) ok (omega (arith, within)) in omega (arith, h)
+
+-- ---- lines by real addresses
+
+pub record Refreshed (prefix : Option ℕ) (from old to : List ℕ) (first end : ℕ) : Type 0 where
+  pub copied : (j : ℕ) → 256 * first ≤ j → j < 256 * end → get_or to j 0 ≡ get_or from (absolute_of prefix j) 0
+  pub others : (j : ℕ) → (j < 256 * first) ⊎ (256 * end ≤ j) → get_or to j 0 ≡ get_or old j 0
+  pub size : length to ≡ storage_size
+
+-- one line that is copied is refreshed
+pub refreshed_line : (prefix : Option ℕ) (from to : List ℕ) (line seen : ℕ)
+    → ((k : ℕ) → k < 256 → absolute_of prefix (256 * line + k) ≡ 256 * seen + k)
+    → ((k : ℕ) → k < 256 → get_or to (256 * line + k) 0 ≡ get_or from (256 * seen + k) 0)
+    → (j : ℕ) → 256 * line ≤ j → j < 256 * line + 256 → get_or to j 0 ≡ get_or from (absolute_of prefix j) 0
+refreshed_line prefix from to line seen moved copied j low high =
+    let k = j - 256 * line in
+    let small : k < 256 = omega (arith, low, high) in
+    let here : j ≡ 256 * line + k = omega (arith, low) in
+    ap (λ i. get_or to i 0) here ∙ copied k small ∙ ap (λ i. get_or from i 0) (sym (moved k small))
+    ∙ ap (λ i. get_or from (absolute_of prefix i) 0) (sym here)
+
+pub refreshed_none : (prefix : Option ℕ) (from to : List ℕ) (first : ℕ) → length to ≡ storage_size
+    → Refreshed prefix from to to first first
+refreshed_none prefix from to first size = record {
+  copied = λ j above below. absurd (omega (arith, above, below));
+  others = λ j apart. refl;
+  size = size;
+}
+
+pub refreshed_more : (prefix : Option ℕ) (from old to new : List ℕ) (first line : ℕ) → first ≤ line
+    → Refreshed prefix from old to first line
+    → ((j : ℕ) → 256 * line ≤ j → j < 256 * line + 256 → get_or new j 0 ≡ get_or from (absolute_of prefix j) 0)
+    → ((j : ℕ) → (j < 256 * line) ⊎ (256 * line + 256 ≤ j) → get_or new j 0 ≡ get_or to j 0)
+    → length new ≡ storage_size → Refreshed prefix from old new first (line + 1)
+refreshed_more prefix from old to new first line order before copied others size = record {
+  copied = λ j above below. by j above below (cases_lt j (256 * line));
+  others = λ j apart. others j (outside j apart) ∙ before.others j (wider j apart);
+  size = size;
+}
   where
-    by : (j : ℕ) → j < 256 * (line + 1) → (j < 256 * line) ⊎ (256 * line ≤ j) → get_or to j 0 ≡ get_or from j 0
-    by j below (inl low) = others j (inl low) ∙ before j low
-    by j below (inr high) = copied j high (omega (arith, below))
+    by : (j : ℕ) → 256 * first ≤ j → j < 256 * (line + 1) → (j < 256 * line) ⊎ (256 * line ≤ j)
+        → get_or new j 0 ≡ get_or from (absolute_of prefix j) 0
+    by j above below (inl low) = others j (inl low) ∙ before.copied j above low
+    by j above below (inr high) = copied j high (omega (arith, below))
 
-pub all_same : (from to : List ℕ) (lines : ℕ) → length to ≡ storage_size → length from ≡ storage_size → 4096 ≤ lines
-    → SameBelow from to lines → to ≡ from
-all_same from to lines size from_size all same =
-    ext_get_or 0 to from (size ∙ sym from_size) (λ j h. same j (omega (arith, h, size, all)))
+    outside : (j : ℕ) → (j < 256 * first) ⊎ (256 * (line + 1) ≤ j) → (j < 256 * line) ⊎ (256 * line + 256 ≤ j)
+    outside j (inl low) = inl (omega (arith, low, order))
+    outside j (inr high) = inr (omega (arith, high))
 
-in_line : (j line : ℕ) → 256 * line ≤ j → j < 256 * line + 256 → j / 256 ≡ line
-in_line j line low high = omega (arith, low, high)
+    wider : (j : ℕ) → (j < 256 * first) ⊎ (256 * (line + 1) ≤ j) → (j < 256 * first) ⊎ (256 * line ≤ j)
+    wider j (inl low) = inl low
+    wider j (inr high) = inr (omega (arith, high))
 
--- a line that was not stored is the same already
-pub one_unstored_more : (from to : List ℕ) (t : Touched) (line : ℕ) → line < 4096 → SameBelow from to line
-    → Near from t to → (sets_of t).stored line ≡ false → SameBelow from to (line + 1)
-one_unstored_more from to t line within before near unstored = λ j below. by j below (cases_lt j (256 * line))
-  where
-    by : (j : ℕ) → j < 256 * (line + 1) → (j < 256 * line) ⊎ (256 * line ≤ j) → get_or to j 0 ≡ get_or from j 0
-    by j below (inl low) = before j low
-    by j below (inr high) =
-        let place : j / line_size ≡ line = in_line j line high (omega (arith, below)) in
-        near j (omega (arith, below, within)) (ap (λ k. (sets_of t).stored k) place ∙ unstored)
+-- ---- all lines
 
-pub near_still : (from old to : List ℕ) (t : Touched) (line : ℕ) → Near from t old
-    → ((j : ℕ) → 256 * line ≤ j → j < 256 * line + 256 → get_or to j 0 ≡ get_or from j 0)
-    → ((j : ℕ) → (j < 256 * line) ⊎ (256 * line + 256 ≤ j) → get_or to j 0 ≡ get_or old j 0)
-    → Near from t to
-near_still from old to t line near copied others = λ j within off.
-    by j within off (cases_lt j (256 * line)) (cases_lt j (256 * line + 256))
-  where
-    by : (j : ℕ) → j < storage_size → (sets_of t).stored (j / line_size) ≡ false
-        → (j < 256 * line) ⊎ (256 * line ≤ j) → (j < 256 * line + 256) ⊎ (256 * line + 256 ≤ j)
-        → get_or to j 0 ≡ get_or from j 0
-    by j within off (inl low) other = others j (inl low) ∙ near j within off
-    by j within off (inr high) (inl low) = copied j high low
-    by j within off (inr high) (inr above) = others j (inr above) ∙ near j within off
+-- a copy whose bytes are those at absolute addresses
+pub seen_so : (prefix : Option ℕ) (s copy : List ℕ) → is_prefix prefix ≡ true → length s ≡ storage_size
+    → length copy ≡ storage_size
+    → ((j : ℕ) → j < storage_size → get_or copy j 0 ≡ get_or s (absolute_of prefix j) 0) → copy ≡ seen_by prefix s
+seen_so prefix s copy ok size whole same =
+    ext_get_or 0 copy (seen_by prefix s) (whole ∙ sym (length-seen prefix s ok size))
+    (λ j h. let within : j < storage_size = omega (arith, h, whole) in
+    same j within ∙ sym (seen_at prefix s j ok size within))
+
+-- outside of the first area and of its own a CPU sees storage as it is
+pub area_apart : (prefix : Option ℕ) (own j : ℕ) → is_prefix prefix ≡ true
+    → ((p : ℕ) → prefix ≡ Some p → 256 * own ≡ p) → 8192 ≤ j
+    → (j < 256 * own) ⊎ (256 * own + 8192 ≤ j) → absolute_of prefix j ≡ j
+area_apart None own j ok is high apart = refl
+area_apart (Some p) own j ok is high (inl low) =
+    let m = moves p j (area p ok).low in m.between high (let e = is p refl in omega (arith, e, low))
+area_apart (Some p) own j ok is high (inr past) =
+    let m = moves p j (area p ok).low in m.beyond (let e = is p refl in omega (arith, e, past))
+
+pub own_lines : (p : ℕ) → is_prefix (Some p) ≡ true → 256 * (p / 256) ≡ p
+own_lines p ok = let r = area p ok in omega (arith, r.aligned)
+
+pub own_within : (p : ℕ) → is_prefix (Some p) ≡ true → p / 256 + 32 ≤ 4096
+own_within p ok = let r = area p ok in omega (arith, r.high)
+
+-- a copy in which three areas are refreshed
+module _ (before prefix : Option ℕ) (s first second third fourth : List ℕ) (old new : ℕ)
+    (before_in : is_prefix before ≡ true) (prefix_in : is_prefix prefix ≡ true) (size : length s ≡ storage_size)
+    (is : first ≡ seen_by before s)
+    (old_apart : (j : ℕ) → 8192 ≤ j → (j < 256 * old) ⊎ (256 * old + 8192 ≤ j) → absolute_of before j ≡ j)
+    (new_apart : (j : ℕ) → 8192 ≤ j → (j < 256 * new) ⊎ (256 * new + 8192 ≤ j) → absolute_of prefix j ≡ j)
+    (one : Refreshed prefix s first second 0 32) (two : Refreshed prefix s second third old (old + 32))
+    (three : Refreshed prefix s third fourth new (new + 32)) where
+  in_none : (j : ℕ) → j < storage_size → 8192 ≤ j → (j < 256 * old) ⊎ (256 * old + 8192 ≤ j)
+      → (j < 256 * new) ⊎ (256 * new + 8192 ≤ j) → get_or second j 0 ≡ get_or s (absolute_of prefix j) 0
+  in_none j within high off out =
+      one.others j (inr (omega (arith, high))) ∙ ap (λ xs. get_or xs j 0) is ∙ seen_at before s j before_in size within
+      ∙ ap (λ i. get_or s i 0) (old_apart j high off ∙ sym (new_apart j high out))
+
+  at_second : (j : ℕ) → j < storage_size → (j < 256 * old) ⊎ (256 * old + 8192 ≤ j)
+      → (j < 256 * new) ⊎ (256 * new + 8192 ≤ j) → (j < 8192) ⊎ (8192 ≤ j)
+      → get_or second j 0 ≡ get_or s (absolute_of prefix j) 0
+  at_second j within off out (inl low) = one.copied j (omega arith) (omega (arith, low))
+  at_second j within off out (inr high) = in_none j within high off out
+
+  end_of : (j line : ℕ) → (j < 256 * line) ⊎ (256 * line + 8192 ≤ j) → (j < 256 * line) ⊎ (256 * (line + 32) ≤ j)
+  end_of j line (inl low) = inl low
+  end_of j line (inr past) = inr (omega (arith, past))
+
+  at_third : (j : ℕ) → j < storage_size → (j < 256 * new) ⊎ (256 * new + 8192 ≤ j)
+      → (j < 256 * old) ⊎ (256 * old ≤ j) → (j < 256 * old + 8192) ⊎ (256 * old + 8192 ≤ j)
+      → get_or third j 0 ≡ get_or s (absolute_of prefix j) 0
+  at_third j within out (inl low) _ =
+      two.others j (inl low) ∙ at_second j within (inl low) out (cases_lt j 8192)
+  at_third j within out (inr from) (inl own) = two.copied j from (omega (arith, own))
+  at_third j within out (inr from) (inr past) =
+      two.others j (end_of j old (inr past)) ∙ at_second j within (inr past) out (cases_lt j 8192)
+
+  at_fourth : (j : ℕ) → j < storage_size → (j < 256 * new) ⊎ (256 * new ≤ j)
+      → (j < 256 * new + 8192) ⊎ (256 * new + 8192 ≤ j) → get_or fourth j 0 ≡ get_or s (absolute_of prefix j) 0
+  at_fourth j within (inl low) _ =
+      three.others j (inl low)
+      ∙ at_third j within (inl low) (cases_lt j (256 * old)) (cases_lt j (256 * old + 8192))
+  at_fourth j within (inr from) (inl own) = three.copied j from (omega (arith, own))
+  at_fourth j within (inr from) (inr past) =
+      three.others j (end_of j new (inr past))
+      ∙ at_third j within (inr past) (cases_lt j (256 * old)) (cases_lt j (256 * old + 8192))
+
+  pub exchanged : fourth ≡ seen_by prefix s
+  exchanged =
+      seen_so prefix s fourth prefix_in size three.size
+      (λ j within. at_fourth j within (cases_lt j (256 * new)) (cases_lt j (256 * new + 8192)))
 
 -- ---- copies that follow storage
 
@@ -107,10 +227,11 @@ pub unprefixed : (prefix : Option ℕ) (s : List ℕ) → prefix ≡ None → se
 unfolding seen_by
 unprefixed prefix s none = ap (λ p. seen_by p s) none
 
-pub none_if_not_some : (b : Bool) (prefix : Option ℕ) → b ≡ is_some prefix → b ≡ false → prefix ≡ None
-none_if_not_some b None is not = refl
-none_if_not_some b (Some p) is not = absurd (let e : true ≡ false = sym is ∙ not in cc)
-
-pub none_if_none : (b : Bool) (prefix : Option ℕ) → is_some prefix ≡ not b → b ≡ true → prefix ≡ None
-none_if_none b None is so = refl
-none_if_none b (Some p) is so = absurd (let e : true ≡ false = is ∙ ap not so in cc)
+-- copies that are turned for a CPU are ready
+pub turned_ready : (prefix : Option ℕ) (bytes : List ℕ) (a : Attempt) → is_prefix prefix ≡ true
+    → IsTurned prefix bytes a → IsReady bytes a
+turned_ready prefix bytes a ok h = record {
+  prefix_in = ap is_prefix h.turned ∙ ok;
+  seen = h.seen ∙ ap (λ p. seen_by p bytes) (sym h.turned);
+  lasting = h.lasting ∙ ap (λ p. seen_by p bytes) (sym h.turned);
+}

@@ -5,7 +5,8 @@ use Rattle.std.specs.Prelude.{◌==◌, ◌||◌, ◌&&◌, if◌then◌else◌}
 use Rattle.std.specs.List.{list_any, All}
 use Rattle.std.proofs.lemmas.Bool.{or_parts, eq-eqb, eqb-true}
 use Rattle.z_regs.specs.Cpu.{Cpu, cpu_of}
-use Rattle.z_regs.specs.Prefix.{storage_size, is_prefix}
+use Rattle.z_regs.specs.Prefix.{storage_size, is_prefix, absolute_of}
+use Rattle.z_regs.proofs.Exchange.{absolute_within, seen_at}
 use Rattle.z_regs.specs.Seen.{seen_by}
 use Rattle.z_regs.specs.Absolute.{absolute_ranges}
 use Rattle.z_regs.specs.declared.ranges.Range.{Range}
@@ -35,8 +36,7 @@ use Rattle.tx_flat.specs.Ready.{Near}
 use Rattle.tx_flat.specs.Shows.{Shows, IsRunOf, mark_of}
 use Rattle.tx_flat.proofs.Fetched.{copy_size}
 use Rattle.tx_flat.proofs.Inside.{inside, in_storage}
-use Rattle.tx_flat.proofs.Laid.{listed}
-use Rattle.tx_flat.proofs.Mended.{unprefixed}
+use Rattle.tx_flat.proofs.Laid.{length-bytes}
 use Rattle.tx_flat.proofs.Moving.{none_refuses}
 use Rattle.tx_flat.proofs.Resting.{some_state}
 use Rattle.tx_flat.proofs.Settled.{same_outcome, stored_copy}
@@ -65,20 +65,22 @@ never_there : (b c : Bool) → (b ≡ true → c ≡ true) → c ≡ false → b
 never_there true c h off = absurd (let y : false ≡ true = sym off ∙ h refl in cc)
 never_there false c h off = refl
 
--- a list that is storage with stores laid over it
-near_by : (bytes seen : List ℕ) (t : Touched) (xs : List Store)
-    → seen ≡ bytes_of (laid_over (function_of bytes) xs)
-    → ((line : ℕ) → (sets_of t).stored line ≡ false → has_store_in line_size xs line ≡ false)
-    → Near bytes t seen
-near_by bytes seen t xs is apart = λ k within off.
-    ap (λ s. get_or s k 0) is
-    ∙ bytes_below_at storage_size (laid_over (function_of bytes) xs) k within
-    ∙ laid_elsewhere xs (function_of bytes) k (apart (k / line_size) off)
+-- a copy that is storage with stores laid over it, as a CPU sees it
+near_by : (prefix : Option ℕ) (test : ℕ → Bool) (bytes seen : List ℕ) (xs : List Store) → is_prefix prefix ≡ true
+    → seen ≡ seen_by prefix (bytes_of (laid_over (function_of bytes) xs))
+    → ((line : ℕ) → test line ≡ false → has_store_in line_size xs line ≡ false) → Near prefix test bytes seen
+near_by prefix test bytes seen xs ok is apart = λ k within off.
+    let s = laid_over (function_of bytes) xs in
+    let a = absolute_of prefix k in
+    ap (λ l. get_or l k 0) is
+    ∙ seen_at prefix (bytes_of s) k ok (length-bytes s) within
+    ∙ bytes_below_at storage_size s a (absolute_within prefix k ok within)
+    ∙ laid_elsewhere xs (function_of bytes) a (apart (a / line_size) off)
 
 -- ---- runs
 
 module _ (bytes text : List ℕ) (c : Cpu) (n : ℕ) (a : Attempt) (is : IsRunOf bytes text c n a)
-    (there : mark_of a.mark ≢ run.Missing) (prefix : Option ℕ) (same : c.prefix ≡ prefix) (none : prefix ≡ None)
+    (there : mark_of a.mark ≢ run.Missing) (ok : is_prefix c.prefix ≡ true) (turned : a.turned ≡ c.prefix)
   where
     abbrev its : FlatState
     its = some_state bytes text c
@@ -89,32 +91,28 @@ module _ (bytes text : List ℕ) (c : Cpu) (n : ℕ) (a : Attempt) (is : IsRunOf
     shows : Shows (function_of bytes) a p
     shows = let r = is its 0 refl refl refl in r.shows (λ gone. there (r.mark ∙ gone))
 
-    bare : p.cpu.prefix ≡ None
-    bare = run_prefix its 0 n ∙ same ∙ none
-
-    ok : is_prefix c.prefix ≡ true
-    ok = ap is_prefix (same ∙ none)
+    same : p.cpu.prefix ≡ a.turned
+    same = run_prefix its 0 n ∙ sym turned
 
     unstored : (line : ℕ) → (sets_of a.footprint).stored line ≡ false → has_store_in line_size p.stores line ≡ false
     unstored line off =
         sym (stored_places line_size its 0 n line ok) ∙ ap (λ s. s.stored line) (sym shows.sets) ∙ off
 
-    pub near_seen : Near bytes a.footprint a.seen
-    near_seen =
-        near_by bytes a.seen a.footprint p.stores
-        (shows.copy ∙ unprefixed p.cpu.prefix (bytes_of p.copy) bare ∙ ap bytes_of (run_copy its 0 n)) unstored
+    pub turned_in : is_prefix a.turned ≡ true
+    turned_in = ap is_prefix turned ∙ ok
 
-    pub near_lasting : Near bytes a.footprint a.lasting
+    pub near_seen : Near a.turned (sets_of a.footprint).stored bytes a.seen
+    near_seen =
+        near_by a.turned (sets_of a.footprint).stored bytes a.seen p.stores turned_in
+        (shows.copy ∙ ap (λ x. seen_by x (bytes_of p.copy)) same
+        ∙ ap (λ (s : Storage). seen_by a.turned (bytes_of s)) (run_copy its 0 n)) unstored
+
+    pub near_lasting : Near a.turned (sets_of a.footprint).stored bytes a.lasting
     near_lasting =
-        near_by bytes a.lasting a.footprint p.lasting
-        (shows.lasting
-        ∙ unprefixed p.cpu.prefix (bytes_of (laid_over (function_of bytes) p.lasting)) bare)
+        near_by a.turned (sets_of a.footprint).stored bytes a.lasting p.lasting turned_in
+        (shows.lasting ∙ ap (λ x. seen_by x (bytes_of (laid_over (function_of bytes) p.lasting))) same)
         (λ line off. never_there (has_store_in line_size p.lasting line) (has_store_in line_size p.stores line)
         (run_lasting (λ s. s.address / line_size == line) its 0 n) (unstored line off))
-
--- copies that are near the same bytes are near one another
-pub near_each : (bytes some other : List ℕ) (t : Touched) → Near bytes t some → Near bytes t other → Near other t some
-near_each bytes some other t h g = λ k within off. h k within off ∙ sym (g k within off)
 
 pub committed_there : (m : run.Mark) → m ≡ run.Committed → m ≢ run.Missing
 committed_there m e h = let n : run.Committed ≡ run.Missing = sym e ∙ h in cc
@@ -130,25 +128,25 @@ step_inside text s c i touches absolute ok passes places =
     subst (All IsInStorage) (sym (places ∙ ap (absolute_ranges c.prefix) passes.touches))
     (in_storage text p i ok (none_refuses text p i passes.passed).on_operands)
 
-pub step_lasting : (s : List ℕ) (c : Cpu) (a : Attempt) (t : Touched) → c.prefix ≡ None → length s ≡ storage_size
-    → Shows (function_of s) a (at_rest (function_of s) c) → Near s t a.lasting
+pub step_lasting : (test : ℕ → Bool) (s : List ℕ) (c : Cpu) (a : Attempt) → is_prefix c.prefix ≡ true
+    → a.turned ≡ c.prefix → Shows (function_of s) a (at_rest (function_of s) c) → Near a.turned test s a.lasting
 unfolding laid_over
-step_lasting s c a t none size shows = λ k within off.
-    ap (λ xs. get_or xs k 0)
-    (shows.lasting ∙ unprefixed c.prefix (bytes_of (function_of s)) none ∙ listed s size)
+step_lasting test s c a ok turned shows =
+    near_by a.turned test s a.lasting [] (ap is_prefix turned ∙ ok)
+    (shows.lasting ∙ ap (λ p. seen_by p (bytes_of (function_of s))) (sym turned)) (λ line off. refl)
 
-module _ (text s seen_after : List ℕ) (c after : Cpu) (a : Attempt) (t : Touched) (i : Instr)
-    (touches absolute : List Range) (done : Completion) (none : c.prefix ≡ None) (size : length s ≡ storage_size)
+module _ (text s seen_after : List ℕ) (c after : Cpu) (a : Attempt) (i : Instr)
+    (touches absolute : List Range) (done : Completion) (fine : is_prefix c.prefix ≡ true)
+    (turned : a.turned ≡ c.prefix)
     (shows : Shows (function_of s) a (at_rest (function_of s) c))
     (passes : Passes text (at_rest (function_of s) c) i touches)
     (places : absolute ≡ absolute_ranges c.prefix touches)
-    (executed : IsExecuted 0 i (cpu_of a.image) after a.seen seen_after done)
-    (sets : sets_of t ≡ touching (sets_of a.footprint) absolute) where
+    (executed : IsExecuted 0 i (cpu_of a.image) after a.seen seen_after done) where
   abbrev resting : Run
   resting = at_rest (function_of s) c
 
-  fine : is_prefix c.prefix ≡ true
-  fine = ap is_prefix none
+  turned_too : is_prefix a.turned ≡ true
+  turned_too = ap is_prefix turned ∙ fine
 
   within_it : AreInside (ranges_of i c) a.seen
   within_it =
@@ -158,39 +156,38 @@ module _ (text s seen_after : List ℕ) (c after : Cpu) (a : Attempt) (t : Touch
   doing : outcome_at 0 i (cpu_of a.image) a.seen ≡ outcome_of i (operands i c) resting
   doing = ap (λ (d : Cpu). outcome_at 0 i d a.seen) (sym shows.cpu) ∙ same_outcome i resting a.seen fine shows.copy within_it
 
-  ranges_there : (line : ℕ) → (sets_of t).stored line ≡ false → stores (absolute_ranges c.prefix (operands i c)) line ≡ false
+  ranges_there : (line : ℕ) → stores absolute line ≡ false → stores (absolute_ranges c.prefix (operands i c)) line ≡ false
   ranges_there line off =
       let all : absolute ≡ absolute_ranges c.prefix (operands i c) = places ∙ ap (absolute_ranges c.prefix) passes.touches in
-      ap (λ rs. stores rs line) (sym all)
-      ∙ (or_parts ((sets_of a.footprint).stored line) (stores absolute line)
-      (ap (λ x. x.stored line) (sym sets) ∙ off)).1
+      ap (λ rs. stores rs line) (sym all) ∙ off
 
   unstored_by : (bytes : List ℕ) → stored_size (operands i c) ≤ length bytes → (line : ℕ)
-      → (sets_of t).stored line ≡ false
+      → stores absolute line ≡ false
       → has_store_in line_size (operand_stores c.prefix (operands i c) bytes) line ≡ false
   unfolding has_place
   unstored_by bytes enough line off =
       operands_there (λ x. x / line_size == line) c.prefix (operands i c) fine (small_operands i resting) bytes enough
       ∙ ranges_there line off
 
-  own : a.seen ≡ s
-  own = shows.copy ∙ unprefixed c.prefix (bytes_of (function_of s)) none ∙ listed s size
-
   stored_so : (bytes : List ℕ) → stored_size (operands i c) ≤ length bytes
-      → seen_after ≡ with_stored (ranges_of i (cpu_of a.image)) bytes a.seen → Near s t seen_after
+      → seen_after ≡ with_stored (ranges_of i (cpu_of a.image)) bytes a.seen
+      → Near a.turned (stores absolute) s seen_after
   stored_so bytes enough is =
       let x = laid_over (function_of s) (operand_stores c.prefix (operands i c) bytes) in
-      near_by s seen_after t (operand_stores c.prefix (operands i c) bytes)
+      near_by a.turned (stores absolute) s seen_after (operand_stores c.prefix (operands i c) bytes) turned_too
       (is
       ∙ ap (λ (d : Cpu). with_stored (ranges_of i d) bytes a.seen) (sym shows.cpu)
       ∙ stored_copy i resting (function_of s) a.seen bytes fine shows.copy within_it
-      ∙ unprefixed c.prefix (bytes_of x) none)
+      ∙ ap (λ p. seen_by p (bytes_of x)) (sym turned))
       (unstored_by bytes enough)
 
-  unstored_so : seen_after ≡ a.seen → Near s t seen_after
-  unstored_so is = λ k within off. ap (λ xs. get_or xs k 0) (is ∙ own)
+  unstored_so : seen_after ≡ a.seen → Near a.turned (stores absolute) s seen_after
+  unfolding laid_over
+  unstored_so is =
+      near_by a.turned (stores absolute) s seen_after [] turned_too
+      (is ∙ shows.copy ∙ ap (λ p. seen_by p (bytes_of (function_of s))) (sym turned)) (λ line off. refl)
 
-  by_outcome : (o : Outcome) → outcome_at 0 i (cpu_of a.image) a.seen ≡ o → Near s t seen_after
+  by_outcome : (o : Outcome) → outcome_at 0 i (cpu_of a.image) a.seen ≡ o → Near a.turned (stores absolute) s seen_after
   by_outcome (Did d bytes) e =
       stored_so bytes (subst (Fills (stored_size (operands i c))) (sym doing ∙ e) (filled i resting))
       (executed.storage ∙ ap (storage_after (ranges_of i (cpu_of a.image)) a.seen) e)
@@ -202,5 +199,5 @@ module _ (text s seen_after : List ℕ) (c after : Cpu) (a : Attempt) (t : Touch
   by_outcome (Aborts code) e =
       unstored_so (executed.storage ∙ ap (storage_after (ranges_of i (cpu_of a.image)) a.seen) e)
 
-  pub near_step : Near s t seen_after
+  pub near_step : Near a.turned (stores absolute) s seen_after
   near_step = by_outcome (outcome_at 0 i (cpu_of a.image) a.seen) refl

@@ -13,11 +13,10 @@ ghost use Rattle.tx_flat.specs.Ready.{IsReady};
 use crate::attempt::{Attempt, Mark};
 use crate::ending::fits;
 use crate::entries::may_act;
-use crate::mending::{forget_plain_stores, give_up, keep};
+use crate::mending::{forget_plain_stores, give_up, keep_stored};
 use crate::refusals::constrains;
 use crate::running::run;
 use crate::slot::{ApplyFault, Block, Slot};
-use std::alloc::Global;
 use tx_abort::{block_of, condition_of, restore};
 use tx_control::Why;
 use z_regs::{CpuImage, Guard, RunState, Storage, Waiting};
@@ -118,9 +117,8 @@ fn left(saved: &CpuImage, a: &Attempt, why: Why) -> Slot
 }
 
 /// A transaction is aborted by this cause after so many instructions, where it may be. Of its stores those
-/// of NTSTG stay. Nothing changes where it may not be, and for want of memory.
+/// of NTSTG stay. Nothing changes where it may not be.
 pub fn abort(
-    alloc: Global,
     work: &mut Attempt,
     storage: &mut Storage,
     guard: &Guard,
@@ -140,18 +138,14 @@ pub fn abort(
     if count == 0 {
         return Err(ApplyFault::Misfit);
     }
-    let Ok(_) = run(alloc, work, storage, &slot.image, guard, count) else {
-        return Err(ApplyFault::Memory);
-    };
+    run(work, storage, &slot.image, guard, count);
     if !fits(work, guard, why) {
         give_up(work, storage);
         return Err(ApplyFault::Misfit);
     }
     let new = left(&slot.image, work, why);
-    forget_plain_stores(work, slot.image.prefix);
-    let Ok(_) = keep(alloc, work, storage, slot.image.prefix) else {
-        return Err(ApplyFault::Memory);
-    };
+    forget_plain_stores(work);
+    keep_stored(work, storage);
     *slot = new;
     Ok(())
 }

@@ -147,7 +147,8 @@ fn first_of(nest: &Nest, begin: Told, told: Told) -> Told
 /// An instruction that has passed all tests is executed, and all that is kept goes on.
 fn go(a: &mut Attempt, instr: &Instr, admitted: &Admitted)
     requires { MayGo instr.now admitted.now.touches admitted.now.absolute a.old }
-    ensures { (done : Done) × HasMoved instr.now admitted.now.touches admitted.now.absolute done a.old a.new }
+    ensures moved { (done : Done) × HasMoved instr.now admitted.now.touches admitted.now.absolute done a.old a.new }
+    ensures turned { a.new.turned ≡ a.old.turned }
 {
     let before = a.image;
     let depth = a.nest.depth();
@@ -180,8 +181,9 @@ fn may_come(nest: &Nest, instr: &Instr) -> bool
 /// One instruction more of a run that is open.
 fn advance_open(a: &mut Attempt, guard: &Guard)
     requires { Shown a.old }
-    ensures { (base : Bytes) (p : Run) → Shows base a.old p → p.mark ≡ Open
+    ensures run { (base : Bytes) (p : Run) → Shows base a.old p → p.mark ≡ Open
         → IsRun base a.new (after_fate (fate (items guard.now) p) p) }
+    ensures turned { a.new.turned ≡ a.old.turned }
 {
     match coming(a, guard) {
         Next::Goes(instr, admitted) => {
@@ -199,7 +201,8 @@ fn advance_open(a: &mut Attempt, guard: &Guard)
 /// One instruction more, where the transaction is open and the instruction goes; else there is no such run.
 pub fn advance(a: &mut Attempt, guard: &Guard)
     requires { SomeRun a.old }
-    ensures { (base : Bytes) (p : Run) → IsRun base a.old p → IsRun base a.new (more (items guard.now) p) }
+    ensures run { (base : Bytes) (p : Run) → IsRun base a.old p → IsRun base a.new (more (items guard.now) p) }
+    ensures turned { a.new.turned ≡ a.old.turned }
 {
     match a.mark {
         Mark::Open => advance_open(a, guard),

@@ -23,14 +23,15 @@ pub struct Told {
 }
 
 /// A private run: the CPU, its own copy of storage and a copy with the stores of NTSTG alone, both in
-/// the order of its real addresses; storage of any bytes, on which an instruction is tried; the open
-/// begins; the lines and blocks that it has touched; what is kept for the constraints; the begin and
-/// the last instruction; and the mark.
+/// the order of its real addresses, and the prefix that tells this order; storage of any bytes, on which an
+/// instruction is tried; the open begins; the lines and blocks that it has touched; what is kept for the
+/// constraints; the begin and the last instruction; and the mark.
 #[derive(Drop)]
 pub struct Attempt {
     pub image: CpuImage,
     pub seen: Storage,
     pub lasting: Storage,
+    pub turned: Option<u32>,
     pub trial: Storage,
     pub nest: Nest,
     pub footprint: Footprint,

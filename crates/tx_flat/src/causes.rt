@@ -1,33 +1,66 @@
 //! The cause by which an attempt ends by itself, from storage and its CPU alone.
-ghost use Rattle.std.specs.Prelude.{◌≡◌, ℕ, IfOk, length};
+ghost use Rattle.std.specs.Prelude.{◌≡◌, ◌≢◌, ◌↔◌, ℕ, IsTrue, length};
 ghost use Rattle.std.specs.FinSet.{items};
 ghost use Rattle.z_regs.specs.Cpu.{cpu_of};
-ghost use Rattle.z_regs.specs.Prefix.{storage_size};
+ghost use Rattle.z_regs.specs.Prefix.{storage_size, is_prefix};
 ghost use Rattle.tx_serial.specs.Ending.{ending as ending_of};
 ghost use Rattle.tx_serial.specs.Flat.{FlatState};
 ghost use Rattle.tx_serial.specs.Run.{run as run_of};
 ghost use Rattle.tx_flat.specs.Bytes.{function_of};
+ghost use Rattle.tx_flat.specs.Ready.{IsReady, Near};
+ghost use Rattle.tx_flat.specs.Shows.{mark_of};
+ghost use Rattle.tx_serial.specs.Attempt.{Missing};
+ghost use Rattle.tx_footprint.specs.Touched.{sets_of};
 
+use crate::attempt::{Attempt, Mark};
 use crate::ending::ending;
-use crate::running::run_apart;
-use std::alloc::Global;
+use crate::mending::{give_up, restore};
+use crate::running::run;
 use tx_control::Why;
-use z_regs::{CpuImage, Guard, NoMemory, Storage};
+use z_regs::{CpuImage, Guard, Storage};
+
+/// Whether there is no run of so many instructions.
+fn is_missing(mark: Mark) -> bool
+    ensures { IsTrue result ↔ (mark_of mark ≡ Missing) }
+{
+    matches!(mark, Mark::Missing)
+}
+
+/// The copies are storage again behind a run, which differs from it in lines alone that were stored, where there
+/// is such a run.
+fn settle(work: &mut Attempt, storage: &Storage)
+    requires prefix_in { IsTrue (is_prefix work.old.turned) }
+    requires seen { mark_of work.old.mark ≢ Missing
+        → Near work.old.turned (sets_of work.old.footprint).stored storage.now work.old.seen }
+    requires lasting { mark_of work.old.mark ≢ Missing
+        → Near work.old.turned (sets_of work.old.footprint).stored storage.now work.old.lasting }
+    ensures { IsReady storage.now work.new }
+{
+    if is_missing(work.mark) {
+        give_up(work, storage);
+    } else {
+        restore(work, storage);
+    }
+}
 
 /// The cause by which the attempt of so many instructions of a CPU ends by itself, where there is one. `guard`
-/// has the text pages. `NoMemory` comes for want of memory.
+/// has the text pages. The copies in `work` stay storage.
 pub fn own_cause(
-    alloc: Global,
+    work: &mut Attempt,
     storage: &Storage,
     image: &CpuImage,
     guard: &Guard,
     n: u32,
-) -> Result<Option<Why>, NoMemory>
-    requires { length storage.now ≡ storage_size }
-    ensures { IfOk result (λ why. (f : FlatState) (i : ℕ) → f.storage ≡ function_of storage.now
+) -> Option<Why>
+    requires size { length storage.now ≡ storage_size }
+    requires ready { IsReady storage.now work.old }
+    ensures value { (f : FlatState) (i : ℕ) → f.storage ≡ function_of storage.now
         → f.text ≡ items guard.now → f.cpus i ≡ cpu_of image.now
-        → why ≡ ending_of f.text (run_of f i n)) }
+        → result ≡ ending_of f.text (run_of f i n) }
+    ensures ready { IsReady storage.now work.new }
 {
-    let mut a = run_apart(alloc, storage, image, guard, n)?;
-    Ok(ending(&mut a, guard))
+    run(work, storage, image, guard, n);
+    let why = ending(work, guard);
+    settle(work, storage);
+    why
 }

@@ -14,14 +14,12 @@ use crate::entries::{commit, store_block};
 use crate::interruption::take;
 use crate::outside::step;
 use crate::slot::{ApplyFault, Slot};
-use std::alloc::Global;
 use tx_journal::Entry;
 use z_regs::{Guard, Storage};
 
 /// An entry of the CPU whose slot this is; its number is not looked at. A block that is pending lies in
 /// storage.
 pub fn apply_to(
-    alloc: Global,
     work: &mut Attempt,
     storage: &mut Storage,
     guard: &Guard,
@@ -36,11 +34,11 @@ pub fn apply_to(
     ensures ready { IsReady storage.new work.new }
 {
     match entry {
-        Entry::Step(_) => step(alloc, work, storage, guard, slot),
-        Entry::Commit(_, n) => commit(alloc, work, storage, guard, slot, n),
+        Entry::Step(_) => step(work, storage, guard, slot),
+        Entry::Commit(_, n) => commit(work, storage, guard, slot, n),
         Entry::Abort(_, n, why) => {
             let ended = Ended { count: n, why };
-            abort(alloc, work, storage, guard, slot, ended)
+            abort(work, storage, guard, slot, ended)
         }
         Entry::Tdb(_) => store_block(work, storage, slot),
         Entry::Interrupt(_) => take(work, storage, slot),

@@ -11,11 +11,10 @@ ghost use Rattle.tx_flat.specs.Shows.{mark_of};
 ghost use Rattle.tx_flat.specs.Ready.{IsReady};
 
 use crate::attempt::{Attempt, Mark};
-use crate::mending::{follow_bytes, give_up, keep};
+use crate::mending::{follow_bytes, give_up, keep_stored, turn};
 use crate::running::run;
 use crate::slot::{ApplyFault, Slot};
 use crate::storing::store_bytes;
-use std::alloc::Global;
 use z_regs::{Guard, RunState, Storage};
 
 /// Whether a CPU runs, and nothing is pending for it.
@@ -32,10 +31,8 @@ fn is_committed(mark: Mark) -> bool
     matches!(mark, Mark::Committed)
 }
 
-/// A transaction of so many instructions is committed, where it is. Nothing changes where it is not, and for
-/// want of memory.
+/// A transaction of so many instructions is committed, where it is. Nothing changes where it is not.
 pub fn commit(
-    alloc: Global,
     work: &mut Attempt,
     storage: &mut Storage,
     guard: &Guard,
@@ -51,17 +48,13 @@ pub fn commit(
     if !may_act(slot) {
         return Err(ApplyFault::Misfit);
     }
-    let Ok(_) = run(alloc, work, storage, &slot.image, guard, n) else {
-        return Err(ApplyFault::Memory);
-    };
+    run(work, storage, &slot.image, guard, n);
     if !is_committed(work.mark) {
         give_up(work, storage);
         return Err(ApplyFault::Misfit);
     }
     let image = work.image;
-    let Ok(_) = keep(alloc, work, storage, slot.image.prefix) else {
-        return Err(ApplyFault::Memory);
-    };
+    keep_stored(work, storage);
     slot.image = image;
     Ok(())
 }
@@ -82,6 +75,7 @@ pub fn store_block(
     let Some(block) = slot.pending else {
         return Err(ApplyFault::Misfit);
     };
+    turn(work, storage, None);
     store_bytes(storage, slot.image.prefix, block.address, &block.bytes);
     follow_bytes(work, slot.image.prefix, block.address, &block.bytes);
     slot.pending = None;

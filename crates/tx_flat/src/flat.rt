@@ -159,8 +159,8 @@ impl Flat {
         })
     }
 
-    /// One entry of the history. Nothing changes where it does not fit, and for want of memory.
-    pub fn apply(&mut self, alloc: Global, entry: Entry) -> Result<(), ApplyFault>
+    /// One entry of the history. Nothing changes where it does not fit.
+    pub fn apply(&mut self, entry: Entry) -> Result<(), ApplyFault>
         ensures applied { Applies entry self.old self.new result }
         ensures cpus { length self.new.slots ≡ length self.old.slots }
     {
@@ -171,7 +171,6 @@ impl Flat {
         is_whole(&self.storage);
         let mut slot = self.slots[cpu];
         match apply_to(
-            alloc,
             &mut self.work,
             &mut self.storage,
             &self.guard,
@@ -187,15 +186,15 @@ impl Flat {
     }
 
     /// The cause by which the attempt of so many instructions of a CPU that is there ends by itself, None exactly
-    /// where it does not. Nothing changes. `NoMemory` comes for want of memory.
-    pub fn own_cause(&self, alloc: Global, cpu: u32, count: u32) -> Result<Option<Why>, NoMemory>
-        requires { cpu < length self.now.slots }
-        ensures value { IfOk result (λ why. why
-            ≡ ending (state_of self.now).text (run (state_of self.now) cpu count)) }
+    /// where it does not. Nothing changes.
+    pub fn own_cause(&mut self, cpu: u32, count: u32) -> Option<Why>
+        requires { cpu < length self.old.slots }
+        ensures value { result ≡ ending (state_of self.old).text (run (state_of self.old) cpu count) }
+        ensures unchanged { self.new ≡ self.old }
     {
         is_whole(&self.storage);
-        let image = &self.slots[cpu as usize].image;
-        own_cause(alloc, &self.storage, image, &self.guard, count)
+        let image = self.slots[cpu as usize].image;
+        own_cause(&mut self.work, &self.storage, &image, &self.guard, count)
     }
 
     /// The run of so many instructions of a CPU that is there, None exactly where it is not open. Nothing changes.

@@ -1,5 +1,5 @@
 //! Interruptions that are taken.
-ghost use Rattle.std.specs.Prelude.{◌≡◌, ◌<◌, ℕ, List, IsTrue, length};
+ghost use Rattle.std.specs.Prelude.{◌≡◌, ◌<◌, ℕ, List, IsTrue, None, length};
 ghost use Rattle.z_regs.specs.Cpu.{cpu_of};
 ghost use Rattle.z_regs.specs.Prefix.{storage_size, is_prefix, absolute_of};
 ghost use Rattle.tx_serial.specs.Apply.{apply, interruption_code, new_psw, with_block};
@@ -8,10 +8,10 @@ ghost use Rattle.tx_serial.specs.Flat.{bytes_seen};
 ghost use Rattle.tx_journal.specs.declared.entries.Entry.TheVariants as entry;
 ghost use Rattle.tx_flat.specs.Bytes.{function_of};
 ghost use Rattle.tx_flat.specs.Slots.{IsApplied};
-ghost use Rattle.tx_flat.specs.Ready.{IsReady};
+ghost use Rattle.tx_flat.specs.Ready.{IsReady, IsTurned};
 
 use crate::attempt::Attempt;
-use crate::mending::is_whole;
+use crate::mending::{is_whole, turn};
 use crate::slot::{ApplyFault, Slot};
 use crate::storing::store_bytes;
 use z_regs::{Bytes, CpuImage, RunState, Storage, Waiting, load_psw, place_of, psw_of};
@@ -107,7 +107,7 @@ fn store_interruption(storage: &mut Storage, image: &CpuImage, waiting: Waiting)
 
 /// The same goes into the copies of storage.
 fn follow_interruption(a: &mut Attempt, image: &CpuImage, waiting: Waiting)
-    ensures { (old new : List ℕ) → IsReady old a.old → length new ≡ storage_size
+    ensures { (old new : List ℕ) → IsTurned None old a.old → length new ≡ storage_size
         → function_of new ≡ with_stored_interruption (cpu_of image.now) waiting (function_of old)
         → IsReady new a.new }
 {
@@ -130,6 +130,7 @@ pub fn take(work: &mut Attempt, storage: &mut Storage, slot: &mut Slot) -> Resul
         None => match slot.waiting {
             None => Err(ApplyFault::Misfit),
             Some(waiting) => {
+                turn(work, storage, None);
                 store_interruption(storage, &slot.image, waiting);
                 follow_interruption(work, &slot.image, waiting);
                 let psw = new_status(storage, slot.image.prefix);

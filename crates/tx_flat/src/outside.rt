@@ -1,5 +1,5 @@
 //! One instruction outside transactions.
-ghost use Rattle.std.specs.Prelude.{◌≡◌, ℕ, List, All, IsTrue, IfErr, OnOk, length, true, None};
+ghost use Rattle.std.specs.Prelude.{◌≡◌, ℕ, List, Ok, length, None};
 ghost use Rattle.std.specs.FinSet.{items};
 ghost use Rattle.z_regs.specs.Cpu.{cpu_of};
 ghost use Rattle.z_regs.specs.Prefix.{storage_size};
@@ -12,23 +12,18 @@ ghost use Rattle.tx_flat.specs.Bytes.{function_of};
 ghost use Rattle.tx_flat.specs.Outside.{HasStopped, HasEnded, IsPerformed};
 ghost use Rattle.tx_flat.specs.Shows.{Shows};
 ghost use Rattle.tx_flat.specs.Slots.{IsApplied};
-ghost use Rattle.tx_flat.specs.Ready.{IsReady, Near};
-ghost use Rattle.z_regs.specs.Prefix.{is_prefix};
-ghost use Rattle.z_regs.specs.Seen.{seen_by};
+ghost use Rattle.tx_flat.specs.Ready.{IsReady};
 ghost use Rattle.tx_serial.specs.Fate.{Passes};
 ghost use Rattle.z_regs.specs.Absolute.{absolute_ranges};
-ghost use Rattle.tx_footprint.specs.Places.{IsInStorage};
-ghost use Rattle.tx_footprint.specs.Touched.{Touched, sets_of, touching};
 
 use crate::attempt::Attempt;
 use crate::coming::{Next, coming};
 use crate::entries::may_act;
 use crate::execution::{Completion, execute};
-use crate::mending::{is_whole, keep, keep_all, turn_back};
+use crate::mending::{is_whole, keep_ranges};
 use crate::refusals::Admitted;
 use crate::running::rest;
 use crate::slot::{ApplyFault, Slot};
-use std::alloc::Global;
 use tx_control::Exception;
 use tx_control::codes::{FIXED_POINT_DIVIDE, FIXED_POINT_OVERFLOW};
 use z_effect::{exception, interrupt};
@@ -36,7 +31,7 @@ use z_instr::format::length_in;
 use z_instr::instr::Instr;
 use z_instr::lookup::line;
 use z_instr::roles::begins;
-use z_regs::{CpuImage, Guard, NoMemory, RunState, Storage, Touches, Waiting};
+use z_regs::{CpuImage, Guard, RunState, Storage, Waiting};
 
 /// The interruption that then waits on a CPU with a prefix, behind an instruction of so many bytes.
 fn waiting_on(prefix: Option<u32>, length: u8) -> Option<Waiting>
@@ -76,75 +71,34 @@ fn end(slot: &mut Slot, image: CpuImage, completion: Completion, length: u8)
     }
 }
 
-/// The lines that an instruction stores into are marked, where there are not too many.
-fn mark(a: &mut Attempt, absolute: &Touches) -> bool
-    requires inside { All IsInStorage absolute.now }
-    ensures marked { result ≡ true → sets_of a.new.footprint ≡ touching (sets_of a.old.footprint) absolute.now }
-    ensures others { a.new ≡ record a.old { footprint = a.new.footprint } }
-{
-    if a.footprint.fits(absolute).is_err() {
-        return false;
-    }
-    a.footprint.add(absolute);
-    true
-}
-
-/// Storage becomes the copy that an instruction with these operands has left.
-fn keep_marked(
-    alloc: Global,
-    work: &mut Attempt,
-    storage: &mut Storage,
-    prefix: Option<u32>,
-    absolute: &Touches,
-) -> Result<(), NoMemory>
-    requires prefix_in { IsTrue (is_prefix prefix) }
-    requires inside { All IsInStorage absolute.now }
-    requires seen { prefix ≡ None → (t : Touched)
-        → sets_of t ≡ touching (sets_of work.old.footprint) absolute.now → Near storage.old t work.old.seen }
-    requires lasting { prefix ≡ None → (t : Touched)
-        → sets_of t ≡ touching (sets_of work.old.footprint) absolute.now → Near storage.old t work.old.lasting }
-    ensures kept { OnOk result (storage.new ≡ seen_by prefix work.old.seen) }
-    ensures fault { IfErr result (λ e. storage.new ≡ storage.old) }
-    ensures ready { IsReady storage.new work.new }
-{
-    if mark(work, absolute) {
-        return keep(alloc, work, storage, prefix);
-    }
-    keep_all(alloc, work, storage, prefix)
-}
-
 /// An instruction that goes is performed. `work` is a run without an instruction, on storage and this CPU.
 fn perform(
-    alloc: Global,
     work: &mut Attempt,
     storage: &mut Storage,
     slot: &mut Slot,
     instr: &Instr,
     admitted: &Admitted,
-) -> Result<(), ApplyFault>
+)
     requires size { length storage.old ≡ storage_size }
+    requires turned { work.old.turned ≡ slot.old.image.prefix }
     requires shown { Shows (function_of storage.old) work.old
         (at_rest (function_of storage.old) (cpu_of slot.old.image)) }
     requires passes { (text : List ℕ) × Passes text
         (at_rest (function_of storage.old) (cpu_of slot.old.image)) instr.now admitted.now.touches }
     requires places { admitted.now.absolute ≡ absolute_ranges slot.old.image.prefix admitted.now.touches }
-    ensures performed { IsPerformed instr.now storage.old storage.new slot.old slot.new result }
+    ensures performed { IsPerformed instr.now storage.old storage.new slot.old slot.new (Ok tt) }
     ensures ready { IsReady storage.new work.new }
 {
     is_whole(&work.seen);
     let completion = execute(instr, &mut work.image, &mut work.seen, 0);
     let image = work.image;
-    let Ok(_) = keep_marked(alloc, work, storage, slot.image.prefix, &admitted.absolute) else {
-        return Err(ApplyFault::Memory);
-    };
+    keep_ranges(work, storage, &admitted.absolute);
     end(slot, image, completion, length_in(line(instr.op).format));
-    Ok(())
 }
 
 /// The next instruction of a CPU outside transactions, or the exception that comes there; a begin that goes
-/// does not fit. Nothing changes where the entry does not fit, and for want of memory.
+/// does not fit. Nothing changes where the entry does not fit.
 pub fn step(
-    alloc: Global,
     work: &mut Attempt,
     storage: &mut Storage,
     guard: &Guard,
@@ -159,25 +113,19 @@ pub fn step(
     if !may_act(slot) {
         return Err(ApplyFault::Misfit);
     }
-    let Ok(_) = rest(alloc, work, storage, &slot.image) else {
-        return Err(ApplyFault::Memory);
-    };
+    rest(work, storage, &slot.image);
     match coming(work, guard) {
-        Next::Ends(_) => {
-            turn_back(work, storage, slot.image.prefix);
-            Err(ApplyFault::Misfit)
-        }
+        Next::Ends(_) => Err(ApplyFault::Misfit),
         Next::Stops(exception) => {
-            turn_back(work, storage, slot.image.prefix);
             stop(slot, exception);
             Ok(())
         }
         Next::Goes(instr, admitted) => {
             if begins(instr.op) {
-                turn_back(work, storage, slot.image.prefix);
                 return Err(ApplyFault::Misfit);
             }
-            perform(alloc, work, storage, slot, &instr, &admitted)
+            perform(work, storage, slot, &instr, &admitted);
+            Ok(())
         }
     }
 }

@@ -1,5 +1,5 @@
 //! Private runs of so many instructions.
-ghost use Rattle.std.specs.Prelude.{◌≡◌, ◌≤◌, ℕ, List, IfOk, IfErr, OnOk, length};
+ghost use Rattle.std.specs.Prelude.{◌≡◌, ◌≤◌, ℕ, List, Option, IfOk, length};
 ghost use Rattle.std.specs.FinSet.{items};
 ghost use Rattle.z_regs.specs.Cpu.{cpu_of};
 ghost use Rattle.z_regs.specs.Prefix.{storage_size};
@@ -38,6 +38,7 @@ pub fn fresh(alloc: Global, storage: &Storage) -> Result<Attempt, NoMemory>
         image: CpuImage::entering(0),
         seen,
         lasting,
+        turned: None,
         trial,
         nest: Nest::none(),
         footprint,
@@ -52,8 +53,8 @@ pub fn fresh(alloc: Global, storage: &Storage) -> Result<Attempt, NoMemory>
 fn restart(a: &mut Attempt, image: &CpuImage)
     ensures rests { (bytes : List ℕ) → length bytes ≡ storage_size → IsTurned image.now.prefix bytes a.old
         → Shows (function_of bytes) a.new (at_rest (function_of bytes) (cpu_of image.now)) }
-    ensures turned { (bytes : List ℕ) → IsTurned image.now.prefix bytes a.old
-        → IsTurned image.now.prefix bytes a.new }
+    ensures turned { (prefix : Option ℕ) (bytes : List ℕ) → IsTurned prefix bytes a.old
+        → IsTurned prefix bytes a.new }
 {
     a.image = *image;
     a.nest = Nest::none();
@@ -65,43 +66,29 @@ fn restart(a: &mut Attempt, image: &CpuImage)
 }
 
 /// No instruction of a CPU yet, on the copies of storage.
-pub fn rest(
-    alloc: Global,
-    a: &mut Attempt,
-    storage: &Storage,
-    image: &CpuImage,
-) -> Result<(), NoMemory>
+pub fn rest(a: &mut Attempt, storage: &Storage, image: &CpuImage)
     requires size { length storage.now ≡ storage_size }
     requires ready { IsReady storage.now a.old }
-    ensures shown { OnOk result (Shows (function_of storage.now) a.new
-        (at_rest (function_of storage.now) (cpu_of image.now))) }
-    ensures turned { OnOk result (IsTurned image.now.prefix storage.now a.new) }
-    ensures fault { IfErr result (λ e. IsReady storage.now a.new) }
+    ensures shown { Shows (function_of storage.now) a.new
+        (at_rest (function_of storage.now) (cpu_of image.now)) }
+    ensures turned { a.new.turned ≡ image.now.prefix }
+    ensures ready { IsReady storage.now a.new }
 {
-    turn(alloc, a, storage, image.prefix)?;
+    turn(a, storage, image.prefix);
     restart(a, image);
-    Ok(())
 }
 
 /// The run of so many instructions of a CPU alone, on the copies of storage. `guard` has the text pages.
-pub fn run(
-    alloc: Global,
-    a: &mut Attempt,
-    storage: &Storage,
-    image: &CpuImage,
-    guard: &Guard,
-    n: u32,
-) -> Result<(), NoMemory>
+pub fn run(a: &mut Attempt, storage: &Storage, image: &CpuImage, guard: &Guard, n: u32)
     requires size { length storage.now ≡ storage_size }
     requires ready { IsReady storage.now a.old }
-    ensures run { OnOk result (IsRunOf storage.now (items guard.now) (cpu_of image.now) n a.new) }
-    ensures fault { IfErr result (λ e. IsReady storage.now a.new) }
+    ensures run { IsRunOf storage.now (items guard.now) (cpu_of image.now) n a.new }
+    ensures turned { a.new.turned ≡ image.now.prefix }
 {
-    rest(alloc, a, storage, image)?;
+    rest(a, storage, image);
     for _k in 0..n {
         advance(a, guard);
     }
-    Ok(())
 }
 
 /// The run of so many instructions of a CPU alone, on copies of its own.
@@ -116,6 +103,6 @@ pub fn run_apart(
     ensures { IfOk result (λ a. IsRunOf storage.now (items guard.now) (cpu_of image.now) n a) }
 {
     let mut a = fresh(alloc, storage)?;
-    run(alloc, &mut a, storage, image, guard, n)?;
+    run(&mut a, storage, image, guard, n);
     Ok(a)
 }

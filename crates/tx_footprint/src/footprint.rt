@@ -1,5 +1,6 @@
 //! The footprint, over sets of lines and blocks.
-ghost use Rattle.std.specs.Prelude.{◌≡◌, ℕ, ◌<◌, ◌≤◌, ◌↔◌, All, IsTrue, IfOk, Ok, Err, [], ◌∷◌};
+ghost use Rattle.std.specs.Prelude.{◌≡◌, ℕ, ◌<◌, ◌≤◌, ◌↔◌, All, IsTrue, IfOk, IfSome, IfNone, Ok, Err, [], ◌∷◌};
+ghost use Rattle.bit_set.specs.Bits.{IsNext, NoneMarked};
 ghost use Rattle.tx_footprint.specs.Places.{IsInStorage};
 ghost use Rattle.tx_footprint.specs.Touched.{Touched, untouched, touching, line_count, block_count, fit_of};
 ghost use Rattle.tx_footprint.specs.Touched.{sets_of};
@@ -181,6 +182,17 @@ impl Footprint {
         ensures { result ≡ (sets_of self.now).stored line }
     {
         self.stored.has(line as usize)
+    }
+
+    /// The first line from this one on that was stored; None exactly where none was.
+    pub fn next_stored(&self, from: u32) -> Option<u32>
+        ensures found { IfSome result (λ line. IsNext self.now.stored from LINES line) }
+        ensures none { IfNone result (NoneMarked self.now.stored from LINES) }
+    {
+        match self.stored.next(from as usize, LINES) {
+            Some(line) => Some(line as u32),
+            None => None,
+        }
     }
 
     /// How many lines there are, each counted once whether it was fetched or stored or both.

@@ -1,5 +1,5 @@
 //! Causes of aborts, by the code and the detail that a line tells.
-ghost use Rattle.std.specs.Prelude.{◌≡◌, ◌<◌, ◌/◌, true, false, IfSome, IfOk, Some};
+ghost use Rattle.std.specs.Prelude.{◌≡◌, ◌<◌, ◌/◌, true, false, IfSome, Some};
 ghost use Rattle.z_regs.specs.Prefix.{storage_size};
 ghost use Rattle.tx_control.specs.declared.causes.Why.{Why};
 ghost use Rattle.tx_journal.specs.Lines.{says_exception};
@@ -9,7 +9,6 @@ ghost use Rattle.tx_flat.specs.Machine.{state_of};
 ghost use Rattle.history_laws.specs.Fitting.{Fits};
 ghost use Rattle.tx_replay.specs.Told.{Tells, is_exception};
 
-use std::alloc::Global;
 use tx_control::Why;
 use tx_control::abort_codes::{
     EXTERNAL_INTERRUPTION, FETCH_CONFLICT, FETCH_OVERFLOW, FILTERED_EXCEPTION, NESTING_DEPTH,
@@ -17,7 +16,7 @@ use tx_control::abort_codes::{
 };
 use tx_flat::Flat;
 use tx_journal::EntryText;
-use z_regs::{NoMemory, STORAGE_SIZE};
+use z_regs::STORAGE_SIZE;
 
 /// The bytes of a line of storage.
 const LINE_SIZE: u64 = 256;
@@ -98,28 +97,31 @@ fn says_exception(code: u64) -> bool
 }
 
 /// The exception that a line tells, by its numbers, where the attempt ends by itself in it. No other fits
-/// that has such a line.
-fn exception_of(flat: &Flat, alloc: Global, text: EntryText) -> Result<Option<Why>, NoMemory>
+/// that has such a line. The machine stays as it is.
+fn exception_of(flat: &mut Flat, text: EntryText) -> Option<Why>
     requires { says_exception text.code ≡ true }
-    ensures sound { IfOk result (λ o. IfSome o IsCause) }
-    ensures only { IfOk result (λ o. (why : Why) → IsCause why → Tells why text.code text.detail
-        → Fits (state_of flat.now) (AbortOf text.cpu text.count why) → o ≡ Some why) }
+    ensures sound { IfSome result IsCause }
+    ensures only { (why : Why) → IsCause why → Tells why text.code text.detail
+        → Fits (state_of flat.old) (AbortOf text.cpu text.count why) → result ≡ Some why }
+    ensures unchanged { flat.new ≡ flat.old }
 {
     if text.cpu >= flat.cpu_count() {
-        return Ok(None);
+        return None;
     }
-    let own = flat.own_cause(alloc, text.cpu, text.count)?;
-    Ok(told_exception(own, text.code, text.detail))
+    let own = flat.own_cause(text.cpu, text.count);
+    told_exception(own, text.code, text.detail)
 }
 
-/// The cause of an abort, by the numbers of its line. No other cause fits that has such a line.
-pub(crate) fn cause_of(flat: &Flat, alloc: Global, text: EntryText) -> Result<Option<Why>, NoMemory>
-    ensures sound { IfOk result (λ o. IfSome o IsCause) }
-    ensures only { IfOk result (λ o. (why : Why) → IsCause why → Tells why text.code text.detail
-        → Fits (state_of flat.now) (AbortOf text.cpu text.count why) → o ≡ Some why) }
+/// The cause of an abort, by the numbers of its line. No other cause fits that has such a line. The machine
+/// stays as it is.
+pub(crate) fn cause_of(flat: &mut Flat, text: EntryText) -> Option<Why>
+    ensures sound { IfSome result IsCause }
+    ensures only { (why : Why) → IsCause why → Tells why text.code text.detail
+        → Fits (state_of flat.old) (AbortOf text.cpu text.count why) → result ≡ Some why }
+    ensures unchanged { flat.new ≡ flat.old }
 {
     if says_exception(text.code) {
-        return exception_of(flat, alloc, text);
+        return exception_of(flat, text);
     }
-    Ok(plain_cause(text.code, text.detail))
+    plain_cause(text.code, text.detail)
 }

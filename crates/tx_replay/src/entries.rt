@@ -17,33 +17,33 @@ use tx_flat::slot::ApplyFault;
 use tx_journal::{Entry, EntryText, entry_text, read_entry};
 use z_regs::NoMemory;
 
-/// An abort, by the numbers of its line. No other abort fits that has such a line.
-fn abort_of(flat: &Flat, alloc: Global, text: EntryText) -> Result<Option<Entry>, NoMemory>
+/// An abort, by the numbers of its line. No other abort fits that has such a line. The machine stays as it is.
+fn abort_of(flat: &mut Flat, text: EntryText) -> Option<Entry>
     requires { text.kind ≡ 65 }
-    ensures sound { IfOk result (λ o. IfSome o IsSound) }
-    ensures only { IfOk result (λ o. (e : Entry) → IsSound e → TellsEntry e text
-        → Fits (state_of flat.now) e → o ≡ Some e) }
+    ensures sound { IfSome result IsSound }
+    ensures only { (e : Entry) → IsSound e → TellsEntry e text → Fits (state_of flat.old) e → result ≡ Some e }
+    ensures unchanged { flat.new ≡ flat.old }
 {
-    let why = cause_of(flat, alloc, text)?;
-    let Some(why) = why else {
-        return Ok(None);
-    };
-    Ok(Some(Entry::Abort(text.cpu, text.count, why)))
+    match cause_of(flat, text) {
+        Some(why) => Some(Entry::Abort(text.cpu, text.count, why)),
+        None => None,
+    }
 }
 
-/// The entry that the numbers of a line mean. No other entry fits that has such a line.
-fn entry_of(flat: &Flat, alloc: Global, text: EntryText) -> Result<Option<Entry>, NoMemory>
-    ensures sound { IfOk result (λ o. IfSome o IsSound) }
-    ensures only { IfOk result (λ o. (e : Entry) → IsSound e → TellsEntry e text
-        → Fits (state_of flat.now) e → o ≡ Some e) }
+/// The entry that the numbers of a line mean. No other entry fits that has such a line. The machine stays as it
+/// is.
+fn entry_of(flat: &mut Flat, text: EntryText) -> Option<Entry>
+    ensures sound { IfSome result IsSound }
+    ensures only { (e : Entry) → IsSound e → TellsEntry e text → Fits (state_of flat.old) e → result ≡ Some e }
+    ensures unchanged { flat.new ≡ flat.old }
 {
     match text.kind {
-        b'S' => Ok(Some(Entry::Step(text.cpu))),
-        b'C' => Ok(Some(Entry::Commit(text.cpu, text.count))),
-        b'T' => Ok(Some(Entry::Tdb(text.cpu))),
-        b'I' => Ok(Some(Entry::Interrupt(text.cpu))),
-        b'A' => abort_of(flat, alloc, text),
-        _ => Ok(None),
+        b'S' => Some(Entry::Step(text.cpu)),
+        b'C' => Some(Entry::Commit(text.cpu, text.count)),
+        b'T' => Some(Entry::Tdb(text.cpu)),
+        b'I' => Some(Entry::Interrupt(text.cpu)),
+        b'A' => abort_of(flat, text),
+        _ => None,
     }
 }
 
@@ -63,18 +63,18 @@ fn with_line(alloc: Global, entry: Entry, line: &[u8]) -> Result<Option<Entry>, 
 }
 
 /// The entry that has this line, where one fits; it may be one that does not. None where no entry has the
-/// line.
-fn entry_with(flat: &Flat, alloc: Global, line: &[u8]) -> Result<Option<Entry>, NoMemory>
+/// line. The machine stays as it is.
+fn entry_with(flat: &mut Flat, alloc: Global, line: &[u8]) -> Result<Option<Entry>, NoMemory>
     ensures sound { IfOk result (λ o. IfSome o IsSound) }
     ensures text { IfOk result (λ o. IfSome o (λ e. entry_text e ≡ line.now)) }
     ensures only { IfOk result (λ o. (e : Entry) → IsSound e → entry_text e ≡ line.now
-        → Fits (state_of flat.now) e → o ≡ Some e) }
+        → Fits (state_of flat.old) e → o ≡ Some e) }
+    ensures unchanged { flat.new ≡ flat.old }
 {
     let Some(text) = read_entry(line) else {
         return Ok(None);
     };
-    let told = entry_of(flat, alloc, text)?;
-    match told {
+    match entry_of(flat, text) {
         None => Ok(None),
         Some(entry) => {
             let found = with_line(alloc, entry, line)?;
@@ -99,7 +99,7 @@ pub fn apply_line(flat: &mut Flat, alloc: Global, line: &[u8]) -> Result<Entry, 
     let Some(entry) = entry else {
         return Err(ApplyFault::Misfit);
     };
-    match flat.apply(alloc, entry) {
+    match flat.apply(entry) {
         Ok(()) => Ok(entry),
         Err(fault) => Err(fault),
     }

@@ -47,7 +47,9 @@ pub fn replay(alloc: Global, image: &Image, lines: &[&[u8]]) -> Result<Replayed,
     let Ok(mut flat) = Flat::open(alloc, image) else {
         return Err(ReplayFault::Memory);
     };
-    let mut entries = Vec::new(alloc);
+    let Ok(mut entries) = Vec::with_capacity(alloc, lines.len()) else {
+        return Err(ReplayFault::Memory);
+    };
     for (k, line) in lines.iter().enumerate() {
         match apply_line(&mut flat, alloc, *line) {
             Err(ApplyFault::Memory) => return Err(ReplayFault::Memory),

@@ -1,4 +1,4 @@
-use Rattle.std.proofs.Common.{◌∙◌, ap, sym, subst, arith, length}
+use Rattle.std.proofs.Common.{◌∙◌, ap, refl, sym, subst, arith, length}
 use Rattle.report_form.specs.Sheet.{IsSheet}
 use Rattle.report_form.proofs.Walks.{seen, length_seen}
 use Rattle.tx_check.specs.Lines.{lines_of}
@@ -22,14 +22,14 @@ history_of-requires-clause-few c =
 pub overflow_cast-result : goal.overflow_cast-result
 overflow_cast-result c =
     let low = few_read c.in-Ok.lines.items c.args.report.now c.in-Ok.ensures in
-    let size = ap length c.deref-5.ensures.value in
+    let size = ap length c.deref-4.ensures.value in
     let within = c.in-Some.ensures.within in
     omega (arith, low, size, within, c.requires.few)
 
 pub overflow_add-result : goal.overflow_add-result
 overflow_add-result c =
     let low = few_read c.in-Ok.lines.items c.args.report.now c.in-Ok.ensures in
-    let size = ap length c.deref-5.ensures.value in
+    let size = ap length c.deref-4.ensures.value in
     let within = c.in-Some.ensures.within in
     omega (arith, low, size, within, c.requires.few)
 
@@ -46,18 +46,18 @@ pub returns-clause-sound : goal.returns-clause-sound
 returns-clause-sound c =
     let s = c.in_ok-sheet.sheet in
     let text = c.in-Ok-expected.text.items in
-    (accepted c.args.image.now c.args.report.now text (seen c.in-Ok.lines.items) (seen c.in-Ok-cut_lines.due.items) s
-    c.in-Ok.ensures (c.in-Ok-cut_lines.ensures ∙ ap lines_of c.deref-4.ensures.value)
+    (accepted c.args.image.now c.args.report.now text (seen c.in-Ok.lines.items) (lines_of text) s
+    c.in-Ok.ensures refl
     (subst (λ ls. IsSheet c.args.image.now (seen ls) s) c.deref.ensures.value c.in_ok-sheet.ensures.sheet)
     (subst (λ ls. IsDueText c.args.image.now (seen ls) s.entries text) c.deref-3.ensures.value c.in-Ok-expected.ensures)
-    (ap seen (sym c.deref-5.ensures.value) ∙ c.in-None.ensures.none ∙ ap seen c.deref-6.ensures.value)).0
+    (ap seen (sym c.deref-4.ensures.value) ∙ c.in-None.ensures.none ∙ ap lines_of c.deref-5.ensures.value)).0
 
 pub returns-clause-accepted : goal.returns-clause-accepted
 returns-clause-accepted c =
     let s = c.in_ok-sheet.sheet in
     let text = c.in-Ok-expected.text.items in
-    (accepted c.args.image.now c.args.report.now text (seen c.in-Ok.lines.items) (seen c.in-Ok-cut_lines.due.items) s
-    c.in-Ok.ensures (c.in-Ok-cut_lines.ensures ∙ ap lines_of c.deref-4.ensures.value)
+    (accepted c.args.image.now c.args.report.now text (seen c.in-Ok.lines.items) (lines_of text) s
+    c.in-Ok.ensures refl
     (subst (λ ls. IsSheet c.args.image.now (seen ls) s) c.deref.ensures.value c.in_ok-sheet.ensures.sheet)
     (subst (λ ls. IsDueText c.args.image.now (seen ls) s.entries text) c.deref-3.ensures.value c.in-Ok-expected.ensures)
-    (ap seen (sym c.deref-5.ensures.value) ∙ c.in-None.ensures.none ∙ ap seen c.deref-6.ensures.value)).1
+    (ap seen (sym c.deref-4.ensures.value) ∙ c.in-None.ensures.none ∙ ap lines_of c.deref-5.ensures.value)).1

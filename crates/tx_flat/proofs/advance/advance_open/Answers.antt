@@ -17,17 +17,17 @@ go-requires c =
     (has_prefix base a p shows) comes.0 comes.1
     (follows_by base a p c.in-Goes.instr c.may_come.result true shows c.may_come.ensures c.if-may_come.true)
 
-pub returns-then-may_come : goal.returns-then-may_come
-returns-then-may_come c = λ base p shows is.
+pub returns-then-may_come-clause-run : goal.returns-then-may_come-clause-run
+returns-then-may_come-clause-run c = λ base p shows is.
     let a = c.args.a.now in
     let comes = c.in-Goes.ensures base p shows in
     gone_on base (items c.args.guard.now) a c.go.new.a p c.in-Goes.instr c.in-Goes.admitted.touches
     c.in-Goes.admitted.absolute shows (has_prefix base a p shows) comes.0 comes.1 is
     (follows_by base a p c.in-Goes.instr c.may_come.result true shows c.may_come.ensures c.if-may_come.true)
-    c.go.ensures
+    c.go.ensures.moved
 
-pub returns-else-may_come : goal.returns-else-may_come
-returns-else-may_come c = λ base p shows is.
+pub returns-else-may_come-clause-run : goal.returns-else-may_come-clause-run
+returns-else-may_come-clause-run c = λ base p shows is.
     let a = c.args.a.now in
     let comes = c.in-Goes.ensures base p shows in
     gone base _ _ refl
@@ -35,10 +35,10 @@ returns-else-may_come c = λ base p shows is.
     (follows_by base a p c.in-Goes.instr c.may_come.result false shows c.may_come.ensures
     c.if-may_come.false))
 
-pub returns-in-Ends : goal.returns-in-Ends
-returns-in-Ends c = λ base p shows is.
+pub returns-in-Ends-clause-run : goal.returns-in-Ends-clause-run
+returns-in-Ends-clause-run c = λ base p shows is.
     gone base _ _ refl (ap (λ o. (after_fate o p).mark) (c.in-Ends.ensures base p shows))
 
-pub returns-in-Stops : goal.returns-in-Stops
-returns-in-Stops c = λ base p shows is.
+pub returns-in-Stops-clause-run : goal.returns-in-Stops-clause-run
+returns-in-Stops-clause-run c = λ base p shows is.
     gone base _ _ refl (ap (λ o. (after_fate o p).mark) (c.in-Stops.ensures base p shows))

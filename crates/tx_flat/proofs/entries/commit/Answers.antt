@@ -1,4 +1,6 @@
-use Rattle.std.proofs.Common.{refl, false, true}
+use Rattle.std.proofs.Common.{refl, ap, false, true, ◌∙◌}
+use Rattle.z_regs.specs.Prefix.{is_prefix}
+use Rattle.z_regs.specs.Seen.{seen_by}
 use Rattle.std.specs.FinSet.{items}
 use Rattle.z_regs.specs.Cpu.{cpu_of}
 use Rattle.tx_flat.specs.Shows.{mark_of}
@@ -18,36 +20,41 @@ returns-then-not-may_act-clause-applied c = (
 pub returns-then-not-is_committed-clause-applied : goal.returns-then-not-is_committed-clause-applied
 returns-then-not-is_committed-clause-applied c = (
   λ f i h. not_committed f i c.args.n c.args.storage.now (items c.args.guard.now) c.args.slot.now c.run.new.a h
-      c.in-Ok.ensures.run
+      c.run.ensures.run
       (is_not (mark_of c.run.new.a.mark) c.is_committed.result c.is_committed.ensures
       c.if-not-is_committed.true),
   refl,
   refl,
 )
 
-pub keep-requires-clause-seen : goal.keep-requires-clause-seen
-keep-requires-clause-seen c = λ none.
+pub keep_stored-requires-clause-prefix_in : goal.keep_stored-requires-clause-prefix_in
+keep_stored-requires-clause-prefix_in c = ap is_prefix c.run.ensures.turned ∙ c.args.slot.now.image.prefix_in
+
+pub keep_stored-requires-clause-seen : goal.keep_stored-requires-clause-seen
+keep_stored-requires-clause-seen c =
     let there =
     is_committed (mark_of c.run.new.a.mark) c.is_committed.result c.is_committed.ensures
     c.if-not-is_committed.false in
     near_seen c.args.storage.now (items c.args.guard.now) (cpu_of c.args.slot.now.image) c.args.n c.run.new.a
-    c.in-Ok.ensures.run (committed_there (mark_of c.run.new.a.mark) there) c.args.slot.now.image.prefix refl none
+    c.run.ensures.run (committed_there (mark_of c.run.new.a.mark) there) c.args.slot.now.image.prefix_in
+    c.run.ensures.turned
 
-pub keep-requires-clause-lasting : goal.keep-requires-clause-lasting
-keep-requires-clause-lasting c = λ none.
+pub keep_stored-requires-clause-lasting : goal.keep_stored-requires-clause-lasting
+keep_stored-requires-clause-lasting c =
     let there =
     is_committed (mark_of c.run.new.a.mark) c.is_committed.result c.is_committed.ensures
     c.if-not-is_committed.false in
     near_lasting c.args.storage.now (items c.args.guard.now) (cpu_of c.args.slot.now.image) c.args.n c.run.new.a
-    c.in-Ok.ensures.run (committed_there (mark_of c.run.new.a.mark) there) c.args.slot.now.image.prefix refl none
+    c.run.ensures.run (committed_there (mark_of c.run.new.a.mark) there) c.args.slot.now.image.prefix_in
+    c.run.ensures.turned
 
 pub returns-clause-applied : goal.returns-clause-applied
 returns-clause-applied c = λ f i h.
-    committed f i c.args.n c.args.storage.now (items c.args.guard.now) c.keep.new.storage c.args.slot.now
+    committed f i c.args.n c.args.storage.now (items c.args.guard.now) c.keep_stored.new.storage c.args.slot.now
     _ c.run.new.a
     h (may f i c.args.storage.now (items c.args.guard.now) c.args.slot.now c.may_act.result true h
     c.may_act.ensures
-    c.if-not-may_act.false) c.in-Ok.ensures.run
+    c.if-not-may_act.false) c.run.ensures.run
     (is_committed (mark_of c.run.new.a.mark) c.is_committed.result c.is_committed.ensures
     c.if-not-is_committed.false)
-    c.in-Ok-keep.ensures.kept refl refl refl
+    (c.keep_stored.ensures.kept ∙ ap (λ p. seen_by p c.run.new.a.seen) c.run.ensures.turned) refl refl refl

@@ -15,3 +15,8 @@ returns-clause-applied c = λ text f i h.
     block_stored f i c.args.storage.now text c.store_bytes.new.storage c.args.slot.now _ c.in-Some.block h
     c.in-Some.is
     c.store_bytes.ensures.stored refl refl refl
+
+pub returns-clause-ready : goal.returns-clause-ready
+returns-clause-ready c =
+    c.follow_bytes.ensures c.args.storage.now c.store_bytes.new.storage c.turn.ensures c.store_bytes.ensures.size
+    c.store_bytes.ensures.stored

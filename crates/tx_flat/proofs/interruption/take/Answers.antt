@@ -32,3 +32,8 @@ returns-in-Some-waiting-clause-applied c = λ text f i h.
     (c.load_psw.ensures ∙ ap (λ psw. loaded psw (cpu_of c.args.slot.now.image)) c.new_status-psw.ensures)
     c.in-None.is
     refl
+
+pub returns-in-Some-waiting-clause-ready : goal.returns-in-Some-waiting-clause-ready
+returns-in-Some-waiting-clause-ready c =
+    c.follow_interruption.ensures c.args.storage.now c.store_interruption.new.storage c.turn.ensures
+    c.store_interruption.ensures.size c.store_interruption.ensures.stored

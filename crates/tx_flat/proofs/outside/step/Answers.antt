@@ -1,5 +1,6 @@
 use Rattle.std.proofs.Common.{refl, sym, ◌∙◌, true, false}
 use Rattle.std.specs.FinSet.{items}
+use Rattle.std.specs.Prelude.{Ok}
 use Rattle.tx_serial.specs.Attempt.{at_rest}
 use Rattle.tx_serial.specs.Fate.{Ends}
 use Rattle.z_regs.specs.Cpu.{cpu_of}
@@ -24,7 +25,7 @@ returns-then-begins-clause-applied c = (
       c.in-Goes.admitted.touches h
       (may f k c.args.storage.now (items c.args.guard.now) c.args.slot.now c.may_act.result true h
       c.may_act.ensures c.if-not-may_act.false)
-      (c.in-Goes.ensures (function_of c.args.storage.now) _ c.in-Ok.ensures.shown).0
+      (c.in-Goes.ensures (function_of c.args.storage.now) _ c.rest.ensures.shown).0
       (sym c.begins.ensures ∙ c.if-begins.true),
   refl,
   refl,
@@ -32,18 +33,18 @@ returns-then-begins-clause-applied c = (
 
 pub perform-requires-clause-passes : goal.perform-requires-clause-passes
 perform-requires-clause-passes c =
-    (items c.args.guard.now, (c.in-Goes.ensures (function_of c.args.storage.now) _ c.in-Ok.ensures.shown).0)
+    (items c.args.guard.now, (c.in-Goes.ensures (function_of c.args.storage.now) _ c.rest.ensures.shown).0)
 
 pub perform-requires-clause-places : goal.perform-requires-clause-places
 perform-requires-clause-places c =
-    (c.in-Goes.ensures (function_of c.args.storage.now) _ c.in-Ok.ensures.shown).1
+    (c.in-Goes.ensures (function_of c.args.storage.now) _ c.rest.ensures.shown).1
 
 pub returns-in-Ends-clause-applied : goal.returns-in-Ends-clause-applied
 returns-in-Ends-clause-applied c = (
   λ f k h. step_by f k c.args.storage.now (items c.args.guard.now) c.args.slot.now (Ends _) h
       (may f k c.args.storage.now (items c.args.guard.now) c.args.slot.now c.may_act.result true h
       c.may_act.ensures c.if-not-may_act.false)
-      (c.in-Ends.ensures (function_of c.args.storage.now) _ c.in-Ok.ensures.shown),
+      (c.in-Ends.ensures (function_of c.args.storage.now) _ c.rest.ensures.shown),
   refl,
   refl,
 )
@@ -54,13 +55,13 @@ returns-in-Stops-clause-applied c = λ f k h.
     c.in-Stops.exception h
     (may f k c.args.storage.now (items c.args.guard.now) c.args.slot.now c.may_act.result true h
     c.may_act.ensures c.if-not-may_act.false)
-    (c.in-Stops.ensures (function_of c.args.storage.now) _ c.in-Ok.ensures.shown) c.stop.ensures
+    (c.in-Stops.ensures (function_of c.args.storage.now) _ c.rest.ensures.shown) c.stop.ensures
 
 pub returns-else-begins-clause-applied : goal.returns-else-begins-clause-applied
 returns-else-begins-clause-applied c =
     stepped_as c.args.storage.now (items c.args.guard.now) c.perform.new.storage c.args.slot.now
-    c.perform.new.slot c.in-Goes.instr c.in-Goes.admitted.touches c.perform.result
+    c.perform.new.slot c.in-Goes.instr c.in-Goes.admitted.touches (Ok tt)
     (λ f k h. may f k c.args.storage.now (items c.args.guard.now) c.args.slot.now c.may_act.result true h
     c.may_act.ensures c.if-not-may_act.false)
-    (c.in-Goes.ensures (function_of c.args.storage.now) _ c.in-Ok.ensures.shown).0
+    (c.in-Goes.ensures (function_of c.args.storage.now) _ c.rest.ensures.shown).0
     (sym c.begins.ensures ∙ c.if-begins.false) c.perform.ensures.performed

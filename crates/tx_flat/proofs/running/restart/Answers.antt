@@ -9,4 +9,8 @@ returns-clause-rests c = λ bytes size turned.
     refl refl
 
 pub returns-clause-turned : goal.returns-clause-turned
-returns-clause-turned c = λ bytes turned. record { seen = turned.seen; lasting = turned.lasting }
+returns-clause-turned c = λ prefix bytes turned. record {
+  turned = turned.turned;
+  seen = turned.seen;
+  lasting = turned.lasting;
+}

@@ -18,6 +18,6 @@ returns-clause-only c = λ why sound tells fits.
     let is : is_exception why ≡ true =
     said why c.args.text.code c.args.text.detail sound tells ∙ c.requires in
     c.told_exception.ensures.only why
-    (c.in_ok-own.ensures.value
+    (c.own_cause-own.ensures.value
     ∙ own_exception (state_of c.args.flat.now) c.args.text.cpu c.args.text.count why is fits)
     is tells

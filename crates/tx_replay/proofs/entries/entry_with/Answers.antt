@@ -7,13 +7,13 @@ use Rattle.tx_replay.proofs.entries.entry_with.Goals as goal
 pub returns-in-None-clause-only : goal.returns-in-None-clause-only
 returns-in-None-clause-only c = λ e sound is fits.
     sym c.in-None.is
-    ∙ by_reading (state_of c.args.flat.now) c.args.line.now c.in-Some.text c.in_ok-told.told
-    c.in-Some.ensures.some c.in_ok-told.ensures.only e sound is fits
+    ∙ by_reading (state_of c.args.flat.now) c.args.line.now c.in-Some.text c.entry_of.result
+    c.in-Some.ensures.some c.entry_of.ensures.only e sound is fits
 
-pub returns-in_ok-found-in-Some-told-clause-only : goal.returns-in_ok-found-in-Some-told-clause-only
-returns-in_ok-found-in-Some-told-clause-only c = λ e sound is fits.
-    let there : Some c.in-Some-told.entry ≡ Some e =
-    sym c.in-Some-told.is
-    ∙ by_reading (state_of c.args.flat.now) c.args.line.now c.in-Some.text c.in_ok-told.told
-    c.in-Some.ensures.some c.in_ok-told.ensures.only e sound is fits in
-    c.in_ok-found-in-Some-told.ensures.only (ap entry_text (some_same there) ∙ is) ∙ there
+pub returns-in_ok-found-in-Some-entry_of-clause-only : goal.returns-in_ok-found-in-Some-entry_of-clause-only
+returns-in_ok-found-in-Some-entry_of-clause-only c = λ e sound is fits.
+    let there : Some c.in-Some-entry_of.entry ≡ Some e =
+    sym c.in-Some-entry_of.is
+    ∙ by_reading (state_of c.args.flat.now) c.args.line.now c.in-Some.text c.entry_of.result
+    c.in-Some.ensures.some c.entry_of.ensures.only e sound is fits in
+    c.in_ok-found-in-Some-entry_of.ensures.only (ap entry_text (some_same there) ∙ is) ∙ there

@@ -9,7 +9,7 @@ use Rattle.tx_replay.proofs.replaying.replay.Goals as goal
 
 pub loop-k-init : goal.loop-k-init
 loop-k-init c = (
-  subst (λ es. IsReplay c.args.image.now [] es (state_of c.in-Ok.flat)) (sym c.new-entries.ensures.items)
+  subst (λ es. IsReplay c.args.image.now [] es (state_of c.in-Ok.flat)) (sym c.in-Ok-with_capacity.ensures.items)
       (nothing_read c.args.image.now (map (λ (l : Bor (List ℕ)). l.now) c.args.lines.now)
       (state_of c.in-Ok.flat) c.in-Ok.ensures.state),
   c.in-Ok.ensures.cpus,
