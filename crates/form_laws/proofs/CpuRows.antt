@@ -31,7 +31,8 @@ use Rattle.report_text.specs.declared.processors.Attempt.{Attempt}
 use Rattle.report_text.specs.declared.processors.Counts.{Counts}
 use Rattle.form_laws.proofs.Words.{word_then, word_last, a_number, a_digit, values_then}
 use Rattle.form_laws.proofs.Words.{halfword_digits, word_digits, doubleword_digits}
-use Rattle.form_laws.proofs.Telling.{Tells, tells_nothing, tells_more, tells_behind, tells_as, joined}
+use Rattle.form_laws.proofs.Lists.{cpu_list, cpus_list}
+use Rattle.form_laws.proofs.Telling.{Tells, tells_nothing, tells_more, tells_behind}
 
 -- ---- what a line can tell
 
@@ -170,22 +171,6 @@ counts_row last c are =
 
 -- ---- a CPU
 
--- its lines
-abbrev pub cpu_list : ℕ → ShownCpu → List (List ℕ)
-cpu_list i c =
-    let general = c.cpu.general in
-    let access = c.cpu.access in
-    state_line i c.cpu.state ∷ psw_line c.cpu
-    ∷ general_line (codes "GR 00") (take 4 general) ∷ general_line (codes "GR 04") (take 4 (drop 4 general))
-    ∷ general_line (codes "GR 08") (take 4 (drop 8 general)) ∷ general_line (codes "GR 12") (take 4 (drop 12 general))
-    ∷ access_line (codes "AR 00") (take 8 access) ∷ access_line (codes "AR 08") (take 8 (drop 8 access))
-    ∷ attempt_line c.attempt ∷ pending_line c.pending ∷ counts_line c.counts ∷ []
-
-eleven : (a b c d e f g h i j k : List ℕ)
-    → a ++ (b ++ (c ++ (d ++ (e ++ (f ++ (g ++ (h ++ (i ++ (j ++ (k ++ []))))))))))
-    ≡ (a ++ (b ++ ((c ++ (d ++ (e ++ f))) ++ (g ++ h)))) ++ ((i ++ j) ++ k)
-eleven a b c d e f g h i j k = simp (append_assoc, append-nil)
-
 so_many : (n k : ℕ) (xs : List ℕ) → k + n ≤ length xs → length (take n (drop k xs)) ≡ n
 so_many n k xs enough =
     length-take-le n (drop k xs) (let d = length-drop k xs in omega (arith, d, enough))
@@ -193,49 +178,33 @@ so_many n k xs enough =
 first_many : (n : ℕ) (xs : List ℕ) → n ≤ length xs → length (take n xs) ≡ n
 first_many n xs enough = length-take-le n xs enough
 
-cpu_told : (i : ℕ) (c : ShownCpu) → joined (cpu_list i c) ≡ cpu_lines i c
-unfolding cpu_lines image_lines progress_lines general_lines access_lines
-cpu_told i c =
-    let general = c.cpu.general in
-    let access = c.cpu.access in
-    eleven (state_line i c.cpu.state) (psw_line c.cpu)
-    (general_line (codes "GR 00") (take 4 general)) (general_line (codes "GR 04") (take 4 (drop 4 general)))
-    (general_line (codes "GR 08") (take 4 (drop 8 general))) (general_line (codes "GR 12") (take 4 (drop 12 general)))
-    (access_line (codes "AR 00") (take 8 access)) (access_line (codes "AR 08") (take 8 (drop 8 access)))
-    (attempt_line c.attempt) (pending_line c.pending) (counts_line c.counts)
-
 cpu_tells : (last i : ℕ) (c : ShownCpu) → i < 2 ^ 64 → i ≤ last → CanBeTold c
-    → Tells last (rows_of cpu_parts) (cpu_list i c) (joined (cpu_list i c))
+    → Tells last (rows_of cpu_parts) (cpu_list i c)
 cpu_tells last i c fits within h =
     let general = c.cpu.general in
     let access = c.cpu.access in
     let g = h.general in
     let a = h.access in
-    tells_more last _ _ _ _ _ refl (state_row last i c.cpu.state fits within)
-    (tells_more last _ _ _ _ _ refl (psw_row last c.cpu h.condition h.mask)
-    (tells_more last _ _ _ _ _ refl
+    tells_more last _ _ _ _ (state_row last i c.cpu.state fits within)
+    (tells_more last _ _ _ _ (psw_row last c.cpu h.condition h.mask)
+    (tells_more last _ _ _ _
     (general_row last name.From0 (codes "GR 00") (take 4 general) refl (first_many 4 general (omega (arith, g))))
-    (tells_more last _ _ _ _ _ refl
+    (tells_more last _ _ _ _
     (general_row last name.From4 (codes "GR 04") (take 4 (drop 4 general)) refl (so_many 4 4 general (omega (arith, g))))
-    (tells_more last _ _ _ _ _ refl
+    (tells_more last _ _ _ _
     (general_row last name.From8 (codes "GR 08") (take 4 (drop 8 general)) refl (so_many 4 8 general (omega (arith, g))))
-    (tells_more last _ _ _ _ _ refl
+    (tells_more last _ _ _ _
     (general_row last name.From12 (codes "GR 12") (take 4 (drop 12 general)) refl
     (so_many 4 12 general (omega (arith, g))))
-    (tells_more last _ _ _ _ _ refl
+    (tells_more last _ _ _ _
     (access_row last name.From0 (codes "AR 00") (take 8 access) refl (first_many 8 access (omega (arith, a))))
-    (tells_more last _ _ _ _ _ refl
+    (tells_more last _ _ _ _
     (access_row last name.From8 (codes "AR 08") (take 8 (drop 8 access)) refl (so_many 8 8 access (omega (arith, a))))
-    (tells_more last _ _ _ _ _ refl (attempt_row last c.attempt h.attempt)
-    (tells_more last _ _ _ _ _ refl (pending_row last c.pending)
-    (tells_more last _ _ _ _ _ refl (counts_row last c.counts h.counts) (tells_nothing last)))))))))))
+    (tells_more last _ _ _ _ (attempt_row last c.attempt h.attempt)
+    (tells_more last _ _ _ _ (pending_row last c.pending)
+    (tells_more last _ _ _ _ (counts_row last c.counts h.counts) (tells_nothing last)))))))))))
 
 -- ---- all CPUs
-
--- the lines of CPUs, whose numbers begin with this
-pub cpus_list : ℕ → List ShownCpu → List (List ℕ)
-cpus_list n [] = []
-cpus_list n (c ∷ cs) = cpu_list n c ++ cpus_list (n + 1) cs
 
 -- a CPU in front of others
 cpus_front : (n : ℕ) → rows_of (cpus_parts (suc n)) ≡ rows_of cpu_parts ++ rows_of (cpus_parts n)
@@ -246,18 +215,16 @@ cpus_front (suc n) =
     ∙ append_assoc (rows_of cpu_parts) (rows_of (cpus_parts n)) (rows_of cpu_parts)
     ∙ ap (λ rows. rows_of cpu_parts ++ rows) (sym (cut n))
 
+-- the lines of CPUs, whose numbers begin with this
 pub cpus_tell : (last n : ℕ) (cpus : List ShownCpu) → last < 2 ^ 64 → n + length cpus ≤ last + 1
     → ((k : ℕ) (c : ShownCpu) → slice_get cpus k ≡ Some c → CanBeTold c)
     → Tells last (rows_of (cpus_parts (length cpus))) (cpus_list n cpus)
-    (flat_map (λ p. cpu_lines p.0 p.1) (enumerate_from n cpus))
 unfolding cpus_list
 cpus_tell last n [] fits within each = tells_nothing last
 cpus_tell last n (c ∷ cs) fits within each =
     let low : n ≤ last = omega (arith, within) in
     let one = cpu_tells last n c (omega (arith, low, fits)) low (each 0 c refl) in
     let more = cpus_tell last (n + 1) cs fits (omega (arith, within)) (λ k d at. each (suc k) d at) in
-    subst (λ rows. Tells last rows (cpu_list n c ++ cpus_list (n + 1) cs)
-    (cpu_lines n c ++ flat_map (λ p. cpu_lines p.0 p.1) (enumerate_from (n + 1) cs))) (sym (cpus_front (length cs)))
+    subst (λ rows. Tells last rows (cpu_list n c ++ cpus_list (n + 1) cs)) (sym (cpus_front (length cs)))
     (tells_behind last (rows_of cpu_parts) (rows_of (cpus_parts (length cs))) (cpu_list n c) (cpus_list (n + 1) cs)
-    (cpu_lines n c) (flat_map (λ p. cpu_lines p.0 p.1) (enumerate_from (n + 1) cs))
-    (tells_as last (rows_of cpu_parts) (cpu_list n c) (joined (cpu_list n c)) (cpu_lines n c) (cpu_told n c) one) more)
+    one more)

@@ -1,34 +1,18 @@
 -- Texts whose lines are known: each row is one line, and lines one behind the other are the lines of their text.
-use Rattle.std.proofs.Common.{◌≡◌, ◌≢◌, ◌∙◌, ap, ap₂, sym, refl, subst, ℕ, zero, suc, ◌+◌, ◌*◌, ◌<◌, ◌≤◌, ◌^◌, arith}
-use Rattle.std.proofs.Common.{Bool, true, false, List, [], ◌∷◌, ◌++◌, append_assoc, length, slice_index, inl, inr}
-use Rattle.std.specs.Prelude.{◌==◌, if◌then◌else◌, nat_lt, codes, min, replicate}
+use Rattle.std.proofs.Common.{◌≡◌, ◌≢◌, ◌∙◌, ap, ap₂, sym, refl, subst, ℕ, zero, suc, ◌+◌, ◌*◌, ◌/◌, ◌%◌, ◌<◌, ◌≤◌}
+use Rattle.std.proofs.Common.{arith, Bool, true, false, List, [], ◌∷◌, ◌++◌, append_assoc, length, slice_index}
+use Rattle.std.specs.Prelude.{◌==◌, if◌then◌else◌, nat_lt, codes}
 use Rattle.std.specs.List.{flat_map, list_all}
-use Rattle.std.specs.Fmt.{decimal}
+use Rattle.std.specs.Fmt.{decimal, digits, digits_onto, digit_glyph}
 use Rattle.std.proofs.lemmas.Bool.Decides.{nat_tests}
+use Rattle.hex.specs.Hex.{encode_with, encode_lower, lower_digits}
 use Rattle.tx_journal.specs.Numbers.{Lacks}
-use Rattle.tx_control.specs.Causes.{code_number}
-use Rattle.tx_control.specs.declared.causes.Why.{Why}
-use Rattle.tx_control.specs.declared.causes.Why.TheVariants as why
-use Rattle.tx_journal.specs.Lines.{words_text, detail_text, detail_of, line_of, entry_text}
-use Rattle.tx_journal.specs.Sound.{IsSound, IsCause}
-use Rattle.tx_journal.specs.declared.entries.Entry.{Entry}
-use Rattle.tx_journal.specs.declared.entries.Entry.TheVariants.{Step, Commit, Abort, Tdb, Interrupt}
-use Rattle.tx_journal.proofs.Decimals.{lacks_number, lacks_rest}
-use Rattle.report_form.specs.declared.words.Name.TheVariants as name
-use Rattle.report_form.specs.declared.words.Word.{Word}
-use Rattle.report_form.specs.declared.words.Word.TheVariants.{Fixed, AtMost, Digits, Event}
-use Rattle.report_form.specs.declared.rows.Row.{Row}
-use Rattle.report_form.specs.declared.rows.Row.TheVariants as row
-use Rattle.report_form.specs.Spelling.{Spelled, stop_between}
-use Rattle.report_form.specs.Rows.{IsRow, IsEntryLine}
-use Rattle.report_form.specs.Lines.{Fit}
-use Rattle.report_form.proofs.WordLemmas.{word_lacks}
+use Rattle.tx_journal.proofs.Decimals.{lacks_rest}
 use Rattle.form_laws.specs.Lines.{lines_of, in_front}
-use Rattle.form_laws.proofs.Words.{halfword_digits, doubleword_digits}
 
 -- ---- bytes that a text lacks
 
-cons_lacks : (c x : ℕ) (xs : List ℕ) → x ≢ c → Lacks c xs
+pub cons_lacks : (c x : ℕ) (xs : List ℕ) → x ≢ c → Lacks c xs
     → (i : ℕ) → i < length (x ∷ xs) → slice_index (x ∷ xs) i ≢ c
 cons_lacks c x xs other lacks zero within = other
 cons_lacks c x xs other lacks (suc i) within = lacks i (omega arith)
@@ -47,6 +31,52 @@ plain_lack (x ∷ xs) above =
     let other : x ≢ 10 = λ e. grind (arith, nat_tests) in
     cons_lacks 10 x xs other (plain_lack xs tail)
 
+-- ---- numbers of any size
+
+glyph_other : (c d : ℕ) → c < 48 → (b : Bool) → (if b then 48 + d else 87 + d) ≢ c
+glyph_other c d low true = λ e. omega (arith, e)
+glyph_other c d low false = λ e. omega (arith, e)
+
+-- a digit is above a blank
+pub digit_lacks : (c d : ℕ) → c < 48 → Lacks c (digit_glyph false d ∷ [])
+digit_lacks c d low = cons_lacks c (digit_glyph false d) [] (glyph_other c d low (nat_lt d 10)) (λ i within. absurd (omega arith))
+
+onto_lacks : (c k n : ℕ) (acc : List ℕ) → c < 48 → Lacks c acc → Lacks c (digits_onto k 10 false n acc)
+onto_lacks c zero n acc low lacks = lacks
+onto_lacks c (suc k) n acc low lacks =
+    let more = cons_lacks c (digit_glyph false (n % 10)) acc (glyph_other c (n % 10) low (nat_lt (n % 10) 10)) lacks in
+    by (n / 10 == 0) more (onto_lacks c k (n / 10) (digit_glyph false (n % 10) ∷ acc) low more)
+  where
+    by : (b : Bool) → Lacks c (digit_glyph false (n % 10) ∷ acc)
+        → Lacks c (digits_onto k 10 false (n / 10) (digit_glyph false (n % 10) ∷ acc))
+        → Lacks c (if b then digit_glyph false (n % 10) ∷ acc
+        else digits_onto k 10 false (n / 10) (digit_glyph false (n % 10) ∷ acc))
+    by true last more = last
+    by false last more = more
+
+pub decimal_lacks : (c n : ℕ) → c < 48 → Lacks c (decimal n)
+unfolding digits
+decimal_lacks c n low = onto_lacks c 64 n [] low (λ i within. absurd (omega arith))
+
+other_at : (xs : List ℕ) → list_all (λ b. nat_lt 31 b) xs ≡ true → (d : ℕ) → slice_index xs d ≢ 10
+other_at [] above d = λ e. omega (arith, e)
+other_at (x ∷ xs) above zero =
+    let head : nat_lt 31 x ≡ true = grind (arith, above) in
+    λ e. grind (arith, nat_tests)
+other_at (x ∷ xs) above (suc d) =
+    let tail : list_all (λ b. nat_lt 31 b) xs ≡ true = grind (arith, above) in
+    other_at xs tail d
+
+-- hexadecimal digits
+pub hex_lacks : (bytes : List ℕ) → Lacks 10 (encode_lower bytes)
+unfolding encode_with
+hex_lacks [] = λ i within. absurd (omega arith)
+hex_lacks (b ∷ bytes) =
+    cons_lacks 10 (slice_index lower_digits (b / 16)) (slice_index lower_digits (b % 16) ∷ encode_lower bytes)
+    (other_at lower_digits refl (b / 16))
+    (cons_lacks 10 (slice_index lower_digits (b % 16)) (encode_lower bytes) (other_at lower_digits refl (b % 16))
+    (hex_lacks bytes))
+
 -- ---- one line
 
 -- a text without a line feed, and one behind it
@@ -55,129 +85,17 @@ pub record IsLine (line : List ℕ) : Type 0 where
   pub cut : line ≡ front ++ 10 ∷ []
   pub lacks : Lacks 10 front
 
-between_other : (w : Word) → stop_between w ≢ 10
-between_other (Fixed n) = λ e. omega (arith, e)
-between_other (AtMost limit) = λ e. omega (arith, e)
-between_other (Digits count) = λ e. omega (arith, e)
-between_other (Event last) = λ e. omega (arith, e)
+-- the end alone
+pub line_end : IsLine (codes "\n")
+line_end = record { front = []; cut = refl; lacks = λ i within. absurd (omega arith) }
 
--- words are a line
-pub spelled_line : (w : Word) (others : List Word) (line : List ℕ) → Spelled (w ∷ others) line → IsLine line
-unfolding Spelled
-spelled_line w [] line h = record {
-  front = h.front;
-  cut = h.cut ∙ ap (λ r. h.front ++ 10 ∷ r) h.goes_on;
-  lacks = word_lacks w 10 h.front (omega arith) h.is_word;
+-- more in front of a line
+pub line_with : (text line : List ℕ) → Lacks 10 text → IsLine line → IsLine (text ++ line)
+line_with text line lacks more = record {
+  front = text ++ more.front;
+  cut = ap (λ t. text ++ t) more.cut ∙ sym (append_assoc text more.front (10 ∷ []));
+  lacks = both_lack 10 text more.front lacks more.lacks;
 }
-spelled_line w (next ∷ others) line h =
-    let more = spelled_line next others h.rest h.goes_on in
-    record {
-      front = h.front ++ stop_between w ∷ more.front;
-      cut = h.cut ∙ ap (λ r. h.front ++ stop_between w ∷ r) more.cut
-          ∙ sym (append_assoc h.front (stop_between w ∷ more.front) (10 ∷ []));
-      lacks = both_lack 10 h.front (stop_between w ∷ more.front)
-          (word_lacks w 10 h.front (omega arith) h.is_word)
-          (cons_lacks 10 (stop_between w) more.front (between_other w) more.lacks);
-    }
-
--- ---- the line of an entry
-
-number_lacks : (n : ℕ) → n < 2 ^ 32 → Lacks 10 (decimal n)
-number_lacks n small = lacks_number 10 n (omega arith) (omega arith)
-
-detail_lacks : (w : Why) → Lacks 10 (detail_text (detail_of w))
-detail_lacks (why.Program e) = word_lacks (Digits 4) 10 _ (omega arith) (halfword_digits e.code)
-detail_lacks (why.Filtered e) = word_lacks (Digits 4) 10 _ (omega arith) (halfword_digits e.code)
-detail_lacks (why.FetchConflict line) = word_lacks (Digits 16) 10 _ (omega arith) (doubleword_digits (line * 256))
-detail_lacks (why.StoreConflict line) = word_lacks (Digits 16) 10 _ (omega arith) (doubleword_digits (line * 256))
-detail_lacks why.External = plain_lack (codes "-") refl
-detail_lacks why.FetchOverflow = plain_lack (codes "-") refl
-detail_lacks why.StoreOverflow = plain_lack (codes "-") refl
-detail_lacks why.Restricted = plain_lack (codes "-") refl
-detail_lacks why.Depth = plain_lack (codes "-") refl
-detail_lacks why.Starved = plain_lack (codes "-") refl
-detail_lacks (why.Tabort code) = plain_lack (codes "-") refl
-
-small_code : (w : Why) → IsCause w → code_number w < 2 ^ 64
-small_code (why.Program e) is = omega arith
-small_code (why.Filtered e) is = omega arith
-small_code (why.FetchConflict line) is = omega arith
-small_code (why.StoreConflict line) is = omega arith
-small_code why.External is = omega arith
-small_code why.FetchOverflow is = omega arith
-small_code why.StoreOverflow is = omega arith
-small_code why.Restricted is = omega arith
-small_code why.Depth is = omega arith
-small_code why.Starved is = omega arith
-small_code (why.Tabort code) is = is.1
-
-blank_lacks : (text : List ℕ) → Lacks 10 text → Lacks 10 (codes " " ++ text)
-blank_lacks text lacks = cons_lacks 10 32 text (λ e. omega (arith, e)) lacks
-
-entry_lacks : (e : Entry) → IsSound e → Lacks 10 (words_text (line_of e))
-entry_lacks (Step cpu) is = both_lack 10 (codes "S ") (decimal cpu) (plain_lack (codes "S ") refl) (number_lacks cpu is)
-entry_lacks (Tdb cpu) is = both_lack 10 (codes "T ") (decimal cpu) (plain_lack (codes "T ") refl) (number_lacks cpu is)
-entry_lacks (Interrupt cpu) is =
-    both_lack 10 (codes "I ") (decimal cpu) (plain_lack (codes "I ") refl) (number_lacks cpu is)
-entry_lacks (Commit cpu count) is =
-    both_lack 10 (codes "C ") (decimal cpu ++ (codes " " ++ decimal count)) (plain_lack (codes "C ") refl)
-    (both_lack 10 (decimal cpu) (codes " " ++ decimal count) (number_lacks cpu is.0)
-    (blank_lacks (decimal count) (number_lacks count is.1)))
-entry_lacks (Abort cpu count w) is =
-    let told = codes " " ++ detail_text (detail_of w) in
-    let reason = decimal (code_number w) ++ told in
-    let code = both_lack 10 (decimal (code_number w)) told (lacks_number 10 (code_number w) (small_code w is.2) (omega arith))
-    (blank_lacks (detail_text (detail_of w)) (detail_lacks w)) in
-    let counted = both_lack 10 (decimal count) (codes " " ++ reason) (number_lacks count is.1)
-    (blank_lacks reason code) in
-    both_lack 10 (codes "A ") (decimal cpu ++ (codes " " ++ (decimal count ++ (codes " " ++ reason))))
-    (plain_lack (codes "A ") refl)
-    (both_lack 10 (decimal cpu) (codes " " ++ (decimal count ++ (codes " " ++ reason))) (number_lacks cpu is.0)
-    (blank_lacks (decimal count ++ (codes " " ++ reason)) counted))
-
-pub entry_line : (e : Entry) → IsSound e → IsLine (entry_text e)
-entry_line e is = record { front = words_text (line_of e); cut = refl; lacks = entry_lacks e is }
-
--- ---- the line of a row
-
--- a row of the history, whose lines are told by the entries
-abbrev pub is_entry : Row → Bool
-is_entry row.Entry = true
-is_entry row.Title = false
-is_entry row.Status = false
-is_entry row.State = false
-is_entry row.Psw = false
-is_entry (row.General first) = false
-is_entry (row.Access first) = false
-is_entry row.Attempt = false
-is_entry row.Pending = false
-is_entry row.Counts = false
-is_entry (row.Bytes digits) = false
-is_entry row.Block = false
-is_entry (row.Events count) = false
-is_entry row.End = false
-
-pub row_line : (last : ℕ) (r : Row) (line : List ℕ) → is_entry r ≡ false → IsRow last r line → IsLine line
-unfolding IsRow
-row_line last row.Title line other h = spelled_line _ _ line h
-row_line last row.Status line other (inl h) = spelled_line _ _ line h
-row_line last row.Status line other (inr h) = spelled_line _ _ line h
-row_line last row.State line other (inl h) = spelled_line _ _ line h
-row_line last row.State line other (inr (inl h)) = spelled_line _ _ line h
-row_line last row.State line other (inr (inr h)) = spelled_line _ _ line h
-row_line last row.Psw line other h = spelled_line _ _ line h
-row_line last (row.General first) line other h = spelled_line _ _ line h
-row_line last (row.Access first) line other h = spelled_line _ _ line h
-row_line last row.Attempt line other (inl h) = spelled_line _ _ line h
-row_line last row.Attempt line other (inr h) = spelled_line _ _ line h
-row_line last row.Pending line other (inl h) = spelled_line _ _ line h
-row_line last row.Pending line other (inr h) = spelled_line _ _ line h
-row_line last row.Counts line other h = spelled_line _ _ line h
-row_line last (row.Bytes digits) line other h = spelled_line _ _ line h
-row_line last row.Block line other h = spelled_line _ _ line h
-row_line last row.Entry line other h = absurd cc
-row_line last (row.Events count) line other h = spelled_line _ _ line h
-row_line last row.End line other h = spelled_line _ _ line h
 
 -- ---- lines one behind the other
 

@@ -1,6 +1,7 @@
--- Words and lines.
-pub mod Words
+-- Lines of a text, and those of a report; words, and rows that lines tell.
 pub mod Cutting
+pub mod Lists
+pub mod Words
 pub mod Telling
 pub mod CpuRows
 pub mod ShowRows

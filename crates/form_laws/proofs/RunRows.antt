@@ -24,9 +24,8 @@ use Rattle.report_form.specs.Rows.{IsRow, events_words}
 use Rattle.report_form.specs.Lines.{rows_of}
 use Rattle.report_form.specs.Sheet.{schedule_parts}
 use Rattle.form_laws.proofs.Words.{word_then, word_last, a_number}
-use Rattle.form_laws.proofs.Cutting.{line_before, entry_line}
-use Rattle.form_laws.proofs.Telling.{Tells, tells_nothing, tells_row, tells_behind, tells_as, lines_to, text_to}
-use Rattle.form_laws.proofs.Telling.{tells_sixteens, sixteens}
+use Rattle.form_laws.proofs.Lists.{lines_to, events_at, events_piece, schedule_list}
+use Rattle.form_laws.proofs.Telling.{Tells, tells_nothing, tells_row, tells_behind, tells_sixteens, sixteens}
 
 -- ---- entries
 
@@ -42,17 +41,12 @@ entry_row last e h =
     record { entry = fields_of (line_of e); spells = spelled e h.sound; known = h.known; few = h.few }
 
 pub entries_tell : (last : ℕ) (history : List Entry) → All (IsListed last) history
-    → Tells last (replicate (length history) row.Entry) (map entry_text history) (history_text history)
+    → Tells last (replicate (length history) row.Entry) (map entry_text history)
 entries_tell last [] are = tells_nothing last
 entries_tell last (e ∷ history) are =
     let h = All-head (IsListed last) e history are in
     let more = entries_tell last history (All-tail (IsListed last) e history are) in
-    record {
-      fit = (entry_row last e h, more.fit);
-      count = ap suc more.count;
-      are = line_before (entry_text e) (map entry_text history) (entry_line e h.sound) more.are;
-      told = ap (λ t. entry_text e ++ t) more.told;
-    }
+    record { fit = (entry_row last e h, more.fit); count = ap suc more.count }
 
 -- ---- events
 
@@ -93,17 +87,6 @@ events_row last n (e ∷ es) fits size some few known =
 
 -- ---- the lines of events
 
-abbrev pub events_at : List Event → ℕ → List Event
-events_at events k = take 16 (drop (16 * k) events)
-
-abbrev pub events_piece : List Event → ℕ → List ℕ
-events_piece events k = row_text (events_at events k)
-
-pieces : (events : List Event) (n : ℕ) → text_to (events_piece events) n ≡ rows_text events n
-unfolding text_to
-pieces events zero = refl
-pieces events (suc n) = ap (λ t. t ++ events_piece events n) (pieces events n)
-
 full : (events : List Event) (k : ℕ) → k < length events / 16 → length (events_at events k) ≡ 16
 full events k below =
     length-take-le 16 (drop (16 * k) events) (let d = length-drop (16 * k) events in omega (arith, d, below))
@@ -116,27 +99,25 @@ rest events =
     let few : length (drop (16 * k) events) ≤ 16 = omega (arith, d) in
     ap length (take_all 16 (drop (16 * k) events) few) ∙ d ∙ omega arith
 
--- the lines of the events, and the end
-abbrev pub schedule_list : List Event → List (List ℕ)
-schedule_list events = lines_to (events_piece events) ((length events + 15) / 16) ++ codes "END\n" ∷ []
-
 end_row : (last : ℕ) → IsRow last row.End (codes "END\n")
 unfolding IsRow
 end_row last = word_last (Fixed name.End) (codes "END") refl
 
+-- the lines of the events, and the end
 pub schedule_tells : (last : ℕ) (events : List Event) → last < 2 ^ 64 → All (IsKnown last) events
-    → Tells last (rows_of (schedule_parts (length events))) (schedule_list events) (schedule_text events ++ codes "END\n")
+    → Tells last (rows_of (schedule_parts (length events))) (schedule_list events)
 schedule_tells last events fits known =
     let n = length events in
     let part = λ (k : ℕ).
-    All-take (IsKnown last) 16 (drop (16 * k) events) (All-drop (IsKnown last) (16 * k) events known) in
-    let lines = tells_sixteens last n (row.Events 16) (row.Events (n % 16)) (events_piece events) refl refl
-    (λ k below. events_row last 16 (events_at events k) fits (full events k below) (omega arith) (omega arith) (part k))
-    (λ some. events_row last (n % 16) (events_at events (n / 16)) fits (rest events) some (omega arith) (part (n / 16))) in
-    let told = tells_as last _ _ _ _ (pieces events ((n + 15) / 16)) lines in
-    let all = tells_behind last (sixteens n (row.Events 16) (row.Events (n % 16))) (row.End ∷ [])
-    (lines_to (events_piece events) ((n + 15) / 16)) (codes "END\n" ∷ []) (schedule_text events) (codes "END\n") told
-    (tells_row last row.End (codes "END\n") refl (end_row last)) in
-    subst (λ rows. Tells last rows (schedule_list events) (schedule_text events ++ codes "END\n"))
+        All-take (IsKnown last) 16 (drop (16 * k) events) (All-drop (IsKnown last) (16 * k) events known) in
+    let lines = tells_sixteens last n (row.Events 16) (row.Events (n % 16)) (events_piece events)
+        (λ k below. events_row last 16 (events_at events k) fits (full events k below) (omega arith) (omega arith)
+        (part k))
+        (λ some. events_row last (n % 16) (events_at events (n / 16)) fits (rest events) some (omega arith)
+        (part (n / 16))) in
+    subst (λ rows. Tells last rows (schedule_list events))
     (append_assoc (replicate (n / 16) (row.Events 16))
-    (replicate (if n % 16 == 0 then 0 else 1) (row.Events (n % 16))) (row.End ∷ [])) all
+    (replicate (if n % 16 == 0 then 0 else 1) (row.Events (n % 16))) (row.End ∷ []))
+    (tells_behind last (sixteens n (row.Events 16) (row.Events (n % 16))) (row.End ∷ [])
+    (lines_to (events_piece events) ((n + 15) / 16)) (codes "END\n" ∷ []) lines
+    (tells_row last row.End (codes "END\n") (end_row last)))

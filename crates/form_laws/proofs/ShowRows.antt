@@ -27,8 +27,8 @@ use Rattle.report_text.specs.Digits.{labelled, word_text}
 use Rattle.report_text.specs.Storage.{bytes_at, bytes_line, bytes_lines, bytes_text, number_at, block_head, block_tail}
 use Rattle.report_text.specs.Storage.{block_line, show_text, shows_text}
 use Rattle.form_laws.proofs.Words.{word_then, word_last, a_number, byte_digits, word_digits}
-use Rattle.form_laws.proofs.Telling.{Tells, tells_nothing, tells_more, tells_row, tells_behind, tells_as, joined}
-use Rattle.form_laws.proofs.Telling.{lines_to, text_to, tells_sixteens, sixteens}
+use Rattle.form_laws.proofs.Lists.{lines_to, bytes_piece, bytes_list, show_list, shows_list}
+use Rattle.form_laws.proofs.Telling.{Tells, tells_nothing, tells_row, tells_behind, tells_sixteens, sixteens}
 
 -- ---- bytes of bytes
 
@@ -65,21 +65,9 @@ bytes_row last digits address bytes are size =
     (word_last (Digits digits) (encode_lower bytes)
     (subst (λ n. AreDigits n (encode_lower bytes)) size (byte_digits bytes are))))
 
--- the line with this number
-abbrev pub piece : List ℕ → ℕ → ℕ → ℕ → List ℕ
-piece storage first count k =
-    bytes_line (first + 16 * k) (bytes_at storage (first + 16 * k) (min 16 (count - 16 * k)))
-
-pieces : (storage : List ℕ) (first count n : ℕ)
-    → text_to (piece storage first count) n ≡ bytes_lines storage first count n
-unfolding text_to
-pieces storage first count zero = refl
-pieces storage first count (suc n) =
-    ap (λ t. t ++ piece storage first count n) (pieces storage first count n)
-
 piece_row : (last : ℕ) (storage : List ℕ) (first count k size : ℕ) → IsBytes storage
     → first + count ≤ length storage → 16 * k + size ≤ count → min 16 (count - 16 * k) ≡ size
-    → IsRow last (row.Bytes (2 * size)) (piece storage first count k)
+    → IsRow last (row.Bytes (2 * size)) (bytes_piece storage first count k)
 piece_row last storage first count k size are within low is =
     let many : length (bytes_at storage (first + 16 * k) (min 16 (count - 16 * k))) ≡ size =
     ap (λ n. length (bytes_at storage (first + 16 * k) n)) is
@@ -87,18 +75,13 @@ piece_row last storage first count k size are within low is =
     bytes_row last (2 * size) (first + 16 * k) (bytes_at storage (first + 16 * k) (min 16 (count - 16 * k)))
     (part_bytes storage (first + 16 * k) (min 16 (count - 16 * k)) are) (ap (λ n. 2 * n) many)
 
-abbrev pub bytes_list : List ℕ → ℕ → ℕ → List (List ℕ)
-bytes_list storage first count = lines_to (piece storage first count) ((count + 15) / 16)
-
 bytes_tell : (last : ℕ) (storage : List ℕ) (first count : ℕ) → IsBytes storage → first + count ≤ length storage
     → Tells last (sixteens count (row.Bytes 32) (row.Bytes (2 * (count % 16)))) (bytes_list storage first count)
-    (bytes_text storage first count)
 bytes_tell last storage first count are within =
-    let all = tells_sixteens last count (row.Bytes 32) (row.Bytes (2 * (count % 16))) (piece storage first count) refl refl
+    tells_sixteens last count (row.Bytes 32) (row.Bytes (2 * (count % 16))) (bytes_piece storage first count)
     (λ k below. piece_row last storage first count k 16 are within (omega (arith, below)) (omega (arith, below)))
     (λ some. piece_row last storage first count (count / 16) (count % 16) are within (omega arith)
-    (omega (arith, some))) in
-    tells_as last _ _ _ _ (pieces storage first count ((count + 15) / 16)) all
+    (omega (arith, some)))
 
 -- ---- a block
 
@@ -204,20 +187,15 @@ block_row last first block are size =
 
 -- ---- what is shown at one place, and at all
 
-pub show_list : List ℕ → Show → List (List ℕ)
-show_list storage s =
-    if s.fields then block_line s.first (bytes_at storage s.first 256) ∷ [] else bytes_list storage s.first s.length
-
 show_by : (last : ℕ) (storage : List ℕ) (s : Show) (b : Bool) → IsBytes storage
     → s.first + s.length ≤ length storage → (b ≡ true → s.length ≡ 256)
     → Tells last (rows_of (if b then once row.Block ∷ []
     else times (s.length / 16) (row.Bytes 32)
     ∷ times (if s.length % 16 == 0 then 0 else 1) (row.Bytes (2 * (s.length % 16))) ∷ []))
     (if b then block_line s.first (bytes_at storage s.first 256) ∷ [] else bytes_list storage s.first s.length)
-    (if b then block_line s.first (bytes_at storage s.first 256) else bytes_text storage s.first s.length)
 show_by last storage s true are within block =
     let size = block refl in
-    tells_row last row.Block (block_line s.first (bytes_at storage s.first 256)) refl
+    tells_row last row.Block (block_line s.first (bytes_at storage s.first 256))
     (block_row last s.first (bytes_at storage s.first 256) (part_bytes storage s.first 256 are)
     (part_length storage s.first 256 (omega (arith, within, size))))
 show_by last storage s false are within block =
@@ -227,31 +205,26 @@ show_by last storage s false are within block =
         ++ (replicate (if n % 16 == 0 then 0 else 1) (row.Bytes (2 * (n % 16))) ++ []) =
     ap (λ rs. replicate (n / 16) (row.Bytes 32) ++ rs)
     (sym (append-nil (replicate (if n % 16 == 0 then 0 else 1) (row.Bytes (2 * (n % 16)))))) in
-    subst (λ rs. Tells last rs (bytes_list storage s.first n) (bytes_text storage s.first n)) rows
+    subst (λ rs. Tells last rs (bytes_list storage s.first n)) rows
     (bytes_tell last storage s.first n are within)
 
 show_tells : (last : ℕ) (storage : List ℕ) (s : Show) → IsBytes storage → length storage ≡ 1048576 → IsShown s
-    → Tells last (rows_of (show_parts s)) (show_list storage s) (show_text storage s)
-unfolding show_text show_list
+    → Tells last (rows_of (show_parts s)) (show_list storage s)
+unfolding show_list
 show_tells last storage s are size shown =
     show_by last storage s s.fields are (let h = shown.high in omega (arith, h, size)) shown.block
 
-pub shows_list : List ℕ → List Show → List (List ℕ)
-shows_list storage [] = []
-shows_list storage (s ∷ shows) = show_list storage s ++ shows_list storage shows
-
 pub shows_tell : (last : ℕ) (storage : List ℕ) (shows : List Show) → IsBytes storage → length storage ≡ 1048576
     → All IsShown shows
-    → Tells last (rows_of (flat_map show_parts shows)) (shows_list storage shows) (shows_text storage shows)
+    → Tells last (rows_of (flat_map show_parts shows)) (shows_list storage shows)
 unfolding shows_list
 shows_tell last storage [] are size shown = tells_nothing last
 shows_tell last storage (s ∷ shows) are size shown =
     let rows : rows_of (show_parts s) ++ rows_of (flat_map show_parts shows)
         ≡ rows_of (flat_map show_parts (s ∷ shows)) =
     sym (flat_map-append (λ (p : Part). replicate p.count p.row) (show_parts s) (flat_map show_parts shows)) in
-    subst (λ rs. Tells last rs (show_list storage s ++ shows_list storage shows)
-    (show_text storage s ++ shows_text storage shows)) rows
+    subst (λ rs. Tells last rs (show_list storage s ++ shows_list storage shows)) rows
     (tells_behind last (rows_of (show_parts s)) (rows_of (flat_map show_parts shows)) (show_list storage s)
-    (shows_list storage shows) (show_text storage s) (shows_text storage shows)
+    (shows_list storage shows)
     (show_tells last storage s are size (All-head IsShown s shows shown))
     (shows_tell last storage shows are size (All-tail IsShown s shows shown)))

@@ -33,11 +33,12 @@ use Rattle.report_text.specs.Report.{report_text, state_part, run_part, head_lin
 use Rattle.report_text.specs.Shown.{Shown, ShownCpu}
 use Rattle.form_laws.specs.Lines.{lines_of}
 use Rattle.form_laws.proofs.Words.{word_then, word_last}
-use Rattle.form_laws.proofs.Cutting.{IsLine, AreLines, lines_behind, line_before, both_lack, plain_lack, lines_joined}
-use Rattle.form_laws.proofs.Telling.{Tells, tells_more, tells_behind, tells_as, joined, fit_front}
-use Rattle.form_laws.proofs.CpuRows.{CanBeTold, cpus_list, cpus_tell}
-use Rattle.form_laws.proofs.ShowRows.{shows_list, shows_tell}
-use Rattle.form_laws.proofs.RunRows.{IsListed, IsKnown, entries_tell, schedule_list, schedule_tells}
+use Rattle.form_laws.proofs.Lists.{cpus_list, shows_list, schedule_list, head_list, behind_entries, behind_head}
+use Rattle.form_laws.proofs.Lists.{report_list, report_lines}
+use Rattle.form_laws.proofs.Telling.{Tells, tells_more, tells_behind, fit_front}
+use Rattle.form_laws.proofs.CpuRows.{CanBeTold, cpus_tell}
+use Rattle.form_laws.proofs.ShowRows.{shows_tell}
+use Rattle.form_laws.proofs.RunRows.{IsListed, IsKnown, entries_tell, schedule_tells}
 
 -- ---- what a report can tell
 
@@ -56,24 +57,6 @@ pub record CanBeReported (image : Content) (s : Shown) : Type 0 where
   pub events : All (IsKnown (last_of image)) s.events
   pub few_events : length s.events < 2 ^ 64
 
--- ---- the lines
-
-abbrev pub head_list : Shown → List (List ℕ)
-head_list s =
-    codes "ZTX REPORT\n" ∷ number_line (codes "STATUS ") (status_of s.cpus)
-    ∷ (cpus_list 0 s.cpus ++ shows_list s.storage s.shows)
-
--- from the count of events on
-abbrev pub behind_entries : Shown → List (List ℕ)
-behind_entries s = number_line (codes "SCHEDULE ") (length s.events) ∷ schedule_list s.events
-
--- behind the count of entries
-abbrev pub behind_head : Shown → List (List ℕ)
-behind_head s = map entry_text s.history ++ behind_entries s
-
-abbrev pub report_list : Shown → List (List ℕ)
-report_list s = head_list s ++ number_line (codes "HISTORY ") (length s.history) ∷ behind_head s
-
 -- ---- the head
 
 title_row : (last : ℕ) → IsRow last row.Title (codes "ZTX REPORT\n")
@@ -91,12 +74,8 @@ status_row last false =
     inr (word_then (Fixed name.Status) _ _ (codes "STATUS") _ 32 refl refl
     (word_last (Fixed name.Six) (decimal 6) (decimal_digit 6 (omega arith))))
 
-head_told : (title status rest : List ℕ) → title ++ (status ++ rest) ≡ (title ++ status) ++ rest
-head_told title status rest = sym (append_assoc title status rest)
-
 head_tells : (image : Content) (s : Shown) → CanBeReported image s
-    → Tells (last_of image) (rows_of (head_parts image)) (head_list s) (state_part s.cpus s.shows s.storage)
-unfolding state_part head_lines
+    → Tells (last_of image) (rows_of (head_parts image)) (head_list s)
 head_tells image s h =
     let last = last_of image in
     let some = h.some in
@@ -105,65 +84,16 @@ head_tells image s h =
     let cpus = cpus_tell last 0 s.cpus (omega (arith, few)) (omega (arith, some, count)) h.cpus in
     let shows = shows_tell last s.storage s.shows h.bytes h.size (subst (All IsShown) (sym h.shows) h.shown) in
     let both = tells_behind last (rows_of (cpus_parts (length s.cpus))) (rows_of (flat_map show_parts s.shows))
-        (cpus_list 0 s.cpus) (shows_list s.storage s.shows) (cpus_text s.cpus) (shows_text s.storage s.shows) cpus shows in
+        (cpus_list 0 s.cpus) (shows_list s.storage s.shows) cpus shows in
     let rows : rows_of (cpus_parts (length s.cpus)) ++ rows_of (flat_map show_parts s.shows)
         ≡ rows_of (cpus_parts (length image.cpus) ++ flat_map show_parts image.shows) =
     ap₂ (λ n shows. rows_of (cpus_parts n) ++ rows_of (flat_map show_parts shows)) count h.shows
     ∙ sym (flat_map-append (λ (p : Part). replicate p.count p.row) (cpus_parts (length image.cpus))
     (flat_map show_parts image.shows)) in
-    let body = subst (λ rs. Tells last rs (cpus_list 0 s.cpus ++ shows_list s.storage s.shows)
-        (cpus_text s.cpus ++ shows_text s.storage s.shows)) rows both in
-    tells_as last _ _ _ _
-    (head_told (codes "ZTX REPORT\n") (number_line (codes "STATUS ") (status_of s.cpus))
-    (cpus_text s.cpus ++ shows_text s.storage s.shows))
-    (tells_more last row.Title (codes "ZTX REPORT\n") _ _ _ refl (title_row last)
-    (tells_more last row.Status (number_line (codes "STATUS ") (status_of s.cpus)) _ _ _ refl
-    (status_row last (list_all (λ (c : ShownCpu). c.finished) s.cpus)) body))
-
--- ---- the text
-
-number_is_line : (label : List ℕ) (n : ℕ) → list_all (λ b. nat_lt 31 b) label ≡ true → n < 2 ^ 64
-    → IsLine (number_line label n)
-unfolding number_line labelled
-number_is_line label n plain small = record {
-  front = label ++ decimal n;
-  cut = refl;
-  lacks = both_lack 10 label (decimal n) (plain_lack label plain) (lacks_number 10 n small (omega arith));
-}
-
-five_told : (a b c d e f : List ℕ) → a ++ (b ++ (c ++ (d ++ (e ++ f)))) ≡ a ++ ((b ++ c) ++ ((d ++ e) ++ f))
-five_told a b c d e f = simp append_assoc
-
-list_told : (image : Content) (s : Shown) → CanBeReported image s → joined (report_list s) ≡ report_text s
-unfolding report_text run_part history_lines schedule_lines
-list_told image s h =
-    let last = last_of image in
-    let head = head_tells image s h in
-    let entries = entries_tell last s.history h.entries in
-    let events = schedule_tells last s.events (let few = h.few in omega (arith, few)) h.events in
-    let counted = number_line (codes "HISTORY ") (length s.history) in
-    let recorded = number_line (codes "SCHEDULE ") (length s.events) in
-    flat_map-append (λ (l : List ℕ). l) (head_list s) (counted ∷ behind_head s)
-    ∙ ap₂ (λ (a b : List ℕ). a ++ (counted ++ b)) head.told
-    (flat_map-append (λ (l : List ℕ). l) (map entry_text s.history) (behind_entries s)
-    ∙ ap₂ (λ (a b : List ℕ). a ++ (recorded ++ b)) entries.told events.told)
-    ∙ five_told (state_part s.cpus s.shows s.storage) counted (history_text s.history) recorded
-    (schedule_text s.events) (codes "END\n")
-
--- the text of a state that can be reported has these lines
-pub report_lines : (image : Content) (s : Shown) → CanBeReported image s → lines_of (report_text s) ≡ report_list s
-report_lines image s h =
-    let last = last_of image in
-    let head = head_tells image s h in
-    let entries = entries_tell last s.history h.entries in
-    let events = schedule_tells last s.events (let few = h.few in omega (arith, few)) h.events in
-    let counted = number_is_line (codes "HISTORY ") (length s.history) refl h.few_entries in
-    let recorded = number_is_line (codes "SCHEDULE ") (length s.events) refl h.few_events in
-    ap lines_of (sym (list_told image s h))
-    ∙ lines_joined (report_list s)
-    (lines_behind (head_list s) _ head.are
-    (line_before _ (behind_head s) counted
-    (lines_behind (map entry_text s.history) _ entries.are (line_before _ (schedule_list s.events) recorded events.are))))
+    tells_more last row.Title (codes "ZTX REPORT\n") _ _ (title_row last)
+    (tells_more last row.Status (number_line (codes "STATUS ") (status_of s.cpus)) _ _
+    (status_row last (list_all (λ (c : ShownCpu). c.finished) s.cpus))
+    (subst (λ rs. Tells last rs (cpus_list 0 s.cpus ++ shows_list s.storage s.shows)) rows both))
 
 -- ---- the form
 
@@ -221,7 +151,7 @@ has_form image s h =
     let behind_recorded : drop (schedule_at image n + 1) lines ≡ schedule_list s.events =
     ap (drop (schedule_at image n + 1)) (sym again)
     ∙ behind before recorded (schedule_list s.events) (schedule_at image n) at in
-    subst (λ ls. HasForm image ls n (length s.events)) (sym (report_lines image s h))
+    subst (λ ls. HasForm image ls n (length s.events)) (sym (report_lines s))
     (record {
       history = record {
         head = record {
