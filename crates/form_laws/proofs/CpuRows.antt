@@ -207,7 +207,7 @@ cpu_tells last i c fits within h =
 -- ---- all CPUs
 
 -- a CPU in front of others
-cpus_front : (n : ℕ) → rows_of (cpus_parts (suc n)) ≡ rows_of cpu_parts ++ rows_of (cpus_parts n)
+pub cpus_front : (n : ℕ) → rows_of (cpus_parts (suc n)) ≡ rows_of cpu_parts ++ rows_of (cpus_parts n)
 cpus_front zero = refl
 cpus_front (suc n) =
     let cut = λ (k : ℕ). flat_map-append (λ (p : Part). replicate p.count p.row) (cpus_parts k) cpu_parts in

@@ -6,4 +6,6 @@ pub mod Telling
 pub mod CpuRows
 pub mod ShowRows
 pub mod RunRows
+pub mod Numbers
+pub mod Places
 pub mod Whole

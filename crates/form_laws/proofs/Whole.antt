@@ -37,6 +37,7 @@ use Rattle.form_laws.proofs.Lists.{cpus_list, shows_list, schedule_list, head_li
 use Rattle.form_laws.proofs.Lists.{report_list, report_lines}
 use Rattle.form_laws.proofs.Telling.{Tells, tells_more, tells_behind, fit_front}
 use Rattle.form_laws.proofs.CpuRows.{CanBeTold, cpus_tell}
+use Rattle.form_laws.proofs.Places.{behind, there}
 use Rattle.form_laws.proofs.ShowRows.{shows_tell}
 use Rattle.form_laws.proofs.RunRows.{IsListed, IsKnown, entries_tell, schedule_tells}
 
@@ -96,19 +97,6 @@ head_tells image s h =
     (subst (λ rs. Tells last rs (cpus_list 0 s.cpus ++ shows_list s.storage s.shows)) rows both))
 
 -- ---- the form
-
--- what stands behind some lines
-behind : (xs : List (List ℕ)) (x : List ℕ) (ys : List (List ℕ)) (n : ℕ) → length xs ≡ n
-    → drop (n + 1) (xs ++ x ∷ ys) ≡ ys
-behind [] x ys n is = ap (λ k. drop (k + 1) (x ∷ ys)) (sym is)
-behind (z ∷ xs) x ys n is =
-    let e : n + 1 ≡ suc (length xs + 1) = omega (arith, is) in
-    ap (λ k. drop k (z ∷ (xs ++ x ∷ ys))) e ∙ behind xs x ys (length xs) refl
-
-there : (xs : List (List ℕ)) (x : List ℕ) (ys : List (List ℕ)) (n : ℕ) → length xs ≡ n
-    → get_or (xs ++ x ∷ ys) n [] ≡ x
-there [] x ys n is = ap (λ k. get_or (x ∷ ys) k []) (sym is)
-there (z ∷ xs) x ys n is = ap (λ k. get_or (z ∷ (xs ++ x ∷ ys)) k []) (sym is) ∙ there xs x ys (length xs) refl
 
 within : (xs : List (List ℕ)) (x : List ℕ) (ys : List (List ℕ)) (n : ℕ) → length xs ≡ n
     → n < length (xs ++ x ∷ ys)
