@@ -1,9 +1,9 @@
 -- The lines of a CPU, and of all CPUs.
-use Rattle.std.proofs.Common.{◌≡◌, ◌∙◌, ap, ap₂, sym, refl, subst, ℕ, zero, suc, ◌+◌, ◌*◌, ◌<◌, ◌≤◌, ◌^◌, arith}
-use Rattle.std.proofs.Common.{List, [], ◌∷◌, ◌++◌, append_assoc, append-nil, length, length-append, take, drop, inl, inr}
+use Rattle.std.proofs.Common.{◌≡◌, ◌∙◌, ap, sym, refl, subst, ℕ, zero, suc, ◌+◌, ◌<◌, ◌≤◌, ◌^◌, arith}
+use Rattle.std.proofs.Common.{List, [], ◌∷◌, ◌++◌, append_assoc, length, take, drop, inl, inr}
 use Rattle.std.proofs.Common.{Option, Some, None}
 use Rattle.std.specs.Prelude.{codes, replicate, slice_get}
-use Rattle.std.specs.List.{flat_map, enumerate_from}
+use Rattle.std.specs.List.{flat_map}
 use Rattle.std.specs.Fmt.{decimal}
 use Rattle.std.proofs.lemmas.List.{length-take-le, length-drop}
 use Rattle.std.proofs.lemmas.List.Concat.{flat_map-append}
@@ -12,9 +12,7 @@ use Rattle.z_regs.specs.declared.image.RunState.{RunState}
 use Rattle.z_regs.specs.declared.image.RunState.TheVariants.{Running, Halted, Interrupted}
 use Rattle.report_form.specs.declared.words.Name.{Name}
 use Rattle.report_form.specs.declared.words.Name.TheVariants as name
-use Rattle.report_form.specs.declared.words.Word.{Word}
 use Rattle.report_form.specs.declared.words.Word.TheVariants.{Fixed, AtMost, Digits}
-use Rattle.report_form.specs.declared.rows.Row.{Row}
 use Rattle.report_form.specs.declared.rows.Row.TheVariants as row
 use Rattle.report_form.specs.declared.lines.Part.{Part}
 use Rattle.report_form.specs.Words.{name_text}
@@ -24,38 +22,15 @@ use Rattle.report_form.specs.Lines.{rows_of}
 use Rattle.report_form.specs.Sheet.{cpus_parts, cpu_parts}
 use Rattle.report_text.specs.Digits.{labelled, halfword_text, word_text, doubleword_text, digit_text}
 use Rattle.report_text.specs.Processor.{state_line, state_text, interrupted_text, psw_line, general_line, access_line}
-use Rattle.report_text.specs.Processor.{general_lines, access_lines, attempt_line, live_line, pending_line, counts_line}
-use Rattle.report_text.specs.Processor.{image_lines, progress_lines, cpu_lines, cpus_text}
+use Rattle.report_text.specs.Processor.{attempt_line, live_line, pending_line, counts_line}
 use Rattle.report_text.specs.Shown.{ShownCpu}
 use Rattle.report_text.specs.declared.processors.Attempt.{Attempt}
 use Rattle.report_text.specs.declared.processors.Counts.{Counts}
+use Rattle.form_laws.specs.Reportable.{IsShort, AreCounts, CanBeTold}
 use Rattle.form_laws.proofs.Words.{word_then, word_last, a_number, a_digit, values_then}
 use Rattle.form_laws.proofs.Words.{halfword_digits, word_digits, doubleword_digits}
 use Rattle.form_laws.proofs.Lists.{cpu_list, cpus_list}
 use Rattle.form_laws.proofs.Telling.{Tells, tells_nothing, tells_more, tells_behind}
-
--- ---- what a line can tell
-
-pub IsShort : Option Attempt → Type 0
-IsShort None = Unit {0}
-IsShort (Some a) = (a.depth < 2 ^ 64) × (a.completed ≤ 200000)
-
--- numbers of 64 bits
-pub record AreCounts (c : Counts) : Type 0 where
-  pub turns : c.turns < 2 ^ 64
-  pub asked : c.asked < 2 ^ 64
-  pub rejected : c.rejected < 2 ^ 64
-  pub commits : c.commits < 2 ^ 64
-  pub aborts : c.aborts < 2 ^ 64
-
--- sixteen registers of each kind, and numbers that have their places
-pub record CanBeTold (c : ShownCpu) : Type 0 where
-  pub general : length c.cpu.general ≡ 16
-  pub access : length c.cpu.access ≡ 16
-  pub condition : c.cpu.condition < 2 ^ 64
-  pub mask : c.cpu.mask < 16
-  pub attempt : IsShort c.attempt
-  pub counts : AreCounts c.counts
 
 -- ---- the lines one by one
 
@@ -124,7 +99,7 @@ access_row last first label values is size =
     (eight_words first values size)
 
 attempt_row : (last : ℕ) (o : Option Attempt) → IsShort o → IsRow last row.Attempt (attempt_line o)
-unfolding IsRow IsShort attempt_line live_line labelled
+unfolding IsRow attempt_line live_line labelled
 attempt_row last None short =
     inl (word_then (Fixed name.Transaction) _ _ (codes "TX") _ 32 refl refl
     (word_last (Fixed name.Nothing) (codes "NONE") refl))

@@ -1,5 +1,5 @@
 -- Texts whose lines are known: each row is one line, and lines one behind the other are the lines of their text.
-use Rattle.std.proofs.Common.{◌≡◌, ◌≢◌, ◌∙◌, ap, ap₂, sym, refl, subst, ℕ, zero, suc, ◌+◌, ◌*◌, ◌/◌, ◌%◌, ◌<◌, ◌≤◌}
+use Rattle.std.proofs.Common.{◌≡◌, ◌≢◌, ◌∙◌, ap, ap₂, sym, refl, ℕ, zero, suc, ◌+◌, ◌/◌, ◌%◌, ◌<◌}
 use Rattle.std.proofs.Common.{arith, Bool, true, false, List, [], ◌∷◌, ◌++◌, append_assoc, length, slice_index}
 use Rattle.std.specs.Prelude.{◌==◌, if◌then◌else◌, nat_lt, codes}
 use Rattle.std.specs.List.{flat_map, list_all}
@@ -8,7 +8,7 @@ use Rattle.std.proofs.lemmas.Bool.Decides.{nat_tests}
 use Rattle.hex.specs.Hex.{encode_with, encode_lower, lower_digits}
 use Rattle.tx_journal.specs.Numbers.{Lacks}
 use Rattle.tx_journal.proofs.Decimals.{lacks_rest}
-use Rattle.form_laws.specs.Lines.{lines_of, in_front}
+use Rattle.tx_check.specs.Lines.{lines_of, in_front}
 
 -- ---- bytes that a text lacks
 

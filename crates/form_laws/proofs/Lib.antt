@@ -1,4 +1,5 @@
--- Lines of a text, and those of a report; words, and rows that lines tell.
+-- Lines of a text, and those of a report with their places; words, numbers, and rows that lines tell; the form; what
+-- is accepted.
 pub mod Cutting
 pub mod Lists
 pub mod Words
@@ -6,6 +7,7 @@ pub mod Telling
 pub mod CpuRows
 pub mod ShowRows
 pub mod RunRows
-pub mod Numbers
 pub mod Places
 pub mod Whole
+pub mod Numbers
+pub mod Accepted

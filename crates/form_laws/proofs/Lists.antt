@@ -1,5 +1,5 @@
 -- The lines of a report one by one, of any state: that each is one line, and that together they are its text.
-use Rattle.std.proofs.Common.{◌≡◌, ◌∙◌, ap, ap₂, sym, refl, subst, ℕ, zero, suc, ◌+◌, ◌-◌, ◌*◌, ◌/◌, ◌%◌, ◌<◌, ◌≤◌}
+use Rattle.std.proofs.Common.{◌≡◌, ◌∙◌, ap, ap₂, sym, refl, ℕ, zero, suc, ◌+◌, ◌-◌, ◌*◌, ◌/◌}
 use Rattle.std.proofs.Common.{arith, Bool, true, false, List, [], ◌∷◌, ◌++◌, append_assoc, append-nil, length, take, drop}
 use Rattle.std.proofs.Common.{map, slice_index, Option, Some, None}
 use Rattle.std.specs.Prelude.{codes, min, if◌then◌else◌, nat_lt}
@@ -34,7 +34,7 @@ use Rattle.report_text.specs.Report.{report_text, state_part, run_part, head_lin
 use Rattle.report_text.specs.Shown.{Shown, ShownCpu}
 use Rattle.report_text.specs.declared.processors.Attempt.{Attempt}
 use Rattle.report_text.specs.declared.processors.Counts.{Counts}
-use Rattle.form_laws.specs.Lines.{lines_of}
+use Rattle.tx_check.specs.Lines.{lines_of}
 use Rattle.form_laws.proofs.Cutting.{IsLine, AreLines, no_lines, line_before, lines_behind, line_end, line_with}
 use Rattle.form_laws.proofs.Cutting.{both_lack, cons_lacks, plain_lack, digit_lacks, decimal_lacks, hex_lacks, lines_joined}
 

@@ -1,7 +1,7 @@
 -- Where the lines of a report stand.
-use Rattle.std.proofs.Common.{◌≡◌, ◌∙◌, ap, ap₂, sym, refl, subst, ℕ, zero, suc, ◌+◌, ◌*◌, ◌/◌, ◌%◌, ◌<◌, ◌≤◌, arith}
+use Rattle.std.proofs.Common.{◌≡◌, ◌∙◌, ap, sym, refl, ℕ, zero, suc, ◌+◌, ◌*◌, ◌/◌, ◌%◌, ◌<◌, arith}
 use Rattle.std.proofs.Common.{Bool, true, false, List, [], ◌∷◌, ◌++◌, append_assoc, append-nil, length, length-append}
-use Rattle.std.proofs.Common.{take, drop, get_or, map, Option, Some, None, inl, inr}
+use Rattle.std.proofs.Common.{take, drop, get_or, map, Some, inl, inr}
 use Rattle.std.specs.Prelude.{codes, replicate, slice_get, if◌then◌else◌, ◌==◌}
 use Rattle.std.specs.List.{flat_map}
 use Rattle.std.proofs.lemmas.Bool.{cases_lt}
@@ -12,11 +12,10 @@ use Rattle.tx_journal.specs.Content.{Content}
 use Rattle.tx_journal.specs.Lines.{entry_text}
 use Rattle.tx_journal.specs.Schedule.{schedule_text}
 use Rattle.tx_journal.specs.declared.image.Show.{Show}
-use Rattle.report_form.specs.declared.rows.Row.{Row}
 use Rattle.report_form.specs.declared.rows.Row.TheVariants as row
 use Rattle.report_form.specs.declared.lines.Part.{Part}
 use Rattle.report_form.specs.Lines.{rows_of}
-use Rattle.report_form.specs.Sheet.{head_parts, cpus_parts, cpu_parts, show_parts, history_at, once, times}
+use Rattle.report_form.specs.Sheet.{cpus_parts, cpu_parts, show_parts, history_at, once, times}
 use Rattle.report_text.specs.Digits.{number_line}
 use Rattle.report_text.specs.Processor.{attempt_line, counts_line}
 use Rattle.report_text.specs.Report.{schedule_lines}

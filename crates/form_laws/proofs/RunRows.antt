@@ -1,18 +1,15 @@
 -- The lines of the history and of the recorded events.
-use Rattle.std.proofs.Common.{◌≡◌, ◌∙◌, ap, ap₂, sym, refl, subst, ℕ, zero, suc, ◌+◌, ◌*◌, ◌/◌, ◌%◌, ◌<◌, ◌≤◌, ◌^◌}
-use Rattle.std.proofs.Common.{arith, List, [], ◌∷◌, ◌++◌, append_assoc, append-nil, length, take, drop, map, inl, inr}
+use Rattle.std.proofs.Common.{◌≡◌, ◌∙◌, ap, sym, refl, subst, ℕ, suc, ◌+◌, ◌*◌, ◌/◌, ◌%◌, ◌<◌, ◌≤◌, ◌^◌}
+use Rattle.std.proofs.Common.{arith, List, [], ◌∷◌, ◌++◌, append_assoc, append-nil, length, drop, map, inl, inr}
 use Rattle.std.specs.Prelude.{codes, replicate, min, All, ◌==◌, if◌then◌else◌}
-use Rattle.std.specs.List.{flat_map}
 use Rattle.std.specs.Fmt.{decimal}
 use Rattle.std.proofs.lemmas.List.{length-take-le, length-drop, take_all}
 use Rattle.std.proofs.lemmas.List.Elements.{All-head, All-tail, All-take, All-drop}
 use Rattle.tx_journal.specs.declared.entries.Entry.{Entry}
 use Rattle.tx_journal.specs.declared.events.Event.{Event}
 use Rattle.tx_journal.specs.declared.events.Event.TheVariants.{Turn, External}
-use Rattle.tx_journal.specs.Image.{cpu_of_event}
-use Rattle.tx_journal.specs.Lines.{entry_text, history_text, fields_of, line_of}
-use Rattle.tx_journal.specs.Schedule.{event_text, further_text, row_text, rows_text, schedule_text}
-use Rattle.tx_journal.specs.Sound.{IsSound}
+use Rattle.tx_journal.specs.Lines.{entry_text, fields_of, line_of}
+use Rattle.tx_journal.specs.Schedule.{event_text, further_text, row_text}
 use Rattle.tx_journal.proofs.ToldEntries.{spelled}
 use Rattle.report_form.specs.declared.words.Name.TheVariants as name
 use Rattle.report_form.specs.declared.words.Word.TheVariants.{Fixed}
@@ -23,17 +20,12 @@ use Rattle.report_form.specs.Spelling.{Spelled}
 use Rattle.report_form.specs.Rows.{IsRow, events_words}
 use Rattle.report_form.specs.Lines.{rows_of}
 use Rattle.report_form.specs.Sheet.{schedule_parts}
+use Rattle.form_laws.specs.Reportable.{IsListed, IsKnown}
 use Rattle.form_laws.proofs.Words.{word_then, word_last, a_number}
 use Rattle.form_laws.proofs.Lists.{lines_to, events_at, events_piece, schedule_list}
 use Rattle.form_laws.proofs.Telling.{Tells, tells_nothing, tells_row, tells_behind, tells_sixteens, sixteens}
 
 -- ---- entries
-
--- the entry is sound, of a CPU that is there, and has no more instructions than there can be
-pub record IsListed (last : ℕ) (e : Entry) : Type 0 where
-  pub sound : IsSound e
-  pub known : (fields_of (line_of e)).cpu ≤ last
-  pub few : (fields_of (line_of e)).count ≤ 200000
 
 entry_row : (last : ℕ) (e : Entry) → IsListed last e → IsRow last row.Entry (entry_text e)
 unfolding IsRow
@@ -49,10 +41,6 @@ entries_tell last (e ∷ history) are =
     record { fit = (entry_row last e h, more.fit); count = ap suc more.count }
 
 -- ---- events
-
--- of a CPU that is there
-abbrev pub IsKnown : ℕ → Event → Type 0
-IsKnown last e = cpu_of_event e ≤ last
 
 event_word : (last : ℕ) (e : Event) → last < 2 ^ 64 → IsKnown last e → IsEvent last (event_text e)
 event_word last (Turn cpu) fits known = inl (a_number last cpu (omega (arith, fits, known)) known)
@@ -109,12 +97,12 @@ pub schedule_tells : (last : ℕ) (events : List Event) → last < 2 ^ 64 → Al
 schedule_tells last events fits known =
     let n = length events in
     let part = λ (k : ℕ).
-        All-take (IsKnown last) 16 (drop (16 * k) events) (All-drop (IsKnown last) (16 * k) events known) in
+    All-take (IsKnown last) 16 (drop (16 * k) events) (All-drop (IsKnown last) (16 * k) events known) in
     let lines = tells_sixteens last n (row.Events 16) (row.Events (n % 16)) (events_piece events)
-        (λ k below. events_row last 16 (events_at events k) fits (full events k below) (omega arith) (omega arith)
-        (part k))
-        (λ some. events_row last (n % 16) (events_at events (n / 16)) fits (rest events) some (omega arith)
-        (part (n / 16))) in
+    (λ k below. events_row last 16 (events_at events k) fits (full events k below) (omega arith) (omega arith)
+    (part k))
+    (λ some. events_row last (n % 16) (events_at events (n / 16)) fits (rest events) some (omega arith)
+    (part (n / 16))) in
     subst (λ rows. Tells last rows (schedule_list events))
     (append_assoc (replicate (n / 16) (row.Events 16))
     (replicate (if n % 16 == 0 then 0 else 1) (row.Events (n % 16))) (row.End ∷ []))

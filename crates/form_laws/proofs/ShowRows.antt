@@ -1,5 +1,5 @@
 -- The lines of shown storage.
-use Rattle.std.proofs.Common.{◌≡◌, ◌∙◌, ap, ap₂, sym, refl, subst, ℕ, zero, suc, ◌+◌, ◌-◌, ◌*◌, ◌/◌, ◌%◌, ◌<◌, ◌≤◌}
+use Rattle.std.proofs.Common.{◌≡◌, ◌∙◌, ap, sym, refl, subst, ℕ, zero, suc, ◌+◌, ◌-◌, ◌*◌, ◌/◌, ◌%◌, ◌<◌, ◌≤◌}
 use Rattle.std.proofs.Common.{◌^◌, arith, Bool, true, false, List, [], ◌∷◌, ◌++◌, append_assoc, append-nil, length, take, drop}
 use Rattle.std.proofs.Common.{slice_index}
 use Rattle.std.specs.Prelude.{codes, replicate, min, if◌then◌else◌, ◌==◌, All}
@@ -8,26 +8,23 @@ use Rattle.std.specs.Fmt.{decimal}
 use Rattle.std.proofs.lemmas.List.{length-take-le, length-drop}
 use Rattle.std.proofs.lemmas.List.Concat.{flat_map-append}
 use Rattle.std.proofs.lemmas.List.Elements.{All-head, All-tail}
-use Rattle.byteorder.specs.Endian.{big_number, big_from}
 use Rattle.hex.specs.Hex.{IsBytes, encode_lower}
 use Rattle.tx_journal.specs.Image.{IsShown}
 use Rattle.tx_journal.specs.declared.image.Show.{Show}
 use Rattle.report_form.specs.declared.words.Name.TheVariants as name
-use Rattle.report_form.specs.declared.words.Word.{Word}
 use Rattle.report_form.specs.declared.words.Word.TheVariants.{Fixed, AtMost, Digits}
 use Rattle.report_form.specs.Words.{AreDigits}
 use Rattle.report_form.specs.Spelling.{Spelled}
 use Rattle.report_form.specs.declared.lines.Part.{Part}
-use Rattle.report_form.specs.declared.rows.Row.{Row}
 use Rattle.report_form.specs.declared.rows.Row.TheVariants as row
 use Rattle.report_form.specs.Rows.{IsRow, most}
 use Rattle.report_form.specs.Lines.{rows_of}
 use Rattle.report_form.specs.Sheet.{show_parts, once, times}
 use Rattle.report_text.specs.Digits.{labelled, word_text}
-use Rattle.report_text.specs.Storage.{bytes_at, bytes_line, bytes_lines, bytes_text, number_at, block_head, block_tail}
-use Rattle.report_text.specs.Storage.{block_line, show_text, shows_text}
+use Rattle.report_text.specs.Storage.{bytes_at, bytes_line, number_at, block_head, block_tail}
+use Rattle.report_text.specs.Storage.{block_line}
 use Rattle.form_laws.proofs.Words.{word_then, word_last, a_number, byte_digits, word_digits}
-use Rattle.form_laws.proofs.Lists.{lines_to, bytes_piece, bytes_list, show_list, shows_list}
+use Rattle.form_laws.proofs.Lists.{bytes_piece, bytes_list, show_list, shows_list}
 use Rattle.form_laws.proofs.Telling.{Tells, tells_nothing, tells_row, tells_behind, tells_sixteens, sixteens}
 
 -- ---- bytes of bytes
@@ -201,8 +198,8 @@ show_by last storage s true are within block =
 show_by last storage s false are within block =
     let n = s.length in
     let rows : sixteens n (row.Bytes 32) (row.Bytes (2 * (n % 16)))
-        ≡ replicate (n / 16) (row.Bytes 32)
-        ++ (replicate (if n % 16 == 0 then 0 else 1) (row.Bytes (2 * (n % 16))) ++ []) =
+    ≡ replicate (n / 16) (row.Bytes 32)
+    ++ (replicate (if n % 16 == 0 then 0 else 1) (row.Bytes (2 * (n % 16))) ++ []) =
     ap (λ rs. replicate (n / 16) (row.Bytes 32) ++ rs)
     (sym (append-nil (replicate (if n % 16 == 0 then 0 else 1) (row.Bytes (2 * (n % 16)))))) in
     subst (λ rs. Tells last rs (bytes_list storage s.first n)) rows
@@ -221,7 +218,7 @@ unfolding shows_list
 shows_tell last storage [] are size shown = tells_nothing last
 shows_tell last storage (s ∷ shows) are size shown =
     let rows : rows_of (show_parts s) ++ rows_of (flat_map show_parts shows)
-        ≡ rows_of (flat_map show_parts (s ∷ shows)) =
+    ≡ rows_of (flat_map show_parts (s ∷ shows)) =
     sym (flat_map-append (λ (p : Part). replicate p.count p.row) (show_parts s) (flat_map show_parts shows)) in
     subst (λ rs. Tells last rs (show_list storage s ++ shows_list storage shows)) rows
     (tells_behind last (rows_of (show_parts s)) (rows_of (flat_map show_parts shows)) (show_list storage s)

@@ -1,62 +1,37 @@
 -- The lines of a whole report, and that they have the form.
-use Rattle.std.proofs.Common.{◌≡◌, ◌∙◌, ap, ap₂, sym, refl, subst, ℕ, zero, suc, ◌+◌, ◌-◌, ◌*◌, ◌/◌, ◌<◌, ◌≤◌, ◌^◌}
+use Rattle.std.proofs.Common.{◌≡◌, ◌∙◌, ap, ap₂, sym, refl, subst, ℕ, ◌+◌, ◌<◌}
 use Rattle.std.proofs.Common.{arith, Bool, true, false, List, [], ◌∷◌, ◌++◌, append_assoc, append-nil, length, length-append}
-use Rattle.std.proofs.Common.{take, drop, get_or, map, Option, Some, None, inl, inr}
-use Rattle.std.specs.Prelude.{codes, replicate, All, slice_get, if◌then◌else◌, nat_lt}
-use Rattle.std.specs.List.{flat_map, list_all, enumerate_from}
+use Rattle.std.proofs.Common.{drop, get_or, map, inl, inr}
+use Rattle.std.specs.Prelude.{codes, replicate, All, if◌then◌else◌}
+use Rattle.std.specs.List.{flat_map, list_all}
 use Rattle.std.specs.Fmt.{decimal}
 use Rattle.std.proofs.lemmas.Fmt.{decimal_digit}
-use Rattle.std.proofs.lemmas.List.{length-map, length-replicate}
+use Rattle.std.proofs.lemmas.List.{length-replicate}
 use Rattle.std.proofs.lemmas.List.Concat.{flat_map-append}
-use Rattle.std.proofs.Math.Seq.{drop-append_seam, take-append_seam}
-use Rattle.hex.specs.Hex.{IsBytes}
 use Rattle.tx_journal.specs.Content.{Content}
 use Rattle.tx_journal.specs.Image.{IsShown}
-use Rattle.tx_journal.specs.Lines.{entry_text, history_text}
-use Rattle.tx_journal.specs.Schedule.{schedule_text}
-use Rattle.tx_journal.specs.declared.entries.Entry.{Entry}
-use Rattle.tx_journal.specs.declared.events.Event.{Event}
-use Rattle.tx_journal.proofs.Decimals.{lacks_number}
+use Rattle.tx_journal.specs.Lines.{entry_text}
 use Rattle.report_form.specs.declared.words.Name.TheVariants as name
 use Rattle.report_form.specs.declared.words.Word.TheVariants.{Fixed}
-use Rattle.report_form.specs.declared.rows.Row.{Row}
 use Rattle.report_form.specs.declared.rows.Row.TheVariants as row
 use Rattle.report_form.specs.declared.lines.Part.{Part}
 use Rattle.report_form.specs.Rows.{IsRow}
 use Rattle.report_form.specs.Lines.{rows_of, Fit}
-use Rattle.report_form.specs.Sheet.{HasForm, HasHead, HasHistory, Counts, count_line, last_of, head_parts, cpus_parts}
-use Rattle.report_form.specs.Sheet.{show_parts, history_parts, schedule_parts, history_at, schedule_at, length_of}
+use Rattle.report_form.specs.Sheet.{HasForm, count_line, last_of, head_parts, cpus_parts}
+use Rattle.report_form.specs.Sheet.{show_parts, history_parts, schedule_parts, history_at, schedule_at}
 use Rattle.report_text.specs.Digits.{labelled, number_line}
-use Rattle.report_text.specs.Processor.{cpu_lines, cpus_text}
-use Rattle.report_text.specs.Storage.{shows_text}
-use Rattle.report_text.specs.Report.{report_text, state_part, run_part, head_lines, history_lines, schedule_lines, status_of}
+use Rattle.report_text.specs.Report.{report_text, status_of}
 use Rattle.report_text.specs.Shown.{Shown, ShownCpu}
-use Rattle.form_laws.specs.Lines.{lines_of}
+use Rattle.tx_check.specs.Lines.{lines_of}
+use Rattle.form_laws.specs.Reportable.{CanBeReported}
 use Rattle.form_laws.proofs.Words.{word_then, word_last}
 use Rattle.form_laws.proofs.Lists.{cpus_list, shows_list, schedule_list, head_list, behind_entries, behind_head}
 use Rattle.form_laws.proofs.Lists.{report_list, report_lines}
 use Rattle.form_laws.proofs.Telling.{Tells, tells_more, tells_behind, fit_front}
-use Rattle.form_laws.proofs.CpuRows.{CanBeTold, cpus_tell}
+use Rattle.form_laws.proofs.CpuRows.{cpus_tell}
 use Rattle.form_laws.proofs.Places.{behind, there}
 use Rattle.form_laws.proofs.ShowRows.{shows_tell}
-use Rattle.form_laws.proofs.RunRows.{IsListed, IsKnown, entries_tell, schedule_tells}
-
--- ---- what a report can tell
-
--- a state of an image whose numbers have their places
-pub record CanBeReported (image : Content) (s : Shown) : Type 0 where
-  pub some : 0 < length image.cpus
-  pub few : length image.cpus ≤ 16
-  pub count : length s.cpus ≡ length image.cpus
-  pub cpus : (i : ℕ) (c : ShownCpu) → slice_get s.cpus i ≡ Some c → CanBeTold c
-  pub shows : s.shows ≡ image.shows
-  pub shown : All IsShown image.shows
-  pub bytes : IsBytes s.storage
-  pub size : length s.storage ≡ 1048576
-  pub entries : All (IsListed (last_of image)) s.history
-  pub few_entries : length s.history < 2 ^ 64
-  pub events : All (IsKnown (last_of image)) s.events
-  pub few_events : length s.events < 2 ^ 64
+use Rattle.form_laws.proofs.RunRows.{entries_tell, schedule_tells}
 
 -- ---- the head
 
@@ -85,9 +60,9 @@ head_tells image s h =
     let cpus = cpus_tell last 0 s.cpus (omega (arith, few)) (omega (arith, some, count)) h.cpus in
     let shows = shows_tell last s.storage s.shows h.bytes h.size (subst (All IsShown) (sym h.shows) h.shown) in
     let both = tells_behind last (rows_of (cpus_parts (length s.cpus))) (rows_of (flat_map show_parts s.shows))
-        (cpus_list 0 s.cpus) (shows_list s.storage s.shows) cpus shows in
+    (cpus_list 0 s.cpus) (shows_list s.storage s.shows) cpus shows in
     let rows : rows_of (cpus_parts (length s.cpus)) ++ rows_of (flat_map show_parts s.shows)
-        ≡ rows_of (cpus_parts (length image.cpus) ++ flat_map show_parts image.shows) =
+    ≡ rows_of (cpus_parts (length image.cpus) ++ flat_map show_parts image.shows) =
     ap₂ (λ n shows. rows_of (cpus_parts n) ++ rows_of (flat_map show_parts shows)) count h.shows
     ∙ sym (flat_map-append (λ (p : Part). replicate p.count p.row) (cpus_parts (length image.cpus))
     (flat_map show_parts image.shows)) in

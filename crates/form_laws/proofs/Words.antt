@@ -1,5 +1,5 @@
 -- Lines that are spelled, word by word.
-use Rattle.std.proofs.Common.{◌≡◌, ◌∙◌, ap, sym, refl, subst, ℕ, zero, suc, ◌+◌, ◌*◌, ◌/◌, ◌%◌, ◌<◌, ◌≤◌, ◌^◌, arith}
+use Rattle.std.proofs.Common.{◌≡◌, ap, sym, refl, subst, ℕ, zero, suc, ◌*◌, ◌/◌, ◌%◌, ◌<◌, ◌≤◌, ◌^◌, arith}
 use Rattle.std.proofs.Common.{Bool, true, false, List, [], ◌∷◌, ◌++◌, append_assoc, length, slice_index, inl, inr}
 use Rattle.std.specs.Prelude.{◌&&◌, replicate}
 use Rattle.std.specs.List.{flat_map}
@@ -9,9 +9,8 @@ use Rattle.std.proofs.lemmas.Bool.{and_parts, cases_lt}
 use mir.Syntax.{w8, w16, w32, w64}
 use Rattle.hex.specs.Hex.{IsBytes, encode_with, encode_lower, lower_digits}
 use Rattle.hex.proofs.HexLemmas.{length-encode_with}
-use Rattle.report_form.specs.declared.words.Name.{Name}
 use Rattle.report_form.specs.declared.words.Word.{Word}
-use Rattle.report_form.specs.declared.words.Word.TheVariants.{Fixed, AtMost, Digits}
+use Rattle.report_form.specs.declared.words.Word.TheVariants.{Digits}
 use Rattle.report_form.specs.Words.{IsWord, IsNumber, AreDigits, is_digit}
 use Rattle.report_form.specs.Spelling.{Spelled, stop_between}
 

@@ -1,2 +1,2 @@
--- Scratch.
-pub mod Lines
+-- What has its place in a report.
+pub mod Reportable
