@@ -98,13 +98,16 @@ module _ (before : Seen) (tracks : List Tracked) (lines : List LineHeat) (now : 
           few = omega (arith, few, all, had, history, all_events, old_events);
         }
 
+abbrev pub heated : List LineHeat → Bool → Heated
+heated lines finished = record { lines = lines; finished = finished }
+
 -- what is counted is the heat of what is recorded
 pub heat_is : (machine : Seen) (tracks : List Tracked) (lines : List LineHeat) (finished : Bool)
     → IsWatched machine tracks lines → finished ≡ all_finished (setting_of machine) (state_of machine)
-    → (record { lines = lines; finished = finished } : Heated) ≡ heat_of machine.image machine.limits machine.events
+    → heated lines finished ≡ heat_of machine.image machine.limits machine.events
 unfolding heat_of
 heat_is machine tracks lines finished now is =
-    ap₂ (λ (l : List LineHeat) (f : Bool). let h : Heated = record { lines = l; finished = f } in h)
+    ap₂ heated
     (heats_are lines (conflicts (setting_of machine) machine.events) now.counted) is
 
 -- a list of the same length that is written back into a vector
