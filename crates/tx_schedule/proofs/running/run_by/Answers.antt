@@ -1,6 +1,6 @@
 -- Turn by turn.
 use Rattle.std.proofs.Common.{◌≡◌, ◌+◌, ◌-◌, suc, subst, arith, Some, None}
-use Rattle.tx_meaning.specs.Schedules.{ready_cpus, chosen_next}
+use Rattle.tx_meaning.specs.Schedules.{ready_cpus}
 use Rattle.tx_machine.specs.Machine.{Seen, setting_of, state_of}
 use Rattle.tx_schedule.specs.Next.{choosing_by, next_among}
 use Rattle.tx_schedule.proofs.Runs.{at_last, none_left, leads_on}

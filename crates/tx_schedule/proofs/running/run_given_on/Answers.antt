@@ -1,5 +1,5 @@
 -- Event by event.
-use Rattle.std.proofs.Common.{◌≡◌, ◌<◌, ◌≤◌, ◌∙◌, Some, length, ap, sym, subst, arith}
+use Rattle.std.proofs.Common.{◌≡◌, ◌<◌, ◌≤◌, ◌∙◌, Some, length, ap, subst, arith}
 use Rattle.std.specs.Prelude.{slice_get}
 use Rattle.tx_meaning.specs.Limits.{Setting}
 use Rattle.tx_machine.specs.Machine.{Seen}
@@ -13,7 +13,7 @@ pub given_at-event-requires : goal.given_at-event-requires
 given_at-event-requires g c =
     let follows = c.loop-place.invariant in
     let same = ap (λ (m : Setting). length m.image.schedule) follows.setting in
-    let count = c.given_count.ensures ∙ ap (λ (m : Seen). length m.image.schedule) c.machine.ensures in
+    let count = c.given_count-place-end.ensures ∙ ap (λ (m : Seen). length m.image.schedule) c.machine.ensures in
     let seen = ap (λ (m : Seen). length m.image.schedule) c.machine-in-loop-place.ensures in
     omega (arith, same, count, seen)
 
@@ -28,7 +28,7 @@ take_event-requires-clause-external g c external =
     let follows = c.loop-place.invariant in
     let start = g.R.Runnable.seen c.args.runner.now in
     let same = ap (λ (m : Setting). m.image.schedule) follows.setting in
-    let count = c.given_count.ensures ∙ ap (λ (m : Seen). length m.image.schedule) c.machine.ensures in
+    let count = c.given_count-place-end.ensures ∙ ap (λ (m : Seen). length m.image.schedule) c.machine.ensures in
     let within : c.loop-place.place < length start.image.schedule = omega (arith, count) in
     let given = subst (λ (m : Seen). slice_get m.image.schedule c.loop-place.place ≡ Some c.given_at-event.result)
     c.machine-in-loop-place.ensures c.given_at-event.ensures.event in
@@ -43,7 +43,7 @@ loop-place-preserved g c =
     let follows = c.loop-place.invariant in
     let start = g.R.Runnable.seen c.args.runner.now in
     let same = ap (λ (m : Setting). m.image.schedule) follows.setting in
-    let count = c.given_count.ensures ∙ ap (λ (m : Seen). length m.image.schedule) c.machine.ensures in
+    let count = c.given_count-place-end.ensures ∙ ap (λ (m : Seen). length m.image.schedule) c.machine.ensures in
     let within : c.loop-place.place < length start.image.schedule = omega (arith, count) in
     let given = subst (λ (m : Seen). slice_get m.image.schedule c.loop-place.place ≡ Some c.given_at-event.result)
     c.machine-in-loop-place.ensures c.given_at-event.ensures.event in
@@ -54,6 +54,6 @@ loop-place-preserved g c =
 pub returns : goal.returns
 returns g c =
     let start = g.R.Runnable.seen c.args.runner.now in
-    let count = c.given_count.ensures ∙ ap (λ (m : Seen). length m.image.schedule) c.machine.ensures in
+    let count = c.given_count-place-end.ensures ∙ ap (λ (m : Seen). length m.image.schedule) c.machine.ensures in
     let all : length start.image.schedule ≤ c.loop-place.place = omega (arith, count) in
     follows_all start (g.R.Runnable.seen c.loop-place.runner) c.loop-place.place all c.loop-place.invariant
