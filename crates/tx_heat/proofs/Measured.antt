@@ -58,7 +58,7 @@ module _ (before : Seen) (tracks : List Tracked) (lines : List LineHeat) (now : 
   module _ (e : Event) (next : Seen) (marks : List Tracked) (counts : List LineHeat)
       (recorded : before.events ≡ (state_of before).events) (next_is : next ≡ after before e)
       (state_is : state_of next ≡ (event_of before e).state) where
-    m : Setting
+    abbrev m : Setting
     m = setting_of before
 
     same : setting_of next ≡ m

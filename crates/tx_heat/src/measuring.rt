@@ -28,10 +28,12 @@ pub struct Counting {
 }
 
 impl Model for Counting {
-    ghost use Rattle.tx_machine.specs.Machine.{Seen};
+    ghost use Rattle.tx_machine.specs.Machine.{Seen, seen_code};
     ghost use Rattle.tx_heat.specs.Watched.{IsWatched};
 
     ghost Value = { Seen };
+
+    ghost coded = { seen_code };
 
     ghost view = { λ c. c.machine };
 
