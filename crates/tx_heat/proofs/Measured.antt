@@ -1,16 +1,16 @@
 -- A run whose conflicts are counted, event after event.
-use Rattle.std.proofs.Common.{◌≡◌, ℕ, ◌+◌, ◌*◌, ◌<◌, ◌≤◌, ◌^◌, List, [], ◌++◌, refl, sym, ap, ap₂, ◌∙◌, subst, arith}
+use Rattle.std.proofs.Common.{◌≡◌, ℕ, ◌≤◌, ◌^◌, List, [], ◌++◌, refl, sym, ap, ap₂, ◌∙◌, subst, arith}
 use Rattle.std.proofs.Common.{Bool, length, length-append, take, drop, append-nil}
 use Rattle.std.proofs.Math.Nat.{mul-le-mul_left}
 use Rattle.std.proofs.lemmas.List.{take_all, drop_all}
 use Rattle.tx_journal.specs.declared.events.Event.{Event}
 use Rattle.tx_meaning.specs.Limits.{Setting}
 use Rattle.tx_meaning.specs.Meaning.{IsSetting, meaning, meaning_from}
-use Rattle.tx_meaning.specs.State.{State, beginning, cpus_of}
+use Rattle.tx_meaning.specs.State.{State, beginning}
 use Rattle.tx_meaning.specs.Views.{AreKnown, GoesOnWith}
 use Rattle.tx_machine.specs.Machine.{Seen, setting_of, state_of, event_of, after, most_events}
 use Rattle.tx_heat.specs.Conflicts.{conflicts, conflicts_in}
-use Rattle.tx_heat.specs.Heats.{Heated, heats, heat_of, all_finished}
+use Rattle.tx_heat.specs.Heats.{Heated, heat_of, all_finished}
 use Rattle.tx_heat.specs.Watched.{Tracked, AreTracks, AreCounted, IsReached, HasRoom, IsWatched}
 use Rattle.tx_heat.specs.declared.counting.LineHeat.{LineHeat}
 use Rattle.tx_heat.proofs.Counted.{heats_are, room_counted}

@@ -1,5 +1,5 @@
 -- Nothing is counted as yet.
-use Rattle.std.proofs.Common.{◌≡◌, ◌∙◌, ap, subst, length, rules}
+use Rattle.std.proofs.Common.{◌∙◌, ap, subst, length, rules}
 use Rattle.tx_journal.specs.Content.{Content}
 use Rattle.tx_journal.specs.Image.{IsImage}
 use Rattle.tx_meaning.specs.Meaning.{IsSetting}

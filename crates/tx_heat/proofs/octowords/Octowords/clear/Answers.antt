@@ -1,6 +1,4 @@
 -- Nothing is marked any more.
-use Rattle.std.proofs.Common.{◌∙◌}
-use Rattle.tx_heat.specs.Marks.{Marks}
 use Rattle.tx_heat.proofs.Marked.{none_marked}
 use Rattle.tx_heat.proofs.octowords.Octowords.clear.Goals as goal
 
