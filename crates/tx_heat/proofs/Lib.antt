@@ -10,6 +10,7 @@ pub mod Written
 pub mod Few
 pub mod Followed
 pub mod Totals
+pub mod Recorded
 pub mod Measured
 pub mod Passing
 pub mod Tracks

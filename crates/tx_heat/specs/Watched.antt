@@ -10,11 +10,12 @@ use Rattle.tx_journal.specs.declared.entries.Entry.TheVariants.{Step, Commit, Ab
 use Rattle.tx_journal.specs.declared.events.Event.{Event}
 use Rattle.tx_journal.specs.declared.events.Event.TheVariants.{Turn, External}
 use Rattle.tx_meaning.specs.Limits.{Setting}
-use Rattle.tx_meaning.specs.Meaning.{meaning}
+use Rattle.tx_meaning.specs.Meaning.{IsSetting, meaning}
 use Rattle.tx_meaning.specs.Views.{AreKnown}
 use Rattle.tx_meaning.specs.State.{State, is_live, attempt_of}
+use Rattle.tx_machine.specs.Machine.{Seen, setting_of, state_of}
 use Rattle.tx_machine.specs.Wanted.{wanted}
-use Rattle.tx_heat.specs.Conflicts.{Conflict}
+use Rattle.tx_heat.specs.Conflicts.{Conflict, conflicts}
 use Rattle.tx_heat.specs.Heats.{line_heat}
 use Rattle.tx_heat.specs.Marks.{Marks, AreMarksOf}
 use Rattle.tx_heat.specs.declared.counting.LineHeat.{LineHeat}
@@ -57,6 +58,16 @@ pub record AreTracks (m : Setting) (s : State) (tracks : List Tracked) : Type 0 
 pub record AreCounted (lines : List LineHeat) (found : List Conflict) : Type 0 where
   pub size : length lines ≡ storage_lines
   pub at : (line : ℕ) → line < storage_lines → slice_get lines line ≡ Some (line_heat found line)
+
+-- a machine, what is kept of its CPUs, and the lines with what was counted: the conflicts of what it has recorded, of
+-- which there are no more than it has entries and events
+pub record IsWatched (machine : Seen) (tracks : List Tracked) (lines : List LineHeat) : Type 0 where
+  pub setting : IsSetting (setting_of machine)
+  pub cpus : length tracks ≡ length machine.image.cpus
+  pub tracks_are : AreTracks (setting_of machine) (state_of machine) tracks
+  pub counted : AreCounted lines (conflicts (setting_of machine) machine.events)
+  pub few : length (conflicts (setting_of machine) machine.events)
+      ≤ length (state_of machine).history + length machine.events
 
 -- so many more can be counted
 pub record IsBelow (h : LineHeat) (more : ℕ) : Type 0 where

@@ -12,4 +12,5 @@ pub mod track;
 pub mod writing;
 
 pub use counting::LineHeat;
+pub use measuring::Counting;
 pub use table::{Heat, NoMemory};

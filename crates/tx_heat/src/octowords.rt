@@ -24,28 +24,26 @@ const IN_LINE: u32 = 8;
 /// The words of a set of all octowords of storage.
 const WORDS: usize = 512;
 
+/// The most octowords that are taken away one by one.
+const FEW: usize = 32;
+
 /// The octowords that an attempt has touched, and those of them that it has stored into: a bit for each octoword of
 /// storage. Contracts see marks.
 #[derive(Drop)]
 pub struct Octowords {
     touched: BitSet,
     stored: BitSet,
-    some: bool,
+    span: Span,
 }
 
 impl Model for Octowords {
-    ghost use Rattle.tx_heat.specs.Marks.{Marks};
+    ghost use Rattle.tx_heat.specs.Marks.{Marks, AreWithin};
 
     ghost Value = { Marks };
 
-    ghost use Rattle.tx_heat.specs.Octowords.{storage_octowords};
-    ghost use Rattle.tx_heat.specs.Marks.{AreMarksOf};
-    ghost use Rattle.std.specs.Prelude.{◌≡◌, length, false, []};
-
     ghost view = { λ o. record { touched = o.touched; stored = o.stored } };
 
-    ghost invariant = { λ o. (length o.touched ≡ storage_octowords) × (length o.stored ≡ storage_octowords)
-        × (o.some ≡ false → AreMarksOf (record { touched = o.touched; stored = o.stored }) []) };
+    ghost invariant = { λ o. AreWithin (record { touched = o.touched; stored = o.stored }) o.span.first o.span.end };
 }
 
 /// The numbers from `first` on and below `end`.
@@ -160,6 +158,64 @@ fn mark(set: &mut BitSet, ranges: &Touches, all: bool)
     }
 }
 
+/// A span of all octowords of another one and of a range.
+fn span_with(span: Span, range: Range) -> Span
+    requires order { span.first ≤ span.end }
+    requires end { span.end ≤ storage_octowords }
+    requires inside { range.first + range.length ≤ storage_size }
+    ensures order { result.first ≤ result.end }
+    ensures end { result.end ≤ storage_octowords }
+    ensures span { (k : ℕ) → lies_in result.first result.end k ≡ false → lies_in span.first span.end k ≡ false }
+    ensures range { (k : ℕ) → lies_in result.first result.end k ≡ false
+        → has_place octoword_size range k ≡ false }
+{
+    if range.length == 0 {
+        return span;
+    }
+    let more = span_of(range, OCTOWORD);
+    if span.first == span.end {
+        return more;
+    }
+    Span {
+        first: span.first.min(more.first),
+        end: span.end.max(more.end),
+    }
+}
+
+/// A span of all octowords of another one and of ranges.
+fn span_with_all(span: Span, ranges: &Touches) -> Span
+    requires order { span.first ≤ span.end }
+    requires end { span.end ≤ storage_octowords }
+    requires inside { All (λ r. r.first + r.length ≤ storage_size) ranges.now }
+    ensures order { result.first ≤ result.end }
+    ensures end { result.end ≤ storage_octowords }
+    ensures span { (k : ℕ) → lies_in result.first result.end k ≡ false → lies_in span.first span.end k ≡ false }
+    ensures ranges { (k : ℕ) → lies_in result.first result.end k ≡ false → meets true ranges.now k ≡ false }
+{
+    let mut whole = span;
+    for i in 0..ranges.count() {
+        whole = span_with(whole, ranges.at(i));
+    }
+    whole
+}
+
+/// Takes all numbers away from a set that has none but those of a span.
+fn clear_span(set: &mut BitSet, span: Span)
+    requires order { span.first ≤ span.end }
+    requires within { span.end ≤ length set.old }
+    requires others { (k : ℕ) → lies_in span.first span.end k ≡ false → is_marked set.old k ≡ false }
+    ensures size { length set.new ≡ length set.old }
+    ensures none { (k : ℕ) → is_marked set.new k ≡ false }
+{
+    if span.end - span.first > FEW {
+        set.clear();
+        return;
+    }
+    for at in span.first..span.end {
+        set.remove(at);
+    }
+}
+
 /// Whether an octoword of the line is both asked for and in the set.
 fn is_shared(asked: &Touches, set: &BitSet, line: u32) -> bool
     requires inside { All (λ r. r.first + r.length ≤ storage_size) asked.now }
@@ -189,7 +245,7 @@ impl Octowords {
         Ok(Octowords {
             touched,
             stored,
-            some: false,
+            span: Span { first: 0, end: 0 },
         })
     }
 
@@ -197,11 +253,9 @@ impl Octowords {
     pub fn clear(&mut self)
         ensures { AreMarksOf self.new [] }
     {
-        if self.some {
-            self.touched.clear();
-            self.stored.clear();
-            self.some = false;
-        }
+        clear_span(&mut self.touched, self.span);
+        clear_span(&mut self.stored, self.span);
+        self.span = Span { first: 0, end: 0 };
     }
 
     /// Adds those of ranges.
@@ -212,7 +266,7 @@ impl Octowords {
         if ranges.count() > 0 {
             mark(&mut self.touched, ranges, true);
             mark(&mut self.stored, ranges, false);
-            self.some = true;
+            self.span = span_with_all(self.span, ranges);
         }
     }
 

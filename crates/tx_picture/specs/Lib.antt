@@ -1,4 +1,2 @@
--- Which turns and entries a picture has.
+-- The text of a picture.
 pub mod Drawn
-pub mod Window
-pub mod Replay

@@ -2,15 +2,14 @@
 ghost use Rattle.std.specs.Prelude.{◌≡◌, ◌≤◌, ◌++◌, IfOk, OnOk, length, string_bytes};
 ghost use Rattle.std.specs.List.{flat_map};
 ghost use Rattle.tx_machine.specs.Machine.{setting_of, state_of};
-ghost use Rattle.tx_picture.specs.Window.{turns_in, entries_in};
+ghost use Rattle.tx_watch.specs.Window.{turns_in, entries_in};
 
 use crate::elements::{arrow_element, attempt_element, entry_element, turn_element};
 use crate::frame::{head, legend};
-use crate::marks::{Arrow, Attempt, Mark, Picture, Placed};
-use crate::watching::observe;
-use crate::window::Window;
 use std::alloc::{AllocError, Global};
 use tx_machine::machine::{Machine, NoMemory};
+use tx_watch::marks::{Arrow, Attempt, Mark, Picture, Placed};
+use tx_watch::{Window, observe};
 
 /// The elements of an SVG, each as text, in the order in which they stand.
 #[derive(Drop)]

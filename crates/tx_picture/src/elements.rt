@@ -2,12 +2,12 @@
 ghost use Rattle.std.specs.Prelude.{◌<◌, ◌≤◌, ◌^◌};
 
 use crate::escaping::escaped;
-use crate::marks::{Answer, Arrow, Attempt, End, Mark, Placed};
 use crate::places::{address_of, column_x, entry_y, lane_y};
 use crate::texts::{end_text, entry_title, label, mark_title, word_of};
 use std::alloc::{AllocError, Global};
 use std::fmt::Write;
 use tx_journal::Entry;
+use tx_watch::marks::{Answer, Arrow, Attempt, End, Mark, Placed};
 
 /// A turn: its number above its column, and a box in its lane.
 pub fn turn_element(alloc: Global, mark: &Mark) -> Result<String, AllocError> {

@@ -1,10 +1,10 @@
 //! What stands round the marks: the style, the lanes, and the legend.
 ghost use Rattle.std.specs.Prelude.{◌<◌, ◌^◌};
 
-use crate::marks::Picture;
 use crate::places::{column_x, entry_y, lane_y};
 use std::alloc::{AllocError, Global};
 use std::fmt::Write;
+use tx_watch::marks::Picture;
 
 /// The least width, that of the legend.
 const LEAST_WIDTH: u64 = 760;

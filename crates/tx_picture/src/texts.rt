@@ -1,10 +1,10 @@
 //! What labels and titles say.
 
-use crate::marks::{Attempt, Deed, End, Mark};
 use crate::places::address_of;
 use std::alloc::{AllocError, Global};
 use tx_journal::{Entry, entry_text};
 use tx_meaning::Outcome;
+use tx_watch::marks::{Attempt, Deed, End, Mark};
 use z_instr::instr::Instr;
 use z_list::instruction_text;
 

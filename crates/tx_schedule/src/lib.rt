@@ -3,6 +3,8 @@
 #![tactic(auto)]
 
 mod choosing;
+mod runnable;
 mod running;
 
-pub use running::{run_drawn, run_given, run_planned, run_round};
+pub use runnable::Runnable;
+pub use running::{run_drawn, run_given, run_planned, run_planned_on, run_round};

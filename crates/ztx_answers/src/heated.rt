@@ -1,6 +1,5 @@
 //! What is due to a listing whose conflicts are counted, line by line.
-ghost use Rattle.std.specs.Prelude.{◌≡◌, ℕ, List, IfOk};
-ghost use Rattle.tx_heat.specs.Heats.{heat_of};
+ghost use Rattle.std.specs.Prelude.{ℕ, List, IfOk};
 ghost use Rattle.z_assemble.specs.Whole.{Stands};
 ghost use Rattle.ztx_answers.specs.Due.{IsStatus};
 ghost use Rattle.ztx_answers.specs.Heats.{IsDueToHeat, IsHeat};
@@ -10,28 +9,11 @@ use crate::answer::{Answer, NoMemory};
 use crate::listed::refuse;
 use crate::machine::open;
 use std::alloc::Global;
-use tx_heat::Heat;
-use tx_heat::measuring::heat;
+use tx_heat::Counting;
 use tx_journal::Image;
-use tx_machine::machine::Machine;
 use tx_report::status;
-use tx_schedule::run_planned;
+use tx_schedule::run_planned_on;
 use z_assemble::{AssembleFault, assemble};
-
-/// The conflicts of the run of a machine, from its start.
-fn heat_of_run(alloc: Global, machine: &Machine) -> Result<Heat, NoMemory>
-    ensures { IfOk result (λ heat.
-        heat ≡ heat_of machine.now.image machine.now.limits machine.now.events) }
-{
-    let Ok(image) = machine.shared_image() else {
-        return Err(NoMemory);
-    };
-    let _left = machine.externals_left();
-    match heat(alloc, image, machine.limits(), machine.events()) {
-        Ok(heat) => Ok(heat),
-        Err(_) => Err(NoMemory),
-    }
-}
 
 /// The conflicts of an image that is run by its schedule, by one that is drawn, or in the round.
 fn heat_image(
@@ -46,14 +28,14 @@ fn heat_image(
         → IsHeat turns tick seed input answer.status answer.text.items) }
     ensures statuses { IfOk result (λ answer. IsStatus answer.status) }
 {
-    let mut machine = open(alloc, image, turns, tick)?;
-    run_planned(&mut machine, seed);
-    let heat = heat_of_run(alloc, &machine)?;
-    match heat.text(alloc) {
-        Ok(text) => Ok(Answer {
-            status: status(&machine),
-            text,
-        }),
+    let machine = open(alloc, image, turns, tick)?;
+    let Ok(mut counting) = Counting::of(alloc, machine) else {
+        return Err(NoMemory);
+    };
+    run_planned_on(&mut counting, seed);
+    let status = status(counting.machine());
+    match counting.heat().text(alloc) {
+        Ok(text) => Ok(Answer { status, text }),
         Err(_) => Err(NoMemory),
     }
 }

@@ -1,6 +1,6 @@
 -- All turns, and the whole history.
 use Rattle.std.proofs.Common.{◌∙◌}
-use Rattle.tx_picture.proofs.Replaying.{whole_history}
+use Rattle.tx_watch.proofs.Replaying.{whole_history}
 use Rattle.tx_picture.proofs.drawing.draw.Goals as goal
 
 pub returns-clause-whole : goal.returns-clause-whole

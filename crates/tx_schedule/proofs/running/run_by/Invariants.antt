@@ -8,8 +8,9 @@ use Rattle.tx_schedule.proofs.Runs.{Leads}
 use Rattle.tx_schedule.proofs.running.run_by.Given as goal
 
 abbrev pub invariant-loop : goal.invariant-loop
-invariant-loop l =
-    let m = setting_of l.fn.machine in
-    let s = state_of l.fn.machine in
+invariant-loop g l =
+    let seen = g.R.Runnable.seen in
+    let m = setting_of (seen l.fn.runner) in
+    let s = state_of (seen l.fn.runner) in
     Leads m (meaning_from m (turns_from l.most m (choosing_by l.fn.order) s) s) (choosing_by l.order)
-    (l.most - l.counter) l.machine
+    (l.most - l.counter) (seen l.runner)

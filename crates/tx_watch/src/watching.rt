@@ -4,8 +4,8 @@ ghost use Rattle.std.specs.Prelude.{◌≡◌, ◌+◌, ◌<◌, ◌≤◌, IfOk
 ghost use Rattle.tx_journal.specs.Image.{cpu_of_event};
 ghost use Rattle.tx_meaning.specs.Meaning.{is_external};
 ghost use Rattle.tx_machine.specs.Machine.{setting_of, state_of, event_of, after};
-ghost use Rattle.tx_picture.specs.Replay.{Replays};
-ghost use Rattle.tx_picture.specs.Window.{start_of, turns_in, entries_in};
+ghost use Rattle.tx_watch.specs.Replay.{Replays};
+ghost use Rattle.tx_watch.specs.Window.{start_of, turns_in, entries_in};
 
 use crate::marks::{Answer, Arrow, Attempt, Deed, End, Mark, Picture, Placed};
 use crate::window::Window;

@@ -1,6 +1,6 @@
 //! Which turns are drawn.
 ghost use Rattle.std.specs.Prelude.{◌≡◌, ◌+◌, ◌≤◌};
-ghost use Rattle.tx_picture.specs.Window.{start_of, turns_in};
+ghost use Rattle.tx_watch.specs.Window.{start_of, turns_in};
 
 /// The most turns of a picture.
 const MOST_TURNS: u64 = 2_000;

@@ -1,9 +1,9 @@
--- Which turns and entries a picture has.
+-- Which turns and entries of a run are looked at.
 use Rattle.std.specs.Prelude.{ℕ, ◌+◌, ◌-◌, List, length, take, min}
 use Rattle.tx_journal.specs.declared.events.Event.{Event}
 use Rattle.tx_meaning.specs.Limits.{Setting}
 use Rattle.tx_meaning.specs.Meaning.{meaning}
-use Rattle.tx_picture.specs.declared.window.Window.{Window}
+use Rattle.tx_watch.specs.declared.window.Window.{Window}
 
 -- how many of so many recorded turns come before the window, and how many it has: at most 2,000
 abbrev pub start_of : Window → ℕ → ℕ

@@ -3,10 +3,10 @@ use Rattle.std.proofs.Common.{◌≡◌, ℕ, ◌+◌, ◌-◌, ◌<◌, ◌≤�
 use Rattle.std.specs.Prelude.{slice_get}
 use Rattle.tx_meaning.specs.State.{State}
 use Rattle.tx_machine.specs.Machine.{setting_of}
-use Rattle.tx_picture.specs.Replay.{Replays}
-use Rattle.tx_picture.specs.Window.{start_of, turns_in, entries_behind}
-use Rattle.tx_picture.proofs.Replaying.{replays_on, may_happen}
-use Rattle.tx_picture.proofs.watching.watch_all.Goals as goal
+use Rattle.tx_watch.specs.Replay.{Replays}
+use Rattle.tx_watch.specs.Window.{start_of, turns_in, entries_behind}
+use Rattle.tx_watch.proofs.Replaying.{replays_on, may_happen}
+use Rattle.tx_watch.proofs.watching.watch_all.Goals as goal
 
 -- what is gained, by what there was and what there is
 gained : (a o s t s_is t_is : ℕ) → a + s ≡ o + t → o ≤ a → s ≡ s_is → t ≡ t_is → a ≡ o + (t_is - s_is)

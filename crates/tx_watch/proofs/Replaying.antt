@@ -8,9 +8,9 @@ use Rattle.tx_journal.specs.declared.events.Event.{Event}
 use Rattle.tx_meaning.specs.Meaning.{meaning, meaning_from, is_external}
 use Rattle.tx_machine.specs.Machine.{Seen, setting_of, state_of, event_of, after, opened}
 use Rattle.tx_step.proofs.Followed.{Follows, begins_following, follows_on, may_come}
-use Rattle.tx_picture.specs.Replay.{Replays}
-use Rattle.tx_picture.specs.Window.{start_of, turns_in, entries_behind, entries_in}
-use Rattle.tx_picture.specs.declared.window.Window.{Window}
+use Rattle.tx_watch.specs.Replay.{Replays}
+use Rattle.tx_watch.specs.Window.{start_of, turns_in, entries_behind, entries_in}
+use Rattle.tx_watch.specs.declared.window.Window.{Window}
 
 -- a machine from which nothing has happened has the first none of the events
 pub replays_first : (machine replay : Seen) → replay ≡ opened machine.image machine.limits

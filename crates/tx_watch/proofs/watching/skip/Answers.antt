@@ -1,7 +1,7 @@
 -- One event more.
 use Rattle.std.proofs.Common.{◌<◌, length, arith}
-use Rattle.tx_picture.proofs.Replaying.{replays_on, may_happen}
-use Rattle.tx_picture.proofs.watching.skip.Goals as goal
+use Rattle.tx_watch.proofs.Replaying.{replays_on, may_happen}
+use Rattle.tx_watch.proofs.watching.skip.Goals as goal
 
 pub event-outcome-requires-clause-external : goal.event-outcome-requires-clause-external
 event-outcome-requires-clause-external c external =

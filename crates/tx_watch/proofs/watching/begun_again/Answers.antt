@@ -2,9 +2,9 @@
 use Rattle.std.proofs.Common.{◌∙◌, ap₂}
 use Rattle.std.proofs.lemmas.Result.{IfOk-weaker}
 use Rattle.tx_machine.specs.Machine.{Seen, opened}
-use Rattle.tx_picture.specs.Replay.{Replays}
-use Rattle.tx_picture.proofs.Replaying.{replays_first}
-use Rattle.tx_picture.proofs.watching.begun_again.Goals as goal
+use Rattle.tx_watch.specs.Replay.{Replays}
+use Rattle.tx_watch.proofs.Replaying.{replays_first}
+use Rattle.tx_watch.proofs.watching.begun_again.Goals as goal
 
 pub returns : goal.returns
 returns c =

@@ -1,0 +1,3 @@
+-- Which turns and entries of a run are looked at.
+pub mod Window
+pub mod Replay
