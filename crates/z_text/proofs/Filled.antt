@@ -2,16 +2,14 @@
 use Rattle.std.proofs.Common.{◌≡◌, ℕ, zero, suc, ◌+◌, ◌-◌, ◌<◌, ◌≤◌, Bool, true, false, List, [], ◌∷◌, ◌++◌}
 use Rattle.std.proofs.Common.{length, drop, Option, Some, None, map, length-drop, refl, sym, ◌∙◌, subst}
 use Rattle.std.proofs.Common.{arith}
-use Rattle.std.specs.Prelude.{IfOk, Result, Ok, Err, nat_lt, if◌then◌else◌}
+use Rattle.std.specs.Prelude.{Result, Ok, Err, nat_lt, if◌then◌else◌}
 use Rattle.std.specs.List.{list_any, list_all}
 use Rattle.std.proofs.lemmas.List.{length-take}
 use Rattle.std.proofs.lemmas.List.Sums.{prefix_len-le-length}
-use Rattle.std.specs.declared.alloc.Global.{Global}
-use Rattle.std.specs.declared.vec.Vec.{Vec}
 use Rattle.z_text.specs.declared.token.TextFault.TheVariants.{BadNumber, LineTooLong}
 use Rattle.z_text.specs.Line.{as_read, fields_of, is_blank, is_inked, is_letter_or_digit, past}
 use Rattle.z_text.specs.Line.{keeps_operands_whole, says_nothing, span}
-use Rattle.z_text.specs.Tokens.{behind, continues_number, Gives, FillFrom, FillOperands, has_bad_head}
+use Rattle.z_text.specs.Tokens.{behind, continues_number, FillFrom, FillOperands, has_bad_head}
 use Rattle.z_text.specs.Tokens.{head_of, is_bad, is_good_number, kind_at, operands_of, pieces, pieces_of}
 use Rattle.z_text.specs.Tokens.{size_at, size_for, split_of, token_of, tokens_of, with_numbers}
 use Rattle.z_text.specs.declared.fields.Fields.{Fields}
@@ -121,14 +119,12 @@ has_tokens text ts e = by_length (nat_lt 120 (length text)) e
     by_length true e = cc
     by_length false e = numbered text _ ts e
 
-pub filled : (text : List ℕ) (r : Result (Vec Token Global) TextFault) →
-    Gives (λ v. v.items) r (tokens_of text) → IfOk r (λ v. FillOperands (as_read text) v.items)
-filled text (Ok v) given = λ speaks splits.
+pub filled : (text : List ℕ) (ts : List Token) → tokens_of text ≡ Ok ts → FillOperands (as_read text) ts
+filled text ts given = λ speaks splits.
     let line : List ℕ = as_read text in
     let f : Fields = fields_of line in
     let fit = fields_fit line in (
       map token_of (pieces_of f.operands f.operands_end line),
-      split_has line v.items speaks splits (has_tokens text v.items given),
+      split_has line ts speaks splits (has_tokens text ts given),
       places_fill line f.operands f.operands_end fit.0 fit.1,
     )
-filled text (Err e) given = tt

@@ -6,3 +6,4 @@ pub mod Terms
 pub mod Longest
 pub mod Filled
 pub mod Causes
+pub mod Capitals

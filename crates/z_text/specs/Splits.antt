@@ -2,8 +2,6 @@
 use Rattle.std.specs.Prelude.{◌≡◌, ℕ, ◌≤◌, true, false, List, ◌++◌, length, map, Option, Some, None, Result}
 use Rattle.std.specs.Prelude.{Ok, Err, All}
 use Rattle.std.specs.List.{list_any}
-use Rattle.std.specs.declared.alloc.Global.{Global}
-use Rattle.std.specs.declared.vec.Vec.{Vec}
 use Rattle.z_text.specs.Tokens.{Piece, token_of, is_bad, LiesIn, head_of, behind}
 use Rattle.z_text.specs.declared.fields.Fields.{Fields}
 use Rattle.z_text.specs.declared.token.Token.{Token}
@@ -21,9 +19,9 @@ Splits n end old new ps (Err LineTooLong) = ⊥
 Splits n end old new ps (Err BadNumber) = ⊥
 
 -- The label and the operation are there, unless memory ran out.
-abbrev pub HasHead : Fields → Result (Vec Token Global) TextFault → Type 0
-HasHead f (Ok v) = v.items ≡ head_of f
-HasHead f (Err e) = e ≡ Memory
+abbrev pub HasHead : Fields → List Token → Result (Unit {0}) TextFault → Type 0
+HasHead f new (Ok _) = new ≡ head_of f
+HasHead f new (Err e) = e ≡ Memory
 
 -- The tokens of the operands are pushed, where they have some.
 abbrev pub HasOperands : ℕ → List Token → List Token → Option (List Token) → Result (Unit {0}) TextFault →
@@ -35,9 +33,9 @@ HasOperands n old new given (Err LineTooLong) = ⊥
 HasOperands n old new given (Err BadNumber) = ⊥
 
 -- These are the tokens of the line, where it has some.
-abbrev pub GivesSplit : ℕ → Option (List Token) → Result (Vec Token Global) TextFault → Type 0
-GivesSplit n given (Ok v) = (given ≡ Some v.items) × All (LiesIn n) v.items × (length v.items ≤ n)
-GivesSplit n given (Err Memory) = Unit {0}
-GivesSplit n given (Err BadToken) = given ≡ None
-GivesSplit n given (Err LineTooLong) = ⊥
-GivesSplit n given (Err BadNumber) = ⊥
+abbrev pub GivesSplit : ℕ → Option (List Token) → List Token → Result (Unit {0}) TextFault → Type 0
+GivesSplit n given new (Ok _) = (given ≡ Some new) × All (LiesIn n) new × (length new ≤ n)
+GivesSplit n given new (Err Memory) = Unit {0}
+GivesSplit n given new (Err BadToken) = given ≡ None
+GivesSplit n given new (Err LineTooLong) = ⊥
+GivesSplit n given new (Err BadNumber) = ⊥

@@ -13,5 +13,5 @@ mod token;
 
 pub use expressions::{expression, expression_end};
 pub use labels::Labels;
-pub use line::tokens;
+pub use line::{read_tokens, tokens};
 pub use token::{ExprFault, NoMemory, TextFault, Token, TokenKind};

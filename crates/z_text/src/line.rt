@@ -1,6 +1,6 @@
 //! The tokens of a line.
-ghost use Rattle.std.specs.Prelude.{◌≡◌, ◌<◌, ◌≤◌, ◌↔◌, ◌++◌, ◌+◌, false, length, All, IfOk, Option, Some};
-ghost use Rattle.std.specs.Prelude.{None, take};
+ghost use Rattle.std.specs.Prelude.{◌≡◌, ◌<◌, ◌≤◌, ◌↔◌, ◌++◌, ◌+◌, false, length, All, IfOk, OnOk, Option, Some};
+ghost use Rattle.std.specs.Prelude.{None, take, IsTrue, []};
 ghost use Rattle.std.specs.List.{list_all};
 ghost use Rattle.z_text.specs.Line.{as_read, fields_of};
 ghost use Rattle.z_text.specs.Tokens.{tokens_of, split_of, operands_of, has_bad_head, head_of};
@@ -39,18 +39,18 @@ fn name_token(first: usize, end: usize) -> Token
     }
 }
 
-/// The label, where there is one, and the operation.
-fn head(alloc: Global, parts: Fields) -> Result<Vec<Token>, TextFault>
-    ensures { HasHead parts result }
+/// Pushes the label, where there is one, and the operation.
+fn push_head(tokens: &mut Vec<Token>, parts: Fields) -> Result<(), TextFault>
+    requires { tokens.old.items ≡ [] }
+    ensures { HasHead parts tokens.new.items result }
 {
-    let mut tokens = Vec::new(alloc);
     if parts.label_end != 0 {
         tokens.push(name_token(0, parts.label_end))?;
         tokens.push(name_token(parts.operation, parts.operation_end))?;
-        return Ok(tokens);
+        return Ok(());
     }
     tokens.push(name_token(parts.operation, parts.operation_end))?;
-    Ok(tokens)
+    Ok(())
 }
 
 /// Pushes the tokens of the operands, but for DC and SCHED.
@@ -74,21 +74,52 @@ fn operands(tokens: &mut Vec<Token>, line: &[u8], parts: Fields) -> Result<(), T
     split(tokens, line, parts.operands, parts.operands_end)
 }
 
-/// The tokens of a line in capitals, whatever its numbers are.
+/// Puts the tokens of a line in capitals in place of those that are there, whatever its numbers are.
 #[tactic(auto, unfolding(crate::specs::Tokens::split_of))]
-fn split_line(alloc: Global, line: &[u8]) -> Result<Vec<Token>, TextFault>
-    ensures { GivesSplit (length line.now) (split_of line.now) result }
+fn split_line(tokens: &mut Vec<Token>, line: &[u8]) -> Result<(), TextFault>
+    ensures { GivesSplit (length line.now) (split_of line.now) tokens.new.items result }
 {
+    tokens.clear();
     if says_nothing(line) {
-        return Ok(Vec::new(alloc));
+        return Ok(());
     }
     let parts = fields_of(line);
     if has_bad_head(line, parts) {
         return Err(TextFault::BadToken);
     }
-    let mut tokens = head(alloc, parts)?;
-    operands(&mut tokens, line, parts)?;
-    Ok(tokens)
+    push_head(tokens, parts)?;
+    operands(tokens, line, parts)
+}
+
+/// Whether no byte is a small letter.
+#[tactic(auto, using(crate::proofs::Capitals::read_as_it_is))]
+fn is_in_capitals(text: &[u8]) -> bool
+    ensures { IsTrue result → as_read text.now ≡ text.now }
+{
+    text.iter().all(|b| !b.is_ascii_lowercase())
+}
+
+/// Puts the tokens of the line in capitals in place of those that are there.
+fn split_capitals(tokens: &mut Vec<Token>, text: &[u8]) -> Result<(), TextFault>
+    requires { length text.now ≤ 120 }
+    ensures { GivesSplit (length text.now) (split_of (as_read text.now)) tokens.new.items result }
+{
+    let mut buffer = [0u8; 120];
+    let capitals = &mut buffer[..text.len()];
+    capitals.copy_from_slice(text);
+    capitals.make_ascii_uppercase();
+    split_line(tokens, capitals)
+}
+
+/// Puts the tokens of the line, small letters read as capitals, in place of those that are there.
+fn split_text(tokens: &mut Vec<Token>, text: &[u8]) -> Result<(), TextFault>
+    requires { length text.now ≤ 120 }
+    ensures { GivesSplit (length text.now) (split_of (as_read text.now)) tokens.new.items result }
+{
+    if is_in_capitals(text) {
+        return split_line(tokens, text);
+    }
+    split_capitals(tokens, text)
 }
 
 #[tactic(auto, unfolding(crate::specs::Tokens::is_good_number))]
@@ -117,22 +148,23 @@ fn are_good_numbers(text: &[u8], tokens: &[Token]) -> bool
     true
 }
 
-/// The tokens of a text, or its first fault.
+/// Puts the tokens of a line in place of those that are there, so that the same room serves for line after
+/// line. What they are, and the faults, are those of [`tokens`]. Where there is a fault, nothing is said of the
+/// tokens that are left.
 #[tactic(auto, unfolding(crate::specs::Tokens::tokens_of))]
-fn tokens_of(alloc: Global, text: &[u8]) -> Result<Vec<Token>, TextFault>
-    ensures value { Gives (λ v. v.items) result (tokens_of text.now) }
-    ensures inside { IfOk result (λ v. AreTokensIn text.now v.items) }
+pub fn read_tokens(text: &[u8], tokens: &mut Vec<Token>) -> Result<(), TextFault>
+    ensures value { Gives (λ _. tokens.new.items) result (tokens_of text.now) }
+    ensures inside { OnOk result (AreTokensIn text.now tokens.new.items) }
     ensures too_long { (result ≡ Err TextFault.LineTooLong) ↔ (120 < length text.now) }
 {
     if 120 < text.len() {
         return Err(TextFault::LineTooLong);
     }
-    let line = text.to_ascii_uppercase(alloc)?;
-    let tokens = split_line(alloc, &line)?;
-    if !are_good_numbers(text, &tokens) {
+    split_text(tokens, text)?;
+    if !are_good_numbers(text, tokens) {
         return Err(TextFault::BadNumber);
     }
-    Ok(tokens)
+    Ok(())
 }
 
 /// The tokens of a line, in order.
@@ -152,5 +184,7 @@ pub fn tokens(alloc: Global, text: &[u8]) -> Result<Vec<Token>, TextFault>
     ensures too_long { (result ≡ Err TextFault.LineTooLong) ↔ (120 < length text.now) }
     ensures filled { IfOk result (λ v. FillOperands (as_read text.now) v.items) }
 {
-    tokens_of(alloc, text)
+    let mut tokens = Vec::new(alloc);
+    read_tokens(text, &mut tokens)?;
+    Ok(tokens)
 }

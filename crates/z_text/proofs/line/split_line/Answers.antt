@@ -11,7 +11,7 @@ operands-requires-clause-inside c =
     let lies = head_lies (length c.args.line.now) c.fields_of-parts.result
     (good.label_size c.if-has_bad_head.false) parts.label (good.some c.if-has_bad_head.false)
     (good.operation_size c.if-has_bad_head.false) (omega arith) in
-    subst (λ ts. All (LiesIn (length c.args.line.now)) ts) (sym c.in_ok-tokens.ensures) lies.0
+    subst (λ ts. All (LiesIn (length c.args.line.now)) ts) (sym c.in_ok-push_head.ensures) lies.0
 
 pub operands-requires-clause-few : goal.operands-requires-clause-few
 operands-requires-clause-few c =
@@ -20,7 +20,7 @@ operands-requires-clause-few c =
     let lies = head_lies (length c.args.line.now) c.fields_of-parts.result
     (good.label_size c.if-has_bad_head.false) parts.label (good.some c.if-has_bad_head.false)
     (good.operation_size c.if-has_bad_head.false) (omega arith) in
-    subst (λ ts. length ts ≤ c.fields_of-parts.result.operands) (sym c.in_ok-tokens.ensures) (omega (
+    subst (λ ts. length ts ≤ c.fields_of-parts.result.operands) (sym c.in_ok-push_head.ensures) (omega (
       arith,
       lies.1,
     ))
