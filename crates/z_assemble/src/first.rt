@@ -17,11 +17,12 @@ ghost use Rattle.z_operands.specs.Steps.{Gives, Answers};
 
 use crate::draft::{Draft, Work};
 use crate::place::{place, start, write};
+use crate::reading::Reading;
 use std::alloc::Global;
 use z_operands::{
-    Kind, LineFault, Operation, data_of, one_in, operands_on, operation_named, size_of_row,
+    Kind, LineFault, Operation, Room, data_of, one_in, operation_named, read_operands, size_of_row,
 };
-use z_text::{Labels, Token, tokens};
+use z_text::{Labels, Token, read_tokens};
 
 // ---- the parts of a line
 
@@ -150,13 +151,18 @@ fn define_here(draft: &mut Draft, label: &[u8]) -> Result<(), LineFault>
 // ---- operations
 
 /// The value of the one expression of a line, by the labels so far.
-fn value_on(alloc: Global, draft: &Draft, line: &[u8], tokens: &[Token]) -> Result<i128, LineFault>
+fn value_on(
+    room: &mut Room,
+    draft: &Draft,
+    line: &[u8],
+    tokens: &[Token],
+) -> Result<i128, LineFault>
     requires tokens { AreTokensIn line.now tokens.now }
     ensures { Answers (λ v. v) result (value_on line.now (operands_in tokens.now) (plan_of draft.now)) }
 {
     let first = heads_in(tokens);
-    let operands = operands_on(
-        alloc,
+    read_operands(
+        room,
         Kind::BadDirective,
         line,
         tokens,
@@ -164,16 +170,16 @@ fn value_on(alloc: Global, draft: &Draft, line: &[u8], tokens: &[Token]) -> Resu
         &draft.labels,
         draft.here,
     )?;
-    Ok(one_in(&operands)?)
+    Ok(one_in(&room.operands)?)
 }
 
 #[tactic(auto, unfolding(crate::specs::Listing::org_line))]
-fn org(alloc: Global, draft: &mut Draft, line: &[u8], tokens: &[Token]) -> Result<(), LineFault>
+fn org(room: &mut Room, draft: &mut Draft, line: &[u8], tokens: &[Token]) -> Result<(), LineFault>
     requires tokens { AreTokensIn line.now tokens.now }
     ensures { Gives result (org_line line.now (operands_in tokens.now) (plan_of draft.old))
         (plan_of draft.new) }
 {
-    let value = value_on(alloc, draft, line, tokens)?;
+    let value = value_on(room, draft, line, tokens)?;
     if value < 0 || 1_048_576 < value {
         return Err(LineFault::Failed(Kind::OutOfRange));
     }
@@ -183,7 +189,7 @@ fn org(alloc: Global, draft: &mut Draft, line: &[u8], tokens: &[Token]) -> Resul
 
 #[tactic(auto, unfolding(crate::specs::Listing::equ_line))]
 fn equ(
-    alloc: Global,
+    room: &mut Room,
     draft: &mut Draft,
     label: &[u8],
     line: &[u8],
@@ -194,7 +200,7 @@ fn equ(
     ensures { Gives result (equ_line label.now line.now (operands_in tokens.now) (plan_of draft.old))
         (plan_of draft.new) }
 {
-    let value = value_on(alloc, draft, line, tokens)?;
+    let value = value_on(room, draft, line, tokens)?;
     if !is_doubleword(value) {
         return Err(LineFault::Failed(Kind::OutOfRange));
     }
@@ -210,7 +216,7 @@ pub(crate) fn is_doubleword(value: i128) -> bool
 
 #[tactic(auto, unfolding(crate::specs::Listing::ds_line))]
 fn ds(
-    alloc: Global,
+    room: &mut Room,
     draft: &mut Draft,
     label: &[u8],
     line: &[u8],
@@ -221,7 +227,7 @@ fn ds(
     ensures { Gives result (ds_line label.now line.now (operands_in tokens.now) (plan_of draft.old))
         (plan_of draft.new) }
 {
-    let value = value_on(alloc, draft, line, tokens)?;
+    let value = value_on(room, draft, line, tokens)?;
     if value < 0 || 1_048_576 < value {
         return Err(LineFault::Failed(Kind::OutOfRange));
     }
@@ -331,6 +337,7 @@ fn end(draft: &mut Draft, tokens: &[Token]) -> Result<(), LineFault>
 #[tactic(auto, unfolding(crate::specs::Listing::operation_line))]
 fn run<'a>(
     alloc: Global,
+    room: &mut Room,
     draft: &mut Draft<'a>,
     operation: Operation,
     number: u32,
@@ -348,9 +355,9 @@ fn run<'a>(
 {
     match operation {
         Operation::Instruction(row, mask) => instruction(draft, number, label, line, row, mask),
-        Operation::Org => org(alloc, draft, line, tokens),
-        Operation::Equ => equ(alloc, draft, label, line, tokens),
-        Operation::Ds => ds(alloc, draft, label, line, tokens),
+        Operation::Org => org(room, draft, line, tokens),
+        Operation::Equ => equ(room, draft, label, line, tokens),
+        Operation::Ds => ds(room, draft, label, line, tokens),
         Operation::Dc => dc(alloc, draft, label, field_behind(behind, line)),
         Operation::Cpu => cpu(draft, number, line),
         Operation::Reg => leave(draft, number, line, Operation::Reg),
@@ -367,14 +374,16 @@ fn run<'a>(
 #[tactic(auto, unfolding(crate::specs::Listing::line_gives))]
 pub(crate) fn read_first<'a>(
     alloc: Global,
+    reading: &mut Reading,
     draft: &mut Draft<'a>,
     number: u32,
     line: &'a [u8],
 ) -> Result<(), LineFault>
     ensures { Gives result (line_gives number line.now (plan_of draft.old)) (plan_of draft.new) }
 {
-    let tokens = tokens(alloc, line)?;
-    let Some(name) = operation_in(&tokens) else {
+    read_tokens(line, &mut reading.tokens)?;
+    let tokens = &reading.tokens;
+    let Some(name) = operation_in(tokens) else {
         return Ok(());
     };
     if draft.ended {
@@ -383,7 +392,7 @@ pub(crate) fn read_first<'a>(
     let Some(operation) = operation_named(&line[name.first..name.end]) else {
         return Err(LineFault::Failed(Kind::UnknownMnemonic));
     };
-    let label = label_in(line, &tokens);
+    let label = label_in(line, tokens);
     if is_bad_label(operation, label) {
         return Err(LineFault::Failed(Kind::BadDirective));
     }
@@ -391,6 +400,14 @@ pub(crate) fn read_first<'a>(
         return Err(LineFault::Failed(Kind::DoubleLabel));
     }
     run(
-        alloc, draft, operation, number, label, line, name.end, &tokens,
+        alloc,
+        &mut reading.room,
+        draft,
+        operation,
+        number,
+        label,
+        line,
+        name.end,
+        tokens,
     )
 }

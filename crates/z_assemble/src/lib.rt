@@ -8,6 +8,7 @@ mod laws;
 mod parameter;
 mod parts;
 mod place;
+mod reading;
 mod second;
 mod setup;
 mod whole;
@@ -21,5 +22,6 @@ pub use laws::{
     what_stands_is_an_image,
 };
 pub use parameter::Parameter;
+pub use reading::Reading;
 pub use setup::Setup;
 pub use whole::{MOST_BYTES, MOST_LINES, assemble};

@@ -25,15 +25,16 @@ use crate::draft::{SIZE, Work};
 use crate::first::{behind, field_behind, heads_in, is_doubleword, operation_in};
 use crate::parameter::{Parameter, is_choice, parameter_named, set_parameter};
 use crate::place::write_bytes;
+use crate::reading::Reading;
 use crate::setup::Setup;
 use std::alloc::Global;
 use tx_journal::Show;
 use z_operands::{
-    Kind, LineFault, Operand, Operation, code_for, one_in, operands_on, push_events, size_of_row,
-    three_in, two_in,
+    Kind, LineFault, Operand, Operation, Room, code_for, one_in, push_events, read_operands,
+    size_of_row, three_in, two_in,
 };
 use z_regs::CpuImage;
-use z_text::{Labels, TextFault, Token, TokenKind, tokens};
+use z_text::{Labels, TextFault, Token, TokenKind, read_tokens};
 
 // ---- CPUs
 
@@ -332,35 +333,36 @@ fn write_code(
 
 // ---- a line
 
-/// The tokens of a line that has some.
+/// Leaves the tokens of a line that has some.
 #[tactic(auto, unfolding(crate::specs::Machine::tokens_in))]
-fn tokens_in(alloc: Global, line: &[u8]) -> Result<Vec<Token>, LineFault>
-    ensures is { Answers (λ v. v.items) result (Ok (tokens_in line.now)) }
-    ensures inside { IfOk result (λ v. AreTokensIn line.now v.items) }
+fn read_tokens_again(line: &[u8], tokens: &mut Vec<Token>) -> Result<(), LineFault>
+    ensures is { Answers (λ _. tokens.new.items) result (Ok (tokens_in line.now)) }
+    ensures inside { OnOk result (AreTokensIn line.now tokens.new.items) }
 {
-    match tokens(alloc, line) {
-        Ok(tokens) => Ok(tokens),
+    match read_tokens(line, tokens) {
+        Ok(()) => Ok(()),
         Err(TextFault::Memory) => Err(LineFault::Memory),
-        Err(_) => Ok(Vec::new(alloc)),
+        Err(_) => {
+            tokens.clear();
+            Ok(())
+        }
     }
 }
 
-/// The operands of a line from one of its tokens on, or this kind of fault where they have no form at all.
+/// Leaves the operands of a line from one of its tokens on, or this kind of fault where they have no form at all.
 fn operands_for(
-    alloc: Global,
+    room: &mut Room,
     malformed: Kind,
     labels: &Labels,
     work: Work,
     tokens: &[Token],
     first: usize,
-) -> Result<Vec<Operand>, LineFault>
+) -> Result<(), LineFault>
     requires { AreTokensIn work.text.now tokens.now }
-    ensures { Answers (λ v. v.items) result (operands_on malformed work.entry.text.now
+    ensures { Answers (λ _. room.new.operands.items) result (operands_on malformed work.entry.text.now
         (value_in labels.now) work.entry.here (drop first tokens.now)) }
 {
-    operands_on(
-        alloc, malformed, work.text, tokens, first, labels, work.here,
-    )
+    read_operands(room, malformed, work.text, tokens, first, labels, work.here)
 }
 
 /// The end of the operation, 0 where there is none.
@@ -376,7 +378,7 @@ fn end_of_operation(tokens: &[Token]) -> usize
 
 #[tactic(auto, unfolding(crate::specs::Machine::read_again))]
 fn choose_named(
-    alloc: Global,
+    room: &mut Room,
     setup: &mut Setup,
     labels: &Labels,
     works: &[Work],
@@ -393,8 +395,8 @@ fn choose_named(
     let Some(parameter) = parameter_in(work.text, behind(tokens, heads)) else {
         return Err(LineFault::Failed(Kind::BadDirective));
     };
-    let operands = operands_for(alloc, Kind::BadDirective, labels, work, tokens, heads + 2)?;
-    choose(setup, parameter, &operands)
+    operands_for(room, Kind::BadDirective, labels, work, tokens, heads + 2)?;
+    choose(setup, parameter, &room.operands)
 }
 
 /// Does what a directive does whose operands are all expressions.
@@ -426,6 +428,7 @@ fn directive(
 #[tactic(auto, unfolding(crate::specs::Machine::read_again))]
 fn read_again(
     alloc: Global,
+    room: &mut Room,
     setup: &mut Setup,
     labels: &Labels,
     works: &[Work],
@@ -441,18 +444,18 @@ fn read_again(
     let heads = heads_in(tokens);
     match work.operation {
         Operation::Instruction(row, mask) => {
-            let operands = operands_for(alloc, Kind::WrongOperands, labels, work, tokens, heads)?;
-            write_code(setup, row, mask, work.here, &operands)
+            operands_for(room, Kind::WrongOperands, labels, work, tokens, heads)?;
+            write_code(setup, row, mask, work.here, &room.operands)
         }
         Operation::Sched => add_events(
             alloc,
             setup,
             field_behind(end_of_operation(tokens), work.text),
         ),
-        Operation::Parm => choose_named(alloc, setup, labels, works, work, tokens),
+        Operation::Parm => choose_named(room, setup, labels, works, work, tokens),
         _ => {
-            let operands = operands_for(alloc, Kind::BadDirective, labels, work, tokens, heads)?;
-            directive(setup, labels, works, work.operation, &operands)
+            operands_for(room, Kind::BadDirective, labels, work, tokens, heads)?;
+            directive(setup, labels, works, work.operation, &room.operands)
         }
     }
 }
@@ -461,6 +464,7 @@ fn read_again(
 #[tactic(auto, unfolding(crate::specs::Machine::task_gives))]
 pub(crate) fn read_second(
     alloc: Global,
+    reading: &mut Reading,
     setup: &mut Setup,
     labels: &Labels,
     works: &[Work],
@@ -471,6 +475,14 @@ pub(crate) fn read_second(
         (machine_of setup.old)) (machine_of setup.new) }
     ensures entered { setup.new.entered ≤ setup.old.entered + 1 }
 {
-    let tokens = tokens_in(alloc, work.text)?;
-    read_again(alloc, setup, labels, works, work, &tokens)
+    read_tokens_again(work.text, &mut reading.tokens)?;
+    read_again(
+        alloc,
+        &mut reading.room,
+        setup,
+        labels,
+        works,
+        work,
+        &reading.tokens,
+    )
 }

@@ -20,6 +20,7 @@ use crate::draft::{Draft, SIZE, Work};
 use crate::fault::{AssembleFault, ListingFault};
 use crate::first::read_first;
 use crate::parts::Parts;
+use crate::reading::Reading;
 use crate::second::read_second;
 use crate::setup::Setup;
 use std::alloc::{AllocError, Global};
@@ -52,13 +53,14 @@ fn on_line(line: u32, fault: LineFault) -> AssembleFault
 
 fn first_on<'a>(
     alloc: Global,
+    reading: &mut Reading,
     draft: &mut Draft<'a>,
     number: u32,
     line: &'a [u8],
 ) -> Result<(), AssembleFault>
     ensures { Passes result (first_on number line.now (plan_of draft.old)) (plan_of draft.new) }
 {
-    match read_first(alloc, draft, number, without_end(line)) {
+    match read_first(alloc, reading, draft, number, without_end(line)) {
         Ok(()) => Ok(()),
         Err(fault) => Err(on_line(number, fault)),
     }
@@ -73,9 +75,10 @@ fn first_over<'a>(
     ensures { Passes result (first_over 1 (map (λ l. l.now) lines.now) (plan_of draft.old))
         (plan_of draft.new) }
 {
+    let mut reading = Reading::new(alloc);
     let mut number = 1;
     for line in lines {
-        first_on(alloc, draft, number, line)?;
+        first_on(alloc, &mut reading, draft, number, line)?;
         number += 1;
     }
     Ok(())
@@ -126,6 +129,7 @@ fn blank<'a>(alloc: Global) -> Result<Draft<'a>, AllocError>
 
 fn second_on(
     alloc: Global,
+    reading: &mut Reading,
     setup: &mut Setup,
     labels: &Labels,
     works: &[Work],
@@ -136,7 +140,7 @@ fn second_on(
         (machine_of setup.old)) (machine_of setup.new) }
     ensures entered { setup.new.entered ≤ setup.old.entered + 1 }
 {
-    match read_second(alloc, setup, labels, works, work) {
+    match read_second(alloc, reading, setup, labels, works, work) {
         Ok(()) => Ok(()),
         Err(fault) => Err(on_line(work.line, fault)),
     }
@@ -152,8 +156,9 @@ fn second_over(
     ensures { Passes result (second_over (known_of labels.now works.now) (map task_of works.now)
         (machine_of setup.old)) (machine_of setup.new) }
 {
+    let mut reading = Reading::new(alloc);
     for work in works {
-        second_on(alloc, setup, labels, works, *work)?;
+        second_on(alloc, &mut reading, setup, labels, works, *work)?;
     }
     Ok(())
 }

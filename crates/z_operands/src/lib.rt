@@ -19,4 +19,4 @@ pub use lines::{count_pieces, pieces_by, without_end};
 pub use operand::{Atom, Operand, Piece, Slot};
 pub use operation::{Operation, operation_named, size_of_row};
 pub use schedule::{MOST_EVENTS, Run, push_events};
-pub use values::{one_in, operands_on, three_in, two_in};
+pub use values::{Room, one_in, read_operands, three_in, two_in};

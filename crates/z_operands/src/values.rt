@@ -1,5 +1,6 @@
 //! The operands of a line and their values.
-ghost use Rattle.std.specs.Prelude.{◌≡◌, ◌≤◌, ◌<◌, ◌+◌, length, drop, option_map, IfOk, IfSome, Some};
+ghost use Rattle.std.specs.Prelude.{◌≡◌, ◌≤◌, ◌<◌, ◌+◌, length, drop, IfOk, OnOk, IfSome, Some, None};
+ghost use Rattle.std.specs.Prelude.{if◌then◌else◌};
 ghost use Rattle.z_text.specs.Labels.{value_in};
 ghost use Rattle.z_text.specs.Expressions.{expression_of};
 ghost use Rattle.z_text.specs.Tokens.{AreTokensIn};
@@ -54,29 +55,29 @@ fn atom_at(line: &[u8], tokens: &[Token], at: usize, labels: &Labels, here: usiz
     }
 }
 
-/// The parts of the operands from a token on.
-fn atoms(
-    alloc: Global,
+/// Puts the parts of the operands from a token on in place of those that are there.
+fn read_atoms(
+    atoms: &mut Vec<Atom>,
     line: &[u8],
     tokens: &[Token],
     first: usize,
     labels: &Labels,
     here: usize,
-) -> Result<Vec<Atom>, AllocError>
+) -> Result<(), AllocError>
     requires tokens { AreTokensIn line.now tokens.now }
     requires first { first ≤ length tokens.now }
     requires here { here ≤ 1048576 }
-    ensures { IfOk result (λ v. v.items ≡ atoms_from (value_in_line line.now (value_in labels.now) here) 0
+    ensures { OnOk result (atoms.new.items ≡ atoms_from (value_in_line line.now (value_in labels.now) here) 0
         (drop first tokens.now)) }
 {
-    let mut atoms = Vec::new(alloc);
+    atoms.clear();
     let mut at = first;
     while at < tokens.len() {
         let (atom, end) = atom_at(line, tokens, at, labels, here);
         atoms.push(atom)?;
         at = end;
     }
-    Ok(atoms)
+    Ok(())
 }
 
 fn piece_with(outer: Option<i128>, atoms: &[Atom]) -> Option<Piece>
@@ -134,49 +135,71 @@ fn behind(atoms: &[Atom], count: usize) -> &[Atom]
     &[]
 }
 
-/// Operands with commas between them, if the parts are that.
-fn operands_from(alloc: Global, atoms: &[Atom]) -> Result<Option<Vec<Operand>>, AllocError>
-    ensures { IfOk result (λ r. option_map (λ v. v.items) r ≡ operands_from 0 atoms.now) }
+/// Puts operands with commas between them in place of those that are there, if the parts are that.
+fn read_atoms_as_operands(operands: &mut Vec<Operand>, atoms: &[Atom]) -> Result<bool, AllocError>
+    ensures { IfOk result (λ formed. (if formed then Some operands.new.items else None) ≡
+        operands_from 0 atoms.now) }
 {
-    let mut operands = Vec::new(alloc);
+    operands.clear();
     let mut rest = atoms;
     while 0 < rest.len() {
         let Some(piece) = piece_at(rest) else {
-            return Ok(None);
+            return Ok(false);
         };
         if !goes_on_rightly(behind(rest, piece.size)) {
-            return Ok(None);
+            return Ok(false);
         }
         operands.push(piece.operand)?;
         rest = behind(rest, piece.size + 1);
     }
-    Ok(Some(operands))
+    Ok(true)
 }
 
-/// The operands from a token on, or this kind of fault where they have no form at all.
+/// Room for the parts and the operands of a line, which serves for line after line.
+#[derive(Drop)]
+pub struct Room {
+    /// The parts of the operands of the line that was read last.
+    pub atoms: Vec<Atom>,
+    /// The operands of the line that was read last.
+    pub operands: Vec<Operand>,
+}
+
+impl Room {
+    /// Room for the first line.
+    pub fn new(alloc: Global) -> Room {
+        Room {
+            atoms: Vec::new(alloc),
+            operands: Vec::new(alloc),
+        }
+    }
+}
+
+/// Leaves the operands from a token on in the room, in place of those of the line before; or this kind of fault
+/// where they have no form at all.
 #[tactic(auto, unfolding(crate::specs::Operands::operands_of))]
-pub fn operands_on(
-    alloc: Global,
+pub fn read_operands(
+    room: &mut Room,
     malformed: Kind,
     line: &[u8],
     tokens: &[Token],
     first: usize,
     labels: &Labels,
     here: usize,
-) -> Result<Vec<Operand>, LineFault>
+) -> Result<(), LineFault>
     requires tokens { AreTokensIn line.now tokens.now }
     requires here { here ≤ 1048576 }
-    ensures { Answers (λ v. v.items) result (operands_on malformed line.now (value_in labels.now) here
-        (drop first tokens.now)) }
+    ensures { Answers (λ _. room.new.operands.items) result (operands_on malformed line.now
+        (value_in labels.now) here (drop first tokens.now)) }
 {
     if tokens.len() <= first {
-        return Ok(Vec::new(alloc));
+        room.operands.clear();
+        return Ok(());
     }
-    let atoms = atoms(alloc, line, tokens, first, labels, here)?;
-    match operands_from(alloc, &atoms)? {
-        Some(operands) => Ok(operands),
-        None => Err(LineFault::Failed(malformed)),
+    read_atoms(&mut room.atoms, line, tokens, first, labels, here)?;
+    if !read_atoms_as_operands(&mut room.operands, &room.atoms)? {
+        return Err(LineFault::Failed(malformed));
     }
+    Ok(())
 }
 
 /// The value of one expression, or what is wrong: the form, then a label.

@@ -1,7 +1,7 @@
 use Rattle.std.proofs.Common.{◌∙◌, sym, ap}
 use Rattle.z_operands.specs.Operands.{goes_on_rightly}
 use Rattle.z_operands.proofs.Atoms.{operands_pushed, no_operand, wrong_behind, operands_end}
-use Rattle.z_operands.proofs.values.operands_from.Goals as goal
+use Rattle.z_operands.proofs.values.read_atoms_as_operands.Goals as goal
 
 pub returns-in_default : goal.returns-in_default
 returns-in_default c = no_operand c.loop-rest.rest.now c.loop-rest.operands.items _ c.loop-rest-test.true

@@ -2,7 +2,7 @@ use Rattle.std.proofs.Common.{◌≡◌, ◌++◌, ◌≤◌, ◌-◌, length, d
 use Rattle.z_text.specs.Labels.{value_in}
 use Rattle.z_operands.specs.Operands.{atoms_from}
 use Rattle.z_operands.specs.Values.{value_in_line}
-use Rattle.z_operands.proofs.values.atoms.Given as goal
+use Rattle.z_operands.proofs.values.read_atoms.Given as goal
 
 abbrev pub invariant-loop-at : goal.invariant-loop-at
 invariant-loop-at l = record {

@@ -2,7 +2,7 @@ use Rattle.std.proofs.Common.{◌∙◌, sym, ap, ◌++◌, append-nil}
 use Rattle.z_text.specs.Labels.{value_in}
 use Rattle.z_operands.specs.Values.{value_in_line}
 use Rattle.z_operands.proofs.Atoms.{atoms_pushed, no_atoms}
-use Rattle.z_operands.proofs.values.atoms.Goals as goal
+use Rattle.z_operands.proofs.values.read_atoms.Goals as goal
 
 pub loop-at-preserved : goal.loop-at-preserved
 loop-at-preserved c = record {

@@ -1,6 +1,6 @@
 use Rattle.std.proofs.Common.{◌≡◌, ◌++◌, length, option_map}
 use Rattle.z_operands.specs.Operands.{operands_from}
-use Rattle.z_operands.proofs.values.operands_from.Given as goal
+use Rattle.z_operands.proofs.values.read_atoms_as_operands.Given as goal
 
 abbrev pub invariant-loop-rest : goal.invariant-loop-rest
 invariant-loop-rest l = option_map (λ os. l.operands.items ++ os)
