@@ -8,7 +8,7 @@ use Rattle.z_text.specs.Line.{as_read}
 byte_as_it_is : (b : ℕ) → not (is_ascii_lowercase b) ≡ true → to_ascii_uppercase b ≡ b
 byte_as_it_is b h = grind (arith, common_steps)
 
-both_hold : (a b : Bool) → (a && b) ≡ true → (a ≡ true) × (b ≡ true)
+pub both_hold : (a b : Bool) → (a && b) ≡ true → (a ≡ true) × (b ≡ true)
 both_hold true true h = (refl, refl)
 both_hold true false h = cc
 both_hold false b h = cc

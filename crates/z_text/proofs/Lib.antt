@@ -7,3 +7,5 @@ pub mod Longest
 pub mod Filled
 pub mod Causes
 pub mod Capitals
+pub mod Keys
+pub mod Added

@@ -3,6 +3,7 @@
 
 mod expressions;
 mod fields;
+mod key;
 mod labels;
 mod line;
 mod number;
