@@ -1,4 +1,4 @@
-use Rattle.std.proofs.Common.{◌≡◌, ◌≤◌, ◌==◌, length, map, false, arith}
+use Rattle.std.proofs.Common.{◌≡◌, ◌==◌, false, arith}
 use Rattle.std.proofs.lemmas.Bool.Decides.{nat_tests}
 use Rattle.z_assemble.specs.Listing.{plan_of}
 use Rattle.z_assemble.specs.Setup.{machine_of}

@@ -1,4 +1,4 @@
-use Rattle.std.proofs.Common.{◌≡◌, ◌∷◌, List, ℕ, drop, take, ap, sym, ◌∙◌}
+use Rattle.std.proofs.Common.{◌∷◌, List, ℕ, drop, take, ap, sym, ◌∙◌}
 use Rattle.z_operands.specs.Pieces.{pieces_by, first_size}
 use Rattle.z_operands.proofs.Pieces.{pieces_first}
 use Rattle.z_operands.proofs.lines.first_piece.Goals as goal
