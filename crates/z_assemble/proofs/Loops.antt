@@ -1,8 +1,9 @@
 -- Steps of the loops over lines.
 use Rattle.std.proofs.Common.{◌≡◌, ℕ, ◌+◌, ◌<◌, ◌≤◌, List, [], ◌∷◌, length, map, get_or, drop, Result, Ok}
-use Rattle.std.proofs.Common.{Err, refl, ap, subst}
-use denote.Ref.{Bor}
+use Rattle.std.proofs.Common.{Err, refl, ap, sym, ◌∙◌, subst}
+use Rattle.z_operands.specs.Pieces.{pieces_by}
 use Rattle.z_operands.proofs.Loops.{goes_on, fails_here, is_over}
+use Rattle.z_operands.proofs.Pieces.{pieces_none}
 use Rattle.z_assemble.specs.Listing.{Plan, task_of}
 use Rattle.z_assemble.specs.Machine.{Machine, Known}
 use Rattle.z_assemble.specs.Steps.{Passes}
@@ -12,47 +13,30 @@ use Rattle.z_assemble.specs.declared.fault.AssembleFault.{AssembleFault}
 use Rattle.z_assemble.specs.declared.fault.AssembleFault.TheVariants as ends
 use Rattle.z_assemble.specs.declared.fault.ListingFault.{ListingFault}
 
-abbrev pub Piece : Type 0
-Piece = Bor (List ℕ)
-
 -- ---- the first reading
 
-abbrev pub line_step : ℕ → Piece → Plan → Result Plan ListingFault
-line_step n l p = first_on n l.now p
-
-abbrev pub line_run : ℕ → List Piece → Plan → Result Plan ListingFault
-line_run n ls p = first_over n (map (λ x. x.now) ls) p
-
-line_end : (n : ℕ) (p : Plan) → line_run n [] p ≡ Ok p
+pub line_goes : (rest line behind : List ℕ) (n : ℕ) (p new : Plan) (whole : Result Plan ListingFault) →
+    pieces_by 10 rest ≡ line ∷ pieces_by 10 behind → first_over n (pieces_by 10 rest) p ≡ whole →
+    first_on n line p ≡ Ok new → first_over (n + 1) (pieces_by 10 behind) new ≡ whole
 unfolding first_over
-line_end n p = refl
+line_goes rest line behind n p new whole next inv s =
+    sym (ap (λ ls. first_over n ls p) next
+    ∙ ap (λ r. r >>= first_over (n + 1) (pieces_by 10 behind)) s) ∙ inv
 
-line_ok : (n : ℕ) (x : Piece) (xs : List Piece) (p q : Plan) → line_step n x p ≡ Ok q →
-    line_run n (x ∷ xs) p ≡ line_run (n + 1) xs q
+pub line_fails : (rest line behind : List ℕ) (n : ℕ) (p new : Plan) (whole : Result Plan ListingFault)
+    (a : AssembleFault) → pieces_by 10 rest ≡ line ∷ pieces_by 10 behind →
+    first_over n (pieces_by 10 rest) p ≡ whole →
+    Passes (Err a) (first_on n line p) new → Passes (Err a) whole new
 unfolding first_over
-line_ok n x xs p q e = ap (λ r. r >>= first_over (n + 1) (map (λ y. y.now) xs)) e
+line_fails rest line behind n p new whole ends.Memory next inv s = tt
+line_fails rest line behind n p new whole (ends.Listing f) next inv s =
+    sym inv ∙ (ap (λ ls. first_over n ls p) next
+    ∙ ap (λ r. r >>= first_over (n + 1) (pieces_by 10 behind)) s)
 
-line_err : (n : ℕ) (x : Piece) (xs : List Piece) (p : Plan) (f : ListingFault) → line_step n x p ≡ Err f →
-    line_run n (x ∷ xs) p ≡ Err f
+pub lines_end : (rest : List ℕ) (n : ℕ) (p : Plan) (whole : Result Plan ListingFault) → length rest ≡ 0 →
+    first_over n (pieces_by 10 rest) p ≡ whole → whole ≡ Ok p
 unfolding first_over
-line_err n x xs p f e = ap (λ r. r >>= first_over (n + 1) (map (λ y. y.now) xs)) e
-
-pub lines_go : (xs : List Piece) (i n : ℕ) (p new : Plan) (whole : Result Plan ListingFault) (d : Piece) →
-    i < length xs → line_run n (drop i xs) p ≡ whole → line_step n (get_or xs i d) p ≡ Ok new →
-    line_run (n + 1) (drop (i + 1) xs) new ≡ whole
-lines_go xs i n p new whole d h e s = goes_on line_step line_run line_end line_ok line_err xs i n p whole d
-    new h e s
-
-pub lines_fail : (xs : List Piece) (i n : ℕ) (p new : Plan) (whole : Result Plan ListingFault) (d : Piece)
-    (a : AssembleFault) → i < length xs → line_run n (drop i xs) p ≡ whole →
-    Passes (Err a) (line_step n (get_or xs i d) p) new → Passes (Err a) whole new
-lines_fail xs i n p new whole d ends.Memory h e s = tt
-lines_fail xs i n p new whole d (ends.Listing f) h e s =
-    fails_here line_step line_run line_end line_ok line_err xs i n p whole d f h e s
-
-pub lines_over : (xs : List Piece) (i n : ℕ) (p : Plan) (whole : Result Plan ListingFault) → length xs ≤ i →
-    line_run n (drop i xs) p ≡ whole → whole ≡ Ok p
-lines_over xs i n p whole h e = is_over line_step line_run line_end line_ok line_err xs i n p whole h e
+lines_end rest n p whole none inv = sym inv ∙ ap (λ ls. first_over n ls p) (pieces_none 10 rest none)
 
 -- ---- the second reading
 

@@ -133,7 +133,7 @@ fn define(labels: &mut Labels, label: &[u8], value: i128) -> Result<(), LineFaul
     match label {
         [] => Ok(()),
         _ => {
-            let _ = labels.add(label, value)?;
+            labels.set(label, value)?;
             Ok(())
         }
     }

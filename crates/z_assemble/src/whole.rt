@@ -7,6 +7,7 @@ ghost use Rattle.z_regs.specs.Cpu.{cpu_of, started};
 ghost use Rattle.z_text.specs.Labels.{value_in};
 ghost use Rattle.tx_journal.specs.Content.{content};
 ghost use Rattle.tx_journal.specs.Image.{length_at};
+ghost use Rattle.z_operands.specs.Pieces.{pieces_by};
 ghost use Rattle.z_assemble.specs.Listing.{plan_of, task_of};
 ghost use Rattle.z_assemble.specs.Setup.{machine_of, known_of};
 ghost use Rattle.z_assemble.specs.Steps.{Passes, on_line};
@@ -27,7 +28,7 @@ use std::alloc::{AllocError, Global};
 use tx_journal::Image;
 use tx_ladder::Parms;
 use z_decode::length_of;
-use z_operands::{Kind, LineFault, count_pieces, pieces_by, without_end};
+use z_operands::{Kind, LineFault, count_pieces, first_piece, without_end};
 use z_regs::{CpuImage, Guard};
 use z_text::Labels;
 
@@ -66,20 +67,18 @@ fn first_on<'a>(
     }
 }
 
-fn first_over<'a>(
-    alloc: Global,
-    draft: &mut Draft<'a>,
-    lines: &[&'a [u8]],
-) -> Result<(), AssembleFault>
-    requires { length lines.now ≤ 262144 }
-    ensures { Passes result (first_over 1 (map (λ l. l.now) lines.now) (plan_of draft.old))
-        (plan_of draft.new) }
+fn first_over<'a>(alloc: Global, draft: &mut Draft<'a>, text: &'a [u8]) -> Result<(), AssembleFault>
+    requires { length (pieces_by 10 text.now) ≤ 262144 }
+    ensures { Passes result (first_over 1 (pieces_by 10 text.now) (plan_of draft.old)) (plan_of draft.new) }
 {
     let mut reading = Reading::new(alloc);
     let mut number = 1;
-    for line in lines {
+    let mut rest = text;
+    while 0 < rest.len() {
+        let (line, behind) = first_piece(b'\n', rest);
         first_on(alloc, &mut reading, draft, number, line)?;
         number += 1;
+        rest = behind;
     }
     Ok(())
 }
@@ -289,13 +288,13 @@ fn whole_fault(kind: Kind) -> AssembleFault
     })
 }
 
-/// The image that lines in capitals stand for, or the first fault.
-fn over_lines(alloc: Global, lines: &[&[u8]]) -> Result<Parts, AssembleFault>
-    requires { length lines.now ≤ 262144 }
-    ensures { IsOutcome result (over_lines (map (λ l. l.now) lines.now)) }
+/// The image that the lines of a text in capitals stand for, or the first fault.
+fn over_lines(alloc: Global, text: &[u8]) -> Result<Parts, AssembleFault>
+    requires { length (pieces_by 10 text.now) ≤ 262144 }
+    ensures { IsOutcome result (over_lines (pieces_by 10 text.now)) }
 {
     let mut draft = blank(alloc)?;
-    first_over(alloc, &mut draft, lines)?;
+    first_over(alloc, &mut draft, text)?;
     let Draft {
         labels,
         storage,
@@ -323,8 +322,7 @@ fn assembled(alloc: Global, text: &[u8]) -> Result<Parts, AssembleFault>
     if MOST_LINES < count_pieces(b'\n', &capitals) {
         return Err(whole_fault(Kind::TooManyLines));
     }
-    let lines = pieces_by(alloc, b'\n', &capitals)?;
-    over_lines(alloc, &lines)
+    over_lines(alloc, &capitals)
 }
 
 /// The image that the text of a listing stands for, or the first fault of the text, in the order of the

@@ -15,7 +15,7 @@ mod values;
 pub use data::{Width, data_of};
 pub use fault::{Kind, LineFault};
 pub use instruction::code_for;
-pub use lines::{count_pieces, pieces_by, without_end};
+pub use lines::{count_pieces, first_piece, pieces_by, without_end};
 pub use operand::{Atom, Operand, Piece, Slot};
 pub use operation::{Operation, operation_named, size_of_row};
 pub use schedule::{MOST_EVENTS, Run, push_events};
