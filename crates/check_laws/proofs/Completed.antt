@@ -1,4 +1,5 @@
--- A live attempt has completed no more instructions than a CPU may have turns: an interruption from outside would
+-- A live attempt has completed no more instructions than a CPU may have turns: an interruption from outside
+-- would
 -- write that into the history.
 use Rattle.std.proofs.Common.{◌≡◌, ◌∙◌, ap, sym, subst, ℕ, ◌<◌, ◌≤◌, Bool, true}
 use Rattle.std.proofs.Common.{List, [], ◌∷◌, ◌++◌}

@@ -101,7 +101,8 @@ module _ (m : Setting) (setting : IsSetting m) (events : List Event) (known : Ar
       let l = legal m setting events known in
       l.replayed ∙ ap Some (sym (ap (flat_where m) l.replayed))
 
-  told : (i : ℕ) → IsTold (flat_of m (meaning m events)) (meaning m events).history i (cpu_shown m (meaning m events) i)
+  told : (i : ℕ) → IsTold (flat_of m (meaning m events)) (meaning m events).history i (cpu_shown m
+      (meaning m events) i)
   told i =
       let s = meaning m events in
       record {

@@ -16,14 +16,16 @@ use crate::facts::{has_places, is_set};
 use form_laws::laws::nothing_else_is_due_of_a_sound_report;
 use tx_machine::machine::Machine;
 
-/// The report of a run is sound, with as many entries as its history has, where its numbers have their places.
+/// The report of a run is sound, where its numbers have their places. It has as many entries as the
+/// history.
 pub fn the_report_of_a_run_is_sound()
     ensures { (m : Setting) (events : List Event) → IsSetting m → AreKnown m events
-        → HasPlaces m (meaning m events) → IsSound m.image (report_of m events) (length (meaning m events).history) }
+        → HasPlaces m (meaning m events)
+        → IsSound m.image (report_of m events) (length (meaning m events).history) }
 {}
 
-/// They have them in every machine, so that its report is sound, and nothing is due of it but that it is accepted,
-/// beside want of memory.
+/// They have them in every machine, so its report is sound, and nothing is due of it but that it is accepted, beside
+/// want of memory.
 pub fn the_report_of_every_machine_is_sound(machine: &Machine)
     ensures sound { IsSound machine.now.image (report_of (setting_of machine.now) machine.now.events)
         (length (state_of machine.now).history) }

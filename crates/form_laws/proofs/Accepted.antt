@@ -30,7 +30,8 @@ use Rattle.tx_check.proofs.FormLines.{HasRow, cpu_line, history_size}
 use Rattle.form_laws.proofs.Cutting.{decimal_lacks}
 use Rattle.form_laws.proofs.Lists.{head_list, report_list, report_lines}
 use Rattle.form_laws.proofs.Numbers.{decimal_tells, word_first, word_only, number_first, within}
-use Rattle.form_laws.proofs.Places.{head_length, attempt_at, counts_at, entries_counted, entries_at, events_at}
+use Rattle.form_laws.proofs.Places.{head_length, attempt_at, counts_at, entries_counted, entries_at}
+use Rattle.form_laws.proofs.Places.{events_at}
 
 some_same : {A : Type 0} {x y : A} → Some x ≡ Some y → x ≡ y
 some_same e = cc
@@ -41,7 +42,8 @@ no_blank : (n : Name) → Lacks 32 (name_text n)
 no_blank n = word_lacks (Fixed n) 32 (name_text n) (omega arith) refl
 
 -- a line that claims an attempt says more than that there is none
-claims : (a : Attempt) → Spelled (Fixed name.Transaction ∷ Fixed name.Nothing ∷ []) (attempt_line (Some a)) → ⊥
+claims : (a : Attempt) → Spelled (Fixed name.Transaction ∷ Fixed name.Nothing
+    ∷ []) (attempt_line (Some a)) → ⊥
 unfolding Spelled attempt_line live_line labelled
 claims a h =
     let none : attempt_line (Some a) ≡ codes "TX NONE\n" =
@@ -58,9 +60,11 @@ small_attempt last (Some a) (inr h) =
     let tx = word_first (Fixed name.Transaction) (Fixed name.Depth)
     (AtMost most ∷ Fixed name.Completed ∷ AtMost most_completed ∷ []) (codes "TX") _ refl
     (no_blank name.Transaction) h in
-    let depth = word_first (Fixed name.Depth) (AtMost most) (Fixed name.Completed ∷ AtMost most_completed ∷ [])
+    let depth = word_first (Fixed name.Depth) (AtMost most) (Fixed name.Completed ∷ AtMost most_completed
+    ∷ [])
     (codes "DEPTH") _ refl (no_blank name.Depth) tx.goes_on in
-    let deep = number_first most (Fixed name.Completed) (AtMost most_completed ∷ []) a.depth _ depth.goes_on in
+    let deep = number_first most (Fixed name.Completed) (AtMost most_completed
+    ∷ []) a.depth _ depth.goes_on in
     let completed = word_first (Fixed name.Completed) (AtMost most_completed) [] (codes "COMPLETED")
     (decimal a.completed ++ 10 ∷ []) refl (no_blank name.Completed) deep.goes_on in
     let low = within most a.depth deep.is_word in
@@ -74,19 +78,22 @@ unfolding IsRow counts_line labelled
 small_counts last c h =
     let others = Fixed name.Commits ∷ AtMost most ∷ Fixed name.Aborts ∷ AtMost most ∷ [] in
     let counts = word_first (Fixed name.Counts) (Fixed name.Turns)
-    (AtMost most ∷ Fixed name.Asked ∷ AtMost most ∷ Fixed name.Rejected ∷ AtMost most ∷ others) (codes "COUNTS") _
+    (AtMost most ∷ Fixed name.Asked ∷ AtMost most ∷ Fixed name.Rejected ∷ AtMost most
+    ∷ others) (codes "COUNTS") _
     refl (no_blank name.Counts) h in
     let turns = word_first (Fixed name.Turns) (AtMost most)
     (Fixed name.Asked ∷ AtMost most ∷ Fixed name.Rejected ∷ AtMost most ∷ others) (codes "TURNS") _ refl
     (no_blank name.Turns) counts.goes_on in
-    let one = number_first most (Fixed name.Asked) (AtMost most ∷ Fixed name.Rejected ∷ AtMost most ∷ others) c.turns _
+    let one = number_first most (Fixed name.Asked) (AtMost most ∷ Fixed name.Rejected ∷ AtMost most
+    ∷ others) c.turns _
     turns.goes_on in
     let asked = word_first (Fixed name.Asked) (AtMost most) (Fixed name.Rejected ∷ AtMost most ∷ others)
     (codes "ASKED") _ refl (no_blank name.Asked) one.goes_on in
     let two = number_first most (Fixed name.Rejected) (AtMost most ∷ others) c.asked _ asked.goes_on in
     let rejected = word_first (Fixed name.Rejected) (AtMost most) others (codes "REJECTED") _ refl
     (no_blank name.Rejected) two.goes_on in
-    let three = number_first most (Fixed name.Commits) (AtMost most ∷ Fixed name.Aborts ∷ AtMost most ∷ []) c.rejected
+    let three = number_first most (Fixed name.Commits) (AtMost most ∷ Fixed name.Aborts ∷ AtMost most
+    ∷ []) c.rejected
     _ rejected.goes_on in
     let a = within most c.turns one.is_word in
     let b = within most c.asked two.is_word in
@@ -106,16 +113,19 @@ believes f i None live = refl
 believes f i (Some a) live = inl (refl, live a refl)
 
 module _ (image : Content) (entries events : ℕ) (s : Shown) (after : FlatState)
-    (form : HasForm image (report_list s) entries events) (left : IsLeft image s after) (live : AreLive after s) where
+    (form : HasForm image (report_list s) entries events) (left : IsLeft image s after)
+    (live : AreLive after s) where
   headed : length (head_list s) ≡ history_at image
   headed = head_length image s left.count left.shows
 
   many : length s.history ≡ entries
   many =
       let count = form.history.head.count in
-      counted (length s.history) entries count.fits (sym (entries_counted s (history_at image) headed) ∙ count.is)
+      counted (length s.history) entries count.fits (sym (entries_counted s (history_at image) headed)
+      ∙ count.is)
 
-  taken : (i : ℕ) (c : ShownCpu) → slice_get s.cpus i ≡ Some c → IsTaken (report_list s) (cpu_place i) after i c
+  taken : (i : ℕ) (c : ShownCpu) → slice_get s.cpus i ≡ Some c
+      → IsTaken (report_list s) (cpu_place i) after i c
   taken i c at =
       let there = slice_get_within s.cpus i c at in
       let count = left.count in
@@ -132,8 +142,10 @@ module _ (image : Content) (entries events : ℕ) (s : Shown) (after : FlatState
         printed = record {
           claimed = attempt_at s i c at;
           counted = counts_at s i c at;
-          small = small_attempt (last_of image) c.attempt (subst (IsRow (last_of image) row.Attempt) told a.row);
-          small_counts = small_counts (last_of image) c.counts (subst (IsRow (last_of image) row.Counts) tally b.row);
+          small = small_attempt (last_of image) c.attempt (subst (IsRow
+              (last_of image) row.Attempt) told a.row);
+          small_counts = small_counts (last_of image) c.counts (subst (IsRow
+              (last_of image) row.Counts) tally b.row);
         };
         believed = believes after i c.attempt (λ a is. live i c a at is);
         turns = refl;
@@ -174,7 +186,8 @@ accepted image report entries h =
 
 -- ---- and back
 
-is_believed : (f : FlatState) (i : ℕ) (claim o : Option Attempt) (a : Attempt) → Believes f i claim o → o ≡ Some a
+is_believed : (f : FlatState) (i : ℕ) (claim o : Option Attempt) (a : Attempt) → Believes f i claim o
+    → o ≡ Some a
     → IsLive f i a
 is_believed f i None o a h is = absurd (let no : None ≡ Some a = sym h ∙ is in cc)
 is_believed f i (Some b) o a (inl h) is =

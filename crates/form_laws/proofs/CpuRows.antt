@@ -21,7 +21,8 @@ use Rattle.report_form.specs.Rows.{IsRow, most, most_completed}
 use Rattle.report_form.specs.Lines.{rows_of}
 use Rattle.report_form.specs.Sheet.{cpus_parts, cpu_parts}
 use Rattle.report_text.specs.Digits.{labelled, halfword_text, word_text, doubleword_text, digit_text}
-use Rattle.report_text.specs.Processor.{state_line, state_text, interrupted_text, psw_line, general_line, access_line}
+use Rattle.report_text.specs.Processor.{state_line, state_text, interrupted_text, psw_line, general_line}
+use Rattle.report_text.specs.Processor.{access_line}
 use Rattle.report_text.specs.Processor.{attempt_line, live_line, pending_line, counts_line}
 use Rattle.report_text.specs.Shown.{ShownCpu}
 use Rattle.report_text.specs.declared.processors.Attempt.{Attempt}
@@ -77,7 +78,8 @@ general_row : (last : ℕ) (first : Name) (label values : List ℕ) → label �
     → length values ≡ 4 → IsRow last (row.General first) (general_line label values)
 unfolding IsRow general_line
 general_row last first label values is size =
-    subst (λ l. Spelled (Fixed name.General ∷ Fixed first ∷ Digits 16 ∷ Digits 16 ∷ Digits 16 ∷ Digits 16 ∷ [])
+    subst (λ l. Spelled (Fixed name.General ∷ Fixed first ∷ Digits 16 ∷ Digits 16 ∷ Digits 16 ∷ Digits 16
+    ∷ [])
     (l ++ (flat_map (λ v. 32 ∷ doubleword_text v) values ++ 10 ∷ []))) (sym is)
     (four_words first values size)
 
@@ -108,7 +110,8 @@ attempt_row last (Some a) short =
     let few = short.1 in
     inr (word_then (Fixed name.Transaction) _ _ (codes "TX") _ 32 refl refl
     (word_then (Fixed name.Depth) _ _ (codes "DEPTH") _ 32 refl refl
-    (word_then (AtMost most) _ _ (decimal a.depth) _ 32 refl (a_number most a.depth deep (omega (arith, deep)))
+    (word_then (AtMost most) _ _ (decimal a.depth) _ 32 refl (a_number most a.depth deep (omega
+    (arith, deep)))
     (word_then (Fixed name.Completed) _ _ (codes "COMPLETED") _ 32 refl refl
     (word_last (AtMost most_completed) (decimal a.completed)
     (a_number most_completed a.completed (omega (arith, few)) few))))))
@@ -132,9 +135,11 @@ counts_row last c are =
     let aborts = are.aborts in
     word_then (Fixed name.Counts) _ _ (codes "COUNTS") _ 32 refl refl
     (word_then (Fixed name.Turns) _ _ (codes "TURNS") _ 32 refl refl
-    (word_then (AtMost most) _ _ (decimal c.turns) _ 32 refl (a_number most c.turns turns (omega (arith, turns)))
+    (word_then (AtMost most) _ _ (decimal c.turns) _ 32 refl (a_number most c.turns turns (omega
+    (arith, turns)))
     (word_then (Fixed name.Asked) _ _ (codes "ASKED") _ 32 refl refl
-    (word_then (AtMost most) _ _ (decimal c.asked) _ 32 refl (a_number most c.asked asked (omega (arith, asked)))
+    (word_then (AtMost most) _ _ (decimal c.asked) _ 32 refl (a_number most c.asked asked (omega
+    (arith, asked)))
     (word_then (Fixed name.Rejected) _ _ (codes "REJECTED") _ 32 refl refl
     (word_then (AtMost most) _ _ (decimal c.rejected) _ 32 refl
     (a_number most c.rejected rejected (omega (arith, rejected)))
@@ -142,7 +147,8 @@ counts_row last c are =
     (word_then (AtMost most) _ _ (decimal c.commits) _ 32 refl
     (a_number most c.commits commits (omega (arith, commits)))
     (word_then (Fixed name.Aborts) _ _ (codes "ABORTS") _ 32 refl refl
-    (word_last (AtMost most) (decimal c.aborts) (a_number most c.aborts aborts (omega (arith, aborts)))))))))))))
+    (word_last (AtMost most) (decimal c.aborts) (a_number most c.aborts aborts (omega
+    (arith, aborts)))))))))))))
 
 -- ---- a CPU
 
@@ -163,18 +169,22 @@ cpu_tells last i c fits within h =
     tells_more last _ _ _ _ (state_row last i c.cpu.state fits within)
     (tells_more last _ _ _ _ (psw_row last c.cpu h.condition h.mask)
     (tells_more last _ _ _ _
-    (general_row last name.From0 (codes "GR 00") (take 4 general) refl (first_many 4 general (omega (arith, g))))
+    (general_row last name.From0 (codes "GR 00") (take 4 general) refl (first_many 4 general (omega
+    (arith, g))))
     (tells_more last _ _ _ _
-    (general_row last name.From4 (codes "GR 04") (take 4 (drop 4 general)) refl (so_many 4 4 general (omega (arith, g))))
+    (general_row last name.From4 (codes "GR 04") (take 4 (drop 4 general)) refl (so_many 4 4 general (omega
+    (arith, g))))
     (tells_more last _ _ _ _
-    (general_row last name.From8 (codes "GR 08") (take 4 (drop 8 general)) refl (so_many 4 8 general (omega (arith, g))))
+    (general_row last name.From8 (codes "GR 08") (take 4 (drop 8 general)) refl (so_many 4 8 general (omega
+    (arith, g))))
     (tells_more last _ _ _ _
     (general_row last name.From12 (codes "GR 12") (take 4 (drop 12 general)) refl
     (so_many 4 12 general (omega (arith, g))))
     (tells_more last _ _ _ _
     (access_row last name.From0 (codes "AR 00") (take 8 access) refl (first_many 8 access (omega (arith, a))))
     (tells_more last _ _ _ _
-    (access_row last name.From8 (codes "AR 08") (take 8 (drop 8 access)) refl (so_many 8 8 access (omega (arith, a))))
+    (access_row last name.From8 (codes "AR 08") (take 8 (drop 8 access)) refl (so_many 8 8 access (omega
+    (arith, a))))
     (tells_more last _ _ _ _ (attempt_row last c.attempt h.attempt)
     (tells_more last _ _ _ _ (pending_row last c.pending)
     (tells_more last _ _ _ _ (counts_row last c.counts h.counts) (tells_nothing last)))))))))))
@@ -201,5 +211,6 @@ cpus_tell last n (c ∷ cs) fits within each =
     let one = cpu_tells last n c (omega (arith, low, fits)) low (each 0 c refl) in
     let more = cpus_tell last (n + 1) cs fits (omega (arith, within)) (λ k d at. each (suc k) d at) in
     subst (λ rows. Tells last rows (cpu_list n c ++ cpus_list (n + 1) cs)) (sym (cpus_front (length cs)))
-    (tells_behind last (rows_of cpu_parts) (rows_of (cpus_parts (length cs))) (cpu_list n c) (cpus_list (n + 1) cs)
+    (tells_behind last (rows_of cpu_parts) (rows_of (cpus_parts (length cs))) (cpu_list n c) (cpus_list
+    (n + 1) cs)
     one more)

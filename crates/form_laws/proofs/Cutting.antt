@@ -1,6 +1,8 @@
--- Texts whose lines are known: each row is one line, and lines one behind the other are the lines of their text.
+-- Texts whose lines are known: each row is one line, and lines one behind the other are the lines of their
+-- text.
 use Rattle.std.proofs.Common.{◌≡◌, ◌≢◌, ◌∙◌, ap, ap₂, sym, refl, ℕ, zero, suc, ◌+◌, ◌/◌, ◌%◌, ◌<◌}
-use Rattle.std.proofs.Common.{arith, Bool, true, false, List, [], ◌∷◌, ◌++◌, append_assoc, length, slice_index}
+use Rattle.std.proofs.Common.{arith, Bool, true, false, List, [], ◌∷◌, ◌++◌, append_assoc, length}
+use Rattle.std.proofs.Common.{slice_index}
 use Rattle.std.specs.Prelude.{◌==◌, if◌then◌else◌, nat_lt, codes}
 use Rattle.std.specs.List.{flat_map, list_all}
 use Rattle.std.specs.Fmt.{decimal, digits, digits_onto, digit_glyph}
@@ -39,12 +41,14 @@ glyph_other c d low false = λ e. omega (arith, e)
 
 -- a digit is above a blank
 pub digit_lacks : (c d : ℕ) → c < 48 → Lacks c (digit_glyph false d ∷ [])
-digit_lacks c d low = cons_lacks c (digit_glyph false d) [] (glyph_other c d low (nat_lt d 10)) (λ i within. absurd (omega arith))
+digit_lacks c d low = cons_lacks c (digit_glyph false d) [] (glyph_other c d low (nat_lt d 10))
+    (λ i within. absurd (omega arith))
 
 onto_lacks : (c k n : ℕ) (acc : List ℕ) → c < 48 → Lacks c acc → Lacks c (digits_onto k 10 false n acc)
 onto_lacks c zero n acc low lacks = lacks
 onto_lacks c (suc k) n acc low lacks =
-    let more = cons_lacks c (digit_glyph false (n % 10)) acc (glyph_other c (n % 10) low (nat_lt (n % 10) 10)) lacks in
+    let more = cons_lacks c (digit_glyph false (n % 10)) acc (glyph_other c (n % 10) low (nat_lt
+    (n % 10) 10)) lacks in
     by (n / 10 == 0) more (onto_lacks c k (n / 10) (digit_glyph false (n % 10) ∷ acc) low more)
   where
     by : (b : Bool) → Lacks c (digit_glyph false (n % 10) ∷ acc)
@@ -74,7 +78,8 @@ hex_lacks [] = λ i within. absurd (omega arith)
 hex_lacks (b ∷ bytes) =
     cons_lacks 10 (slice_index lower_digits (b / 16)) (slice_index lower_digits (b % 16) ∷ encode_lower bytes)
     (other_at lower_digits refl (b / 16))
-    (cons_lacks 10 (slice_index lower_digits (b % 16)) (encode_lower bytes) (other_at lower_digits refl (b % 16))
+    (cons_lacks 10 (slice_index lower_digits (b % 16)) (encode_lower bytes) (other_at lower_digits refl
+    (b % 16))
     (hex_lacks bytes))
 
 -- ---- one line
@@ -120,12 +125,14 @@ first_line : (front rest : List ℕ) → Lacks 10 front
 unfolding lines_of
 first_line [] rest lacks = refl
 first_line (b ∷ bs) rest lacks =
-    ap (λ (t : Bool). if t then (b ∷ []) ∷ lines_of (bs ++ 10 ∷ rest) else in_front b (lines_of (bs ++ 10 ∷ rest)))
+    ap (λ (t : Bool). if t then (b ∷ []) ∷ lines_of (bs ++ 10 ∷ rest) else in_front b (lines_of (bs
+    ++ 10 ∷ rest)))
     (other_byte b (lacks 0 (omega arith)))
     ∙ ap (in_front b) (first_line bs rest (lacks_rest 10 b bs lacks))
 
 -- the lines of joined lines are these lines
-pub lines_joined : (lines : List (List ℕ)) → AreLines lines → lines_of (flat_map (λ (l : List ℕ). l) lines) ≡ lines
+pub lines_joined : (lines : List (List ℕ)) → AreLines lines
+    → lines_of (flat_map (λ (l : List ℕ). l) lines) ≡ lines
 unfolding lines_of AreLines
 lines_joined [] are = refl
 lines_joined (l ∷ lines) are =

@@ -1,4 +1,5 @@
--- Lines of a text, and those of a report with their places; words, numbers, and rows that lines tell; the form; what
+-- Lines of a text, and those of a report with their places; words, numbers, and rows that lines tell; the
+-- form; what
 -- is accepted.
 pub mod Cutting
 pub mod Lists

@@ -1,6 +1,7 @@
 -- The lines of a report one by one, of any state: that each is one line, and that together they are its text.
 use Rattle.std.proofs.Common.{◌≡◌, ◌∙◌, ap, ap₂, sym, refl, ℕ, zero, suc, ◌+◌, ◌-◌, ◌*◌, ◌/◌}
-use Rattle.std.proofs.Common.{arith, Bool, true, false, List, [], ◌∷◌, ◌++◌, append_assoc, append-nil, length, take, drop}
+use Rattle.std.proofs.Common.{arith, Bool, true, false, List, [], ◌∷◌, ◌++◌, append_assoc, append-nil, length}
+use Rattle.std.proofs.Common.{take, drop}
 use Rattle.std.proofs.Common.{map, slice_index, Option, Some, None}
 use Rattle.std.specs.Prelude.{codes, min, if◌then◌else◌, nat_lt}
 use Rattle.std.specs.List.{flat_map, list_all, enumerate_from}
@@ -18,25 +19,33 @@ use Rattle.tx_control.specs.declared.causes.Why.{Why}
 use Rattle.tx_control.specs.declared.causes.Why.TheVariants as why
 use Rattle.tx_journal.specs.Numbers.{Lacks}
 use Rattle.tx_journal.specs.Lines.{entry_text, history_text, words_text, detail_text, detail_of, line_of}
-use Rattle.tx_journal.specs.Schedule.{event_text, further_text, events_text, row_text, rows_text, schedule_text}
+use Rattle.tx_journal.specs.Schedule.{event_text, further_text, events_text, row_text, rows_text}
+use Rattle.tx_journal.specs.Schedule.{schedule_text}
 use Rattle.tx_journal.specs.declared.entries.Entry.{Entry}
 use Rattle.tx_journal.specs.declared.entries.Entry.TheVariants.{Step, Commit, Abort, Tdb, Interrupt}
 use Rattle.tx_journal.specs.declared.events.Event.{Event}
 use Rattle.tx_journal.specs.declared.events.Event.TheVariants.{Turn, External}
 use Rattle.tx_journal.specs.declared.image.Show.{Show}
-use Rattle.report_text.specs.Digits.{labelled, number_line, halfword_text, word_text, doubleword_text, digit_text}
-use Rattle.report_text.specs.Processor.{state_line, state_text, interrupted_text, psw_line, general_line, access_line}
-use Rattle.report_text.specs.Processor.{general_lines, access_lines, attempt_line, live_line, pending_line, counts_line}
+use Rattle.report_text.specs.Digits.{labelled, number_line, halfword_text, word_text, doubleword_text}
+use Rattle.report_text.specs.Digits.{digit_text}
+use Rattle.report_text.specs.Processor.{state_line, state_text, interrupted_text, psw_line, general_line}
+use Rattle.report_text.specs.Processor.{access_line}
+use Rattle.report_text.specs.Processor.{general_lines, access_lines, attempt_line, live_line, pending_line}
+use Rattle.report_text.specs.Processor.{counts_line}
 use Rattle.report_text.specs.Processor.{image_lines, progress_lines, cpu_lines, cpus_text}
-use Rattle.report_text.specs.Storage.{bytes_at, bytes_line, bytes_lines, bytes_text, number_at, block_head, block_tail}
+use Rattle.report_text.specs.Storage.{bytes_at, bytes_line, bytes_lines, bytes_text, number_at, block_head}
+use Rattle.report_text.specs.Storage.{block_tail}
 use Rattle.report_text.specs.Storage.{block_line, show_text, shows_text}
-use Rattle.report_text.specs.Report.{report_text, state_part, run_part, head_lines, history_lines, schedule_lines, status_of}
+use Rattle.report_text.specs.Report.{report_text, state_part, run_part, head_lines, history_lines}
+use Rattle.report_text.specs.Report.{schedule_lines, status_of}
 use Rattle.report_text.specs.Shown.{Shown, ShownCpu}
 use Rattle.report_text.specs.declared.processors.Attempt.{Attempt}
 use Rattle.report_text.specs.declared.processors.Counts.{Counts}
 use Rattle.tx_check.specs.Lines.{lines_of}
-use Rattle.form_laws.proofs.Cutting.{IsLine, AreLines, no_lines, line_before, lines_behind, line_end, line_with}
-use Rattle.form_laws.proofs.Cutting.{both_lack, cons_lacks, plain_lack, digit_lacks, decimal_lacks, hex_lacks, lines_joined}
+use Rattle.form_laws.proofs.Cutting.{IsLine, AreLines, no_lines, line_before, lines_behind, line_end}
+use Rattle.form_laws.proofs.Cutting.{line_with}
+use Rattle.form_laws.proofs.Cutting.{both_lack, cons_lacks, plain_lack, digit_lacks, decimal_lacks, hex_lacks}
+use Rattle.form_laws.proofs.Cutting.{lines_joined}
 
 -- the text of lines
 abbrev pub joined : List (List ℕ) → List ℕ
@@ -67,7 +76,8 @@ numbered label line n plain more =
     (both_lack 10 label (decimal n) (plain_lack label plain) (decimal_lacks 10 n (omega arith))) more
 
 -- a label in front
-named : (label line : List ℕ) → list_all (λ b. nat_lt 31 b) label ≡ true → IsLine line → IsLine (label ++ line)
+named : (label line : List ℕ) → list_all (λ b. nat_lt 31 b) label ≡ true → IsLine line
+    → IsLine (label ++ line)
 named label line plain more = line_with label line (plain_lack label plain) more
 
 state_lacks : (s : RunState) → Lacks 10 (state_text s)
@@ -87,26 +97,34 @@ state_is i s =
 psw_is : (c : Cpu) → IsLine (psw_line c)
 unfolding psw_line
 psw_is c =
-    named (codes "PSW ") _ refl (line_with (doubleword_text c.address) _ (hex_lacks (to_be_bytes w64 c.address))
-    (named (codes " CC ") _ refl (line_with (decimal c.condition) _ (decimal_lacks 10 c.condition (omega arith))
-    (named (codes " MASK ") _ refl (line_with (digit_text c.mask) _ (digit_lacks 10 c.mask (omega arith)) line_end)))))
+    named (codes "PSW ") _ refl (line_with (doubleword_text c.address) _ (hex_lacks
+    (to_be_bytes w64 c.address))
+    (named (codes " CC ") _ refl (line_with (decimal c.condition) _ (decimal_lacks 10 c.condition
+    (omega arith))
+    (named (codes " MASK ") _ refl (line_with (digit_text c.mask) _ (digit_lacks 10 c.mask
+    (omega arith)) line_end)))))
 
 many_lack : (f : ℕ → List ℕ) → ((v : ℕ) → Lacks 10 (f v)) → (values : List ℕ)
     → Lacks 10 (flat_map (λ v. 32 ∷ f v) values)
 many_lack f each [] = λ i within. absurd (omega arith)
 many_lack f each (v ∷ vs) =
-    both_lack 10 (32 ∷ f v) (flat_map (λ v. 32 ∷ f v) vs) (cons_lacks 10 32 (f v) (λ e. omega (arith, e)) (each v))
+    both_lack 10 (32 ∷ f v) (flat_map (λ v. 32
+    ∷ f v) vs) (cons_lacks 10 32 (f v) (λ e. omega (arith, e)) (each v))
     (many_lack f each vs)
 
-general_is : (label values : List ℕ) → list_all (λ b. nat_lt 31 b) label ≡ true → IsLine (general_line label values)
+general_is : (label values : List ℕ) → list_all (λ b. nat_lt 31 b) label ≡ true
+    → IsLine (general_line label values)
 unfolding general_line
 general_is label values plain =
-    named label _ plain (line_with _ _ (many_lack doubleword_text (λ v. hex_lacks (to_be_bytes w64 v)) values) line_end)
+    named label _ plain (line_with _ _ (many_lack doubleword_text (λ v. hex_lacks
+    (to_be_bytes w64 v)) values) line_end)
 
-access_is : (label values : List ℕ) → list_all (λ b. nat_lt 31 b) label ≡ true → IsLine (access_line label values)
+access_is : (label values : List ℕ) → list_all (λ b. nat_lt 31 b) label ≡ true
+    → IsLine (access_line label values)
 unfolding access_line
 access_is label values plain =
-    named label _ plain (line_with _ _ (many_lack word_text (λ v. hex_lacks (to_be_bytes w32 v)) values) line_end)
+    named label _ plain (line_with _ _ (many_lack word_text (λ v. hex_lacks
+    (to_be_bytes w32 v)) values) line_end)
 
 attempt_is : (o : Option Attempt) → IsLine (attempt_line o)
 unfolding attempt_line live_line
@@ -118,7 +136,8 @@ pending_is : (o : Option ℕ) → IsLine (pending_line o)
 unfolding pending_line
 pending_is None = named (codes "PENDING NONE") (codes "\n") refl line_end
 pending_is (Some address) =
-    named (codes "PENDING ") _ refl (line_with (doubleword_text address) _ (hex_lacks (to_be_bytes w64 address)) line_end)
+    named (codes "PENDING ") _ refl (line_with (doubleword_text address) _ (hex_lacks
+    (to_be_bytes w64 address)) line_end)
 
 counts_is : (c : Counts) → IsLine (counts_line c)
 unfolding counts_line
@@ -134,7 +153,8 @@ cpu_list i c =
     let access = c.cpu.access in
     state_line i c.cpu.state ∷ psw_line c.cpu
     ∷ general_line (codes "GR 00") (take 4 general) ∷ general_line (codes "GR 04") (take 4 (drop 4 general))
-    ∷ general_line (codes "GR 08") (take 4 (drop 8 general)) ∷ general_line (codes "GR 12") (take 4 (drop 12 general))
+    ∷ general_line (codes "GR 08") (take 4 (drop 8 general))
+    ∷ general_line (codes "GR 12") (take 4 (drop 12 general))
     ∷ access_line (codes "AR 00") (take 8 access) ∷ access_line (codes "AR 08") (take 8 (drop 8 access))
     ∷ attempt_line c.attempt ∷ pending_line c.pending ∷ counts_line c.counts ∷ []
 
@@ -150,7 +170,8 @@ cpu_told i c =
     let access = c.cpu.access in
     eleven (state_line i c.cpu.state) (psw_line c.cpu)
     (general_line (codes "GR 00") (take 4 general)) (general_line (codes "GR 04") (take 4 (drop 4 general)))
-    (general_line (codes "GR 08") (take 4 (drop 8 general))) (general_line (codes "GR 12") (take 4 (drop 12 general)))
+    (general_line (codes "GR 08") (take 4 (drop 8 general))) (general_line (codes "GR 12") (take 4
+    (drop 12 general)))
     (access_line (codes "AR 00") (take 8 access)) (access_line (codes "AR 08") (take 8 (drop 8 access)))
     (attempt_line c.attempt) (pending_line c.pending) (counts_line c.counts)
 
@@ -226,9 +247,12 @@ head_lacks block =
 tail_is : (block : List ℕ) → IsLine (block_tail block)
 unfolding block_tail
 tail_is block =
-    named (codes " TOKEN ") _ refl (line_with (encode_lower (bytes_at block 16 8)) _ (hex_lacks (bytes_at block 16 8))
-    (named (codes " AT ") _ refl (line_with (encode_lower (bytes_at block 24 8)) _ (hex_lacks (bytes_at block 24 8))
-    (named (codes " PI ") _ refl (line_with (encode_lower (bytes_at block 38 2)) _ (hex_lacks (bytes_at block 38 2)) line_end)))))
+    named (codes " TOKEN ") _ refl (line_with (encode_lower (bytes_at block 16 8)) _ (hex_lacks
+    (bytes_at block 16 8))
+    (named (codes " AT ") _ refl (line_with (encode_lower (bytes_at block 24 8)) _ (hex_lacks
+    (bytes_at block 24 8))
+    (named (codes " PI ") _ refl (line_with (encode_lower (bytes_at block 38 2)) _ (hex_lacks
+    (bytes_at block 38 2)) line_end)))))
 
 block_is : (first : ℕ) (block : List ℕ) → IsLine (block_line first block)
 unfolding block_line
@@ -238,14 +262,16 @@ block_is first block =
 
 unfoldable pub show_list : List ℕ → Show → List (List ℕ)
 show_list storage s =
-    if s.fields then block_line s.first (bytes_at storage s.first 256) ∷ [] else bytes_list storage s.first s.length
+    if s.fields then block_line s.first (bytes_at storage s.first 256)
+    ∷ [] else bytes_list storage s.first s.length
 
 show_told : (storage : List ℕ) (s : Show) → joined (show_list storage s) ≡ show_text storage s
 unfolding show_list show_text
 show_told storage s = by s.fields
   where
     by : (b : Bool)
-        → joined (if b then block_line s.first (bytes_at storage s.first 256) ∷ [] else bytes_list storage s.first s.length)
+        → joined (if b then block_line s.first (bytes_at storage s.first 256)
+        ∷ [] else bytes_list storage s.first s.length)
         ≡ (if b then block_line s.first (bytes_at storage s.first 256) else bytes_text storage s.first s.length)
     by true = append-nil (block_line s.first (bytes_at storage s.first 256))
     by false = bytes_told storage s.first s.length ((s.length + 15) / 16)
@@ -255,7 +281,8 @@ unfolding show_list
 show_are storage s = by s.fields
   where
     by : (b : Bool) → AreLines
-        (if b then block_line s.first (bytes_at storage s.first 256) ∷ [] else bytes_list storage s.first s.length)
+        (if b then block_line s.first (bytes_at storage s.first 256)
+        ∷ [] else bytes_list storage s.first s.length)
     by true = line_before _ [] (block_is s.first (bytes_at storage s.first 256)) no_lines
     by false =
         each_line (bytes_piece storage s.first s.length)
@@ -266,7 +293,8 @@ unfoldable pub shows_list : List ℕ → List Show → List (List ℕ)
 shows_list storage [] = []
 shows_list storage (s ∷ shows) = show_list storage s ++ shows_list storage shows
 
-shows_told : (storage : List ℕ) (shows : List Show) → joined (shows_list storage shows) ≡ shows_text storage shows
+shows_told : (storage : List ℕ) (shows : List Show)
+    → joined (shows_list storage shows) ≡ shows_text storage shows
 unfolding shows_list
 shows_told storage [] = refl
 shows_told storage (s ∷ shows) =
@@ -277,7 +305,8 @@ shows_are : (storage : List ℕ) (shows : List Show) → AreLines (shows_list st
 unfolding shows_list
 shows_are storage [] = no_lines
 shows_are storage (s ∷ shows) =
-    lines_behind (show_list storage s) (shows_list storage shows) (show_are storage s) (shows_are storage shows)
+    lines_behind (show_list storage s) (shows_list storage shows) (show_are storage s)
+    (shows_are storage shows)
 
 -- ---- entries
 
@@ -298,7 +327,8 @@ number_lacks : (n : ℕ) → Lacks 10 (decimal n)
 number_lacks n = decimal_lacks 10 n (omega arith)
 
 -- a text behind a label
-behind_label : (label text : List ℕ) → list_all (λ b. nat_lt 31 b) label ≡ true → Lacks 10 text → Lacks 10 (label ++ text)
+behind_label : (label text : List ℕ) → list_all (λ b. nat_lt 31 b) label ≡ true → Lacks 10 text
+    → Lacks 10 (label ++ text)
 behind_label label text plain lacks = both_lack 10 label text (plain_lack label plain) lacks
 
 entry_lacks : (e : Entry) → Lacks 10 (words_text (line_of e))
@@ -340,10 +370,12 @@ further_lacks (e ∷ events) =
 
 events_lack : (events : List Event) → Lacks 10 (events_text events)
 events_lack [] = λ i within. absurd (omega arith)
-events_lack (e ∷ events) = both_lack 10 (event_text e) (further_text events) (event_lacks e) (further_lacks events)
+events_lack (e ∷ events) = both_lack 10 (event_text e) (further_text events) (event_lacks e)
+    (further_lacks events)
 
 row_is : (events : List Event) → IsLine (row_text events)
-row_is events = named (codes " SCHED ") _ refl (line_with (events_text events) _ (events_lack events) line_end)
+row_is events = named (codes " SCHED ") _ refl (line_with (events_text events) _
+    (events_lack events) line_end)
 
 events_told : (events : List Event) (n : ℕ) → joined (lines_to (events_piece events) n) ≡ rows_text events n
 unfolding lines_to
@@ -356,7 +388,8 @@ events_told events (suc n) =
 abbrev pub schedule_list : List Event → List (List ℕ)
 schedule_list events = lines_to (events_piece events) ((length events + 15) / 16) ++ codes "END\n" ∷ []
 
-pub schedule_told : (events : List Event) → joined (schedule_list events) ≡ schedule_text events ++ codes "END\n"
+pub schedule_told : (events : List Event)
+    → joined (schedule_list events) ≡ schedule_text events ++ codes "END\n"
 schedule_told events =
     let n = (length events + 15) / 16 in
     flat_map-append (λ (l : List ℕ). l) (lines_to (events_piece events) n) (codes "END\n" ∷ [])
@@ -405,7 +438,8 @@ list_told s =
     (flat_map-append (λ (l : List ℕ). l) (map entry_text s.history) (behind_entries s)
     ∙ ap₂ (λ (a b : List ℕ). a ++ (recorded ++ b)) (flat_map-map (λ (l : List ℕ). l) entry_text s.history)
     (schedule_told s.events))
-    ∙ all_told title status (cpus_text s.cpus) (shows_text s.storage s.shows) counted (history_text s.history) recorded
+    ∙ all_told title status (cpus_text s.cpus) (shows_text s.storage s.shows) counted
+    (history_text s.history) recorded
     (schedule_text s.events) (codes "END\n")
 
 number_is : (label : List ℕ) (n : ℕ) → list_all (λ b. nat_lt 31 b) label ≡ true → IsLine (number_line label n)

@@ -1,5 +1,6 @@
 -- Numbers of any size in decimal, told apart from those of 64 bits; and lines read word by word.
-use Rattle.std.proofs.Common.{◌≡◌, ◌∙◌, ap, sym, refl, subst, ℕ, zero, suc, ◌+◌, ◌*◌, ◌/◌, ◌%◌, ◌<◌, ◌≤◌, ◌^◌, arith}
+use Rattle.std.proofs.Common.{◌≡◌, ◌∙◌, ap, sym, refl, subst, ℕ, zero, suc, ◌+◌, ◌*◌, ◌/◌, ◌%◌, ◌<◌, ◌≤◌, ◌^◌}
+use Rattle.std.proofs.Common.{arith}
 use Rattle.std.proofs.Common.{Bool, false, List, [], ◌∷◌, ◌++◌, length, inl, inr}
 use Rattle.std.specs.Prelude.{◌==◌, if◌then◌else◌}
 use Rattle.std.specs.Fmt.{decimal, digits, digits_onto, digit_glyph}
@@ -37,7 +38,8 @@ onto_length (suc k) n acc large =
     let some : 1 ≤ n / 10 = let t = some_tens k in omega (arith, t, low) in
     let more = digit_glyph false (n % 10) ∷ acc in
     let rest = onto_length k (n / 10) more low in
-    ap (λ (b : Bool). length (if b then more else digits_onto k 10 false (n / 10) more)) (not_last (n / 10) some)
+    ap (λ (b : Bool). length (if b then more else digits_onto k 10 false (n / 10) more)) (not_last
+    (n / 10) some)
     ∙ rest ∙ omega arith
 
 wide_length : (n : ℕ) → tens 64 ≤ n → length (decimal n) ≡ 64
@@ -65,7 +67,8 @@ pub record Parted (w next : Word) (others : List Word) (front rest : List ℕ) :
   pub is_word : IsWord w front
   pub goes_on : Spelled (next ∷ others) rest
 
-pub word_first : (w next : Word) (others : List Word) (front rest : List ℕ) → stop_between w ≡ 32 → Lacks 32 front
+pub word_first : (w next : Word) (others : List Word) (front rest : List ℕ) → stop_between w ≡ 32
+    → Lacks 32 front
     → Spelled (w ∷ next ∷ others) (front ++ 32 ∷ rest) → Parted w next others front rest
 unfolding Spelled
 word_first w next others front rest between lacks h =
@@ -76,10 +79,12 @@ word_first w next others front rest between lacks h =
       goes_on = subst (Spelled (next ∷ others)) (sym same.behind) h.goes_on;
     }
 
-pub word_only : (w : Word) (front : List ℕ) → Lacks 10 front → Spelled (w ∷ []) (front ++ 10 ∷ []) → IsWord w front
+pub word_only : (w : Word) (front : List ℕ) → Lacks 10 front → Spelled (w ∷ []) (front ++ 10 ∷ [])
+    → IsWord w front
 unfolding Spelled
 word_only w front lacks h =
-    let same = same_cut 10 front h.front [] h.rest lacks (word_lacks w 10 h.front (omega arith) h.is_word) h.cut in
+    let same = same_cut 10 front h.front [] h.rest lacks (word_lacks w 10 h.front
+    (omega arith) h.is_word) h.cut in
     subst (IsWord w) (sym same.front) h.is_word
 
 -- a number that is spelled is within its limit

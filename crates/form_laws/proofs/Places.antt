@@ -1,6 +1,7 @@
 -- Where the lines of a report stand.
 use Rattle.std.proofs.Common.{◌≡◌, ◌∙◌, ap, sym, refl, ℕ, zero, suc, ◌+◌, ◌*◌, ◌/◌, ◌%◌, ◌<◌, arith}
-use Rattle.std.proofs.Common.{Bool, true, false, List, [], ◌∷◌, ◌++◌, append_assoc, append-nil, length, length-append}
+use Rattle.std.proofs.Common.{Bool, true, false, List, [], ◌∷◌, ◌++◌, append_assoc, append-nil, length}
+use Rattle.std.proofs.Common.{length-append}
 use Rattle.std.proofs.Common.{take, drop, get_or, map, Some, inl, inr}
 use Rattle.std.specs.Prelude.{codes, replicate, slice_get, if◌then◌else◌, ◌==◌}
 use Rattle.std.specs.List.{flat_map}
@@ -21,8 +22,10 @@ use Rattle.report_text.specs.Processor.{attempt_line, counts_line}
 use Rattle.report_text.specs.Report.{schedule_lines}
 use Rattle.report_text.specs.Storage.{bytes_at, block_line}
 use Rattle.report_text.specs.Shown.{Shown, ShownCpu}
-use Rattle.form_laws.proofs.Lists.{lines_to, cpu_list, cpus_list, bytes_piece, bytes_list, show_list, shows_list}
-use Rattle.form_laws.proofs.Lists.{head_list, behind_entries, behind_head, report_list, schedule_list, schedule_told, joined}
+use Rattle.form_laws.proofs.Lists.{lines_to, cpu_list, cpus_list, bytes_piece, bytes_list, show_list}
+use Rattle.form_laws.proofs.Lists.{shows_list}
+use Rattle.form_laws.proofs.Lists.{head_list, behind_entries, behind_head, report_list, schedule_list}
+use Rattle.form_laws.proofs.Lists.{schedule_told, joined}
 use Rattle.form_laws.proofs.CpuRows.{cpus_front}
 
 -- ---- how many lines
@@ -105,9 +108,11 @@ head_length image s count shows =
     let cpus = cpus_length 0 s.cpus in
     let shown = shows_length s.storage s.shows in
     let a = length-append (cpus_list 0 s.cpus) (shows_list s.storage s.shows) in
-    let b = ap length (flat_map-append (λ (p : Part). replicate p.count p.row) (cpus_parts (length image.cpus))
+    let b = ap length (flat_map-append (λ (p : Part). replicate p.count p.row) (cpus_parts
+    (length image.cpus))
     (flat_map show_parts image.shows)) in
-    let c = length-append (rows_of (cpus_parts (length image.cpus))) (rows_of (flat_map show_parts image.shows)) in
+    let c = length-append (rows_of (cpus_parts (length image.cpus))) (rows_of
+    (flat_map show_parts image.shows)) in
     let d = ap (λ (n : ℕ). length (rows_of (cpus_parts n))) count in
     let e = ap (λ (shows : List Show). length (rows_of (flat_map show_parts shows))) shows in
     omega (arith, cpus, shown, a, b, c, d, e)
@@ -124,14 +129,16 @@ behind (z ∷ xs) x ys n is =
 pub there : (xs : List (List ℕ)) (x : List ℕ) (ys : List (List ℕ)) (n : ℕ) → length xs ≡ n
     → get_or (xs ++ x ∷ ys) n [] ≡ x
 there [] x ys n is = ap (λ k. get_or (x ∷ ys) k []) (sym is)
-there (z ∷ xs) x ys n is = ap (λ k. get_or (z ∷ (xs ++ x ∷ ys)) k []) (sym is) ∙ there xs x ys (length xs) refl
+there (z ∷ xs) x ys n is = ap (λ k. get_or (z ∷ (xs ++ x ∷ ys)) k []) (sym is)
+    ∙ there xs x ys (length xs) refl
 
 from : (xs : List (List ℕ)) (x : List ℕ) (ys : List (List ℕ)) (n : ℕ) → length xs ≡ n
     → drop n (xs ++ x ∷ ys) ≡ x ∷ ys
 from [] x ys n is = ap (λ k. drop k (x ∷ ys)) (sym is)
 from (z ∷ xs) x ys n is = ap (λ k. drop k (z ∷ (xs ++ x ∷ ys))) (sym is) ∙ from xs x ys (length xs) refl
 
-get_front : (xs ys : List (List ℕ)) (k : ℕ) (x : List ℕ) → slice_get xs k ≡ Some x → slice_get (xs ++ ys) k ≡ Some x
+get_front : (xs ys : List (List ℕ)) (k : ℕ) (x : List ℕ) → slice_get xs k ≡ Some x
+    → slice_get (xs ++ ys) k ≡ Some x
 get_front [] ys k x at = absurd cc
 get_front (y ∷ xs) ys zero x at = at
 get_front (y ∷ xs) ys (suc k) x at = get_front xs ys k x at
@@ -144,7 +151,8 @@ get_behind (y ∷ xs) ys k =
 
 -- the lines of a CPU among those of all
 cpu_at : (n : ℕ) (cpus : List ShownCpu) (i j : ℕ) (c : ShownCpu) (line : List ℕ) → slice_get cpus i ≡ Some c
-    → ((k : ℕ) → slice_get (cpu_list k c) j ≡ Some line) → slice_get (cpus_list n cpus) (11 * i + j) ≡ Some line
+    → ((k : ℕ) → slice_get (cpu_list k c) j ≡ Some line)
+    → slice_get (cpus_list n cpus) (11 * i + j) ≡ Some line
 unfolding cpus_list
 cpu_at n [] i j c line at is = absurd cc
 cpu_at n (d ∷ cs) zero j c line at is =
@@ -160,13 +168,15 @@ cpu_at n (d ∷ cs) (suc i) j c line at is =
 
 -- and among those of the report
 line_at : (s : Shown) (i j : ℕ) (c : ShownCpu) (line : List ℕ) → slice_get s.cpus i ≡ Some c
-    → ((k : ℕ) → slice_get (cpu_list k c) j ≡ Some line) → slice_get (report_list s) (2 + 11 * i + j) ≡ Some line
+    → ((k : ℕ) → slice_get (cpu_list k c) j ≡ Some line)
+    → slice_get (report_list s) (2 + 11 * i + j) ≡ Some line
 line_at s i j c line at is =
     let place : 2 + 11 * i + j ≡ suc (suc (11 * i + j)) = omega arith in
     let behind_head = number_line (codes "HISTORY ") (length s.history) ∷ behind_head s in
     ap (slice_get (report_list s)) place
     ∙ get_front (cpus_list 0 s.cpus ++ shows_list s.storage s.shows) behind_head (11 * i + j) line
-    (get_front (cpus_list 0 s.cpus) (shows_list s.storage s.shows) (11 * i + j) line (cpu_at 0 s.cpus i j c line at is))
+    (get_front (cpus_list 0 s.cpus) (shows_list s.storage s.shows) (11 * i + j) line
+    (cpu_at 0 s.cpus i j c line at is))
 
 pub attempt_at : (s : Shown) (i : ℕ) (c : ShownCpu) → slice_get s.cpus i ≡ Some c
     → slice_get (report_list s) (2 + 11 * i + 8) ≡ Some (attempt_line c.attempt)
@@ -181,7 +191,8 @@ counts_at s i c at = line_at s i 10 c (counts_line c.counts) at (λ k. refl)
 -- the count of entries
 pub entries_counted : (s : Shown) (n : ℕ) → length (head_list s) ≡ n
     → get_or (report_list s) n [] ≡ number_line (codes "HISTORY ") (length s.history)
-entries_counted s n is = there (head_list s) (number_line (codes "HISTORY ") (length s.history)) (behind_head s) n is
+entries_counted s n is = there (head_list s) (number_line (codes "HISTORY ") (length s.history))
+    (behind_head s) n is
 
 -- the lines of the entries
 pub entries_at : (s : Shown) (n : ℕ) → length (head_list s) ≡ n

@@ -1,6 +1,7 @@
 -- The lines of the history and of the recorded events.
 use Rattle.std.proofs.Common.{◌≡◌, ◌∙◌, ap, sym, refl, subst, ℕ, suc, ◌+◌, ◌*◌, ◌/◌, ◌%◌, ◌<◌, ◌≤◌, ◌^◌}
-use Rattle.std.proofs.Common.{arith, List, [], ◌∷◌, ◌++◌, append_assoc, append-nil, length, drop, map, inl, inr}
+use Rattle.std.proofs.Common.{arith, List, [], ◌∷◌, ◌++◌, append_assoc, append-nil, length, drop, map, inl}
+use Rattle.std.proofs.Common.{inr}
 use Rattle.std.specs.Prelude.{codes, replicate, min, All, ◌==◌, if◌then◌else◌}
 use Rattle.std.specs.Fmt.{decimal}
 use Rattle.std.proofs.lemmas.List.{length-take-le, length-drop, take_all}
@@ -45,9 +46,15 @@ entries_tell last (e ∷ history) are =
 event_word : (last : ℕ) (e : Event) → last < 2 ^ 64 → IsKnown last e → IsEvent last (event_text e)
 event_word last (Turn cpu) fits known = inl (a_number last cpu (omega (arith, fits, known)) known)
 event_word last (External cpu) fits known =
-    inr record { rest = decimal cpu; behind = refl; cpu = a_number last cpu (omega (arith, fits, known)) known }
+    inr record {
+      rest = decimal cpu;
+      behind = refl;
+      cpu = a_number last cpu (omega
+          (arith, fits, known)) known;
+    }
 
-events_then : (last : ℕ) (e : Event) (es : List Event) → last < 2 ^ 64 → IsKnown last e → All (IsKnown last) es
+events_then : (last : ℕ) (e : Event) (es : List Event) → last < 2 ^ 64 → IsKnown last e
+    → All (IsKnown last) es
     → Spelled (word.Event last ∷ replicate (length es) (word.Event last))
     ((event_text e ++ further_text es) ++ 10 ∷ [])
 events_then last e [] fits known more =

@@ -1,6 +1,7 @@
 -- The lines of shown storage.
 use Rattle.std.proofs.Common.{◌≡◌, ◌∙◌, ap, sym, refl, subst, ℕ, zero, suc, ◌+◌, ◌-◌, ◌*◌, ◌/◌, ◌%◌, ◌<◌, ◌≤◌}
-use Rattle.std.proofs.Common.{◌^◌, arith, Bool, true, false, List, [], ◌∷◌, ◌++◌, append_assoc, append-nil, length, take, drop}
+use Rattle.std.proofs.Common.{◌^◌, arith, Bool, true, false, List, [], ◌∷◌, ◌++◌, append_assoc, append-nil}
+use Rattle.std.proofs.Common.{length, take, drop}
 use Rattle.std.proofs.Common.{slice_index}
 use Rattle.std.specs.Prelude.{codes, replicate, min, if◌then◌else◌, ◌==◌, All}
 use Rattle.std.specs.List.{flat_map}
@@ -72,11 +73,14 @@ piece_row last storage first count k size are within low is =
     bytes_row last (2 * size) (first + 16 * k) (bytes_at storage (first + 16 * k) (min 16 (count - 16 * k)))
     (part_bytes storage (first + 16 * k) (min 16 (count - 16 * k)) are) (ap (λ n. 2 * n) many)
 
-bytes_tell : (last : ℕ) (storage : List ℕ) (first count : ℕ) → IsBytes storage → first + count ≤ length storage
-    → Tells last (sixteens count (row.Bytes 32) (row.Bytes (2 * (count % 16)))) (bytes_list storage first count)
+bytes_tell : (last : ℕ) (storage : List ℕ) (first count : ℕ) → IsBytes storage
+    → first + count ≤ length storage
+    → Tells last (sixteens count (row.Bytes 32) (row.Bytes (2 * (count % 16))))
+    (bytes_list storage first count)
 bytes_tell last storage first count are within =
     tells_sixteens last count (row.Bytes 32) (row.Bytes (2 * (count % 16))) (bytes_piece storage first count)
-    (λ k below. piece_row last storage first count k 16 are within (omega (arith, below)) (omega (arith, below)))
+    (λ k below. piece_row last storage first count k 16 are within (omega (arith, below)) (omega
+    (arith, below)))
     (λ some. piece_row last storage first count (count / 16) (count % 16) are within (omega arith)
     (omega (arith, some)))
 
@@ -109,7 +113,8 @@ eight_bytes block place are =
 some_digits : (block : List ℕ) (place count : ℕ) → IsBytes block → place + count ≤ length block
     → AreDigits (2 * count) (encode_lower (bytes_at block place count))
 some_digits block place count are within =
-    subst (λ n. AreDigits (2 * n) (encode_lower (bytes_at block place count))) (part_length block place count within)
+    subst (λ n. AreDigits (2 * n) (encode_lower (bytes_at block place count)))
+    (part_length block place count within)
     (byte_digits (bytes_at block place count) (part_bytes block place count are))
 
 -- the words of the line of a block
@@ -118,9 +123,12 @@ block_words : (first : ℕ) (block : List ℕ) → IsBytes block → length bloc
     ∷ Fixed name.Depth ∷ AtMost most ∷ Fixed name.Code ∷ AtMost most ∷ Fixed name.Token ∷ Digits 16
     ∷ Fixed name.At ∷ Digits 16 ∷ Fixed name.Interruption ∷ Digits 4 ∷ [])
     (codes "D " ++ (word_text first ++ (codes " FORMAT " ++ (decimal (slice_index block 0)
-    ++ (codes " FLAGS " ++ (encode_lower (bytes_at block 1 1) ++ (codes " DEPTH " ++ (decimal (number_at block 6 2)
-    ++ (codes " CODE " ++ (decimal (number_at block 8 8) ++ (codes " TOKEN " ++ (encode_lower (bytes_at block 16 8)
-    ++ (codes " AT " ++ (encode_lower (bytes_at block 24 8) ++ (codes " PI " ++ (encode_lower (bytes_at block 38 2)
+    ++ (codes " FLAGS " ++ (encode_lower (bytes_at block 1 1) ++ (codes " DEPTH "
+    ++ (decimal (number_at block 6 2)
+    ++ (codes " CODE " ++ (decimal (number_at block 8 8) ++ (codes " TOKEN "
+    ++ (encode_lower (bytes_at block 16 8)
+    ++ (codes " AT " ++ (encode_lower (bytes_at block 24 8) ++ (codes " PI "
+    ++ (encode_lower (bytes_at block 38 2)
     ++ codes "\n"))))))))))))))))
 block_words first block are size =
     let format : slice_index block 0 < 256 = are 0 in
@@ -152,8 +160,10 @@ block_words first block are size =
 
 -- the fields of a block are told from its head on
 head_told : (f g d c t : List ℕ)
-    → codes " FORMAT " ++ (f ++ (codes " FLAGS " ++ (g ++ (codes " DEPTH " ++ (d ++ (codes " CODE " ++ (c ++ t)))))))
-    ≡ ((codes " FORMAT " ++ f) ++ (codes " FLAGS " ++ (g ++ ((codes " DEPTH " ++ d) ++ (codes " CODE " ++ c))))) ++ t
+    → codes " FORMAT " ++ (f ++ (codes " FLAGS " ++ (g ++ (codes " DEPTH " ++ (d ++ (codes " CODE " ++ (c
+    ++ t)))))))
+    ≡ ((codes " FORMAT " ++ f) ++ (codes " FLAGS " ++ (g ++ ((codes " DEPTH " ++ d) ++ (codes " CODE "
+    ++ c))))) ++ t
 head_told f g d c t =
     let coded = codes " CODE " ++ c in
     let deep = codes " DEPTH " ++ (d ++ coded) in
@@ -163,23 +173,29 @@ head_told f g d c t =
 
 block_told : (block : List ℕ)
     → codes " FORMAT " ++ (decimal (slice_index block 0)
-    ++ (codes " FLAGS " ++ (encode_lower (bytes_at block 1 1) ++ (codes " DEPTH " ++ (decimal (number_at block 6 2)
-    ++ (codes " CODE " ++ (decimal (number_at block 8 8) ++ (codes " TOKEN " ++ (encode_lower (bytes_at block 16 8)
-    ++ (codes " AT " ++ (encode_lower (bytes_at block 24 8) ++ (codes " PI " ++ (encode_lower (bytes_at block 38 2)
+    ++ (codes " FLAGS " ++ (encode_lower (bytes_at block 1 1) ++ (codes " DEPTH "
+    ++ (decimal (number_at block 6 2)
+    ++ (codes " CODE " ++ (decimal (number_at block 8 8) ++ (codes " TOKEN "
+    ++ (encode_lower (bytes_at block 16 8)
+    ++ (codes " AT " ++ (encode_lower (bytes_at block 24 8) ++ (codes " PI "
+    ++ (encode_lower (bytes_at block 38 2)
     ++ codes "\n")))))))))))))
     ≡ block_head block ++ block_tail block
 unfolding block_head block_tail labelled
 block_told block =
-    head_told (decimal (slice_index block 0)) (encode_lower (bytes_at block 1 1)) (decimal (number_at block 6 2))
+    head_told (decimal (slice_index block 0)) (encode_lower (bytes_at block 1 1)) (decimal
+    (number_at block 6 2))
     (decimal (number_at block 8 8)) (block_tail block)
 
 block_row : (last first : ℕ) (block : List ℕ) → IsBytes block → length block ≡ 256
     → IsRow last row.Block (block_line first block)
 unfolding IsRow block_line
 block_row last first block are size =
-    subst (λ t. Spelled (Fixed name.Block ∷ Digits 8 ∷ Fixed name.Format ∷ AtMost most ∷ Fixed name.Flags ∷ Digits 2
+    subst (λ t. Spelled (Fixed name.Block ∷ Digits 8 ∷ Fixed name.Format ∷ AtMost most ∷ Fixed name.Flags
+    ∷ Digits 2
     ∷ Fixed name.Depth ∷ AtMost most ∷ Fixed name.Code ∷ AtMost most ∷ Fixed name.Token ∷ Digits 16
-    ∷ Fixed name.At ∷ Digits 16 ∷ Fixed name.Interruption ∷ Digits 4 ∷ []) (codes "D " ++ (word_text first ++ t)))
+    ∷ Fixed name.At ∷ Digits 16 ∷ Fixed name.Interruption ∷ Digits 4 ∷ []) (codes "D "
+    ++ (word_text first ++ t)))
     (block_told block) (block_words first block are size)
 
 -- ---- what is shown at one place, and at all
@@ -189,7 +205,8 @@ show_by : (last : ℕ) (storage : List ℕ) (s : Show) (b : Bool) → IsBytes st
     → Tells last (rows_of (if b then once row.Block ∷ []
     else times (s.length / 16) (row.Bytes 32)
     ∷ times (if s.length % 16 == 0 then 0 else 1) (row.Bytes (2 * (s.length % 16))) ∷ []))
-    (if b then block_line s.first (bytes_at storage s.first 256) ∷ [] else bytes_list storage s.first s.length)
+    (if b then block_line s.first (bytes_at storage s.first 256)
+    ∷ [] else bytes_list storage s.first s.length)
 show_by last storage s true are within block =
     let size = block refl in
     tells_row last row.Block (block_line s.first (bytes_at storage s.first 256))
@@ -211,7 +228,8 @@ unfolding show_list
 show_tells last storage s are size shown =
     show_by last storage s s.fields are (let h = shown.high in omega (arith, h, size)) shown.block
 
-pub shows_tell : (last : ℕ) (storage : List ℕ) (shows : List Show) → IsBytes storage → length storage ≡ 1048576
+pub shows_tell : (last : ℕ) (storage : List ℕ) (shows : List Show) → IsBytes storage
+    → length storage ≡ 1048576
     → All IsShown shows
     → Tells last (rows_of (flat_map show_parts shows)) (shows_list storage shows)
 unfolding shows_list
@@ -219,7 +237,8 @@ shows_tell last storage [] are size shown = tells_nothing last
 shows_tell last storage (s ∷ shows) are size shown =
     let rows : rows_of (show_parts s) ++ rows_of (flat_map show_parts shows)
     ≡ rows_of (flat_map show_parts (s ∷ shows)) =
-    sym (flat_map-append (λ (p : Part). replicate p.count p.row) (show_parts s) (flat_map show_parts shows)) in
+    sym (flat_map-append (λ (p : Part). replicate p.count p.row) (show_parts s)
+    (flat_map show_parts shows)) in
     subst (λ rs. Tells last rs (show_list storage s ++ shows_list storage shows)) rows
     (tells_behind last (rows_of (show_parts s)) (rows_of (flat_map show_parts shows)) (show_list storage s)
     (shows_list storage shows)

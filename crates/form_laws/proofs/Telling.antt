@@ -49,7 +49,8 @@ tells_behind last rows others lines more one two =
     }
 
 -- one row in front
-pub tells_more : (last : ℕ) (r : Row) (line : List ℕ) (rows : List Row) (lines : List (List ℕ)) → IsRow last r line
+pub tells_more : (last : ℕ) (r : Row) (line : List ℕ) (rows : List Row) (lines : List (List ℕ))
+    → IsRow last r line
     → Tells last rows lines → Tells last (r ∷ rows) (line ∷ lines)
 tells_more last r line rows lines is more = record { fit = (is, more.fit); count = ap suc more.count }
 
@@ -65,7 +66,8 @@ tells_each last r piece (suc n) each =
     replicate_more n r ∙ (let e : n + 1 ≡ suc n = omega arith in ap (λ m. replicate m r) e) in
     subst (λ rows. Tells last rows (lines_to piece (suc n))) more
     (tells_behind last (replicate n r) (r ∷ []) (lines_to piece n) (piece n ∷ [])
-    (tells_each last r piece n (λ k below. each k (omega arith))) (tells_row last r (piece n) (each n (omega arith))))
+    (tells_each last r piece n (λ k below. each k (omega arith))) (tells_row last r (piece n) (each n
+    (omega arith))))
 
 -- sixteen to a line, and a last line of what is left
 abbrev pub sixteens : ℕ → Row → Row → List Row
@@ -88,7 +90,8 @@ tells_sixteens last n full rest piece each more = by (n % 16) refl (tells_each l
     by zero is whole =
         let none : (n + 15) / 16 ≡ n / 16 = omega (arith, is) in
         let rows : replicate (n / 16) full ≡ sixteens n full rest =
-        sym (ap (λ (b : Bool). replicate (n / 16) full ++ replicate (if b then 0 else 1) rest) (zero_left n is)
+        sym (ap (λ (b : Bool). replicate (n / 16) full
+        ++ replicate (if b then 0 else 1) rest) (zero_left n is)
         ∙ append-nil (replicate (n / 16) full)) in
         subst (λ k. Tells last (sixteens n full rest) (lines_to piece k)) (sym none)
         (subst (λ rs. Tells last rs (lines_to piece (n / 16))) rows whole)
@@ -96,8 +99,10 @@ tells_sixteens last n full rest piece each more = by (n % 16) refl (tells_each l
         let some : 0 < n % 16 = omega (arith, is) in
         let next : (n + 15) / 16 ≡ suc (n / 16) = omega (arith, is) in
         let rows : replicate (n / 16) full ++ rest ∷ [] ≡ sixteens n full rest =
-        sym (ap (λ (b : Bool). replicate (n / 16) full ++ replicate (if b then 0 else 1) rest) (some_left n some)) in
+        sym (ap (λ (b : Bool). replicate (n / 16) full
+        ++ replicate (if b then 0 else 1) rest) (some_left n some)) in
         subst (λ k. Tells last (sixteens n full rest) (lines_to piece k)) (sym next)
         (subst (λ rs. Tells last rs (lines_to piece (suc (n / 16)))) rows
-        (tells_behind last (replicate (n / 16) full) (rest ∷ []) (lines_to piece (n / 16)) (piece (n / 16) ∷ []) whole
+        (tells_behind last (replicate (n / 16) full) (rest ∷ []) (lines_to piece (n / 16)) (piece (n / 16)
+        ∷ []) whole
         (tells_row last rest (piece (n / 16)) (more some))))

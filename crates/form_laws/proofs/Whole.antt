@@ -1,6 +1,7 @@
 -- The lines of a whole report, and that they have the form.
 use Rattle.std.proofs.Common.{◌≡◌, ◌∙◌, ap, ap₂, sym, refl, subst, ℕ, ◌+◌, ◌<◌}
-use Rattle.std.proofs.Common.{arith, Bool, true, false, List, [], ◌∷◌, ◌++◌, append_assoc, append-nil, length, length-append}
+use Rattle.std.proofs.Common.{arith, Bool, true, false, List, [], ◌∷◌, ◌++◌, append_assoc, append-nil, length}
+use Rattle.std.proofs.Common.{length-append}
 use Rattle.std.proofs.Common.{drop, get_or, map, inl, inr}
 use Rattle.std.specs.Prelude.{codes, replicate, All, if◌then◌else◌}
 use Rattle.std.specs.List.{flat_map, list_all}
@@ -25,7 +26,8 @@ use Rattle.report_text.specs.Shown.{Shown, ShownCpu}
 use Rattle.tx_check.specs.Lines.{lines_of}
 use Rattle.form_laws.specs.Reportable.{CanBeReported}
 use Rattle.form_laws.proofs.Words.{word_then, word_last}
-use Rattle.form_laws.proofs.Lists.{cpus_list, shows_list, schedule_list, head_list, behind_entries, behind_head}
+use Rattle.form_laws.proofs.Lists.{cpus_list, shows_list, schedule_list, head_list, behind_entries}
+use Rattle.form_laws.proofs.Lists.{behind_head}
 use Rattle.form_laws.proofs.Lists.{report_list, report_lines}
 use Rattle.form_laws.proofs.Telling.{Tells, tells_more, tells_behind, fit_front}
 use Rattle.form_laws.proofs.CpuRows.{cpus_tell}
@@ -38,7 +40,8 @@ use Rattle.form_laws.proofs.RunRows.{entries_tell, schedule_tells}
 title_row : (last : ℕ) → IsRow last row.Title (codes "ZTX REPORT\n")
 unfolding IsRow
 title_row last =
-    word_then (Fixed name.Ztx) _ _ (codes "ZTX") _ 32 refl refl (word_last (Fixed name.Report) (codes "REPORT") refl)
+    word_then (Fixed name.Ztx) _ _ (codes "ZTX") _ 32 refl refl (word_last (Fixed name.Report)
+    (codes "REPORT") refl)
 
 status_row : (last : ℕ) (finished : Bool)
     → IsRow last row.Status (number_line (codes "STATUS ") (if finished then 0 else 6))
@@ -58,8 +61,10 @@ head_tells image s h =
     let few = h.few in
     let count = h.count in
     let cpus = cpus_tell last 0 s.cpus (omega (arith, few)) (omega (arith, some, count)) h.cpus in
-    let shows = shows_tell last s.storage s.shows h.bytes h.size (subst (All IsShown) (sym h.shows) h.shown) in
-    let both = tells_behind last (rows_of (cpus_parts (length s.cpus))) (rows_of (flat_map show_parts s.shows))
+    let shows = shows_tell last s.storage s.shows h.bytes h.size (subst (All IsShown)
+    (sym h.shows) h.shown) in
+    let both = tells_behind last (rows_of (cpus_parts (length s.cpus))) (rows_of
+    (flat_map show_parts s.shows))
     (cpus_list 0 s.cpus) (shows_list s.storage s.shows) cpus shows in
     let rows : rows_of (cpus_parts (length s.cpus)) ++ rows_of (flat_map show_parts s.shows)
     ≡ rows_of (cpus_parts (length image.cpus) ++ flat_map show_parts image.shows) =
@@ -128,7 +133,8 @@ has_form image s h =
         fit =
             subst (λ ls. Fit last (rows_of (history_parts n)) ls) (sym behind_counted)
             (subst (λ rows. Fit last rows (behind_head s)) (sym (one_row_each n))
-            (fit_front last (replicate n row.Entry) (map entry_text s.history) (behind_entries s) entries.fit));
+            (fit_front last (replicate n row.Entry) (map entry_text s.history)
+            (behind_entries s) entries.fit));
         count = record {
           fits = h.few_events;
           there =
@@ -140,7 +146,8 @@ has_form image s h =
               ∙ schedule_counted (length s.events);
         };
       };
-      fit = subst (λ ls. Fit last (rows_of (schedule_parts (length s.events))) ls) (sym behind_recorded) events.fit;
+      fit = subst (λ ls. Fit last (rows_of (schedule_parts (length s.events))) ls)
+          (sym behind_recorded) events.fit;
       whole =
           let a = length-append before (recorded ∷ schedule_list s.events) in
           let b = ap length again in

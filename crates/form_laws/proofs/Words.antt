@@ -1,6 +1,7 @@
 -- Lines that are spelled, word by word.
 use Rattle.std.proofs.Common.{◌≡◌, ap, sym, refl, subst, ℕ, zero, suc, ◌*◌, ◌/◌, ◌%◌, ◌<◌, ◌≤◌, ◌^◌, arith}
-use Rattle.std.proofs.Common.{Bool, true, false, List, [], ◌∷◌, ◌++◌, append_assoc, length, slice_index, inl, inr}
+use Rattle.std.proofs.Common.{Bool, true, false, List, [], ◌∷◌, ◌++◌, append_assoc, length, slice_index, inl}
+use Rattle.std.proofs.Common.{inr}
 use Rattle.std.specs.Prelude.{◌&&◌, replicate}
 use Rattle.std.specs.List.{flat_map}
 use Rattle.std.specs.Fmt.{decimal, digit_glyph}
@@ -51,7 +52,8 @@ digit_in text (suc n) k all below =
     let parts = and_parts (is_digit (slice_index text n)) (all_digits text n) all in
     elim (cases_lt k n) [
       | inl low ↦ digit_in text n k parts.1 low
-      | inr high ↦ let same : n ≡ k = omega arith in subst (λ j. is_digit (slice_index text j) ≡ true) same parts.0
+      | inr high ↦ let same : n ≡ k = omega arith in subst (λ j. is_digit
+          (slice_index text j) ≡ true) same parts.0
     ]
 
 low_digits : (d : ℕ) → d < 16 → is_digit (slice_index lower_digits d) ≡ true
@@ -111,7 +113,8 @@ glyph_in (suc n) k all below =
     let parts = and_parts (is_digit (digit_glyph false n)) (glyphs n) all in
     elim (cases_lt k n) [
       | inl low ↦ glyph_in n k parts.1 low
-      | inr high ↦ let same : n ≡ k = omega arith in subst (λ j. is_digit (digit_glyph false j) ≡ true) same parts.0
+      | inr high ↦ let same : n ≡ k = omega arith in subst (λ j. is_digit
+          (digit_glyph false j) ≡ true) same parts.0
     ]
 
 one_digit : (x : ℕ) → is_digit x ≡ true → (k : ℕ) → k < 1 → is_digit (slice_index (x ∷ []) k) ≡ true
@@ -126,13 +129,16 @@ a_digit n below = record { size = refl; digits = one_digit (digit_glyph false n)
 -- ---- many values
 
 -- values behind blanks, each in as many digits, behind a first word
-pub values_then : (digits : ℕ) (f : ℕ → List ℕ) → ((v : ℕ) → AreDigits digits (f v)) → (w : Word) (front : List ℕ)
+pub values_then : (digits : ℕ) (f : ℕ → List ℕ) → ((v : ℕ) → AreDigits digits (f v))
+    → (w : Word) (front : List ℕ)
     → stop_between w ≡ 32 → IsWord w front → (values : List ℕ)
-    → Spelled (w ∷ replicate (length values) (Digits digits)) (front ++ (flat_map (λ v. 32 ∷ f v) values ++ 10 ∷ []))
+    → Spelled (w ∷ replicate (length values) (Digits digits)) (front ++ (flat_map (λ v. 32 ∷ f v) values
+    ++ 10 ∷ []))
 values_then digits f each w front between is [] = word_last w front is
 values_then digits f each w front between is (v ∷ vs) =
     let behind = flat_map (λ v. 32 ∷ f v) vs in
     subst (λ t. Spelled (w ∷ Digits digits ∷ replicate (length vs) (Digits digits)) (front ++ 32 ∷ t))
     (sym (append_assoc (f v) behind (10 ∷ [])))
-    (word_then w (Digits digits) (replicate (length vs) (Digits digits)) front (f v ++ (behind ++ 10 ∷ [])) 32 between is
+    (word_then w (Digits digits) (replicate (length vs) (Digits digits)) front (f v ++ (behind
+    ++ 10 ∷ [])) 32 between is
     (values_then digits f each (Digits digits) (f v) refl (each v) vs))

@@ -17,6 +17,7 @@ returns c =
       sound = sound;
       accepted = accepted seen.image (report_of m seen.events) entries sound;
       alone = λ answer other due.
-          c.nothing_else_is_due_of_a_sound_report.ensures seen.image (report_of m seen.events) entries answer sound other
+          c.nothing_else_is_due_of_a_sound_report.ensures seen.image
+          (report_of m seen.events) entries answer sound other
           due;
     }
