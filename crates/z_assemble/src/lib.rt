@@ -8,6 +8,7 @@ mod laws;
 mod parameter;
 mod parts;
 mod place;
+mod places;
 mod second;
 mod setup;
 mod whole;
