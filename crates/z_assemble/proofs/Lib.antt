@@ -2,6 +2,7 @@
 pub mod Loops
 pub mod Says
 pub mod Lists
+pub mod MarkedPlaces
 pub mod Passed
 pub mod Machines
 pub mod Over

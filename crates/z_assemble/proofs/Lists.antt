@@ -1,7 +1,6 @@
 -- The steps of the loops over plain lists.
-use Rattle.std.proofs.Common.{◌≡◌, ℕ, zero, suc, ◌+◌, ◌<◌, ◌≤◌, Bool, true, false, ◌||◌, cond, List, [], ◌∷◌}
-use Rattle.std.proofs.Common.{◌++◌, length, map, drop, get_or, refl, sym, ap, ◌∙◌, arith, append_assoc}
-use Rattle.std.proofs.Common.{append-nil}
+use Rattle.std.proofs.Common.{◌≡◌, ℕ, zero, suc, ◌+◌, ◌<◌, ◌≤◌, Bool, true, false, ◌||◌, List, [], ◌∷◌}
+use Rattle.std.proofs.Common.{length, map, drop, get_or, refl, sym, ap, ◌∙◌, arith}
 use Rattle.std.proofs.Math.ListN.{set}
 use Rattle.std.proofs.lemmas.Grind.{common_steps}
 use Rattle.std.proofs.lemmas.List.{drop_all}
@@ -9,7 +8,7 @@ use Rattle.std.specs.List.{list_any}
 use Rattle.z_regs.specs.Cpu.{Cpu, cpu_of}
 use Rattle.z_regs.specs.declared.image.CpuImage.{CpuImage}
 use Rattle.z_assemble.specs.Machine.{change_at}
-use Rattle.z_assemble.specs.Whole.{places_from, pages_with, with_pages, Pages, with_place}
+use Rattle.z_assemble.specs.Whole.{pages_with, with_pages, Pages}
 use Rattle.z_operands.proofs.Loops.{drop_here}
 
 pub any_true : {X : Type 0} (q : X → Bool) (xs : List X) (i : ℕ) (d : X) → i < length xs →
@@ -52,49 +51,6 @@ unchanged f (x ∷ xs) zero h = absurd (omega arith)
 unchanged f (x ∷ xs) (suc i) h = ap (λ cs. cpu_of x ∷ cs) (unchanged f xs i (omega arith))
 
 pub ruleset change_steps = (changed, unchanged, common_steps)
-
--- ---- places of marks
-
-places_here : (n : ℕ) (marks : List Bool) (i : ℕ) (d : Bool) → i < length marks →
-    places_from n (drop i marks) ≡ cond (get_or marks i d) (n ∷ places_from (suc n) (drop (i + 1) marks))
-    (places_from (suc n) (drop (i + 1) marks))
-unfolding places_from
-places_here n marks i d h = ap (places_from n) (drop_here marks i d h)
-
-pub place_marked : (marks : List Bool) (i : ℕ) (d : Bool) (old whole : List ℕ) → i < length marks →
-    get_or marks i d ≡ true →
-    old ++ places_from i (drop i marks) ≡ whole →
-    (old ++ i ∷ []) ++ places_from (i + 1) (drop (i + 1) marks) ≡ whole
-place_marked marks i d old whole h e w =
-    let n : suc i ≡ i + 1 = omega arith in
-    append_assoc old (i ∷ []) (places_from (i + 1) (drop (i + 1) marks))
-    ∙ (ap (λ m. old ++ i ∷ places_from m (drop (i + 1) marks)) (sym n)
-    ∙ (ap (λ l. old ++ l) (sym (places_here i marks i d h
-    ∙ ap (λ b. cond b (i ∷ places_from (suc i) (drop (i + 1) marks))
-    (places_from (suc i) (drop (i + 1) marks))) e)) ∙ w))
-
-pub place_unmarked : (marks : List Bool) (i : ℕ) (d : Bool) (old whole : List ℕ) → i < length marks →
-    get_or marks i d ≡ false →
-    old ++ places_from i (drop i marks) ≡ whole → old ++ places_from (i + 1) (drop (i + 1) marks) ≡ whole
-place_unmarked marks i d old whole h e w =
-    let n : suc i ≡ i + 1 = omega arith in
-    ap (λ m. old ++ places_from m (drop (i + 1) marks)) (sym n)
-    ∙ (ap (λ l. old ++ l) (sym (places_here i marks i d h
-    ∙ ap (λ b. cond b (i ∷ places_from (suc i) (drop (i + 1) marks))
-    (places_from (suc i) (drop (i + 1) marks))) e)) ∙ w)
-
-pub place_step : (marks : List Bool) (i : ℕ) (d : Bool) (old whole : List ℕ) (b : Bool) → i < length marks →
-    get_or marks i d ≡ b →
-    old ++ places_from i (drop i marks) ≡ whole →
-    with_place b i old ++ places_from (i + 1) (drop (i + 1) marks) ≡ whole
-place_step marks i d old whole true h e w = place_marked marks i d old whole h e w
-place_step marks i d old whole false h e w = place_unmarked marks i d old whole h e w
-
-pub places_over : (marks : List Bool) (i : ℕ) (old whole : List ℕ) → length marks ≤ i →
-    old ++ places_from i (drop i marks) ≡ whole → old ≡ whole
-unfolding places_from
-places_over marks i old whole h w = sym (append-nil old)
-    ∙ (ap (λ l. old ++ places_from i l) (sym (drop_all i marks h)) ∙ w)
 
 -- ---- pages
 

@@ -8,6 +8,7 @@ mod laws;
 mod parameter;
 mod parts;
 mod place;
+mod places;
 mod reading;
 mod second;
 mod setup;

@@ -13,7 +13,7 @@ ghost use Rattle.z_assemble.specs.Setup.{machine_of, known_of};
 ghost use Rattle.z_assemble.specs.Steps.{Passes, on_line};
 ghost use Rattle.z_assemble.specs.Text.{lines_of, copies};
 ghost use Rattle.z_assemble.specs.Whole.{first_on, first_over, second_on, second_over, blank, no_label};
-ghost use Rattle.z_assemble.specs.Whole.{places_from, with_place, with_page, with_pages, pages_with};
+ghost use Rattle.z_assemble.specs.Whole.{with_page, with_pages, pages_with};
 ghost use Rattle.z_assemble.specs.Whole.{image_of, finished, after_first, over_lines, assembled, Stands};
 ghost use Rattle.z_assemble.specs.Whole.{HasFault, IsOutcome, fault_at, ready_for};
 
@@ -21,6 +21,7 @@ use crate::draft::{Draft, SIZE, Work};
 use crate::fault::{AssembleFault, ListingFault};
 use crate::first::read_first;
 use crate::parts::Parts;
+use crate::places::places_of;
 use crate::reading::Reading;
 use crate::second::read_second;
 use crate::setup::Setup;
@@ -174,30 +175,6 @@ fn entering(alloc: Global, count: u32) -> Result<Vec<CpuImage>, AllocError>
 }
 
 // ---- the image
-
-fn push_marked(places: &mut Vec<u32>, place: u32, mark: bool) -> Result<(), AllocError>
-    ensures is { OnOk result (places.new.items ≡ with_place mark place places.old.items) }
-    ensures inside { (n : ℕ) → place < n → All (λ p. p < n) places.old.items →
-        OnOk result (All (λ p. p < n) places.new.items) }
-{
-    if mark {
-        places.push(place)?;
-    }
-    Ok(())
-}
-
-/// The places of the marks, in rising order.
-fn places_of(alloc: Global, marks: &[bool]) -> Result<Vec<u32>, AllocError>
-    requires { length marks.now < 2 ^ 32 }
-    ensures is { IfOk result (λ v. v.items ≡ places_from 0 marks.now) }
-    ensures inside { IfOk result (λ v. All (λ place. place < length marks.now) v.items) }
-{
-    let mut places = Vec::new(alloc);
-    for (place, mark) in marks.iter().enumerate() {
-        push_marked(&mut places, place as u32, *mark)?;
-    }
-    Ok(places)
-}
 
 fn add_page(guard: &mut Guard, page: u32)
     ensures { guard.new ≡ with_page page guard.old }
