@@ -1,0 +1,2 @@
+-- What has its place in a report.
+pub mod Reportable
