@@ -1,0 +1,2 @@
+-- Runs whose numbers have their places in a report.
+pub mod Places

@@ -1,0 +1,5 @@
+//! The report of every machine is sound, and accepted.
+#![tactic(auto)]
+
+mod facts;
+pub mod laws;
