@@ -1,5 +1,6 @@
 -- The report of a run whose numbers have their places is sound.
-use Rattle.std.proofs.Common.{◌≡◌, sym, refl, subst, ℕ, ◌<◌, ◌≤◌, ◌^◌, arith, Bool, true, false}
+use Rattle.std.proofs.Common.{◌≡◌, sym, refl, subst, ℕ, ◌<◌, ◌≤◌, arith, Bool, true, false}
+use Rattle.std.proofs.Common.{◌*◌}
 use Rattle.std.proofs.Common.{List, length, get_or, Some, None, inl, inr}
 use Rattle.std.specs.Prelude.{if◌then◌else◌}
 use Rattle.std.proofs.lemmas.Bool.{cases_lt}
@@ -16,7 +17,11 @@ use Rattle.tx_serial.specs.Changes.{cpu_of_entry}
 use Rattle.tx_serial.specs.Flat.{Storage, bytes_of}
 use Rattle.tx_serial.proofs.Listed.{length-bytes_below, bytes_below_at}
 use Rattle.tx_meaning.specs.Limits.{Setting}
-use Rattle.tx_meaning.specs.Meaning.{IsSetting, meaning}
+use Rattle.tx_meaning.specs.Meaning.{IsSetting, AreEvents, meaning}
+use Rattle.tx_meaning.specs.Room.{is_turn_of}
+use Rattle.tx_meaning.proofs.Books.{turns_counted}
+use Rattle.tx_machine.proofs.Most.{at_most, entries_at_most}
+use Rattle.std.proofs.Math.Nat.{mul-le-mul_left}
 use Rattle.tx_meaning.specs.Shown.{commits_of, aborts_of}
 use Rattle.tx_meaning.specs.State.{flat_of, attempt_of, cpus_of, is_live}
 use Rattle.tx_meaning.specs.Views.{AreKnown}
@@ -32,6 +37,7 @@ use Rattle.sound_laws.proofs.Sound.{all_sound}
 use Rattle.sound_laws.proofs.Turns.{took_turns}
 use Rattle.check_laws.specs.Places.{HasPlaces}
 use Rattle.check_laws.proofs.Completed.{few_completed}
+use Rattle.check_laws.proofs.Recorded.{deep, recorded}
 use Rattle.check_laws.proofs.Left.{shown_at, is_left, are_live}
 
 -- ---- entries
@@ -67,19 +73,43 @@ all_bytes storage small i =
 
 -- ---- attempts
 
-short_by : (most depth n : ℕ) (b : Bool) → most ≤ 200000 → (b ≡ true → depth < 2 ^ 64) → (b ≡ true → n ≤ most)
+short_by : (most depth n : ℕ) (b : Bool) → most ≤ 200000 → depth ≤ n → (b ≡ true → n ≤ most)
     → IsShort (attempt_shown (if b then Some (depth, n) else None))
-short_by most depth n true low deep few = (deep refl, let h = few refl in omega (arith, low, h))
+short_by most depth n true low deep few =
+    let h = few refl in (omega (arith, low, deep, h), omega (arith, low, h))
 short_by most depth n false low deep few = tt
 
-module _ (m : Setting) (setting : IsSetting m) (events : List Event) (known : AreKnown m events)
+module _ (m : Setting) (setting : IsSetting m) (events : List Event) (are : AreEvents m events)
     (places : HasPlaces m (meaning m events)) where
+  known : AreKnown m events
+  known = are.known
+
+  -- no more events than all CPUs may have turns, and those from outside
+  few_events : length (meaning m events).events ≤ 7394304
+  few_events =
+      let most = at_most m events known are.externals in
+      let cpus = setting.image.few_cpus in
+      let turns : cpus_of m * m.limits.turns ≤ cpus_of m * 200000 =
+      mul-le-mul_left (cpus_of m) setting.limits.few_turns in
+      let outside = setting.limits.few_externals in
+      omega (arith, most, cpus, turns, outside)
+
+  few_entries : length (meaning m events).history ≤ 7394304
+  few_entries = let e = entries_at_most m events known in let f = few_events in omega (arith, e, f)
+
+  few_turns : (i : ℕ) → ((meaning m events).numbers i).turns ≤ 7394304
+  few_turns i =
+      let is = turns_counted m events i in
+      let c = count_by-le-length (is_turn_of i) (meaning m events).events in
+      let f = few_events in
+      omega (arith, is, c, f)
+
   can_be_told : (i : ℕ) → i < cpus_of m → CanBeTold (cpu_shown m (meaning m events) i)
   can_be_told i below =
       let s = meaning m events in
       let place = places.cpus i below in
       let registers = place.registers in
-      let few = places.few_entries in
+      let few = few_entries in
       record {
         general = registers.general;
         access = registers.access;
@@ -87,9 +117,10 @@ module _ (m : Setting) (setting : IsSetting m) (events : List Event) (known : Ar
         mask = registers.mask;
         attempt =
             short_by m.limits.turns (length (attempt_of m s i).nest) (s.numbers i).completed (is_live s i)
-            setting.limits.few_turns place.deep (few_completed m setting events known i below);
+            setting.limits.few_turns (deep (flat_of m s) i (s.numbers i).completed)
+            (few_completed m setting events known i below);
         counts = record {
-          turns = place.numbers.turns;
+          turns = (let t = few_turns i in omega (arith, t));
           asked = place.numbers.asked;
           rejected = place.numbers.rejected;
           commits = (let c = count_by-le-length (commits_of i) s.history in omega (arith, c, few));
@@ -123,9 +154,9 @@ module _ (m : Setting) (setting : IsSetting m) (events : List Event) (known : Ar
               known = omega (arith, cpu, same);
               few = omega (arith, few, most);
             };
-        few_entries = places.few_entries;
-        events = λ k d lt. let there = places.known k d lt in omega (arith, there);
-        few_events = places.few_events;
+        few_entries = (let f = few_entries in omega (arith, f));
+        events = λ k d lt. let there = recorded m events known k d lt in omega (arith, there);
+        few_events = (let f = few_events in omega (arith, f));
       }
 
   pub report_sound : IsSound m.image (report_of m events) (length (meaning m events).history)

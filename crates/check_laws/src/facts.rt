@@ -2,9 +2,8 @@
 ghost use Rattle.std.specs.Prelude.{◌≡◌, ℕ, ◌<◌, ◌^◌, length};
 ghost use Rattle.z_regs.specs.Cpu.{cpu_of};
 ghost use Rattle.z_regs.specs.Prefix.{storage_size};
-ghost use Rattle.tx_meaning.specs.Meaning.{IsSetting};
+ghost use Rattle.tx_meaning.specs.Meaning.{IsSetting, AreEvents};
 ghost use Rattle.tx_meaning.specs.State.{flat_of};
-ghost use Rattle.tx_meaning.specs.Views.{AreKnown};
 ghost use Rattle.tx_machine.specs.Machine.{setting_of, state_of};
 ghost use Rattle.check_laws.specs.Places.{HasRegisters, HasPlace, HasPlaces};
 
@@ -14,14 +13,15 @@ use z_regs::CpuImage;
 /// How many bytes storage has.
 const STORAGE_BYTES: u32 = 1_048_576;
 
-/// A machine has an image and limits, and its events are of CPUs that there are.
+/// A machine has an image and limits, and its events are such as there may be.
 pub(crate) fn is_set(machine: &Machine)
     ensures setting { IsSetting (setting_of machine.now) }
-    ensures known { AreKnown (setting_of machine.now) machine.now.events }
+    ensures events { AreEvents (setting_of machine.now) machine.now.events }
 {
     let _count = machine.image().cpu_count();
     let _limits = machine.limits();
     let _events = machine.events();
+    let _left = machine.externals_left();
 }
 
 /// There are sixteen general registers.
@@ -48,7 +48,6 @@ fn has_place(machine: &Machine, cpu: u32)
     ensures { HasPlace (setting_of machine.now) (state_of machine.now) cpu }
 {
     has_registers(machine.cpu(cpu));
-    let _levels = machine.live(cpu);
     let _tally = machine.tally(cpu);
 }
 
@@ -79,6 +78,4 @@ pub(crate) fn has_places(machine: &Machine)
 {
     cpus_have_places(machine);
     storage_holds_bytes(machine);
-    is_set(machine);
-    let _events = machine.events();
 }

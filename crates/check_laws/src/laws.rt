@@ -2,8 +2,7 @@
 ghost use Rattle.std.specs.Prelude.{◌≡◌, ◌≢◌, ℕ, List, length, Result, Ok, Err};
 ghost use Rattle.tx_journal.specs.declared.events.Event.{Event};
 ghost use Rattle.tx_meaning.specs.Limits.{Setting};
-ghost use Rattle.tx_meaning.specs.Meaning.{IsSetting, meaning};
-ghost use Rattle.tx_meaning.specs.Views.{AreKnown};
+ghost use Rattle.tx_meaning.specs.Meaning.{IsSetting, AreEvents, meaning};
 ghost use Rattle.tx_machine.specs.Machine.{setting_of, state_of};
 ghost use Rattle.tx_report.specs.Report.{report_of};
 ghost use Rattle.tx_check.specs.Answers.{IsAccepted, IsDue};
@@ -19,7 +18,7 @@ use tx_machine::machine::Machine;
 /// The report of a run is sound, where its numbers have their places. It has as many entries as the
 /// history.
 pub fn the_report_of_a_run_is_sound()
-    ensures { (m : Setting) (events : List Event) → IsSetting m → AreKnown m events
+    ensures { (m : Setting) (events : List Event) → IsSetting m → AreEvents m events
         → HasPlaces m (meaning m events)
         → IsSound m.image (report_of m events) (length (meaning m events).history) }
 {}

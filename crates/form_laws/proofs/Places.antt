@@ -1,5 +1,5 @@
 -- Where the lines of a report stand.
-use Rattle.std.proofs.Common.{◌≡◌, ◌∙◌, ap, sym, refl, ℕ, zero, suc, ◌+◌, ◌*◌, ◌/◌, ◌%◌, ◌<◌, arith}
+use Rattle.std.proofs.Common.{◌≡◌, ◌∙◌, ap, sym, refl, ℕ, zero, suc, ◌+◌, ◌*◌, ◌/◌, ◌%◌, arith}
 use Rattle.std.proofs.Common.{Bool, true, false, List, [], ◌∷◌, ◌++◌, append_assoc, append-nil, length}
 use Rattle.std.proofs.Common.{length-append}
 use Rattle.std.proofs.Common.{take, drop, get_or, map, Some, inl, inr}
@@ -27,6 +27,7 @@ use Rattle.form_laws.proofs.Lists.{shows_list}
 use Rattle.form_laws.proofs.Lists.{head_list, behind_entries, behind_head, report_list, schedule_list}
 use Rattle.form_laws.proofs.Lists.{schedule_told, joined}
 use Rattle.form_laws.proofs.CpuRows.{cpus_front}
+use Rattle.form_laws.proofs.Telling.{zero_left, some_left}
 
 -- ---- how many lines
 
@@ -49,12 +50,6 @@ cpus_length n (c ∷ cs) =
     let more = cpus_length (n + 1) cs in
     let eleven : length (rows_of cpu_parts) ≡ 11 = refl in
     omega (arith, a, b, d, more, eleven)
-
-zero_left : (n : ℕ) → n % 16 ≡ 0 → (n % 16 == 0) ≡ true
-zero_left n is = grind (arith, is)
-
-some_left : (n : ℕ) → 0 < n % 16 → (n % 16 == 0) ≡ false
-some_left n some = grind (arith, some)
 
 left_by : (n : ℕ) → (if n % 16 == 0 then 0 else 1) + n / 16 ≡ (n + 15) / 16
 left_by n =

@@ -73,10 +73,11 @@ tells_each last r piece (suc n) each =
 abbrev pub sixteens : ℕ → Row → Row → List Row
 sixteens n full rest = replicate (n / 16) full ++ replicate (if n % 16 == 0 then 0 else 1) rest
 
-zero_left : (n : ℕ) → n % 16 ≡ 0 → (n % 16 == 0) ≡ true
+-- none is left, or some are
+pub zero_left : (n : ℕ) → n % 16 ≡ 0 → (n % 16 == 0) ≡ true
 zero_left n is = grind (arith, is)
 
-some_left : (n : ℕ) → 0 < n % 16 → (n % 16 == 0) ≡ false
+pub some_left : (n : ℕ) → 0 < n % 16 → (n % 16 == 0) ≡ false
 some_left n some = grind (arith, some)
 
 pub tells_sixteens : (last n : ℕ) (full rest : Row) (piece : ℕ → List ℕ)

@@ -12,7 +12,7 @@ returns c =
     let m = setting_of seen in
     let entries = length (state_of seen).history in
     let sound : IsSound seen.image (report_of m seen.events) entries =
-    report_sound m c.is_set.ensures.setting seen.events c.is_set.ensures.known c.has_places.ensures in
+    report_sound m c.is_set.ensures.setting seen.events c.is_set.ensures.events c.has_places.ensures in
     record {
       sound = sound;
       accepted = accepted seen.image (report_of m seen.events) entries sound;
