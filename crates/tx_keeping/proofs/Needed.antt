@@ -160,7 +160,7 @@ stays_followed f g i local kept h text same cpu pending waiting bytes =
         text = same;
         lines = bytes;
       };
-      track = run_alike f g i n exists record {
+      track = run_alike f g i n record {
         cpu = cpu;
         pages = text;
         text = λ a is. same (absolute_of prefix a) (text_there prefix f.text a (kept.prefixes i) is);

@@ -36,7 +36,7 @@ pub followed_alike : (f g : FlatState) (i : ℕ) (local : Local) → IsFollowed 
     → g.pending i ≡ f.pending i → g.waiting i ≡ f.waiting i → IsFollowed g i local
 followed_alike f g i local is alike pending waiting =
     let n = local.attempt.count in
-    let same = run_alike f g i n (open_is_there (run f i n).mark is.opens) alike in
+    let same = run_alike f g i n alike in
     record {
       cpu = alike.cpu ∙ is.cpu;
       pending = pending ∙ is.pending;
@@ -74,7 +74,7 @@ same_track f g i local is ok same =
     let n = local.attempt.count in
     let prefix = (f.cpus i).prefix in
     let lines = subst (λ sets. AreSameTo i sets f g) (sym (its_footprint f i local is)) same in
-    run_alike f g i n (open_is_there (run f i n).mark is.opens) record {
+    run_alike f g i n record {
       cpu = same.cpu;
       pages = same.pages;
       text = λ a h. same.text (absolute_of prefix a) (text_there prefix f.text a ok h);

@@ -22,7 +22,9 @@ use Rattle.tx_constraint.specs.Constraints.{Step}
 use Rattle.tx_serial.specs.Flat.{Storage, FlatState, laid_over, bytes_seen, operand_bytes}
 use Rattle.tx_serial.specs.Attempt.{Run, Mark, Open, Committed, Overflowed, Missing, missing, at_rest}
 use Rattle.tx_serial.specs.Fate.{Fate, Goes, Ends, Stops, Excepts, fate, fate_after, fate_by}
-use Rattle.tx_serial.specs.Fate.{instruction_at, length_at, step_of}
+use Rattle.tx_serial.specs.Fate.{instruction_at, length_at, step_of, cause_in}
+use Rattle.z_effect.specs.After.{exception}
+use Rattle.tx_control.specs.Codes.{fixed_point_divide_code}
 use Rattle.tx_serial.specs.Run.{run, more, more_of, after_fate, after_where, after, may_follow, outcome_of}
 use Rattle.tx_control.specs.Nesting.{is_constrained}
 use Rattle.tx_control.specs.declared.causes.Why.TheVariants.{External, Program, FetchConflict}
@@ -201,9 +203,6 @@ fate_alike text p c agree = fate_alike_by text p c (byte_unfetched (accessible_p
 
 -- ---- what a run has touched
 
-no_mark : (p : Run) → (missing p).mark ≢ Missing → ⊥
-no_mark p exists = exists refl
-
 old_step : (a : ℕ) (steps : List Step) (s : Step) → list_any (nat_eq a) (addresses_of steps) ≡ true
     → list_any (nat_eq a) (addresses_of (steps ++ s ∷ [])) ≡ true
 old_step a steps s h =
@@ -244,12 +243,6 @@ grows_more Committed text p a h = h
 grows_more Overflowed text p a h = h
 grows_more Missing text p a h = h
 
-was_there : (m : Mark) (text : List ℕ) (p : Run) → (more_of m text p).mark ≢ Missing → m ≢ Missing
-was_there Open text p exists e = grind (arith, e)
-was_there Committed text p exists e = exists refl
-was_there Overflowed text p exists e = exists refl
-was_there Missing text p exists e = exists refl
-
 -- ---- one instruction more
 
 outcome_alike : (i : Instr) (ranges : List Range) (p : Run) (c : Storage)
@@ -258,49 +251,61 @@ outcome_alike : (i : Instr) (ranges : List Range) (p : Run) (c : Storage)
 outcome_alike i ranges p c agree =
     ap (one i p.cpu (length p.nest)) (operands_alike p.cpu.prefix p.copy c ranges agree)
 
+-- an instruction that ends a run by a cause of its own does so whatever the bytes of its operands are
+ends_alike : (i : Instr) (ranges : List Range) (p : Run) (c : Storage) (o other : Outcome) (why : Why)
+    → outcome_cause p.nest i o ≡ Some why → outcome_cause p.nest i other ≡ outcome_cause p.nest i o
+    → track_of (after i ranges (with_copy c p) other) ≡ track_of (missing p)
+ends_alike i ranges p c o (Did d bytes) why is same =
+    let none : None ≡ Some why = same ∙ is in absurd (cc)
+ends_alike i ranges p c o (outcome.Overflowed d bytes) why is same =
+    let none : None ≡ Some why = same ∙ is in absurd (cc)
+ends_alike i ranges p c o Divides why is same = refl
+ends_alike i ranges p c o (Aborts code) why is same = refl
+
 after_alike : (i : Instr) (ranges : List Range) (p : Run) (c : Storage) (o other : Outcome)
     → (AgreeAt p.cpu.prefix (addresses_in ranges) p.copy c → other ≡ o)
+    → outcome_cause p.nest i other ≡ outcome_cause p.nest i o
     → AgreeAt p.cpu.prefix (touched_addresses (after i ranges p o)) p.copy c
-    → (after i ranges p o).mark ≢ Missing
     → track_of (after i ranges (with_copy c p) other) ≡ track_of (after i ranges p o)
-after_alike i ranges p c (Did d bytes) other same agree exists =
+after_alike i ranges p c (Did d bytes) other same causes agree =
     ap (λ x. track_of (after i ranges (with_copy c p) x))
     (same (λ a e. agree a (new_step a p.steps (step_of i ranges p.cpu) e)))
-after_alike i ranges p c (outcome.Overflowed d bytes) other same agree exists =
+after_alike i ranges p c (outcome.Overflowed d bytes) other same causes agree =
     ap (λ x. track_of (after i ranges (with_copy c p) x))
     (same (λ a e. agree a (new_step a p.steps (step_of i ranges p.cpu) e)))
-after_alike i ranges p c Divides other same agree exists = absurd (no_mark p exists)
-after_alike i ranges p c (Aborts code) other same agree exists = absurd (no_mark p exists)
+after_alike i ranges p c Divides other same causes agree =
+    ends_alike i ranges p c Divides other (cause_in p.nest (exception fixed_point_divide_code (length_of i)))
+    refl causes
+after_alike i ranges p c (Aborts code) other same causes agree =
+    ends_alike i ranges p c (Aborts code) other (Tabort code) refl causes
 
 where_alike : (b : Bool) (i : Instr) (ranges : List Range) (p : Run) (c : Storage)
     → AgreeAt p.cpu.prefix (touched_addresses (after_where b i ranges p)) p.copy c
-    → (after_where b i ranges p).mark ≢ Missing
     → track_of (after_where b i ranges (with_copy c p)) ≡ track_of (after_where b i ranges p)
-where_alike true i ranges p c agree exists =
+where_alike true i ranges p c agree =
     after_alike i ranges p c (outcome_of i ranges p) (outcome_of i ranges (with_copy c p))
-    (outcome_alike i ranges p c) agree exists
-where_alike false i ranges p c agree exists = absurd (no_mark p exists)
+    (outcome_alike i ranges p c)
+    (cause_by_kind p.nest i (kind_at i.op.number) (length_of i) i p.cpu (length p.nest)
+    (operand_bytes p.cpu.prefix c ranges) (operand_bytes p.cpu.prefix p.copy ranges)) agree
+where_alike false i ranges p c agree = refl
 
 after_fate_alike : (o : Fate) (p : Run) (c : Storage)
     → AgreeAt p.cpu.prefix (touched_addresses (after_fate o p)) p.copy c
-    → (after_fate o p).mark ≢ Missing
     → track_of (after_fate o (with_copy c p)) ≡ track_of (after_fate o p)
-after_fate_alike (Goes i ranges) p c agree exists = where_alike (may_follow p.nest i) i ranges p c agree
-    exists
-after_fate_alike (Ends why) p c agree exists = absurd (no_mark p exists)
-after_fate_alike (Stops x) p c agree exists = absurd (no_mark p exists)
+after_fate_alike (Goes i ranges) p c agree = where_alike (may_follow p.nest i) i ranges p c agree
+after_fate_alike (Ends why) p c agree = refl
+after_fate_alike (Stops x) p c agree = refl
 
 more_alike : (m : Mark) (text : List ℕ) (p : Run) (c : Storage)
     → AgreeInText p.cpu.prefix text p.copy c
     → AgreeAt p.cpu.prefix (touched_addresses (more_of m text p)) p.copy c
-    → (more_of m text p).mark ≢ Missing
     → track_of (more_of m text (with_copy c p)) ≡ track_of (more_of m text p)
-more_alike Open text p c in_text agree exists =
+more_alike Open text p c in_text agree =
     ap (λ o. track_of (after_fate o (with_copy c p))) (fate_alike text p c in_text)
-    ∙ after_fate_alike (fate text p) p c agree exists
-more_alike Committed text p c in_text agree exists = absurd (no_mark p exists)
-more_alike Overflowed text p c in_text agree exists = absurd (no_mark p exists)
-more_alike Missing text p c in_text agree exists = absurd (no_mark p exists)
+    ∙ after_fate_alike (fate text p) p c agree
+more_alike Committed text p c in_text agree = refl
+more_alike Overflowed text p c in_text agree = refl
+more_alike Missing text p c in_text agree = refl
 
 -- ---- runs
 
@@ -353,20 +358,19 @@ less ys part alike = record {
   touched = λ a h. alike.touched a (part a h);
 }
 
-pub run_alike : (f g : FlatState) (i k : ℕ) → (run f i k).mark ≢ Missing
-    → AreAlike i (touched_addresses (run f i k)) f g → track_of (run g i k) ≡ track_of (run f i k)
+pub run_alike : (f g : FlatState) (i k : ℕ) → AreAlike i (touched_addresses (run f i k)) f g
+    → track_of (run g i k) ≡ track_of (run f i k)
 unfolding run more
-run_alike f g i zero exists alike = ap (λ c. track_of (at_rest f.storage c)) alike.cpu
-run_alike f g i (suc k) exists alike =
+run_alike f g i zero alike = ap (λ c. track_of (at_rest f.storage c)) alike.cpu
+run_alike f g i (suc k) alike =
     let p = run f i k in
     let q = run g i k in
     let same : track_of q ≡ track_of p =
-    run_alike f g i k (was_there p.mark f.text p exists)
-    (less (touched_addresses p) (grows_more p.mark f.text p) alike) in
+    run_alike f g i k (less (touched_addresses p) (grows_more p.mark f.text p) alike) in
     ap (λ t. track_of (more_of q.mark t q)) alike.pages
     ∙ ap (λ z. track_of (more_of z.mark f.text z)) (with_its_copy p q same)
     ∙ more_alike p.mark f.text p q.copy (copies_in_text f g i k same alike.text)
-    (copies_at f g i k (touched_addresses (more_of p.mark f.text p)) same alike.touched) exists
+    (copies_at f g i k (touched_addresses (more_of p.mark f.text p)) same alike.touched)
 
 -- ---- endings
 

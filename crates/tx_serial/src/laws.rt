@@ -7,7 +7,7 @@ ghost use Rattle.tx_control.specs.declared.causes.Why.{Why};
 ghost use Rattle.tx_journal.specs.declared.entries.Entry.{Entry};
 ghost use Rattle.tx_serial.specs.Alike.{track_of, touched_addresses, AreAlike};
 ghost use Rattle.tx_serial.specs.Apply.{apply};
-ghost use Rattle.tx_serial.specs.Attempt.{Run, Missing, footprint};
+ghost use Rattle.tx_serial.specs.Attempt.{Run, footprint};
 ghost use Rattle.tx_serial.specs.Fate.{Goes, Passes, fate};
 ghost use Rattle.z_instr.specs.declared.instr.Instr.{Instr};
 ghost use Rattle.tx_serial.specs.Changes.{cpu_of_entry, ChangesOnly, ChangeAlike};
@@ -37,22 +37,18 @@ pub fn an_instruction_goes_where_no_test_refuses_it()
 {}
 
 /// A private run depends on the bytes that it touches alone. Take two flat states that agree on these
-/// bytes, on that CPU, on the text pages and on the bytes there. Where there is a run on the one, the run
-/// on the other shows the same in all but its copy of storage. The attempt ends alike in both, by itself and
-/// by any cause: no instruction with operands in storage divides or aborts. What remains of it changes both
-/// states alike.
+/// bytes, on that CPU, on the text pages and on the bytes there. The runs of as many instructions show the
+/// same in all but their copies of storage; where there is no such run on the one, there is none on the other,
+/// since no instruction with operands in storage divides or aborts. The attempt ends alike in both, by itself
+/// and by any cause. What remains of it changes both states alike.
 pub fn a_run_depends_on_what_it_touches()
-    ensures run { (f g : FlatState) (i k : ℕ) → (run f i k).mark ≢ Missing
-        → AreAlike i (touched_addresses (run f i k)) f g
+    ensures run { (f g : FlatState) (i k : ℕ) → AreAlike i (touched_addresses (run f i k)) f g
         → track_of (run g i k) ≡ track_of (run f i k) }
-    ensures ending { (f g : FlatState) (i k : ℕ) → (run f i k).mark ≢ Missing
-        → AreAlike i (touched_addresses (run f i k)) f g
+    ensures ending { (f g : FlatState) (i k : ℕ) → AreAlike i (touched_addresses (run f i k)) f g
         → ending g.text (run g i k) ≡ ending f.text (run f i k) }
-    ensures causes { (f g : FlatState) (i k : ℕ) (why : Why) → (run f i k).mark ≢ Missing
-        → AreAlike i (touched_addresses (run f i k)) f g
+    ensures causes { (f g : FlatState) (i k : ℕ) (why : Why) → AreAlike i (touched_addresses (run f i k)) f g
         → fits g.text (run g i k) why ≡ fits f.text (run f i k) why }
-    ensures remains { (f g : FlatState) (i k : ℕ) (why : Why) → (run f i k).mark ≢ Missing
-        → AreAlike i (touched_addresses (run f i k)) f g
+    ensures remains { (f g : FlatState) (i k : ℕ) (why : Why) → AreAlike i (touched_addresses (run f i k)) f g
         → ChangeAlike i f g (remains f i (run f i k) why) (remains g i (run g i k) why) }
 {}
 
