@@ -23,3 +23,4 @@ pub mod LastingStores
 pub mod Inside
 pub mod Preparing
 pub mod Programs
+pub mod Plainly
