@@ -24,6 +24,7 @@ const LINE_SIZE: u64 = 256;
 const PAGE_SIZE: u64 = 4096;
 
 /// An instruction that goes, and the address of its operand.
+#[derive(Drop)]
 pub struct Plain<'a> {
     /// The instruction.
     pub ready: &'a Ready,

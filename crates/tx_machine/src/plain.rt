@@ -50,6 +50,7 @@ impl Works {
 
     /// The next instruction of the CPU where nothing unusual is the case: it is a plain one, and the line of its
     /// operand is there.
+    #[tactic(auto, unfolding(tx_serial::specs::History::start_of))]
     pub(crate) fn plain<'a>(&self, cpu: u32, program: &'a Program) -> Option<Plain<'a>>
         requires { cpu < length self.now.slots }
         ensures quiet { (rest : Seat) → IfSome result (λ p. IsQuiet ((kept_by rest self.now).locals cpu)) }
@@ -62,9 +63,9 @@ impl Works {
             (kept_by rest self.now)) }
     {
         let plain = self.slots[cpu as usize].cpu.plain(program)?;
-        if !self.has_operand(cpu, plain.ready.shape.touch, plain.first) {
-            return None;
+        if self.has_operand(cpu, plain.ready.shape.touch, plain.first) {
+            return Some(plain);
         }
-        Some(plain)
+        None
     }
 }
