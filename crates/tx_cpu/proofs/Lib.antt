@@ -24,3 +24,4 @@ pub mod LastingStores
 pub mod Inside
 pub mod Preparing
 pub mod Programs
+pub mod Plainly

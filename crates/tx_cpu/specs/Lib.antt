@@ -5,6 +5,9 @@ pub mod Same
 pub mod Plain
 pub mod Plans
 pub mod Programs
+pub mod Shapes
+pub mod Numbered
+pub mod Quiet
 pub mod Blocks
 pub mod Refused
 pub mod Performed

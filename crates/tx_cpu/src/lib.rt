@@ -12,12 +12,16 @@ mod one;
 mod outside;
 mod pending;
 mod performing;
+mod plain;
 mod plan;
 mod program;
+mod ready;
 mod refusal;
 mod storing;
 
 pub use one::Cpu;
+pub use plain::{Plain, operands_at};
 pub use plan::Plan;
 pub use program::Program;
+pub use ready::{Ready, Shape, Touch};
 pub use tx_progress::done::Done;

@@ -11,7 +11,10 @@ ghost use Rattle.tx_progress.specs.Progress.{is_live, seen_through};
 ghost use Rattle.tx_progress.specs.Local.{settled, aborted, block_stored, interruption_taken};
 ghost use Rattle.tx_progress.specs.Doing.{stopped, executed, executed_where, inside};
 ghost use Rattle.tx_progress.specs.Trial.{fate_by_progress, outcome_by};
-ghost use Rattle.tx_serial.specs.Fate.{operands};
+ghost use Rattle.tx_serial.specs.Fate.{operands, Goes};
+ghost use Rattle.tx_cpu.specs.Quiet.{IsQuiet};
+ghost use Rattle.tx_cpu.specs.Shapes.{touched_by, is_reached};
+ghost use Rattle.std.specs.Prelude.{IfSome};
 ghost use Rattle.z_regs.specs.Absolute.{IsAccessible};
 ghost use Rattle.std.specs.FinSet.{items};
 ghost use Rattle.tx_cpu.specs.Parts.{local_of, beside, storage_of};
@@ -26,6 +29,7 @@ use crate::interruption::{leave, load, store, waiting_after, waiting_with};
 use crate::outside::{delay_after, end_outside, perform_outside, told, wait_outside};
 use crate::pending::{Block, pending_after};
 use crate::performing::{Ended, MOST_BYTES, perform};
+use crate::plain::{Plain, plain_next};
 use crate::plan::{Plan, next_plan};
 use crate::program::Program;
 use crate::refusal::cause_in;
@@ -146,6 +150,30 @@ impl Cpu {
         ensures prepared { IsPlanPrepared (local_of self.now).attempt result }
     {
         next_plan(&self.attempt, &self.image, program)
+    }
+
+    /// The next instruction, where nothing unusual is the case: nothing is left to do before it, no attempt is live,
+    /// the CPU has no prefix, and the instruction has been read before, goes, and fetches or stores no more than some
+    /// bytes in one line.
+    pub fn plain<'a>(&self, program: &'a Program) -> Option<Plain<'a>>
+        ensures quiet { IfSome result (λ p. IsQuiet (local_of self.now)) }
+        ensures goes { IfSome result (λ p. fate_by_progress (items program.now.guard)
+            (storage_of program.now.storage) (local_of self.now).attempt ≡ Goes p.ready.now.instr
+            (touched_by p.ready.now.shape.touch p.first p.ready.now.shape.size)) }
+        ensures reached { IfSome result (λ p. is_reached p.ready.now.shape p.first (items program.now.guard)
+            ≡ true) }
+    {
+        if self.pending.is_some() || self.waiting.is_some() {
+            return None;
+        }
+        if self.image.prefix.is_some() {
+            return None;
+        }
+        if self.attempt.is_live() {
+            return None;
+        }
+        self.attempt.is_sound();
+        plain_next(&self.image, program)
     }
 
     /// The byte that the CPU sees over `base` at an absolute address.

@@ -210,9 +210,9 @@ pub fn next_plan(attempt: &Attempt, image: &CpuImage, program: &Program) -> Plan
         (progress attempt.now (cpu_of image.now)) }
 {
     if let Some(place) = attempt.text_place(image.address, image.prefix) {
-        if let Some(instr) = program.known(place) {
+        if let Some(ready) = program.known(place) {
             let length = length_of(program.bytes()[place as usize]);
-            return fetched(attempt, image, program, length, instr);
+            return fetched(attempt, image, program, length, &ready.instr);
         }
     }
     next_unread(attempt, image, program)

@@ -5,8 +5,12 @@ ghost use Rattle.std.specs.Arc.{arc_value};
 ghost use Rattle.z_regs.specs.Prefix.{storage_size};
 ghost use Rattle.z_instr.specs.Computing.{reading_of};
 ghost use Rattle.z_instr.specs.Layout.{length_by};
-ghost use Rattle.tx_cpu.specs.Programs.{read_at, AreRead};
+ghost use Rattle.std.specs.FinSet.{items};
+ghost use Rattle.tx_cpu.specs.Programs.{read_at};
+ghost use Rattle.tx_cpu.specs.Shapes.{IsReady};
+ghost use Rattle.tx_cpu.specs.Numbered.{AreRead};
 
+use crate::ready::{Ready, is_fetched, make_ready};
 use std::alloc::Global;
 use std::marker::Model;
 use std::sync::Arc;
@@ -25,13 +29,14 @@ const HALFWORDS: usize = STORAGE_SIZE as usize / 2;
 pub struct Program {
     image: Arc<Image>,
     numbers: Vec<u32>,
-    instrs: Vec<Instr>,
+    readies: Vec<Ready>,
 }
 
 impl Model for Program {
     ghost use Rattle.std.specs.Arc.{arc_value};
     ghost use Rattle.tx_journal.specs.Content.{Content, content_code};
-    ghost use Rattle.tx_cpu.specs.Programs.{AreRead};
+    ghost use Rattle.std.specs.FinSet.{items};
+    ghost use Rattle.tx_cpu.specs.Numbered.{AreRead};
 
     ghost Value = { Content };
 
@@ -39,7 +44,8 @@ impl Model for Program {
 
     ghost view = { λ p. arc_value p.image };
 
-    ghost invariant = { λ p. AreRead (arc_value p.image).storage p.numbers.items p.instrs.items };
+    ghost invariant = { λ p. AreRead (arc_value p.image).storage (items (arc_value p.image).guard)
+        p.numbers.items p.readies.items };
 }
 
 /// The instruction that bytes read as, which are as many as the first of them says.
@@ -63,39 +69,55 @@ fn read_from(storage: &[u8], place: usize) -> Option<Instr>
     read(&storage[place..place + length])
 }
 
+/// Reads the instruction that begins at an address, at least six bytes before the end of storage.
+fn ready_at(storage: &[u8], guard: &Guard, place: usize) -> Option<Ready>
+    requires size { length storage.now ≡ storage_size }
+    requires place { place + 6 ≤ length storage.now }
+    ensures { IfSome result (λ r. IsReady storage.now (items guard.now) place r) }
+{
+    let length = length_of(storage[place]);
+    let Some(instr) = read_from(storage, place) else {
+        return None;
+    };
+    let fetched = is_fetched(place as u64, guard, length);
+    Some(make_ready(instr, fetched))
+}
+
 /// Reads the instruction that begins at an address, and gives it the next number.
 fn add(
     storage: &[u8],
+    guard: &Guard,
     start: u32,
     numbers: &mut Vec<u32>,
-    instrs: &mut Vec<Instr>,
+    readies: &mut Vec<Ready>,
 ) -> Result<(), NoMemory>
     requires size { length storage.now ≡ storage_size }
-    requires read { AreRead storage.now numbers.old.items instrs.old.items }
-    ensures { OnOk result (AreRead storage.now numbers.new.items instrs.new.items) }
+    requires read { AreRead storage.now (items guard.now) numbers.old.items readies.old.items }
+    ensures { OnOk result (AreRead storage.now (items guard.now) numbers.new.items readies.new.items) }
 {
     let place = start as usize;
-    if place % 2 == 1 || place + 6 > storage.len() || instrs.len() >= HALFWORDS {
+    if place % 2 == 1 || place + 6 > storage.len() || readies.len() >= HALFWORDS {
         return Ok(());
     }
-    let Some(instr) = read_from(storage, place) else {
+    let Some(ready) = ready_at(storage, guard, place) else {
         return Ok(());
     };
-    let Ok(()) = instrs.push(instr) else {
+    let Ok(()) = readies.push(ready) else {
         return Err(NoMemory);
     };
-    numbers[place / 2] = instrs.len() as u32;
+    numbers[place / 2] = readies.len() as u32;
     Ok(())
 }
 
 /// Reads the assembled instructions of an image.
-fn add_all(image: &Image, numbers: &mut Vec<u32>, instrs: &mut Vec<Instr>) -> Result<(), NoMemory>
-    requires { AreRead image.now.storage numbers.old.items instrs.old.items }
-    ensures { OnOk result (AreRead image.now.storage numbers.new.items instrs.new.items) }
+fn add_all(image: &Image, numbers: &mut Vec<u32>, readies: &mut Vec<Ready>) -> Result<(), NoMemory>
+    requires { AreRead image.now.storage (items image.now.guard) numbers.old.items readies.old.items }
+    ensures { OnOk result (AreRead image.now.storage (items image.now.guard) numbers.new.items
+        readies.new.items) }
 {
     let _cpus = image.cpu_count();
     for start in image.starts.as_slice() {
-        add(&image.storage, *start, numbers, instrs)?;
+        add(&image.storage, &image.guard, *start, numbers, readies)?;
     }
     Ok(())
 }
@@ -103,7 +125,7 @@ fn add_all(image: &Image, numbers: &mut Vec<u32>, instrs: &mut Vec<Instr>) -> Re
 /// Halfwords of which none has a number; they are those of all storage.
 fn unread(alloc: Global, halfwords: usize) -> Result<Vec<u32>, NoMemory>
     requires { 2 * halfwords ≡ storage_size }
-    ensures { IfOk result (λ numbers. (storage : List ℕ) → AreRead storage numbers.items []) }
+    ensures { IfOk result (λ numbers. (storage text : List ℕ) → AreRead storage text numbers.items []) }
 {
     match vec![in alloc; 0u32; halfwords] {
         Ok(numbers) => Ok(numbers),
@@ -122,10 +144,10 @@ fn number_of(numbers: &[u32], half: usize) -> usize
 }
 
 /// The instruction at an index, where there is one.
-fn nth(instrs: &[Instr], index: usize) -> Option<&Instr>
-    ensures { IfSome result (λ i. slice_get instrs.now index ≡ Some i.now) }
+fn nth(readies: &[Ready], index: usize) -> Option<&Ready>
+    ensures { IfSome result (λ r. slice_get readies.now index ≡ Some r.now) }
 {
-    instrs.get(index)
+    readies.get(index)
 }
 
 impl Program {
@@ -134,12 +156,12 @@ impl Program {
         ensures { IfOk result (λ program. program ≡ arc_value image) }
     {
         let mut numbers = unread(alloc, HALFWORDS)?;
-        let mut instrs = Vec::new(alloc);
-        add_all(&image, &mut numbers, &mut instrs)?;
+        let mut readies = Vec::new(alloc);
+        add_all(&image, &mut numbers, &mut readies)?;
         Ok(Program {
             image,
             numbers,
-            instrs,
+            readies,
         })
     }
 
@@ -174,8 +196,8 @@ impl Program {
     }
 
     /// The instruction that was read at an absolute address, where there is one.
-    pub fn known(&self, place: u64) -> Option<&Instr>
-        ensures { IfSome result (λ i. read_at self.now.storage place ≡ Some i.now) }
+    pub fn known(&self, place: u64) -> Option<&Ready>
+        ensures { IfSome result (λ r. IsReady self.now.storage (items self.now.guard) place r.now) }
     {
         if place % 2 == 1 {
             return None;
@@ -184,6 +206,6 @@ impl Program {
         if number == 0 {
             return None;
         }
-        nth(&self.instrs, number - 1)
+        nth(&self.readies, number - 1)
     }
 }

@@ -23,3 +23,4 @@ pub mod Opened
 pub mod Going
 pub mod Happened
 pub mod Laws
+pub mod Plainly

@@ -8,3 +8,4 @@ pub mod InTurn
 pub mod Machine
 pub mod Opened
 pub mod Wanted
+pub mod Plainly

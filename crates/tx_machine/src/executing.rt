@@ -101,7 +101,7 @@ impl Works {
     }
 
     /// The CPU executes an instruction that is prepared, outside transactions.
-    fn execute_outside(&mut self, cpu: u32, instr: &Instr, need: &Touches) -> Turned
+    pub(crate) fn execute_outside(&mut self, cpu: u32, instr: &Instr, need: &Touches) -> Turned
         requires cpu { cpu < length self.old.slots }
         requires live { (rest : Seat) → is_live (kept_by rest self.old).state cpu ≡ false }
         requires rested { (rest : Seat) → let local = (kept_by rest self.old).locals cpu in

@@ -12,6 +12,7 @@ pub mod idle;
 pub mod machine;
 pub mod opening;
 pub mod places;
+pub mod plain;
 pub mod slot;
 pub mod turning;
 pub mod works;

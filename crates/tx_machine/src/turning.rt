@@ -26,7 +26,7 @@ use crate::asking::Refused;
 use crate::places::{block_places, interruption_places, operand_places};
 use crate::works::Works;
 use tx_control::Why;
-use tx_cpu::{Plan, Program};
+use tx_cpu::{Plan, Program, operands_at};
 use tx_meaning::Outcome;
 use z_instr::instr::Instr;
 use z_regs::Touches;
@@ -171,6 +171,10 @@ impl Works {
             k_attempting m cpu k (fate_by_progress (text_of m) k.storage (k.locals cpu).attempt) }
         ensures size { IsSameSize self.old self.new }
     {
+        if let Some(plain) = self.plain(cpu, program) {
+            let need = operands_at(plain.ready.shape, plain.first);
+            return self.execute_outside(cpu, &plain.ready.instr, &need);
+        }
         let plan = self.plan(cpu, program);
         match &plan {
             Plan::Go { instr, need } => self.go(cpu, instr, need),

@@ -17,4 +17,4 @@ pub fetched-requires-clause-reading : goal.fetched-requires-clause-reading
 fetched-requires-clause-reading c =
     let q = progress c.args.attempt.now (cpu_of c.args.image.now) in
     sym (plain_reading q c.args.program.now.storage c.in-Some.place c.bytes.ensures.size c.in-Some.ensures)
-    ∙ c.in-Some-known.ensures
+    ∙ c.in-Some-known.ensures.read

@@ -1,10 +1,12 @@
 -- Before the first instruction nothing is read.
 use Rattle.std.proofs.Common.{List, subst, sym}
-use Rattle.z_instr.specs.declared.instr.Instr.{Instr}
-use Rattle.tx_cpu.specs.Programs.{AreRead}
+use Rattle.std.specs.FinSet.{items}
+use Rattle.tx_cpu.specs.declared.ready.Ready.{Ready}
+use Rattle.tx_cpu.specs.Numbered.{AreRead}
 use Rattle.tx_cpu.proofs.program.Program.open.Goals as goal
 
 pub add_all-requires : goal.add_all-requires
 add_all-requires c =
-    subst (λ (xs : List Instr). AreRead c.deref.result.now.storage c.in_ok-numbers.numbers.items xs)
-    (sym c.new-instrs.ensures.items) (c.in_ok-numbers.ensures c.deref.result.now.storage)
+    subst (λ (xs : List Ready). AreRead c.deref.result.now.storage (items c.deref.result.now.guard)
+    c.in_ok-numbers.numbers.items xs) (sym c.new-readies.ensures.items)
+    (c.in_ok-numbers.ensures c.deref.result.now.storage (items c.deref.result.now.guard))

@@ -1,11 +1,16 @@
 -- It goes, ends its transaction, or stops the program.
-use Rattle.std.proofs.Common.{◌≡◌, sym, ap, ◌∙◌}
-use Rattle.tx_serial.specs.Fate.{Fate}
+use Rattle.std.proofs.Common.{◌≡◌, List, false, sym, ap, ◌∙◌}
+use Rattle.tx_serial.specs.Fate.{Fate, Goes}
+use Rattle.tx_progress.specs.Doing.{executed}
+use Rattle.tx_progress.specs.Trial.{fate_by_progress}
+use Rattle.z_regs.specs.declared.ranges.Range.{Range}
+use Rattle.tx_meaning.specs.Needs.{operand_needs}
+use Rattle.tx_meaning.specs.State.{is_live}
 use Rattle.tx_cpu.specs.Plans.{fate_of}
 use Rattle.tx_cpu.specs.declared.plan.Plan.{Plan}
 use Rattle.tx_meaning.specs.Limits.{Setting}
-use Rattle.tx_keeping.specs.Kept.{text_of}
-use Rattle.tx_keeping.specs.Turn.{k_attempting, k_ends_by}
+use Rattle.tx_keeping.specs.Kept.{text_of, beside}
+use Rattle.tx_keeping.specs.Turn.{k_attempting, k_ends_by, k_done, k_executing, k_with_lines}
 use Rattle.tx_machine.specs.Ready.{image_storage}
 use Rattle.tx_machine.specs.Works.{kept_by}
 use Rattle.tx_machine.proofs.Seats.{no_seat}
@@ -88,3 +93,41 @@ returns-in-Stops-clause-value c rest limits =
     c.stop.ensures.value rest
     ∙ ap (k_attempting m c.args.cpu k)
     (planned (c.plan-plan.ensures.value rest limits) c.in-Stops.is ∙ (c.requires.turns rest limits).text)
+
+-- ---- a plain instruction
+
+pub execute_outside-requires-clause-rested : goal.execute_outside-requires-clause-rested
+execute_outside-requires-clause-rested c rest =
+    (c.requires.turns rest no_limits).rested (c.in-Some.ensures.quiet rest).rests
+
+pub execute_outside-requires-clause-prepared : goal.execute_outside-requires-clause-prepared
+execute_outside-requires-clause-prepared c rest =
+    let m : Setting = record { image = c.args.program.now; limits = no_limits } in
+    record {
+      text = text_of m;
+      storage = image_storage m;
+      goes = c.in-Some.ensures.goes rest no_limits
+          ∙ ap (Goes c.in-Some.plain.ready.now.instr) (sym c.operands_at-need.ensures);
+    }
+
+pub execute_outside-requires-clause-room : goal.execute_outside-requires-clause-room
+execute_outside-requires-clause-room c = room-now c.args.self.now (c.requires.acts no_seat).room
+
+pub returns-in-Some-clause-value : goal.returns-in-Some-clause-value
+unfolding k_executing
+returns-in-Some-clause-value c rest limits =
+    let m : Setting = record { image = c.args.program.now; limits = limits } in
+    let k = kept_by rest c.args.self.now in
+    let i = c.args.cpu in
+    let instr = c.in-Some.plain.ready.now.instr in
+    let need = c.operands_at-need.result in
+    let prefix = (k.locals i).attempt.cpu.prefix in
+    let live : is_live k.state i ≡ false = (c.in-Some.ensures.quiet rest).rests in
+    let goes : fate_by_progress (text_of m) (image_storage m) (k.locals i).attempt ≡ Goes instr need =
+    c.in-Some.ensures.goes rest limits ∙ ap (Goes instr) (sym c.operands_at-need.ensures) in
+    c.execute_outside.ensures.value rest
+    ∙ sym (ap (λ b. k_done b i (executed instr need (beside k i)) k) live)
+    ∙ (c.in-Some.ensures.there rest).goes_on m (k_executing i instr need)
+    ∙ ap (λ (rs : List Range). k_with_lines m i (operand_needs prefix rs) k (k_executing i instr need))
+    (sym c.operands_at-need.ensures)
+    ∙ ap (k_attempting m i k) (sym goes ∙ (c.requires.turns rest limits).text)

@@ -1,0 +1,318 @@
+-- An instruction goes whose operand lies where a plain one may touch it.
+use Rattle.std.proofs.Common.{◌≡◌, ℕ, ◌+◌, ◌-◌, ◌*◌, ◌/◌, ◌%◌, ◌<◌, ◌≤◌, Bool, true, false, List, [], ◌∷◌, Option}
+use Rattle.std.proofs.Common.{Some, None, refl, sym, ap, subst, ◌∙◌, arith, length}
+use Rattle.std.specs.Prelude.{◌&&◌, ◌||◌, not, map, All, nat_eq, nat_lt, nat_le}
+use Rattle.std.specs.List.{list_any, list_all}
+use Rattle.std.proofs.lemmas.Bool.{true≢false, and_parts}
+use Rattle.std.proofs.lemmas.Bool.Decides.{nat_tests}
+use Rattle.std.proofs.lemmas.List.Elements.{All-head}
+use Rattle.z_regs.specs.Cpu.{Cpu}
+use Rattle.z_regs.specs.Prefix.{storage_size, absolute_of}
+use Rattle.z_regs.specs.declared.ranges.Range.{Range}
+use Rattle.z_instr.specs.declared.instr.Instr.{Instr}
+use Rattle.z_instr.specs.declared.operand.Size.{Size}
+use Rattle.z_instr.specs.declared.operand.Size.TheVariants.{Byte}
+use Rattle.z_instr.specs.declared.operand.Operands.{Operands}
+use Rattle.z_instr.specs.declared.operand.Operands.TheVariants.{Absent, Fetched, Stored, FetchedMany, StoredMany}
+use Rattle.z_instr.specs.declared.operand.Operands.TheVariants.{FetchedSelected, StoredSelected}
+use Rattle.z_instr.specs.declared.operand.Operands.TheVariants.{StoredAndFetched, BothFetched}
+use Rattle.z_instr.specs.declared.operand.Demand.{Demand}
+use Rattle.z_instr.specs.declared.operand.Demand.TheVariants as demand
+use Rattle.z_instr.specs.Operands.{Span, span, IsSmall, bytes_of, boundary, first_address, spans_in, spans, from_up}
+use Rattle.z_instr.specs.Operands.{registers_between, pieces, where_wrong, specification, addressing, protection}
+use Rattle.z_instr.specs.Operands.{operation, unspecified_in, unspecified, is_inside, is_stored_into, tested_spans}
+use Rattle.z_instr.specs.Operands.{is_refused_service, inaccessible_in, inaccessible}
+use Rattle.z_instr.specs.Access.{accessible_pages, text_pages, unfetched, absolute_page}
+use Rattle.z_instr.specs.Roles.{begins}
+use Rattle.z_instr.specs.Table.{Entry, entry_at}
+use Rattle.z_instr.proofs.SmallOperands.{sizes}
+use Rattle.z_touch.specs.Refusals.{range_of}
+use Rattle.z_touch.proofs.SmallRanges.{inside_without, any-text_pages}
+use Rattle.store_cache.specs.Overlay.{nothing}
+use Rattle.tx_control.specs.declared.causes.Why.TheVariants.{Depth}
+use Rattle.tx_journal.specs.Image as image
+use Rattle.tx_serial.specs.Fate.{Fate, Goes, first_refusal, excepted, aborts_where, operands, fetch_refusal}
+use Rattle.tx_serial.specs.Fate.{instruction_at}
+use Rattle.tx_serial.specs.Flat.{Storage}
+use Rattle.tx_progress.specs.Progress.{Progress, resting}
+use Rattle.tx_progress.specs.Trial.{at_hand, fate_by_progress}
+use Rattle.tx_cpu.specs.declared.ready.Ready.{Ready}
+use Rattle.tx_cpu.specs.declared.ready.Shape.{Shape}
+use Rattle.tx_cpu.specs.declared.ready.Touch.{Touch}
+use Rattle.tx_cpu.specs.declared.ready.Touch.TheVariants as touch
+use Rattle.tx_cpu.specs.Parts.{storage_of}
+use Rattle.tx_cpu.specs.Plain.{IsPlain}
+use Rattle.tx_cpu.specs.Shapes.{shape_in, boundary_size, shape_by, is_other, IsReady, touched_by, is_in_line, is_open}
+use Rattle.tx_cpu.specs.Shapes.{is_reached}
+use Rattle.tx_cpu.proofs.Programs.{plain_length, plain_reading}
+use Rattle.tx_cpu.proofs.Tests.{heads, tails, planned-read, tried-goes}
+
+-- ---- no more is demanded than a boundary
+
+bounded : (o : Operands) (i : Instr) (general : List ℕ) → is_other (shape_in o (boundary_size o) i).touch ≡ false
+    → nat_eq (first_address i general % bytes_of (shape_in o (boundary_size o) i).boundary) 0 ≡ true
+    → where_wrong (not (nat_eq (first_address i general % boundary o) 0)) specification None ≡ None
+bounded Absent i general known h = ap (λ b. where_wrong (not b) specification None) h
+bounded (Fetched size) i general known h = ap (λ b. where_wrong (not b) specification None) h
+bounded (Stored size) i general known h = ap (λ b. where_wrong (not b) specification None) h
+bounded (FetchedMany size) i general known h = ap (λ b. where_wrong (not b) specification None) h
+bounded (StoredMany size) i general known h = ap (λ b. where_wrong (not b) specification None) h
+bounded FetchedSelected i general known h = absurd (true≢false known)
+bounded StoredSelected i general known h = absurd (true≢false known)
+bounded StoredAndFetched i general known h = absurd (true≢false known)
+bounded BothFetched i general known h = absurd (true≢false known)
+
+well-specified : (d : Demand) (o : Operands) (i : Instr) (general : List ℕ)
+    → is_other (shape_by d o i).touch ≡ false
+    → nat_eq (first_address i general % bytes_of (shape_by d o i).boundary) 0 ≡ true
+    → unspecified_in d o i general 0 ≡ None
+unfolding unspecified_in
+well-specified demand.Nothing o i general known h = refl
+well-specified demand.Boundary o i general known h = bounded o i general known h
+well-specified demand.EvenPair o i general known h = absurd (true≢false known)
+well-specified demand.AbortCode o i general known h = absurd (true≢false known)
+well-specified demand.Begin o i general known h = absurd (true≢false known)
+well-specified demand.BeginConstrained o i general known h = absurd (true≢false known)
+well-specified demand.ServiceZero o i general known h = absurd (true≢false known)
+
+-- ---- the operand is the one of the row
+
+ranges-in : (o : Operands) (b : Size) (i : Instr) (general : List ℕ) (code : ℕ)
+    → is_other (shape_in o b i).touch ≡ false
+    → touched_by (shape_in o b i).touch (first_address i general) (shape_in o b i).size
+    ≡ map range_of (spans_in o i general code)
+unfolding spans_in
+ranges-in Absent b i general code known = refl
+ranges-in (Fetched size) b i general code known = refl
+ranges-in (Stored size) b i general code known = refl
+ranges-in (FetchedMany size) b i general code known = refl
+ranges-in (StoredMany size) b i general code known = refl
+ranges-in FetchedSelected b i general code known = absurd (true≢false known)
+ranges-in StoredSelected b i general code known = absurd (true≢false known)
+ranges-in StoredAndFetched b i general code known = absurd (true≢false known)
+ranges-in BothFetched b i general code known = absurd (true≢false known)
+
+ranges-by : (d : Demand) (o : Operands) (i : Instr) (general : List ℕ) (code : ℕ)
+    → is_other (shape_by d o i).touch ≡ false
+    → touched_by (shape_by d o i).touch (first_address i general) (shape_by d o i).size
+    ≡ map range_of (spans_in o i general code)
+ranges-by demand.Nothing o i general code known = ranges-in o Byte i general code known
+ranges-by demand.Boundary o i general code known = ranges-in o (boundary_size o) i general code known
+ranges-by demand.EvenPair o i general code known = absurd (true≢false known)
+ranges-by demand.AbortCode o i general code known = absurd (true≢false known)
+ranges-by demand.Begin o i general code known = absurd (true≢false known)
+ranges-by demand.BeginConstrained o i general code known = absurd (true≢false known)
+ranges-by demand.ServiceZero o i general code known = absurd (true≢false known)
+
+-- ---- bytes in one line
+
+pub record InLine (first n : ℕ) : Type 0 where
+  pub low : 8192 ≤ first
+  pub below : first < 1048576
+  pub line : first % 256 + n ≤ 256
+
+pub in-line : (first n : ℕ) → is_in_line first n ≡ true → InLine first n
+in-line first n h =
+    let a = and_parts (nat_le 8192 first) _ h in
+    let b = and_parts (nat_lt first storage_size) _ a.1 in
+    record {
+      low = grind (arith, nat_tests, a.0);
+      below = grind (arith, nat_tests, b.0);
+      line = grind (arith, nat_tests, b.1);
+    }
+
+pub line-end : (first n : ℕ) → InLine first n → first + n ≤ 1048576
+line-end first n l = let b = l.below in let e = l.line in omega (arith, b, e)
+
+inside-line : (first n : ℕ) (store : Bool) → IsSmall (span first n store) → InLine first n
+    → is_inside (accessible_pages None) (span first n store) ≡ true
+inside-line first n store small l = (inside_without (span first n store) small).1 (l.low, line-end first n l)
+
+one-page : (first n : ℕ) → 0 < n → first % 256 + n ≤ 256 → (first + n - 1) / 4096 + 1 - first / 4096 ≡ 1
+one-page first n some h = omega (arith, some, h)
+
+and-no : (b : Bool) → (b && false) ≡ false
+and-no true = refl
+and-no false = refl
+
+open-page : (text : List ℕ) (page : ℕ) → list_any (nat_eq page) text ≡ false
+    → list_any (nat_eq page) (text_pages None text) ≡ false
+open-page text page h =
+    let same : page * 4096 / 4096 ≡ page = omega arith in
+    any-text_pages None text page
+    ∙ ap (λ p. nat_lt page 256 && list_any (nat_eq p) text) same
+    ∙ ap (λ b. nat_lt page 256 && b) h ∙ and-no (nat_lt page 256)
+
+apart-line : (text : List ℕ) (first n : ℕ) → IsSmall (span first n true) → InLine first n
+    → list_any (nat_eq (first / 4096)) text ≡ false
+    → is_stored_into (text_pages None text) (span first n true) ≡ false
+apart-line text first n small l h =
+    ap (λ m. list_any (λ p. list_any (nat_eq p) (text_pages None text)) (from_up (first / 4096) m))
+    (one-page first n small.some l.line)
+    ∙ ap (λ b. b || false) (open-page text (first / 4096) h)
+
+record ArePassed (text : List ℕ) (ss : List Span) : Type 0 where
+  inside : list_all (is_inside (accessible_pages None)) ss ≡ true
+  apart : list_any (is_stored_into (text_pages None text)) ss ≡ false
+
+fetch-passed : (text : List ℕ) (first n : ℕ) → IsSmall (span first n false) → is_in_line first n ≡ true
+    → ArePassed text (span first n false ∷ [])
+fetch-passed text first n small h = record {
+  inside = ap (λ b. b && true) (inside-line first n false small (in-line first n h));
+  apart = refl;
+}
+
+not-so : (b : Bool) → not b ≡ true → b ≡ false
+not-so true h = sym h
+not-so false h = refl
+
+store-passed : (text : List ℕ) (first n : ℕ) → IsSmall (span first n true)
+    → (is_in_line first n && not (list_any (nat_eq (first / 4096)) text)) ≡ true
+    → ArePassed text (span first n true ∷ [])
+store-passed text first n small h =
+    let parts = and_parts (is_in_line first n) _ h in
+    let l = in-line first n parts.0 in
+    record {
+      inside = ap (λ b. b && true) (inside-line first n true small l);
+      apart = ap (λ b. b || false)
+          (apart-line text first n small l (not-so (list_any (nat_eq (first / 4096)) text) parts.1));
+    }
+
+passed-in : (o : Operands) (b : Size) (i : Instr) (general : List ℕ) (code : ℕ) (text : List ℕ)
+    → All IsSmall (spans_in o i general code)
+    → is_open (shape_in o b i).touch (first_address i general) (shape_in o b i).size text ≡ true
+    → ArePassed text (spans_in o i general code)
+unfolding spans_in
+passed-in Absent b i general code text small h = record { inside = refl; apart = refl }
+passed-in (Fetched size) b i general code text small h =
+    fetch-passed text (first_address i general) (bytes_of size) (All-head IsSmall _ [] small) h
+passed-in (Stored size) b i general code text small h =
+    store-passed text (first_address i general) (bytes_of size) (All-head IsSmall _ [] small) h
+passed-in (FetchedMany size) b i general code text small h =
+    fetch-passed text (first_address i general) (registers_between i.r1 i.r3 * bytes_of size)
+    (All-head IsSmall _ [] small) h
+passed-in (StoredMany size) b i general code text small h =
+    store-passed text (first_address i general) (registers_between i.r1 i.r3 * bytes_of size)
+    (All-head IsSmall _ [] small) h
+passed-in FetchedSelected b i general code text small h = absurd (true≢false (sym h))
+passed-in StoredSelected b i general code text small h = absurd (true≢false (sym h))
+passed-in StoredAndFetched b i general code text small h = absurd (true≢false (sym h))
+passed-in BothFetched b i general code text small h = absurd (true≢false (sym h))
+
+-- ---- operands that are reached
+
+tests-pass : (text : List ℕ) (ss : List Span) → ArePassed text ss
+    → where_wrong (not (list_all (is_inside (accessible_pages None)) ss)) addressing
+    (where_wrong (list_any (is_stored_into (text_pages None text)) ss) protection
+    (where_wrong false operation None)) ≡ None
+tests-pass text ss p =
+    λ k. where_wrong (not (p.inside k)) addressing
+    (where_wrong (p.apart k) protection (where_wrong false operation None))
+
+tested : (d : Demand) (o : Operands) (i : Instr) (general : List ℕ) (code : ℕ) (text : List ℕ)
+    → All IsSmall (spans_in o i general code)
+    → is_open (shape_by d o i).touch (first_address i general) (shape_by d o i).size text ≡ true
+    → where_wrong (not (list_all (is_inside (accessible_pages None))
+    (tested_spans d (spans_in o i general code) i general 0))) addressing
+    (where_wrong (list_any (is_stored_into (text_pages None text))
+    (tested_spans d (spans_in o i general code) i general 0)) protection
+    (where_wrong (is_refused_service d i) operation None)) ≡ None
+tested demand.Nothing o i general code text small h =
+    tests-pass text (spans_in o i general code) (passed-in o Byte i general code text small h)
+tested demand.Boundary o i general code text small h =
+    tests-pass text (spans_in o i general code) (passed-in o (boundary_size o) i general code text small h)
+tested demand.EvenPair o i general code text small h = absurd (true≢false (sym h))
+tested demand.AbortCode o i general code text small h = absurd (true≢false (sym h))
+tested demand.Begin o i general code text small h = absurd (true≢false (sym h))
+tested demand.BeginConstrained o i general code text small h = absurd (true≢false (sym h))
+tested demand.ServiceZero o i general code text small h = absurd (true≢false (sym h))
+
+reached : (e : Entry) (i : Instr) (general : List ℕ) (code : ℕ) (text : List ℕ)
+    → All IsSmall (spans_in e.operands i general code)
+    → is_open (shape_by e.demand e.operands i).touch (first_address i general)
+    (shape_by e.demand e.operands i).size text ≡ true
+    → inaccessible_in e i general code 0 (accessible_pages None) (text_pages None text) ≡ None
+unfolding inaccessible_in
+reached e i general code text small h = tested e.demand e.operands i general code text small h
+
+-- ---- it goes
+
+open-known : (t : Touch) (first n : ℕ) (text : List ℕ) → is_open t first n text ≡ true → is_other t ≡ false
+open-known touch.Nothing first n text h = refl
+open-known touch.Fetch first n text h = refl
+open-known touch.Store first n text h = refl
+open-known touch.Other first n text h = sym h
+
+module _ (text bytes : List ℕ) (c : Cpu) (r : Ready) (bare : c.prefix ≡ None)
+    (ready : IsReady bytes text c.address r)
+    (h : is_reached r.shape (first_address r.instr c.general) text ≡ true) where
+  parts : (nat_eq (first_address r.instr c.general % bytes_of r.shape.boundary) 0 ≡ true)
+      × (is_open r.shape.touch (first_address r.instr c.general) r.shape.size text ≡ true)
+  parts = and_parts (nat_eq (first_address r.instr c.general % bytes_of r.shape.boundary) 0) _ h
+
+  known : is_other r.shape.touch ≡ false
+  known = open-known r.shape.touch (first_address r.instr c.general) r.shape.size text parts.1
+
+  shaped : r.shape ≡ shape_by (entry_at r.instr.op.number).demand (entry_at r.instr.op.number).operands r.instr
+  shaped = ready.shape known
+
+  known-row : is_other (shape_by (entry_at r.instr.op.number).demand (entry_at r.instr.op.number).operands
+      r.instr).touch ≡ false
+  known-row = ap (λ (s : Shape). is_other s.touch) (sym shaped) ∙ known
+
+  plain-bytes : IsPlain nothing c.prefix c.address c.address
+  plain-bytes = record {
+    ends = ready.ends;
+    there = λ k lt. ap (λ p. absolute_of p (c.address + k)) bare;
+    bare = λ k lt. refl;
+  }
+
+  fetches : fetch_refusal text (at_hand (storage_of bytes) (resting c)) ≡ None
+  fetches =
+      ap (unfetched (accessible_pages c.prefix) (text_pages c.prefix text) c.address)
+      (sym (plain_length (resting c) bytes c.address plain-bytes))
+      ∙ ap (λ p. unfetched (accessible_pages p) (text_pages p text) c.address (image.length_at bytes c.address)) bare
+      ∙ ready.fetches known
+
+  reads : instruction_at (at_hand (storage_of bytes) (resting c)) ≡ Some r.instr
+  reads = sym (plain_reading (resting c) bytes c.address ready.size plain-bytes) ∙ ready.read
+
+  no-heads : None ≡ first_refusal (heads (storage_of bytes) (resting c) r.instr)
+  no-heads =
+      let on = subst (λ (s : Shape). nat_eq (first_address r.instr c.general % bytes_of s.boundary) 0 ≡ true)
+      shaped parts.0 in
+      let specified : unspecified r.instr c.general 0 ≡ None =
+      well-specified (entry_at r.instr.op.number).demand (entry_at r.instr.op.number).operands r.instr c.general
+      known-row on in
+      let shallow : (begins (entry_at r.instr.op.number) && nat_le 16 0) ≡ false =
+      and-no (begins (entry_at r.instr.op.number)) in
+      let passed : first_refusal (heads (storage_of bytes) (resting c) r.instr) ≡ None =
+      λ k. first_refusal (None ∷ None ∷ excepted r.instr (specified k) ∷ aborts_where (shallow k) Depth ∷ []) in
+      sym passed
+
+  no-tails : None ≡ first_refusal (tails text (storage_of bytes) (resting c) r.instr)
+  no-tails =
+      let opened = subst (λ (s : Shape). is_open s.touch (first_address r.instr c.general) s.size text ≡ true)
+      shaped parts.1 in
+      let there : inaccessible r.instr c.general c.condition 0 (accessible_pages c.prefix)
+      (text_pages c.prefix text) ≡ None =
+      ap (λ p. inaccessible r.instr c.general c.condition 0 (accessible_pages p) (text_pages p text)) bare
+      ∙ reached (entry_at r.instr.op.number) r.instr c.general c.condition text
+      (sizes (entry_at r.instr.op.number).operands r.instr c.general c.condition) opened in
+      let passed : first_refusal (tails text (storage_of bytes) (resting c) r.instr) ≡ None =
+      λ k. first_refusal (excepted r.instr (there k) ∷ None ∷ None ∷ []) in
+      sym passed
+
+  touches : touched_by r.shape.touch (first_address r.instr c.general) r.shape.size ≡ operands r.instr c
+  touches =
+      ap (λ (s : Shape). touched_by s.touch (first_address r.instr c.general) s.size) shaped
+      ∙ ranges-by (entry_at r.instr.op.number).demand (entry_at r.instr.op.number).operands r.instr c.general
+      c.condition known-row
+
+  pub plain-goes : fate_by_progress text (storage_of bytes) (resting c)
+      ≡ Goes r.instr (touched_by r.shape.touch (first_address r.instr c.general) r.shape.size)
+  plain-goes =
+      let need = touched_by r.shape.touch (first_address r.instr c.general) r.shape.size in
+      sym (planned-read text (storage_of bytes) (resting c) r.instr (Goes r.instr need) fetches reads
+      (tried-goes (resting c) r.instr (heads (storage_of bytes) (resting c) r.instr)
+      (tails text (storage_of bytes) (resting c) r.instr) need no-heads no-tails touches))
