@@ -11,7 +11,7 @@ use Rattle.z_touch.specs.Refusals.{span_of}
 use Rattle.z_effect.specs.After.{written, with_stored, storage_after, AreInside, touched, cpu_after}
 use Rattle.z_effect.specs.Outcome.{Outcome, Did, Overflowed, Divides, Aborts}
 use Rattle.z_effect.specs.One.{one}
-use Rattle.z_storage.proofs.Writes.{written_none, written_then, set_is_written}
+use Rattle.z_regs.proofs.Writes.{written_none, written_then, set_is_written}
 use Rattle.tx_serial.specs.Flat.{Storage, stores_at, operand_stores, operand_bytes, laid_over}
 use Rattle.tx_cpu.specs.declared.performing.Ended.{Ended}
 use Rattle.tx_cpu.specs.declared.performing.Ended.TheVariants as ended

@@ -14,7 +14,7 @@ use Rattle.z_touch.specs.Refusals.{span_of}
 use Rattle.z_effect.specs.After.{range_at, written, with_stored, storage_after}
 use Rattle.z_effect.specs.Outcome.{Outcome, Did, Overflowed, Divides, Aborts}
 use Rattle.z_effect.proofs.Stored.{length-written, below, above}
-use Rattle.z_storage.proofs.Writes.{inside, written_same}
+use Rattle.z_regs.proofs.Writes.{inside, written_same}
 use Rattle.tx_serial.specs.Flat.{Storage, bytes_seen}
 use Rattle.tx_cpu.specs.Performed.{IsFetched, StoresNone, StoresFirst, no_range, first_size, first_bytes}
 use Rattle.tx_cpu.proofs.Stored.{none-written}

@@ -5,7 +5,7 @@ use Rattle.std.proofs.lemmas.List.{take_more, take_more_set, take_all, length-se
 use Rattle.std.proofs.lemmas.List.{get_or-drop, drop-drop, drop-set-lt}
 use Rattle.z_effect.specs.After.{range_at, written}
 use Rattle.z_effect.proofs.Stored.{above}
-use Rattle.z_storage.proofs.Writes.{written_none, write_step}
+use Rattle.z_regs.proofs.Writes.{written_none, write_step}
 use Rattle.tx_cpu.proofs.lending.exchange.Goals as goal
 
 pub loop-k-init : goal.loop-k-init
