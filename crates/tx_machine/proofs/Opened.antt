@@ -23,7 +23,7 @@ use Rattle.tx_journal.specs.Image.{cpu_of_event}
 use Rattle.tx_keeping.specs.Kept.{kept_beginning}
 use Rattle.tx_keeping.specs.Keeping.{keeping, keeping_from}
 use Rattle.tx_machine.specs.Machine.{Stands, nobody, most_events}
-use Rattle.tx_machine.specs.Works.{Seat, Works, kept_by}
+use Rattle.tx_machine.specs.Works.{Seat, Works, kept_by, IsFitted}
 use Rattle.tx_machine.specs.Opened.{IsUnused, AreUnused, kept_of_seat}
 
 head_of : (rest : Local) → List Local → Local
@@ -58,6 +58,18 @@ pub as_many : (parms : Parameters) (cpus : List Cpu) (slots : List Seat) → Are
     → length slots ≡ length cpus
 as_many parms cpus slots u =
     sym (length-map slots kept_of_seat) ∙ ap length u.kept ∙ length-map cpus settled
+
+-- lines and a queue for as many CPUs as there are fit the slots
+pub fitted : {parms : Parameters} {slots : List Seat} (starts : List CpuImage) (count len lines queue : ℕ)
+    → AreUnused parms (map cpu_of starts) slots → len ≡ length slots → count ≡ length (map cpu_of starts) → count ≤ 16
+    → lines ≡ count → queue ≡ count → IsFitted len lines queue
+fitted {parms} {slots} starts count len lines queue unused measured counted few of_lines of_queue =
+    let many : length slots ≡ length (map cpu_of starts) = as_many parms (map cpu_of starts) slots unused in
+    record {
+      few = grind (arith, many, measured, counted, few);
+      lines = grind (arith, many, measured, counted, of_lines);
+      queue = grind (arith, many, measured, counted, of_queue);
+    }
 
 pub record IsAtStart (m : Setting) (w : Works) : Type 0 where
   pub slots : AreUnused m.image.parms m.image.cpus w.slots
