@@ -3,10 +3,7 @@ ghost use Rattle.std.specs.Prelude.{◌≡◌, ◌+◌, ◌≤◌, [], length, I
 ghost use Rattle.tx_board.specs.Shares.{IsOfSameRun, HasTurnsAlone, shares_for};
 ghost use Rattle.tx_schedule.specs.Ran.{HasNoneReady};
 
-use tx_board::{Blank, Board, Raced};
-use tx_board::{finish_round, is_of_run, run_again};
 use crate::gate::Gate;
-use tx_board::cpu_count;
 use crate::workers::{Job, jobs_of, work};
 use std::alloc::Global;
 use std::marker::Brand;
@@ -14,6 +11,7 @@ use std::sync::ledger::Ledger;
 use std::sync::{Mutex, Wait, ledger};
 use std::thread;
 use std::thread::Threads;
+use tx_board::{Blank, Board, Raced, cpu_count, finish_round, is_of_run, run_again};
 use tx_machine::{Machine, NoMemory};
 use tx_meaning::Limits;
 

@@ -1,12 +1,11 @@
 //! The workers: each makes the turns of one CPU, one locking after the other.
 ghost use Rattle.std.specs.Prelude.{◌≡◌, ◌≤◌, IfOk, vec_len};
 
-use tx_board::{Board, Share};
 use crate::gate::Gate;
-use tx_board::cpu_count;
 use std::alloc::Global;
 use std::sync::ledger::Ledger;
 use std::sync::{Mutex, Wait};
+use tx_board::{Board, Share, cpu_count};
 use tx_machine::NoMemory;
 use tx_meaning::Outcome;
 
