@@ -16,6 +16,7 @@ use Rattle.tx_cpu.specs.declared.ready.Touch.TheVariants as touch
 use Rattle.tx_cpu.specs.Shapes.{is_in_line, is_open, is_reached}
 use Rattle.tx_cpu.proofs.Plainly.{InLine, in-line}
 use Rattle.std.proofs.lemmas.Bool.{and_parts}
+use Rattle.tx_lines.specs.Needs.{need_at}
 use Rattle.tx_meaning.specs.Asking.{is_there}
 use Rattle.tx_meaning.specs.Limits.{Setting}
 use Rattle.tx_meaning.specs.Needs.{needs_of, operand_needs, lines_of, has_line, mode_for, rising, with_number}
@@ -65,6 +66,13 @@ needs-one first size store some h =
     (rising (ls ++ []))) (one-line first size store some h)
     ∙ ap (λ (mode : Mode). record { line = first / 256; mode = mode } ∷ [])
     (mode-is store (has_line (first / 256) (one first size store)) (has-it first size store some h))
+
+-- it is the only one of such a range
+pub only-need : (r : Range) → 0 < r.length → r.first % 256 + r.length ≤ 256
+    → map (need_at (r ∷ [])) (r.first / 256 ∷ []) ≡ needs_of (r ∷ [])
+unfolding needs_of with_number
+only-need r some h =
+    sym (ap (λ (ls : List ℕ). map (need_at (r ∷ [])) (rising (ls ++ []))) (one-line r.first r.length r.store some h))
 
 needs-none : (first size : ℕ) (store : Bool) → size ≤ 0 → needs_of (one first size store ∷ []) ≡ []
 unfolding needs_of
@@ -132,3 +140,14 @@ pub is-there : (i : ℕ) (s : Shape) (first : ℕ) (text : List ℕ) (k : Kept)
 is-there i s first text k bare reached held = record {
   goes_on = by-touch s.touch i k first s.size text bare (and_parts _ _ reached).1 held;
 }
+
+-- without a prefix the operand stands where its address says
+pub touched-places : (t : Touch) (first size : ℕ) (prefix : Option ℕ) → prefix ≡ None
+    → touched_by t first size ≡ absolute_ranges prefix (touched_by t first size)
+unfolding absolute_range
+touched-places touch.Nothing first size prefix bare = refl
+touched-places touch.Fetch first size prefix bare =
+    sym (ap (λ p. absolute_ranges p (touched_by touch.Fetch first size)) bare)
+touched-places touch.Store first size prefix bare =
+    sym (ap (λ p. absolute_ranges p (touched_by touch.Store first size)) bare)
+touched-places touch.Other first size prefix bare = refl

@@ -1,6 +1,6 @@
 //! How a CPU gets the lines that a turn needs.
 ghost use Rattle.std.specs.Prelude.{◌≡◌, ℕ, ◌+◌, ◌<◌, ◌≤◌, true, false, [], All, List, length, map, is_some};
-ghost use Rattle.std.specs.Prelude.{IfSome, ◌==◌};
+ghost use Rattle.std.specs.Prelude.{IfSome, ◌==◌, ◌∷◌};
 ghost use Rattle.std.specs.List.{list_any};
 ghost use Rattle.z_regs.specs.Prefix.{storage_size};
 ghost use Rattle.line_table.specs.Sizes.{storage_lines};
@@ -22,6 +22,25 @@ use crate::works::Works;
 use tx_lines::{MOST_NEEDS, lines_needed, need_for};
 use tx_meaning::Need;
 use z_regs::Touches;
+
+/// The bytes of a line.
+const LINE_SIZE: u64 = 256;
+
+/// The only line of ranges, where there is one range, and it lies in a line.
+fn only_line(ranges: &Touches) -> Option<u32>
+    requires { All (λ r. r.first + r.length ≤ storage_size) ranges.now }
+    ensures { IfSome result (λ line. map (need_at ranges.now) (line ∷ []) ≡ needs_of ranges.now) }
+{
+    if ranges.count() != 1 {
+        return None;
+    }
+    let range = ranges.at(0);
+    let length = u64::from(range.length);
+    if length == 0 || range.first % LINE_SIZE + length > LINE_SIZE {
+        return None;
+    }
+    Some((range.first / LINE_SIZE) as u32)
+}
 
 impl Works {
     /// Whether the CPU holds a line as it needs it.
@@ -138,6 +157,9 @@ impl Works {
         ensures starved { (rest : Seat) → IfSome result
             (λ r. r.starved ≡ is_cpu_starved (kept_by rest self.new) cpu) }
     {
+        if let Some(line) = only_line(ranges) {
+            return self.get_each(cpu, ranges, &[line]);
+        }
         let lines = lines_needed(ranges);
         self.get_each(cpu, ranges, lines.as_slice())
     }

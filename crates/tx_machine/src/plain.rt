@@ -1,10 +1,11 @@
 //! A turn in which nothing unusual is the case.
-ghost use Rattle.std.specs.Prelude.{◌≡◌, ◌<◌, ◌/◌, IfSome, true, false, length};
+ghost use Rattle.std.specs.Prelude.{◌≡◌, ◌<◌, ◌/◌, IfSome, true, false, length, ℕ, List, None};
+ghost use Rattle.std.specs.FinSet.{items};
 ghost use Rattle.tx_serial.specs.Fate.{Goes};
 ghost use Rattle.tx_serial.specs.History.{start_of};
 ghost use Rattle.tx_progress.specs.Trial.{fate_by_progress};
 ghost use Rattle.tx_cpu.specs.Quiet.{IsQuiet};
-ghost use Rattle.tx_cpu.specs.Shapes.{touched_by};
+ghost use Rattle.tx_cpu.specs.Shapes.{touched_by, is_reached};
 ghost use Rattle.tx_lines.specs.Owned.{holders_in};
 ghost use Rattle.tx_meaning.specs.Asking.{is_there};
 ghost use Rattle.tx_meaning.specs.Limits.{Setting, RunLimits};
@@ -15,7 +16,7 @@ ghost use Rattle.tx_machine.specs.Works.{Seat, kept_by};
 
 use crate::works::Works;
 use line_table::Mode;
-use tx_cpu::{Plain, Program, Touch};
+use tx_cpu::{Plain, Program, Shape, Touch};
 use tx_meaning::Need;
 use z_regs::STORAGE_SIZE;
 
@@ -48,8 +49,7 @@ impl Works {
         }
     }
 
-    /// The next instruction of the CPU where nothing unusual is the case: it is a plain one, and the line of its
-    /// operand is there.
+    /// The next instruction of the CPU where nothing unusual is the case.
     #[tactic(auto, unfolding(tx_serial::specs::History::start_of))]
     pub(crate) fn plain<'a>(&self, cpu: u32, program: &'a Program) -> Option<Plain<'a>>
         requires { cpu < length self.now.slots }
@@ -59,13 +59,18 @@ impl Works {
             IfSome result (λ p. fate_by_progress (text_of m) (image_storage m)
             ((kept_by rest self.now).locals cpu).attempt ≡ Goes p.ready.now.instr
             (touched_by p.ready.now.shape.touch p.first p.ready.now.shape.size)) }
-        ensures there { (rest : Seat) → IfSome result (λ p. IsThere cpu p.ready.now.shape p.first
-            (kept_by rest self.now)) }
+        ensures reached { IfSome result (λ p. is_reached p.ready.now.shape p.first (items program.now.guard)
+            ≡ true) }
     {
-        let plain = self.slots[cpu as usize].cpu.plain(program)?;
-        if self.has_operand(cpu, plain.ready.shape.touch, plain.first) {
-            return Some(plain);
-        }
-        None
+        self.slots[cpu as usize].cpu.plain(program)
+    }
+
+    /// Whether the CPU holds the line of an operand as it touches it, so that nobody is asked.
+    pub(crate) fn holds_operand(&self, cpu: u32, shape: Shape, first: u64) -> bool
+        requires { cpu < length self.now.slots }
+        ensures { (rest : Seat) (text : List ℕ) → ((kept_by rest self.now).locals cpu).attempt.cpu.prefix ≡ None
+            → is_reached shape first text ≡ true → result ≡ true → IsThere cpu shape first (kept_by rest self.now) }
+    {
+        self.has_operand(cpu, shape.touch, first)
     }
 }

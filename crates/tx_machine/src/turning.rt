@@ -3,6 +3,10 @@ ghost use Rattle.std.specs.Prelude.{◌≡◌, ◌+◌, ◌<◌, ◌≤◌, ◌�
 ghost use Rattle.z_regs.specs.Absolute.{absolute_ranges};
 ghost use Rattle.z_regs.specs.Prefix.{is_prefix, storage_size};
 ghost use Rattle.tx_cpu.specs.Plans.{IsPrepared, HasPlanRoom, fate_of};
+ghost use Rattle.tx_cpu.specs.Quiet.{IsQuiet};
+ghost use Rattle.tx_cpu.specs.Shapes.{touched_by, is_reached};
+ghost use Rattle.tx_serial.specs.Fate.{Goes};
+ghost use Rattle.std.specs.FinSet.{items};
 ghost use Rattle.tx_serial.specs.Flat.{address_of};
 ghost use Rattle.tx_progress.specs.Progress.{resting};
 ghost use Rattle.tx_progress.specs.Trial.{fate_by_progress};
@@ -26,7 +30,7 @@ use crate::asking::Refused;
 use crate::places::{block_places, interruption_places, operand_places};
 use crate::works::Works;
 use tx_control::Why;
-use tx_cpu::{Plan, Program, operands_at};
+use tx_cpu::{Plain, Plan, Program, operands_at};
 use tx_meaning::Outcome;
 use z_instr::instr::Instr;
 use z_regs::Touches;
@@ -98,6 +102,34 @@ impl Works {
             Some(refused) => self.refuse(cpu, refused),
             None => self.execute(cpu, instr, need),
         }
+    }
+
+    /// A plain instruction that goes: it is executed at once where the line of its operand is there.
+    fn go_plainly(&mut self, cpu: u32, plain: &Plain, program: &Program) -> Turned
+        requires cpu { cpu < length self.old.slots }
+        requires turns { (rest : Seat) (limits : RunLimits) →
+            MayTurn (record { image = program.now; limits = limits }) cpu (kept_by rest self.old) }
+        requires acts { (rest : Seat) → MayAct cpu self.old rest }
+        requires cpus { length program.now.cpus ≡ length self.old.slots }
+        requires quiet { (rest : Seat) → IsQuiet ((kept_by rest self.old).locals cpu) }
+        requires goes { (rest : Seat) (limits : RunLimits) →
+            let m : Setting = record { image = program.now; limits = limits } in
+            fate_by_progress (text_of m) (image_storage m) ((kept_by rest self.old).locals cpu).attempt ≡
+            Goes plain.now.ready.now.instr
+            (touched_by plain.now.ready.now.shape.touch plain.now.first plain.now.ready.now.shape.size) }
+        requires reached { is_reached plain.now.ready.now.shape plain.now.first (items program.now.guard) ≡ true }
+        ensures value { (rest : Seat) (limits : RunLimits) →
+            let m : Setting = record { image = program.now; limits = limits } in let k = kept_by rest self.old in
+            turned_as (kept_by rest self.new) result ≡
+            k_attempting m cpu k (fate_by_progress (text_of m) k.storage (k.locals cpu).attempt) }
+        ensures size { IsSameSize self.old self.new }
+    {
+        let ready = plain.ready;
+        let need = operands_at(ready.shape, plain.first);
+        if self.holds_operand(cpu, ready.shape, plain.first) {
+            return self.execute(cpu, &ready.instr, &need);
+        }
+        self.go(cpu, &ready.instr, &need)
     }
 
     /// The block that is pending for the CPU is stored, where its lines are there.
@@ -172,8 +204,7 @@ impl Works {
         ensures size { IsSameSize self.old self.new }
     {
         if let Some(plain) = self.plain(cpu, program) {
-            let need = operands_at(plain.ready.shape, plain.first);
-            return self.execute_outside(cpu, &plain.ready.instr, &need);
+            return self.go_plainly(cpu, &plain, program);
         }
         let plan = self.plan(cpu, program);
         match &plan {
@@ -260,6 +291,9 @@ impl Works {
         ensures small { All (λ r. r.length ≤ 256) result }
         ensures in_storage { All (λ r. r.first + r.length ≤ storage_size) result }
     {
+        if let Some(plain) = self.plain(cpu, program) {
+            return operands_at(plain.ready.shape, plain.first);
+        }
         let prefix = self.prefix(cpu);
         match self.plan(cpu, program) {
             Plan::Go { need, .. } => operand_places(&need, prefix),

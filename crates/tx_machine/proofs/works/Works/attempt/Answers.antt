@@ -96,38 +96,8 @@ returns-in-Stops-clause-value c rest limits =
 
 -- ---- a plain instruction
 
-pub execute_outside-requires-clause-rested : goal.execute_outside-requires-clause-rested
-execute_outside-requires-clause-rested c rest =
-    (c.requires.turns rest no_limits).rested (c.in-Some.ensures.quiet rest).rests
-
-pub execute_outside-requires-clause-prepared : goal.execute_outside-requires-clause-prepared
-execute_outside-requires-clause-prepared c rest =
-    let m : Setting = record { image = c.args.program.now; limits = no_limits } in
-    record {
-      text = text_of m;
-      storage = image_storage m;
-      goes = c.in-Some.ensures.goes rest no_limits
-          ∙ ap (Goes c.in-Some.plain.ready.now.instr) (sym c.operands_at-need.ensures);
-    }
-
-pub execute_outside-requires-clause-room : goal.execute_outside-requires-clause-room
-execute_outside-requires-clause-room c = room-now c.args.self.now (c.requires.acts no_seat).room
+pub go_plainly-requires-clause-goes : goal.go_plainly-requires-clause-goes
+go_plainly-requires-clause-goes c rest limits = c.in-Some.ensures.goes rest limits
 
 pub returns-in-Some-clause-value : goal.returns-in-Some-clause-value
-unfolding k_executing
-returns-in-Some-clause-value c rest limits =
-    let m : Setting = record { image = c.args.program.now; limits = limits } in
-    let k = kept_by rest c.args.self.now in
-    let i = c.args.cpu in
-    let instr = c.in-Some.plain.ready.now.instr in
-    let need = c.operands_at-need.result in
-    let prefix = (k.locals i).attempt.cpu.prefix in
-    let live : is_live k.state i ≡ false = (c.in-Some.ensures.quiet rest).rests in
-    let goes : fate_by_progress (text_of m) (image_storage m) (k.locals i).attempt ≡ Goes instr need =
-    c.in-Some.ensures.goes rest limits ∙ ap (Goes instr) (sym c.operands_at-need.ensures) in
-    c.execute_outside.ensures.value rest
-    ∙ sym (ap (λ b. k_done b i (executed instr need (beside k i)) k) live)
-    ∙ (c.in-Some.ensures.there rest).goes_on m (k_executing i instr need)
-    ∙ ap (λ (rs : List Range). k_with_lines m i (operand_needs prefix rs) k (k_executing i instr need))
-    (sym c.operands_at-need.ensures)
-    ∙ ap (k_attempting m i k) (sym goes ∙ (c.requires.turns rest limits).text)
+returns-in-Some-clause-value c rest limits = c.go_plainly.ensures.value rest limits

@@ -1,6 +1,6 @@
--- The line of the operand is there.
+-- The next instruction of the CPU in its seat.
 use Rattle.std.proofs.Common.{◌≡◌, ◌<◌, length, sym, subst, ◌∙◌}
-use Rattle.std.specs.Prelude.{get_or}
+use Rattle.std.specs.Prelude.{get_or, IfSome}
 use Rattle.std.specs.FinSet.{items}
 use Rattle.std.proofs.lemmas.List.{get_or_default}
 use Rattle.tx_serial.specs.Fate.{Goes}
@@ -11,33 +11,29 @@ use Rattle.tx_cpu.specs.Parts.{local_of, storage_of}
 use Rattle.tx_cpu.specs.Shapes.{touched_by}
 use Rattle.tx_cpu.specs.Quiet.{IsQuiet}
 use Rattle.tx_machine.specs.Works.{Works, Seat, kept_by}
-use Rattle.tx_machine.proofs.Plainly.{is-there}
 use Rattle.tx_machine.proofs.works.Works.plain.Goals as goal
 
-pub returns-then-has_operand-clause-there : goal.returns-then-has_operand-clause-there
-returns-then-has_operand-clause-there c rest =
-    let k = kept_by rest c.args.self.now in
+pub returns-clause-quiet : goal.returns-clause-quiet
+returns-clause-quiet c rest =
     let cpu = c.args.cpu in
     let lt : cpu < _ = subst (λ (w : Works). cpu < length w.slots) (sym c.self.view_is) c.requires in
     let there = c.behind-self.view_is ∙ c.index.ensures ∙ get_or_default _ cpu _ rest lt in
-    let quiet : IsQuiet (k.locals cpu) =
-    subst (λ (w : Works). IsQuiet (local_of (get_or w.slots cpu rest).cpu)) c.self.view_is
-    (subst (λ (s : Seat). IsQuiet (local_of s.cpu)) there c.in_ok-plain.ensures.quiet) in
-    is-there cpu c.in_ok-plain.plain.ready.now.shape c.in_ok-plain.plain.first
-    (items c.args.program.now.guard) k quiet.prefix c.in_ok-plain.ensures.reached
-    (c.has_operand.ensures c.if-has_operand.true)
+    subst (λ (w : Works). IfSome c.plain.result (λ p. IsQuiet (local_of (get_or w.slots cpu rest).cpu)))
+    c.self.view_is
+    (subst (λ (s : Seat). IfSome c.plain.result (λ p. IsQuiet (local_of s.cpu))) there c.plain.ensures.quiet)
 
-pub returns-then-has_operand-clause-goes : goal.returns-then-has_operand-clause-goes
+pub returns-clause-goes : goal.returns-clause-goes
 unfolding start_of
-returns-then-has_operand-clause-goes c rest limits =
+returns-clause-goes c rest limits =
     let cpu = c.args.cpu in
     let text = items c.args.program.now.guard in
     let storage : Storage = storage_of c.args.program.now.storage in
-    let r = c.in_ok-plain.plain.ready.now in
-    let need = touched_by r.shape.touch c.in_ok-plain.plain.first r.shape.size in
     let lt : cpu < _ = subst (λ (w : Works). cpu < length w.slots) (sym c.self.view_is) c.requires in
     let there = c.behind-self.view_is ∙ c.index.ensures ∙ get_or_default _ cpu _ rest lt in
-    subst (λ (w : Works). fate_by_progress text storage (local_of (get_or w.slots cpu rest).cpu).attempt
-    ≡ Goes r.instr need) c.self.view_is
-    (subst (λ (s : Seat). fate_by_progress text storage (local_of s.cpu).attempt ≡ Goes r.instr need) there
-    c.in_ok-plain.ensures.goes)
+    subst (λ (w : Works). IfSome c.plain.result (λ p.
+    fate_by_progress text storage (local_of (get_or w.slots cpu rest).cpu).attempt
+    ≡ Goes p.ready.now.instr (touched_by p.ready.now.shape.touch p.first p.ready.now.shape.size)))
+    c.self.view_is
+    (subst (λ (s : Seat). IfSome c.plain.result (λ p. fate_by_progress text storage (local_of s.cpu).attempt
+    ≡ Goes p.ready.now.instr (touched_by p.ready.now.shape.touch p.first p.ready.now.shape.size))) there
+    c.plain.ensures.goes)
