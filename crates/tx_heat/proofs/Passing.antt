@@ -9,7 +9,7 @@ use borrow.Enum.Arm.{by_way}
 use Rattle.z_regs.specs.declared.ranges.Range.{Range}
 use Rattle.tx_meaning.specs.Limits.{Setting}
 use Rattle.tx_meaning.specs.State.{State, is_live, attempt_of}
-use Rattle.tx_machine.specs.Wanted.{wanted}
+use Rattle.tx_works.specs.Wanted.{wanted}
 use Rattle.tx_heat.specs.Marks.{AreMarksOf}
 use Rattle.tx_heat.specs.Watched.{Tracked, IsTrack, AreTracks, Passes, StaysBeside}
 use Rattle.tx_heat.proofs.Counted.{set_same, set_other}

@@ -29,7 +29,7 @@ use Rattle.tx_opacity.proofs.Opaque.{opaque}
 use Rattle.tx_headline.specs.Queue.{QueueChanges, others_before}
 use Rattle.tx_headline.proofs.Bounds.{turns_left, ages_short}
 use Rattle.tx_headline.proofs.Queue.{queue_changes, before_most}
-use Rattle.tx_machine.specs.Works.{Works, kept_by}
+use Rattle.tx_works.specs.Works.{Works, kept_by}
 use Rattle.tx_machine.specs.Machine.{Stands, nobody}
 use Rattle.tx_machine.proofs.Most.{meaning_more}
 use Rattle.tx_machine.proofs.Read.{reads_state}

@@ -1,21 +1,4 @@
--- Tables of CPUs.
-pub mod Tables
-pub mod Seats
-pub mod Changed
-pub mod Leaves
-pub mod Against
-pub mod Questions
-pub mod Granted
-pub mod Made
-pub mod Climbing
-pub mod Told
-pub mod Own
-pub mod Acts
-pub mod Idling
-pub mod Lined
-pub mod SmallPlaces
-pub mod Wanted
-pub mod Turns
+-- What a machine is, and how it goes on.
 pub mod Shown
 pub mod Most
 pub mod Read
@@ -23,4 +6,3 @@ pub mod Opened
 pub mod Going
 pub mod Happened
 pub mod Laws
-pub mod Plainly

@@ -23,7 +23,7 @@ use Rattle.tx_journal.specs.Image.{cpu_of_event}
 use Rattle.tx_keeping.specs.Kept.{kept_beginning}
 use Rattle.tx_keeping.specs.Keeping.{keeping, keeping_from}
 use Rattle.tx_machine.specs.Machine.{Stands, nobody, most_events}
-use Rattle.tx_machine.specs.Works.{Seat, Works, kept_by, IsFitted}
+use Rattle.tx_works.specs.Works.{Seat, Works, kept_by, IsFitted}
 use Rattle.tx_machine.specs.Opened.{IsUnused, AreUnused, kept_of_seat}
 
 head_of : (rest : Local) → List Local → Local

@@ -28,8 +28,8 @@ use Rattle.tx_serial.specs.Fate.{Fate, fate}
 use Rattle.tx_serial.specs.Run.{run}
 use Rattle.tx_meaning.specs.State.{attempt_of}
 use Rattle.z_regs.specs.Absolute.{absolute_ranges}
-use Rattle.tx_machine.specs.Wanted.{wanted, wanted_by, real_ranges}
-use Rattle.tx_machine.specs.Works.{Works, kept_by}
+use Rattle.tx_works.specs.Wanted.{wanted, wanted_by, real_ranges}
+use Rattle.tx_works.specs.Works.{Works, kept_by}
 use Rattle.tx_machine.specs.Machine.{Stands, nobody}
 use Rattle.tx_machine.proofs.Shown.{shown}
 

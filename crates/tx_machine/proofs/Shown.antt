@@ -21,7 +21,7 @@ use Rattle.tx_keeping.proofs.Moves.{IsGood}
 use Rattle.tx_keeping.proofs.Room.{AllWithin}
 use Rattle.tx_keeping.proofs.Turning.{idle_is}
 use Rattle.tx_bounds.proofs.Stopped.{Between, between, some_stop}
-use Rattle.tx_machine.specs.Works.{Works, kept_by}
+use Rattle.tx_works.specs.Works.{Works, kept_by}
 use Rattle.tx_machine.specs.Machine.{Stands, nobody}
 
 -- ---- what is true

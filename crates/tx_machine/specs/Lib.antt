@@ -1,11 +1,3 @@
--- All that a machine keeps, as data.
-pub mod Works
-pub mod Ready
-pub mod Asks
-pub mod Steps
-pub mod Turned
-pub mod InTurn
+-- What a machine is seen as, and what it begins with.
 pub mod Machine
 pub mod Opened
-pub mod Wanted
-pub mod Plainly

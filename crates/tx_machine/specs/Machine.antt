@@ -20,8 +20,8 @@ use Rattle.tx_meaning.specs.Shown.{commits_of, aborts_of}
 use Rattle.tx_meaning.specs.Turn.{Turned, happen}
 use Rattle.tx_keeping.specs.Keeping.{keeping}
 use Rattle.tx_meaning.specs.declared.counts.Counts.{Counts}
-use Rattle.tx_machine.specs.declared.slot.Tally.{Tally}
-use Rattle.tx_machine.specs.Works.{Seat, Works, kept_by}
+use Rattle.tx_works.specs.declared.slot.Tally.{Tally}
+use Rattle.tx_works.specs.Works.{Seat, Works, kept_by}
 
 -- its image, its limits, the recorded events, and the reject in the last event, where there was one
 pub record Seen : Type 0 where

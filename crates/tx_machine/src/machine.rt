@@ -29,16 +29,16 @@ ghost use Rattle.tx_machine.specs.Machine.{IsLeft, Stands, setting_of, state_of,
 ghost use Rattle.tx_meaning.specs.Shown.{levels_at, counts_at, commits_of, aborts_of};
 ghost use Rattle.tx_machine.specs.Machine.{code_awaited, counts_with, most_events};
 ghost use Rattle.tx_machine.specs.Machine.{tally_at};
-ghost use Rattle.tx_machine.specs.Wanted.{wanted};
+ghost use Rattle.tx_works.specs.Wanted.{wanted};
 
-use crate::slot::Tally;
-use crate::works::Works;
+use crate::opening::open_works;
 use std::alloc::{AllocError, Global};
 use std::marker::Model;
 use std::sync::Arc;
 use tx_cpu::{Cpu, Program};
 use tx_journal::{Entry, Event, Image};
 use tx_meaning::{Counts, Limits, Outcome, Reject};
+use tx_works::{Tally, Works};
 use z_regs::{CpuImage, RunState, Touches};
 
 /// There was no memory.
@@ -183,7 +183,7 @@ impl Machine {
     {
         let externals_left = limits.externals;
         let most = image.cpu_count() as usize * limits.turns as usize + externals_left as usize + 1;
-        let works = Works::open(alloc, &image, most)?;
+        let works = open_works(alloc, &image, most)?;
         let Ok(program) = Program::open(alloc, image) else {
             return Err(NoMemory);
         };

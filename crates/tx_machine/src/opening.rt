@@ -9,13 +9,12 @@ ghost use Rattle.tx_lines.specs.Owned.{holders_in};
 ghost use Rattle.tx_machine.specs.Opened.{AreUnused, IsUnused};
 
 use crate::machine::NoMemory;
-use crate::slot::{Slot, Tally};
-use crate::works::Works;
 use std::alloc::Global;
 use tx_cpu::Cpu;
 use tx_journal::Image;
 use tx_ladder::{Ladder, Parms, StopQueue};
 use tx_lines::Lines;
+use tx_works::{Slot, Tally, Works};
 use z_regs::CpuImage;
 
 /// A CPU that starts like this.
@@ -53,32 +52,30 @@ fn slots_of(alloc: Global, cpus: &[CpuImage], parms: Parms) -> Result<Vec<Slot>,
     Ok(slots)
 }
 
-impl Works {
-    /// All that is kept of an image from which nothing has happened, with room for so many events. The error is
-    /// want of memory.
-    pub fn open(alloc: Global, image: &Image, most: usize) -> Result<Works, NoMemory>
-        ensures slots { IfOk result (λ w. AreUnused image.now.parms image.now.cpus w.slots) }
-        ensures bytes { IfOk result (λ w. w.lines.bytes ≡ image.now.storage) }
-        ensures held { IfOk result (λ w. holders_in w.lines ≡ nobody) }
-        ensures queue { IfOk result (λ w. w.queue ≡ []) }
-        ensures history { IfOk result (λ w. w.history ≡ []) }
-        ensures events { IfOk result (λ w. w.events ≡ []) }
-        ensures room { IfOk result (λ w. most ≤ w.room) }
-        ensures events_room { IfOk result (λ w. most ≤ w.events_room) }
-    {
-        let cpus = image.cpu_count();
-        let Ok(lines) = Lines::open(alloc, image.storage.as_slice(), cpus) else {
-            return Err(NoMemory);
-        };
-        let Ok(queue) = StopQueue::open(alloc, cpus) else {
-            return Err(NoMemory);
-        };
-        Ok(Works {
-            slots: slots_of(alloc, image.cpus.as_slice(), image.parms)?,
-            lines,
-            queue,
-            history: Vec::with_capacity(alloc, most)?,
-            events: Vec::with_capacity(alloc, most)?,
-        })
-    }
+/// All that is kept of an image from which nothing has happened, with room for so many events. The error is
+/// want of memory.
+pub fn open_works(alloc: Global, image: &Image, most: usize) -> Result<Works, NoMemory>
+    ensures slots { IfOk result (λ w. AreUnused image.now.parms image.now.cpus w.slots) }
+    ensures bytes { IfOk result (λ w. w.lines.bytes ≡ image.now.storage) }
+    ensures held { IfOk result (λ w. holders_in w.lines ≡ nobody) }
+    ensures queue { IfOk result (λ w. w.queue ≡ []) }
+    ensures history { IfOk result (λ w. w.history ≡ []) }
+    ensures events { IfOk result (λ w. w.events ≡ []) }
+    ensures room { IfOk result (λ w. most ≤ w.room) }
+    ensures events_room { IfOk result (λ w. most ≤ w.events_room) }
+{
+    let cpus = image.cpu_count();
+    let Ok(lines) = Lines::open(alloc, image.storage.as_slice(), cpus) else {
+        return Err(NoMemory);
+    };
+    let Ok(queue) = StopQueue::open(alloc, cpus) else {
+        return Err(NoMemory);
+    };
+    Ok(Works {
+        slots: slots_of(alloc, image.cpus.as_slice(), image.parms)?,
+        lines,
+        queue,
+        history: Vec::with_capacity(alloc, most)?,
+        events: Vec::with_capacity(alloc, most)?,
+    })
 }

@@ -23,7 +23,7 @@ use Rattle.tx_meaning.specs.Turn.{happen}
 use Rattle.tx_meaning.specs.Views.{AreKnown}
 use Rattle.tx_machine.specs.Machine.{Seen, setting_of, state_of, event_of, opened}
 use Rattle.tx_machine.specs.Machine.{after as after_event}
-use Rattle.tx_machine.specs.Wanted.{wanted}
+use Rattle.tx_works.specs.Wanted.{wanted}
 use Rattle.tx_step.specs.Sights.{CpuSeen, Sight, cpus_seen}
 use Rattle.tx_step.specs.Traces.{IsTraced}
 use Rattle.tx_step.specs.declared.following.Step.{Step}

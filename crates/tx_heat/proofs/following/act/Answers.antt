@@ -5,7 +5,7 @@ use Rattle.std.specs.List.{flat_map}
 use Rattle.tx_journal.specs.declared.entries.Entry.{Entry}
 use Rattle.tx_meaning.specs.State.{State}
 use Rattle.tx_machine.specs.Machine.{Seen}
-use Rattle.tx_machine.specs.Wanted.{wanted}
+use Rattle.tx_works.specs.Wanted.{wanted}
 use Rattle.tx_heat.specs.Conflicts.{aborts_by, reject_of}
 use Rattle.tx_machine.specs.Machine.{setting_of, state_of}
 use Rattle.tx_heat.specs.Watched.{AreTracks, HasRoom}

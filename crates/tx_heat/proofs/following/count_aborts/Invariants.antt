@@ -5,7 +5,7 @@ use Rattle.tx_journal.specs.Image.{cpu_of_event}
 use Rattle.tx_journal.specs.declared.events.Event.{Event}
 use Rattle.tx_meaning.specs.Limits.{Setting}
 use Rattle.tx_meaning.specs.State.{State}
-use Rattle.tx_machine.specs.Wanted.{wanted}
+use Rattle.tx_works.specs.Wanted.{wanted}
 use Rattle.tx_heat.specs.Conflicts.{Conflict, aborts_by}
 use Rattle.tx_heat.specs.Watched.{AreTracks, AreCounted, HasRoom}
 use Rattle.tx_heat.proofs.following.count_aborts.Given as goal

@@ -5,7 +5,7 @@ use Rattle.tx_journal.specs.Image.{cpu_of_event}
 use Rattle.tx_meaning.specs.State.{flat_of}
 use Rattle.tx_meaning.specs.Views.{AreKnown}
 use Rattle.tx_machine.specs.Machine.{setting_of, state_of}
-use Rattle.tx_machine.specs.Wanted.{wanted}
+use Rattle.tx_works.specs.Wanted.{wanted}
 use Rattle.tx_step.proofs.Due.{due_or_same, next_covers}
 use Rattle.tx_step.proofs.Stepped.{same_cpus, full_bytes, same_storage}
 use Rattle.tx_step.specs.Stored.{Covers, has, may_change}

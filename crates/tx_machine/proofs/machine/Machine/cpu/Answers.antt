@@ -4,7 +4,7 @@ use Rattle.std.specs.Prelude.{get_or}
 use Rattle.std.proofs.lemmas.List.{get_or_default}
 use Rattle.tx_meaning.specs.Limits.{Setting}
 use Rattle.tx_meaning.specs.State.{cpu_of}
-use Rattle.tx_machine.specs.Works.{Seat}
+use Rattle.tx_works.specs.Works.{Seat}
 use Rattle.tx_machine.specs.Machine.{Seen, setting_of, state_of, nobody}
 use Rattle.tx_machine.specs.declared.machine.Machine.TheInside.{Inside}
 use Rattle.tx_machine.proofs.Read.{reads_cpu}

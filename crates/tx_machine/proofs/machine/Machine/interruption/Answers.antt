@@ -10,7 +10,7 @@ use Rattle.z_regs.specs.Cpu.{Cpu}
 use Rattle.std.specs.Prelude.{Option}
 use Rattle.z_regs.specs.declared.waiting.Waiting.{Waiting}
 use Rattle.tx_meaning.specs.Meaning.{meaning}
-use Rattle.tx_machine.specs.Works.{Seat}
+use Rattle.tx_works.specs.Works.{Seat}
 use Rattle.tx_machine.specs.Machine.{Seen, setting_of, state_of, nobody}
 use Rattle.tx_machine.specs.declared.machine.Machine.TheInside.{Inside}
 use Rattle.tx_machine.proofs.Read.{reads_cpu, reads_waiting}

@@ -1,0 +1,17 @@
+-- The lines and the queue are for as many CPUs as there are.
+use Rattle.std.proofs.Common.{rules, ◌≡◌, ◌∙◌, List, ap, sym, length, map}
+use Rattle.std.specs.Vec.{vec_len}
+use Rattle.z_regs.specs.Cpu.{cpu_of}
+use Rattle.z_regs.specs.declared.image.CpuImage.{CpuImage}
+use Rattle.tx_journal.specs.Content.{Content}
+use Rattle.tx_machine.proofs.Opened.{fitted}
+use Rattle.tx_machine.proofs.opening.open_works.Goals as goal
+
+pub invariant_of-result-3 : goal.invariant_of-result-3
+invariant_of-result-3 c =
+    let counted : c.cpu_count-cpus.result ≡ length (map cpu_of c.as_slice-2.result.now) =
+    c.cpu_count-cpus.ensures.count ∙ sym (ap (λ (i : Content). length i.cpus) c.image.view_is)
+    ∙ sym (ap (λ (xs : List CpuImage). length (map cpu_of xs)) c.as_slice-2.ensures.value) in
+    fitted c.as_slice-2.result.now c.cpu_count-cpus.result (vec_len c.in_ok-slots_of.field-0)
+    c.lines.inside.table.cpus c.queue.inside.waiting.len c.in_ok-slots_of.ensures (search rules) counted
+    (search rules) (search rules) (search rules)

@@ -1,0 +1,19 @@
+-- Tables of CPUs, questions, turns.
+pub mod Tables
+pub mod Seats
+pub mod Changed
+pub mod Leaves
+pub mod Against
+pub mod Questions
+pub mod Granted
+pub mod Made
+pub mod Climbing
+pub mod Told
+pub mod Own
+pub mod Acts
+pub mod Idling
+pub mod Lined
+pub mod SmallPlaces
+pub mod Wanted
+pub mod Turns
+pub mod Plainly

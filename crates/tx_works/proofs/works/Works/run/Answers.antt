@@ -1,0 +1,89 @@
+-- What the instruction leaves of the CPU and of storage, and what it tells.
+use Rattle.std.proofs.Common.{◌<◌, ◌≤◌, refl, sym, ap, subst, ◌∙◌, arith}
+use Rattle.tx_progress.specs.Local.{Beside}
+use Rattle.tx_progress.specs.Doing.{Executed, executed}
+use Rattle.tx_cpu.specs.Parts.{local_of}
+use Rattle.tx_cpu.specs.Plans.{IsPrepared}
+use Rattle.tx_works.specs.Works.{Seat}
+use Rattle.tx_works.specs.contracts.slot.Slot.{the_view}
+use Rattle.tx_works.specs.contracts.works.Works as works
+use Rattle.tx_works.proofs.Seats.{IsAt, seat-is, beside-is, left-is, no_seat, executed-counted}
+use Rattle.tx_works.proofs.works.Works.run.Goals as goal
+
+pub execute-requires-clause-prepared : goal.execute-requires-clause-prepared
+execute-requires-clause-prepared c =
+    let at : IsAt (works.the_view c.self.inside) c.args.self.now c.args.cpu (the_view c.slot.inside) =
+    record {
+      other = c.index_mut-slot.result.now;
+      view = c.self.view_is;
+      known = c.requires.cpu;
+      is = c.slot.view_is ∙ c.index_mut-slot.ensures.value;
+    } in
+    let s = the_view c.slot.inside in
+    subst (λ (s : Seat). IsPrepared (local_of s.cpu).attempt c.args.instr.now c.args.need.now)
+    (sym (seat-is (works.the_view c.self.inside) c.args.self.now c.args.cpu s no_seat at))
+    (c.requires.prepared no_seat)
+
+pub execute-requires-clause-count : goal.execute-requires-clause-count
+execute-requires-clause-count c =
+    let at : IsAt (works.the_view c.self.inside) c.args.self.now c.args.cpu (the_view c.slot.inside) =
+    record {
+      other = c.index_mut-slot.result.now;
+      view = c.self.view_is;
+      known = c.requires.cpu;
+      is = c.slot.view_is ∙ c.index_mut-slot.ensures.value;
+    } in
+    let s = the_view c.slot.inside in
+    let few : (local_of s.cpu).attempt.count < s.tally.turns =
+    subst (λ (s : Seat). (local_of s.cpu).attempt.count < s.tally.turns)
+    (sym (seat-is (works.the_view c.self.inside) c.args.self.now c.args.cpu s no_seat at))
+    (c.requires.counts no_seat) in
+    let most : s.tally.turns ≤ 200000 = c.slot.invariant.turns in
+    omega arith
+
+pub invariant_of-slot : goal.invariant_of-slot
+invariant_of-slot c =
+    let at : IsAt (works.the_view c.self.inside) c.args.self.now c.args.cpu (the_view c.slot.inside) =
+    record {
+      other = c.index_mut-slot.result.now;
+      view = c.self.view_is;
+      known = c.requires.cpu;
+      is = c.slot.view_is ∙ c.index_mut-slot.ensures.value;
+    } in
+    let s = the_view c.slot.inside in
+    let few : (local_of s.cpu).attempt.count < s.tally.turns =
+    subst (λ (s : Seat). (local_of s.cpu).attempt.count < s.tally.turns)
+    (sym (seat-is (works.the_view c.self.inside) c.args.self.now c.args.cpu s no_seat at))
+    (c.requires.counts no_seat) in
+    executed-counted s (record s { cpu = c.execute.new.cpu }) c.args.instr.now c.args.need.now
+    c.self.inside.lines c.execute.new.self c.slot.invariant refl few
+    (ap (λ (e : Executed). e.after) c.execute.ensures.value)
+
+pub returns-clause-told : goal.returns-clause-told
+returns-clause-told c rest =
+    let at : IsAt (works.the_view c.self.inside) c.args.self.now c.args.cpu (the_view c.slot.inside) =
+    record {
+      other = c.index_mut-slot.result.now;
+      view = c.self.view_is;
+      known = c.requires.cpu;
+      is = c.slot.view_is ∙ c.index_mut-slot.ensures.value;
+    } in
+    let s = the_view c.slot.inside in
+    ap (λ (e : Executed). e.told) c.execute.ensures.value
+    ∙ ap (λ (b : Beside). (executed c.args.instr.now c.args.need.now b).told)
+    (beside-is rest (works.the_view c.self.inside) c.args.self.now c.args.cpu s at)
+
+pub returns-clause-value : goal.returns-clause-value
+returns-clause-value c rest =
+    let at : IsAt (works.the_view c.self.inside) c.args.self.now c.args.cpu (the_view c.slot.inside) =
+    record {
+      other = c.index_mut-slot.result.now;
+      view = c.self.view_is;
+      known = c.requires.cpu;
+      is = c.slot.view_is ∙ c.index_mut-slot.ensures.value;
+    } in
+    let s = the_view c.slot.inside in
+    left-is rest (works.the_view c.self.inside) c.args.self.now c.args.cpu s
+    (record s { cpu = c.execute.new.cpu }) c.execute.new.self
+    (λ (b : Beside). (executed c.args.instr.now c.args.need.now b).after) at refl refl
+    (ap (λ (e : Executed). e.after) c.execute.ensures.value) c.execute.ensures.held

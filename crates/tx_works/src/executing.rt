@@ -1,0 +1,167 @@
+//! An instruction that goes, and whose lines are there.
+ghost use Rattle.std.specs.Prelude.{◌≡◌, ◌<◌, true, false, is_some, length};
+ghost use Rattle.tx_journal.specs.declared.entries.Entry.TheVariants as entry;
+ghost use Rattle.tx_cpu.specs.Plans.{HasDoneRoom, IsPrepared};
+ghost use Rattle.tx_progress.specs.Doing.{executed};
+ghost use Rattle.tx_progress.specs.Progress.{resting};
+ghost use Rattle.tx_meaning.specs.State.{is_live};
+ghost use Rattle.tx_keeping.specs.Kept.{beside};
+ghost use Rattle.tx_keeping.specs.Turn.{k_executing, k_inside, k_outside, next_address};
+ghost use Rattle.tx_works.specs.Steps.{k_left, k_begun, k_written, k_descended};
+ghost use Rattle.tx_works.specs.Turned.{turned_as};
+ghost use Rattle.tx_works.specs.Works.{Seat, kept_by, IsSameSize, KeepsBooks};
+
+use crate::acting::{Turned, without_reject};
+use crate::works::Works;
+use tx_cpu::Done;
+use tx_journal::Entry;
+use tx_meaning::Outcome;
+use z_instr::instr::Instr;
+use z_regs::Touches;
+
+impl Works {
+    /// Whether a constrained attempt of the CPU is live.
+    fn is_constrained(&self, cpu: u32) -> bool
+        requires { cpu < length self.now.slots }
+        ensures { (rest : Seat) → result ≡ is_some ((kept_by rest self.now).locals cpu).attempt.constraint }
+    {
+        let slot = &self.slots[cpu as usize];
+        slot.cpu.constrained()
+    }
+
+    /// The CPU executes an instruction that is prepared. Nothing is written down yet.
+    fn run(&mut self, cpu: u32, instr: &Instr, need: &Touches) -> Done
+        requires cpu { cpu < length self.old.slots }
+        requires prepared { (rest : Seat) →
+            IsPrepared ((kept_by rest self.old).locals cpu).attempt instr.now need.now }
+        requires counts { (rest : Seat) → let n = (kept_by rest self.old).state.numbers cpu in
+            n.completed < n.turns }
+        ensures told { (rest : Seat) → let k = kept_by rest self.old in
+            result ≡ (executed instr.now need.now (beside k cpu)).told }
+        ensures value { (rest : Seat) → let k = kept_by rest self.old in
+            kept_by rest self.new ≡ k_left cpu (executed instr.now need.now (beside k cpu)).after k }
+        ensures code { HasDoneRoom result }
+        ensures books { KeepsBooks self.old self.new }
+    {
+        let slot = &mut self.slots[cpu as usize];
+        self.lines.execute(&mut slot.cpu, instr, need)
+    }
+
+    /// An attempt of this kind has begun.
+    fn count_begin(&mut self, cpu: u32, constrained: bool)
+        requires cpu { cpu < length self.old.slots }
+        requires counts { (rest : Seat) → let n = (kept_by rest self.old).state.numbers cpu in
+            n.attempts < n.turns }
+        ensures value { (rest : Seat) → kept_by rest self.new ≡ k_begun cpu constrained (kept_by rest self.old) }
+        ensures books { KeepsBooks self.old self.new }
+    {
+        let slot = &mut self.slots[cpu as usize];
+        slot.ladder.begin(constrained);
+        slot.tally.attempts += 1;
+    }
+
+    /// An attempt of the CPU is committed, after so many instructions.
+    fn commit(&mut self, cpu: u32, count: u32)
+        requires cpu { cpu < length self.old.slots }
+        requires room { length self.old.history < self.old.room }
+        ensures value { (rest : Seat) → kept_by rest self.new ≡
+            k_written (entry.Commit cpu count) (k_descended cpu (kept_by rest self.old)) }
+        ensures size { IsSameSize self.old self.new }
+    {
+        self.descend(cpu);
+        self.write(Entry::Commit(cpu, count));
+    }
+
+    /// The CPU executes an instruction that is prepared, inside a transaction.
+    fn execute_inside(&mut self, cpu: u32, instr: &Instr, need: &Touches) -> Turned
+        requires cpu { cpu < length self.old.slots }
+        requires live { (rest : Seat) → is_live (kept_by rest self.old).state cpu ≡ true }
+        requires prepared { (rest : Seat) →
+            IsPrepared ((kept_by rest self.old).locals cpu).attempt instr.now need.now }
+        requires counts { (rest : Seat) → let n = (kept_by rest self.old).state.numbers cpu in
+            n.completed < n.turns }
+        requires room { length self.old.history < self.old.room }
+        ensures value { (rest : Seat) → let k = kept_by rest self.old in
+            let e = executed instr.now need.now (beside k cpu) in
+            turned_as (kept_by rest self.new) result ≡ k_inside cpu (next_address k cpu) e.after k e.told }
+        ensures size { IsSameSize self.old self.new }
+    {
+        let at = self.next_address(cpu);
+        match self.run(cpu, instr, need) {
+            Done::Stepped => without_reject(Outcome::Executed),
+            Done::Committed(count) => {
+                self.commit(cpu, count);
+                without_reject(Outcome::Executed)
+            }
+            Done::Ended(why) => self.end_by(cpu, why, at),
+            Done::Began => without_reject(Outcome::Executed),
+            Done::Paused(_) => without_reject(Outcome::Executed),
+            Done::Interrupted(_) => without_reject(Outcome::Executed),
+        }
+    }
+
+    /// The CPU executes an instruction that is prepared, outside transactions.
+    pub(crate) fn execute_outside(&mut self, cpu: u32, instr: &Instr, need: &Touches) -> Turned
+        requires cpu { cpu < length self.old.slots }
+        requires live { (rest : Seat) → is_live (kept_by rest self.old).state cpu ≡ false }
+        requires rested { (rest : Seat) → let local = (kept_by rest self.old).locals cpu in
+            local.attempt ≡ resting local.cpu }
+        requires prepared { (rest : Seat) →
+            IsPrepared ((kept_by rest self.old).locals cpu).attempt instr.now need.now }
+        requires counts { (rest : Seat) → let n = (kept_by rest self.old).state.numbers cpu in
+            n.completed < n.turns }
+        requires begins { (rest : Seat) → let n = (kept_by rest self.old).state.numbers cpu in
+            n.attempts < n.turns }
+        requires room { length self.old.history < self.old.room }
+        ensures value { (rest : Seat) → let k = kept_by rest self.old in
+            let e = executed instr.now need.now (beside k cpu) in
+            turned_as (kept_by rest self.new) result ≡ k_outside cpu e.after k e.told }
+        ensures size { IsSameSize self.old self.new }
+    {
+        match self.run(cpu, instr, need) {
+            Done::Began => {
+                let constrained = self.is_constrained(cpu);
+                self.count_begin(cpu, constrained);
+                without_reject(Outcome::Executed)
+            }
+            Done::Stepped => {
+                self.write(Entry::Step(cpu));
+                without_reject(Outcome::Executed)
+            }
+            Done::Paused(turns) => {
+                self.write(Entry::Step(cpu));
+                self.delay(cpu, turns);
+                without_reject(Outcome::Executed)
+            }
+            Done::Interrupted(code) => {
+                self.write(Entry::Step(cpu));
+                without_reject(Outcome::Interrupted { code })
+            }
+            Done::Committed(_) => without_reject(Outcome::Executed),
+            Done::Ended(_) => without_reject(Outcome::Executed),
+        }
+    }
+
+    /// The CPU executes an instruction that is prepared, and whose lines are there.
+    pub(crate) fn execute(&mut self, cpu: u32, instr: &Instr, need: &Touches) -> Turned
+        requires cpu { cpu < length self.old.slots }
+        requires prepared { (rest : Seat) →
+            IsPrepared ((kept_by rest self.old).locals cpu).attempt instr.now need.now }
+        requires rested { (rest : Seat) → let k = kept_by rest self.old in is_live k.state cpu ≡ false
+            → (k.locals cpu).attempt ≡ resting (k.locals cpu).cpu }
+        requires counts { (rest : Seat) → let n = (kept_by rest self.old).state.numbers cpu in
+            n.completed < n.turns }
+        requires begins { (rest : Seat) → let n = (kept_by rest self.old).state.numbers cpu in
+            n.attempts < n.turns }
+        requires room { length self.old.history < self.old.room }
+        ensures value { (rest : Seat) → turned_as (kept_by rest self.new) result ≡
+            k_executing cpu instr.now need.now (kept_by rest self.old) }
+        ensures size { IsSameSize self.old self.new }
+    {
+        if self.is_live(cpu) {
+            self.execute_inside(cpu, instr, need)
+        } else {
+            self.execute_outside(cpu, instr, need)
+        }
+    }
+}

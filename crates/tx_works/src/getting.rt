@@ -1,0 +1,166 @@
+//! How a CPU gets the lines that a turn needs.
+ghost use Rattle.std.specs.Prelude.{◌≡◌, ℕ, ◌+◌, ◌<◌, ◌≤◌, true, false, [], All, List, length, map, is_some};
+ghost use Rattle.std.specs.Prelude.{IfSome, ◌==◌, ◌∷◌};
+ghost use Rattle.std.specs.List.{list_any};
+ghost use Rattle.z_regs.specs.Prefix.{storage_size};
+ghost use Rattle.line_table.specs.Sizes.{storage_lines};
+ghost use Rattle.line_table.specs.Holders.{against};
+ghost use Rattle.tx_lines.specs.Owned.{holders_in};
+ghost use Rattle.tx_lines.specs.Needs.{need_at};
+ghost use Rattle.tx_meaning.specs.declared.asking.Need.{Need};
+ghost use Rattle.tx_meaning.specs.Limits.{Setting};
+ghost use Rattle.tx_meaning.specs.State.{cpus_of, is_head};
+ghost use Rattle.tx_meaning.specs.Needs.{needs_of};
+ghost use Rattle.tx_meaning.specs.Asking.{is_there};
+ghost use Rattle.tx_keeping.specs.Asking.{k_granting, k_get_line, k_get_lines};
+ghost use Rattle.tx_works.specs.Works.{Seat, IsSameSize, kept_by, seats_of};
+ghost use Rattle.tx_works.specs.Ready.{MayAsk, MayHold, HasTurn, owed};
+ghost use Rattle.tx_works.specs.Asks.{IsReady, IsFew, AskLeaves, asked_by, rejected_in, is_cpu_starved};
+
+use crate::asking::Refused;
+use crate::works::Works;
+use tx_lines::{MOST_NEEDS, lines_needed, need_for};
+use tx_meaning::Need;
+use z_regs::Touches;
+
+/// The bytes of a line.
+const LINE_SIZE: u64 = 256;
+
+/// The only line of ranges, where there is one range, and it lies in a line.
+fn only_line(ranges: &Touches) -> Option<u32>
+    requires { All (λ r. r.first + r.length ≤ storage_size) ranges.now }
+    ensures { IfSome result (λ line. map (need_at ranges.now) (line ∷ []) ≡ needs_of ranges.now) }
+{
+    if ranges.count() != 1 {
+        return None;
+    }
+    let range = ranges.at(0);
+    let length = u64::from(range.length);
+    if length == 0 || range.first % LINE_SIZE + length > LINE_SIZE {
+        return None;
+    }
+    Some((range.first / LINE_SIZE) as u32)
+}
+
+impl Works {
+    /// Whether the CPU holds a line as it needs it.
+    fn is_there(&self, cpu: u32, need: Need) -> bool
+        requires cpu { cpu < length self.now.slots }
+        requires line { need.line < storage_lines }
+        ensures { result ≡ is_there need.mode (holders_in self.now.lines cpu need.line) }
+    {
+        self.lines.is_there(cpu, need)
+    }
+
+    /// The CPU gets a line that nobody stands against. Where it holds as many as it may, it gives up one
+    /// that neither its attempt nor this turn needs, whose lines are `needed`.
+    fn take_line(&mut self, cpu: u32, need: Need, needed: &[u32])
+        requires cpu { cpu < length self.old.slots }
+        requires line { need.line < storage_lines }
+        requires among { list_any (λ other. other == need.line) needed.now ≡ true }
+        requires few { (rest : Seat) → IsFew cpu needed.now (kept_by rest self.old) }
+        requires free { against (length self.old.slots) (holders_in self.old.lines) cpu need.line need.mode
+            ≡ [] }
+        ensures kept { (rest : Seat) (needs : List Need) → map (λ need. need.line) needs ≡ needed.now
+            → kept_by rest self.new ≡ k_granting cpu needs need (kept_by rest self.old) }
+        ensures size { IsSameSize self.old self.new }
+    {
+        let slot = &self.slots[cpu as usize];
+        self.lines.grant(cpu, need, slot.cpu.footprint(), needed);
+    }
+
+    /// The CPU gets one of the lines that a turn needs, which are `needed`: where it does not hold it as it
+    /// needs it, it asks all that stand against that. The reject, if one rejects its request; else the line
+    /// is there.
+    pub fn get_line(&mut self, cpu: u32, need: Need, needed: &[u32]) -> Option<Refused>
+        requires cpu { cpu < length self.old.slots }
+        requires line { need.line < storage_lines }
+        requires among { list_any (λ other. other == need.line) needed.now ≡ true }
+        requires few { (rest : Seat) → IsFew cpu needed.now (kept_by rest self.old) }
+        requires ready { (rest : Seat) → IsReady 16 cpu self.old (kept_by rest self.old) }
+        ensures kept { (rest : Seat) (m : Setting) (needs : List Need) → cpus_of m ≡ length self.old.slots
+            → map (λ need. need.line) needs ≡ needed.now
+            → asked_by rest self.new (rejected_in result) ≡ k_get_line m cpu needs need
+            (kept_by rest self.old) }
+        ensures size { IsSameSize self.old self.new }
+        ensures leaves { (rest : Seat)
+            → AskLeaves (length self.old.slots) 16 cpu (kept_by rest self.old) (kept_by rest self.new) }
+        ensures refused { (rest : Seat) → is_some result ≡ true
+            → is_head (kept_by rest self.new).state cpu ≡ false }
+        ensures starved { (rest : Seat) → IfSome result
+            (λ r. r.starved ≡ is_cpu_starved (kept_by rest self.new) cpu) }
+    {
+        if self.is_there(cpu, need) {
+            return None;
+        }
+        let refused = self.ask_all(cpu, need);
+        if refused.is_some() {
+            return refused;
+        }
+        self.take_line(cpu, need, needed);
+        None
+    }
+
+    /// The CPU gets these lines one after the other, as the ranges need them.
+    fn get_each(&mut self, cpu: u32, ranges: &Touches, lines: &[u32]) -> Option<Refused>
+        requires cpu { cpu < length self.old.slots }
+        requires in_storage { All (λ r. r.first + r.length ≤ storage_size) ranges.now }
+        requires needed { map (need_at ranges.now) lines.now ≡ needs_of ranges.now }
+        requires most { length lines.now ≤ MOST_NEEDS }
+        requires known { All (λ line. line < storage_lines) lines.now }
+        requires few { (rest : Seat) → IsFew cpu lines.now (kept_by rest self.old) }
+        requires ready { (rest : Seat) → IsReady 128 cpu self.old (kept_by rest self.old) }
+        ensures kept { (rest : Seat) (m : Setting) → cpus_of m ≡ length self.old.slots
+            → asked_by rest self.new (rejected_in result)
+            ≡ k_get_lines m cpu (needs_of ranges.now) (kept_by rest self.old) }
+        ensures size { IsSameSize self.old self.new }
+        ensures leaves { (rest : Seat)
+            → AskLeaves (length self.old.slots) 128 cpu (kept_by rest self.old) (kept_by rest self.new) }
+        ensures refused { (rest : Seat) → is_some result ≡ true
+            → is_head (kept_by rest self.new).state cpu ≡ false }
+        ensures starved { (rest : Seat) → IfSome result
+            (λ r. r.starved ≡ is_cpu_starved (kept_by rest self.new) cpu) }
+    {
+        for line in lines {
+            let refused = self.get_line(cpu, need_for(ranges, *line), lines);
+            if refused.is_some() {
+                return refused;
+            }
+        }
+        None
+    }
+
+    /// The CPU gets the lines that ranges by absolute addresses need, in rising order, until one of its
+    /// requests is rejected. There are at most four ranges, each of at most 256 bytes. The reject, if there
+    /// is one; else the lines are there.
+    pub fn get_lines(&mut self, cpu: u32, ranges: &Touches) -> Option<Refused>
+        requires cpu { cpu < length self.old.slots }
+        requires small { All (λ r. r.length ≤ 256) ranges.now }
+        requires in_storage { All (λ r. r.first + r.length ≤ storage_size) ranges.now }
+        requires holds { (rest : Seat) → MayHold cpu (needs_of ranges.now) (kept_by rest self.old) }
+        requires asks { (rest : Seat) → MayAsk (length self.old.slots) cpu (kept_by rest self.old) }
+        requires room { (rest : Seat) → owed self.old (kept_by rest self.old) ≤ self.old.room }
+        requires turn { (rest : Seat) → HasTurn (seats_of rest self.old.slots cpu) 128 }
+        ensures kept { (rest : Seat) (m : Setting) → cpus_of m ≡ length self.old.slots
+            → asked_by rest self.new (rejected_in result)
+            ≡ k_get_lines m cpu (needs_of ranges.now) (kept_by rest self.old) }
+        ensures size { IsSameSize self.old self.new }
+        ensures own { (rest : Seat)
+            → (kept_by rest self.new).locals cpu ≡ (kept_by rest self.old).locals cpu }
+        ensures asks { (rest : Seat) → MayAsk (length self.new.slots) cpu (kept_by rest self.new) }
+        ensures room { (rest : Seat) → owed self.new (kept_by rest self.new) ≤ self.new.room }
+        ensures owed_no_more { (rest : Seat)
+            → owed self.new (kept_by rest self.new) ≤ owed self.old (kept_by rest self.old) }
+        ensures turn { (rest : Seat) → HasTurn (seats_of rest self.new.slots cpu) 0 }
+        ensures refused { (rest : Seat) → is_some result ≡ true
+            → is_head (kept_by rest self.new).state cpu ≡ false }
+        ensures starved { (rest : Seat) → IfSome result
+            (λ r. r.starved ≡ is_cpu_starved (kept_by rest self.new) cpu) }
+    {
+        if let Some(line) = only_line(ranges) {
+            return self.get_each(cpu, ranges, &[line]);
+        }
+        let lines = lines_needed(ranges);
+        self.get_each(cpu, ranges, lines.as_slice())
+    }
+}
