@@ -7,5 +7,3 @@ mod copies;
 mod sets;
 #[cfg(test)]
 mod slots;
-#[cfg(test)]
-mod stores;

@@ -1,10 +1,8 @@
-//! Cases of what CPUs ask of one another and what attempts touch, with values from outside or worked by hand.
+//! Cases of what CPUs ask of one another, with values from outside or worked by hand.
 #![tactic(auto)]
 
 #[cfg(test)]
 mod answers;
-#[cfg(test)]
-mod constraints;
 #[cfg(test)]
 mod holders;
 #[cfg(test)]

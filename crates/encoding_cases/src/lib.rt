@@ -1,8 +1,6 @@
-//! Cases of encodings and operands of instructions.
+//! Cases of encodings of instructions, and of their table.
 #![tactic(auto)]
 
-#[cfg(test)]
-mod operands;
 #[cfg(test)]
 mod readings;
 #[cfg(test)]

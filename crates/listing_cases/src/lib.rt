@@ -1,4 +1,4 @@
-//! Cases of what is read: lines of listings, spellings of instructions, and streams.
+//! Cases of what is read: lines of listings, and spellings of instructions.
 #![tactic(auto)]
 
 #[cfg(test)]
@@ -7,5 +7,3 @@ mod lines;
 mod listings;
 #[cfg(test)]
 mod spellings;
-#[cfg(test)]
-mod streams;

@@ -1,11 +1,7 @@
-//! Cases of aborts, nesting, footprints and the retry ladder: each call with values from outside or worked by hand.
+//! Cases of footprints and the retry ladder: each call with values from outside or worked by hand.
 #![tactic(auto)]
 
-#[cfg(test)]
-mod aborts;
 #[cfg(test)]
 mod footprints;
 #[cfg(test)]
 mod ladders;
-#[cfg(test)]
-mod nests;

@@ -1,0 +1,5 @@
+//! Cases of sources and sinks.
+#![tactic(auto)]
+
+#[cfg(test)]
+mod streams;
