@@ -1,6 +1,6 @@
--- An attempt that was live before an event and is live behind it: storage is as it was where the attempt has touched it.
-use Rattle.std.proofs.Common.{◌≡◌, ◌≢◌, ℕ, ◌<◌, ◌/◌, true, false, Some, refl, sym, ap, ◌∙◌, subst, inl, inr}
-use Rattle.std.specs.Prelude.{◌⊎◌, ◌||◌, nat_lt}
+-- Where an attempt that was live before an event is live behind it, storage is as it was in all that it has touched.
+use Rattle.std.proofs.Common.{◌≡◌, ◌≢◌, ℕ, ◌<◌, ◌/◌, true, Some, refl, sym, ap, ◌∙◌, subst, inl, inr}
+use Rattle.std.specs.Prelude.{◌||◌, nat_lt}
 use Rattle.std.proofs.lemmas.Bool.{cases_eq, both_ways}
 use borrow.Enum.Arm.{by_way}
 use Rattle.tx_journal.specs.Image.{cpu_of_event}
@@ -22,13 +22,14 @@ use Rattle.tx_opacity.proofs.Own.{Saw, Own, own_turn, own_interruption}
 
 module _ (m : Setting) (s : IsSetting m) where
   -- the CPU of the event itself
-  own : (e : Event) (k : Kept) → IsGood m k → cpu_of_event e < cpus_of m → is_live k.state (cpu_of_event e) ≡ true
-      → Own m k (k_happen m e k).kept (cpu_of_event e)
+  own : (e : Event) (k : Kept) → IsGood m k → cpu_of_event e < cpus_of m
+      → is_live k.state (cpu_of_event e) ≡ true → Own m k (k_happen m e k).kept (cpu_of_event e)
   own (event.Turn i) k g within live = own_turn m s i k g within live
   own (event.External i) k g within live = own_interruption m s i k g
 
   -- any other CPU
-  others : (e : Event) (x : ℕ) (t : State) → x ≢ cpu_of_event e → Left x (t.numbers x).completed (happen m e t).state
+  others : (e : Event) (x : ℕ) (t : State) → x ≢ cpu_of_event e
+      → Left x (t.numbers x).completed (happen m e t).state
   others (event.Turn i) x t ne = others_turn x (t.numbers x).completed m i ne t refl
   others (event.External i) x t ne = others_interruption x (t.numbers x).completed m i ne t refl
 

@@ -14,8 +14,8 @@ pub record CpuSeen : Type 0 where
   pub live : Option (ℕ × ℕ)
   pub pending : Option ℕ
 
--- of all: the CPUs in the order of their numbers, storage in words of eight bytes, and how many entries the history
--- has
+-- of all: the CPUs in the order of their numbers, storage in words of eight bytes, and how many entries the
+-- history has
 pub record Sight : Type 0 where
   pub cpus : List CpuSeen
   pub words : List (List ℕ)

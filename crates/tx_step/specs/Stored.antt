@@ -41,8 +41,8 @@ in_span r line =
 abbrev pub in_spans : List Range → ℕ → Bool
 in_spans ranges line = list_any (λ r. in_span r line) ranges
 
--- a line may have changed in an event where its CPU asked to store into it, or where the attempt that has stored into
--- it is over
+-- a line may have changed in an event where its CPU asked to store into it, or where the attempt that has
+-- stored into it is over
 abbrev pub is_due : List CpuSeen → Setting → State → Asked → StoredLine → Bool
 is_due cpus m s asked l =
     (l.cpu == asked.cpu && in_spans asked.touches l.line) || not (goes_on cpus m s l.cpu)

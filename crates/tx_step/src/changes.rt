@@ -1,5 +1,6 @@
 //! Changes of a table, which are made and taken back.
 ghost use Rattle.std.specs.Prelude.{◌≡◌, ◌<◌, List, ℕ, IfOk, IsTrue, length, slice_set};
+ghost use Rattle.byteorder.specs.Endian.{big_bytes};
 ghost use Rattle.tx_machine.specs.Machine.{setting_of, state_of};
 ghost use Rattle.tx_step.specs.Sights.{CpuSeen, cpu_seen};
 ghost use Rattle.tx_step.specs.Changes.{redo, undo, Leads};
@@ -66,11 +67,18 @@ pub fn undo_cpus(table: &mut [CpuSight], changes: &[Change<CpuSight>])
     }
 }
 
+/// The number in a word of storage.
+fn number_of(word: &[u8; 8]) -> u64
+    ensures { big_bytes 8 result ≡ word.now }
+{
+    u64::from_be_bytes(*word)
+}
+
 /// Whether two words of storage are the same.
 fn is_same_word(a: &[u8; 8], b: &[u8; 8]) -> bool
     ensures { IsTrue result → a.now ≡ b.now }
 {
-    a == b
+    number_of(a) == number_of(b)
 }
 
 /// Writes a word of storage, and notes the change where it is one. The error is want of memory.

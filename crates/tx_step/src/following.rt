@@ -1,5 +1,5 @@
 //! What an event changes of all that is shown.
-ghost use Rattle.std.specs.Prelude.{◌≡◌, ◌≢◌, ◌⊎◌, ℕ, ◌+◌, ◌*◌, ◌/◌, ◌%◌, ◌<◌, true, IfOk, List, length};
+ghost use Rattle.std.specs.Prelude.{◌≡◌, ◌≢◌, ◌⊎◌, ℕ, ◌/◌, ◌%◌, ◌<◌, true, IfOk, List, length};
 ghost use Rattle.std.specs.Prelude.{slice_index, slice_index_or};
 ghost use Rattle.z_regs.specs.Prefix.{storage_size};
 ghost use Rattle.tx_meaning.specs.State.{flat_of};
@@ -177,8 +177,8 @@ impl View {
         })
     }
 
-    /// The lines that may have changed in an event: none where the history is as long as before. The error is want
-    /// of memory.
+    /// The lines that may have changed in an event: none where the history is as long as before. The error is
+    /// want of memory.
     fn lines_due(
         &self,
         alloc: Global,
@@ -188,8 +188,8 @@ impl View {
     ) -> Result<Vec<u32>, AllocError>
         requires { length self.now.cpus ≡ length machine.now.image.cpus }
         ensures { IfOk result (λ lines. self.now.entries ≢ length (state_of machine.now).history
-            → lines.items
-            ≡ due_lines self.now.cpus (setting_of machine.now) (state_of machine.now) asked.now stored.now) }
+            → lines.items ≡ due_lines self.now.cpus (setting_of machine.now) (state_of machine.now) asked.now
+            stored.now) }
     {
         if self.entries == machine.journal().len() as u64 {
             return Ok(Vec::new(alloc));
@@ -197,8 +197,8 @@ impl View {
         stored.changed(alloc, machine, &self.cpus, asked)
     }
 
-    /// Makes this what a machine shows behind an event, and gives what that changes. Storage is looked at where the
-    /// history has grown, in the lines that may have changed.
+    /// Makes this what a machine shows behind an event, and gives what that changes. Storage is looked at where
+    /// the history has grown, in the lines that may have changed.
     pub fn follow(
         &mut self,
         alloc: Global,
@@ -211,8 +211,8 @@ impl View {
         requires same { self.old.entries ≡ length (state_of machine.now).history
             → self.old.words ≡ words_of (flat_of (setting_of machine.now) (state_of machine.now)).storage }
         requires others { (w : ℕ) (d : List ℕ) → w < 131072
-            → (may_change self.old.cpus (setting_of machine.now) (state_of machine.now) asked.now stored.now (w / 32)
-            ≡ true) ⊎ (slice_index_or self.old.words w d
+            → (may_change self.old.cpus (setting_of machine.now) (state_of machine.now) asked.now stored.now
+            (w / 32) ≡ true) ⊎ (slice_index_or self.old.words w d
             ≡ word_at (flat_of (setting_of machine.now) (state_of machine.now)).storage w) }
         ensures value { IfOk result (λ _. self.new ≡ sight_of (setting_of machine.now) (state_of machine.now)) }
         ensures forward { IfOk result (λ step. forward_by step self.old ≡ self.new) }
@@ -263,7 +263,8 @@ impl View {
     pub fn byte(&self, address: u32) -> u8
         requires known { address < storage_size }
         requires size { length self.now.words ≡ 131072 }
-        ensures { (d : List ℕ) → result ≡ slice_index (slice_index_or self.now.words (address / 8) d) (address % 8) }
+        ensures { (d : List ℕ) → result
+            ≡ slice_index (slice_index_or self.now.words (address / 8) d) (address % 8) }
     {
         self.words[(address / 8) as usize][(address % 8) as usize]
     }
