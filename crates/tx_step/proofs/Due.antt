@@ -1,6 +1,6 @@
 -- A byte is others only in a line that may have changed, and the lines that are kept stay those stored into.
 use Rattle.std.proofs.Common.{◌≡◌, ◌≢◌, ℕ, ◌/◌, ◌<◌, Bool, true, false, List, [], Some, None, length, get_or}
-use Rattle.std.proofs.Common.{refl, sym, ap, subst, ◌∙◌, ◌⊎◌, inl, inr}
+use Rattle.std.proofs.Common.{arith, sym, ap, refl, subst, ◌∙◌, ◌⊎◌, inl, inr}
 use Rattle.std.specs.Prelude.{◌&&◌, ◌||◌, ◌==◌, not, nat_lt, slice_get, if◌then◌else◌}
 use Rattle.std.specs.List.{list_any}
 use Rattle.std.proofs.lemmas.Bool.{cases_Bool, and_from, and_parts, and_cases, or_parts, not-false, eqb-true}
@@ -13,7 +13,6 @@ use Rattle.tx_journal.specs.Image.{cpu_of_event}
 use Rattle.tx_journal.specs.declared.events.Event.{Event}
 use Rattle.tx_progress.proofs.Parts.{not_live}
 use Rattle.tx_journal.specs.Content.{Content}
-use Rattle.tx_serial.specs.Flat.{bytes_of}
 use Rattle.tx_serial.specs.Run.{run}
 use Rattle.tx_meaning.specs.Limits.{Setting, RunLimits}
 use Rattle.tx_meaning.specs.Meaning.{IsSetting, meaning, meaning_from}
@@ -24,14 +23,15 @@ use Rattle.tx_meaning.specs.Views.{AreKnown}
 use Rattle.tx_machine.specs.Machine.{Seen, setting_of, state_of, event_of, opened}
 use Rattle.tx_machine.specs.Machine.{after as after_event}
 use Rattle.tx_works.specs.Wanted.{wanted}
-use Rattle.tx_step.specs.Sights.{CpuSeen, Sight, cpus_seen}
+use Rattle.tx_step.specs.Sights.{CpuSeen, Sight, cpus_seen, word_at, words_of}
 use Rattle.tx_step.specs.Traces.{IsTraced}
 use Rattle.tx_step.specs.declared.following.Step.{Step}
-use Rattle.tx_step.specs.Stored.{has, Covers, completed_in, completed_of, is_where_it_was}
+use Rattle.tx_step.specs.Stored.{has, Covers, completed_in, completed_of, goes_on, in_spans}
 use Rattle.tx_step.specs.Stored.{is_due, due_lines, may_change, is_among}
+use Rattle.tx_step.specs.declared.stored.Asked.{Asked}
 use Rattle.tx_step.specs.declared.stored.StoredLine.{StoredLine}
-use Rattle.tx_step.proofs.Lined.{none_passes, passing_listed}
-use Rattle.tx_step.proofs.Listed.{cpus_size, cpu_at, byte_at}
+use Rattle.tx_step.proofs.Lined.{none_passes, passing_listed, all_spanned}
+use Rattle.tx_step.proofs.Listed.{cpus_size, cpu_at, word_there, same_word}
 use Rattle.tx_step.proofs.Stepped.{shown_now}
 use Rattle.tx_step.proofs.Touched.{bytes_stay, lines_stay, attempts_keep, live_afterwards}
 
@@ -56,27 +56,27 @@ seen_by m s i live = by_way (slice_get_cases (cpus_seen m s) i).1
     ∙ completed_is m s i)
     (λ past. absurd (let x : false ≡ true = sym (ap (λ o. nat_lt 0 (completed_of o)) past.1) ∙ live in cc))
 
--- an attempt that is where it was is live, and has completed as many instructions as before
-record Rests (before after : State) (j : ℕ) : Type 0 where
+-- an attempt that goes on was live, and is
+record Goes (before after : State) (j : ℕ) : Type 0 where
   live : is_live before j ≡ true
-  same : (after.numbers j).completed ≡ (before.numbers j).completed
+  lives : is_live after j ≡ true
 
-rests_there : (m : Setting) (before after : State) (j : ℕ)
-    → is_where_it_was (cpus_seen m before) m after j ≡ true → Rests before after j
-rests_there m before after j is =
+goes_there : (m : Setting) (before after : State) (j : ℕ) → goes_on (cpus_seen m before) m after j ≡ true
+    → Goes before after j
+goes_there m before after j is =
     let n = completed_of (slice_get (cpus_seen m before) j) in
-    let both = and_parts (nat_lt 0 n) (completed_in (levels_at m after j) == n) is in
-    let here = seen_by m before j both.0 in
+    let both = and_parts (nat_lt 0 n) (nat_lt 0 (completed_in (levels_at m after j))) is in
     record {
-      live = ap (nat_lt 0) (sym here) ∙ both.0;
-      same =
-          sym (completed_is m after j) ∙ eqb-true (completed_in (levels_at m after j)) n both.1 ∙ here;
+      live = ap (nat_lt 0) (sym (seen_by m before j both.0)) ∙ both.0;
+      lives = ap (nat_lt 0) (sym (completed_is m after j)) ∙ both.1;
     }
 
 module _ (m : Setting) (s : IsSetting m) (events : List Event) (known : AreKnown m events) (e : Event)
     (within : cpu_of_event e < cpus_of m) (lines : List StoredLine) (covers : Covers m (meaning m events) lines)
     (wants : (line : ℕ) → stores (wanted m (meaning m events) (cpu_of_event e)) line ≡ true
-    → has lines (cpu_of_event e) line ≡ true) where
+    → has lines (cpu_of_event e) line ≡ true)
+    (asked : Asked) (own : asked.cpu ≡ cpu_of_event e)
+    (asks_is : asked.touches ≡ wanted m (meaning m events) (cpu_of_event e)) where
   abbrev before : State
   before = meaning m events
 
@@ -86,31 +86,31 @@ module _ (m : Setting) (s : IsSetting m) (events : List Event) (known : AreKnown
   abbrev cpus : List CpuSeen
   cpus = cpus_seen m before
 
-  -- a CPU with a line that has not changed is another one, and its attempt is where it was
-  record Quiet (j : ℕ) : Type 0 where
-    apart : (j == cpu_of_event e) ≡ false
-    rests : is_where_it_was cpus m after j ≡ true
+  -- a line of a CPU that has not changed is not asked for, and the attempt of the CPU goes on
+  record Quiet (j line : ℕ) : Type 0 where
+    apart : (j == asked.cpu && in_spans asked.touches line) ≡ false
+    goes : goes_on cpus m after j ≡ true
 
   quiet_at : (line : ℕ) (l : StoredLine) → (l.line == line) ≡ true
-      → (l.line == line && (l.cpu == cpu_of_event e || not (is_where_it_was cpus m after l.cpu))) ≡ false
-      → Quiet l.cpu
+      → (l.line == line && is_due cpus m after asked l) ≡ false → Quiet l.cpu l.line
   quiet_at line l here off =
-      let i = cpu_of_event e in
-      let w = is_where_it_was cpus m after l.cpu in
-      by_way (and_cases (l.line == line) (l.cpu == i || not w) off)
+      let asks = l.cpu == asked.cpu && in_spans asked.touches l.line in
+      let w = goes_on cpus m after l.cpu in
+      by_way (and_cases (l.line == line) (asks || not w) off)
       (λ elsewhere. absurd (both_ways (l.line == line) elsewhere here))
-      (λ none. let parts = or_parts (l.cpu == i) (not w) none in
-      record { apart = parts.0; rests = not-false w parts.1 })
+      (λ none. let parts = or_parts asks (not w) none in
+      record { apart = parts.0; goes = not-false w parts.1 })
 
-  quiet_of : (j line : ℕ) → may_change cpus m after (cpu_of_event e) lines line ≡ false
-      → has lines j line ≡ true → Quiet j
+  quiet_of : (j line : ℕ) → may_change cpus m after asked lines line ≡ false → has lines j line ≡ true
+      → Quiet j line
   quiet_of j line off there =
       let at = Any-from_list_any (λ (l : StoredLine). l.cpu == j && l.line == line) lines there in
       let l : StoredLine = at.1 in
       let both = and_parts (l.cpu == j) (l.line == line) at.4 in
-      subst Quiet (eqb-true l.cpu j both.0)
+      subst (λ x. Quiet x line) (eqb-true l.cpu j both.0)
+      (subst (Quiet l.cpu) (eqb-true l.line line both.1)
       (quiet_at line l both.1 (none_passes
-      (λ (x : StoredLine). x.line == line && is_due cpus m after (cpu_of_event e) x) lines at.0 l off at.2 at.3))
+      (λ (x : StoredLine). x.line == line && is_due cpus m after asked x) lines at.0 l off at.2 at.3)))
 
   -- one of them has stored into the line
   abbrev stored_by : ℕ → StoredLine → Bool
@@ -130,26 +130,33 @@ module _ (m : Setting) (s : IsSetting m) (events : List Event) (known : AreKnown
   Stays a = (flat_of m after).storage a ≡ (flat_of m before).storage a
 
   -- where the line has not changed, an attempt that has stored into it keeps it, or nothing stores into it
-  stays_where : (a : ℕ) → may_change cpus m after (cpu_of_event e) lines (a / 256) ≡ false → Stays a
+  stays_where : (a : ℕ) → may_change cpus m after asked lines (a / 256) ≡ false → Stays a
   stays_where a off = by_way (cases_Bool (list_any (stored_by (a / 256)) lines))
       (λ some.
       let at = Any-from_list_any (stored_by (a / 256)) lines some in
       let l : StoredLine = at.1 in
       let both = and_parts (l.line == a / 256) _ at.4 in
       let quiet = quiet_of l.cpu (a / 256) off (covers l.cpu (a / 256) both.1) in
-      let rests = rests_there m before after l.cpu quiet.rests in
-      attempts_keep m s events known e within l.cpu a rests.live rests.same both.1)
+      let goes = goes_there m before after l.cpu quiet.goes in
+      attempts_keep m s events known e within l.cpu a goes.live goes.lives both.1)
       (λ none.
       bytes_stay m s events known e within a (λ j. none_stored (a / 256) j none)
       (false_from_ne_true (stores (wanted m before (cpu_of_event e)) (a / 256)) (λ is.
-      both_ways (cpu_of_event e == cpu_of_event e)
+      let asks = in_spans asked.touches (a / 256) in
+      both_ways (cpu_of_event e == asked.cpu && asks)
       (quiet_of (cpu_of_event e) (a / 256) off (wants (a / 256) is)).apart
-      (eq-eqb (cpu_of_event e) (cpu_of_event e) refl))))
+      (and_from (cpu_of_event e == asked.cpu) asks (eq-eqb (cpu_of_event e) asked.cpu (sym own))
+      (ap (λ r. in_spans r (a / 256)) asks_is
+      ∙ all_spanned (wanted m before (cpu_of_event e)) (a / 256) is)))))
 
-  -- a byte is the same, or its line may have changed
-  pub changed_or_same : (a : ℕ) → (may_change cpus m after (cpu_of_event e) lines (a / 256) ≡ true) ⊎ Stays a
-  changed_or_same a = by_way (cases_Bool (may_change cpus m after (cpu_of_event e) lines (a / 256)))
-      (λ on. inl on) (λ off. inr (stays_where a off))
+  -- a word is the same, or its line may have changed
+  pub changed_or_same : (w : ℕ) → (may_change cpus m after asked lines (w / 32) ≡ true)
+      ⊎ (word_at (flat_of m after).storage w ≡ word_at (flat_of m before).storage w)
+  changed_or_same w = by_way (cases_Bool (may_change cpus m after asked lines (w / 32)))
+      (λ on. inl on)
+      (λ off. inr (same_word (flat_of m after).storage (flat_of m before).storage w (λ a here.
+      let line : w / 32 ≡ a / 256 = omega arith in
+      stays_where a (ap (may_change cpus m after asked lines) (sym line) ∙ off))))
 
   -- what is stored into afterwards was among the lines, and is that of a live attempt
   covered_by : (j line : ℕ) → (footprint_of m after j).stored line ≡ true → has lines j line ≡ true
@@ -176,17 +183,18 @@ module _ (m : Setting) (s : IsSetting m) (events : List Event) (known : AreKnown
 -- ---- lines that are looked at
 
 -- where the history is as long as before nothing is others, else what is others lies in lines that are looked at
-pub looked_at : (m : Setting) (s : State) (view : Sight) (i : ℕ) (stored : List StoredLine) (lines : List ℕ)
-    → (view.entries ≡ length s.history → view.bytes ≡ bytes_of (flat_of m s).storage)
-    → ((a : ℕ) → a < 1048576
-    → (may_change view.cpus m s i stored (a / 256) ≡ true) ⊎ (get_or view.bytes a 0 ≡ (flat_of m s).storage a))
-    → (view.entries ≢ length s.history → lines ≡ due_lines view.cpus m s i stored) → (a : ℕ) → a < 1048576
-    → (is_among lines (a / 256) ≡ true) ⊎ (get_or view.bytes a 0 ≡ (flat_of m s).storage a)
-looked_at m s view i stored lines none others are a low = by_way (cases_eq view.entries (length s.history))
-    (λ same. inr (ap (λ l. get_or l a 0) (none same) ∙ byte_at (flat_of m s).storage a low))
-    (λ grown. by_way (others a low)
-    (λ on. inl (ap (λ l. is_among l (a / 256)) (are grown)
-    ∙ passing_listed (is_due view.cpus m s i) stored (a / 256) on))
+pub looked_at : (m : Setting) (s : State) (view : Sight) (asked : Asked) (stored : List StoredLine) (lines : List ℕ)
+    → (view.entries ≡ length s.history → view.words ≡ words_of (flat_of m s).storage)
+    → ((w : ℕ) (d : List ℕ) → w < 131072 → (may_change view.cpus m s asked stored (w / 32) ≡ true)
+    ⊎ (get_or view.words w d ≡ word_at (flat_of m s).storage w))
+    → (view.entries ≢ length s.history → lines ≡ due_lines view.cpus m s asked stored)
+    → (w : ℕ) (d : List ℕ) → w < 131072
+    → (is_among lines (w / 32) ≡ true) ⊎ (get_or view.words w d ≡ word_at (flat_of m s).storage w)
+looked_at m s view asked stored lines none others are w d low = by_way (cases_eq view.entries (length s.history))
+    (λ same. inr (ap (λ l. get_or l w d) (none same) ∙ word_there (flat_of m s).storage w d low))
+    (λ grown. by_way (others w d low)
+    (λ on. inl (ap (λ l. is_among l (w / 32)) (are grown)
+    ∙ passing_listed (is_due view.cpus m s asked) stored (w / 32) on))
     (λ same. inr same))
 
 -- ---- by what is seen of a machine
@@ -222,29 +230,31 @@ module _ (before next : Seen) (e : Event) (lines : List StoredLine) (s : IsSetti
     (is : next ≡ after_event before e) (state_is : state_of next ≡ (event_of before e).state)
     (covers : Covers (setting_of before) (state_of before) lines)
     (wants : (line : ℕ) → stores (wanted (setting_of before) (state_of before) (cpu_of_event e)) line ≡ true
-    → has lines (cpu_of_event e) line ≡ true) where
+    → has lines (cpu_of_event e) line ≡ true)
+    (asked : Asked) (own : asked.cpu ≡ cpu_of_event e)
+    (asks_is : asked.touches ≡ wanted (setting_of before) (state_of before) (cpu_of_event e)) where
   abbrev m : Setting
   m = setting_of before
 
   setting : setting_of next ≡ m
   setting = ap setting_of is
 
-  -- what is shown has the bytes that the machine has, but in lines that may have changed
-  pub due_or_same : (sight : Sight) (steps : List Step) → IsTraced before sight steps (length steps) → (a : ℕ)
-      → a < 1048576 → (may_change sight.cpus (setting_of next) (state_of next) (cpu_of_event e) lines (a / 256) ≡ true)
-      ⊎ (get_or sight.bytes a 0 ≡ (flat_of (setting_of next) (state_of next)).storage a)
-  due_or_same sight steps traced a low =
+  -- what is shown has the words that the machine has, but in lines that may have changed
+  pub due_or_same : (sight : Sight) (steps : List Step) → IsTraced before sight steps (length steps)
+      → (w : ℕ) (d : List ℕ) → w < 131072
+      → (may_change sight.cpus (setting_of next) (state_of next) asked lines (w / 32) ≡ true)
+      ⊎ (get_or sight.words w d ≡ word_at (flat_of (setting_of next) (state_of next)).storage w)
+  due_or_same sight steps traced w d low =
       let shown = shown_now before sight steps traced in
-      let i = cpu_of_event e in
       let cpus = cpus_seen m (state_of before) in
-      by_way (changed_or_same m s before.events known e within lines covers wants a)
-      (λ on. inl (ap (λ (v : Sight). may_change v.cpus (setting_of next) (state_of next) i lines (a / 256)) shown
-      ∙ ap (λ n. may_change cpus n (state_of next) i lines (a / 256)) setting
-      ∙ ap (λ t. may_change cpus m t i lines (a / 256)) state_is ∙ on))
-      (λ same. inr (ap (λ (v : Sight). get_or v.bytes a 0) shown
-      ∙ byte_at (flat_of m (state_of before)).storage a low ∙ sym same
-      ∙ sym (ap (λ n. (flat_of n (state_of next)).storage a) setting
-      ∙ ap (λ t. (flat_of m t).storage a) state_is)))
+      by_way (changed_or_same m s before.events known e within lines covers wants asked own asks_is w)
+      (λ on. inl (ap (λ (v : Sight). may_change v.cpus (setting_of next) (state_of next) asked lines (w / 32)) shown
+      ∙ ap (λ n. may_change cpus n (state_of next) asked lines (w / 32)) setting
+      ∙ ap (λ t. may_change cpus m t asked lines (w / 32)) state_is ∙ on))
+      (λ same. inr (ap (λ (v : Sight). get_or v.words w d) shown
+      ∙ word_there (flat_of m (state_of before)).storage w d low ∙ sym same
+      ∙ sym (ap (λ n. word_at (flat_of n (state_of next)).storage w) setting
+      ∙ ap (λ t. word_at (flat_of m t).storage w) state_is)))
 
   -- lines of which those of live attempts are kept cover what is stored into
   pub next_covers : (kept : List StoredLine)
@@ -253,5 +263,5 @@ module _ (before next : Seen) (e : Event) (lines : List StoredLine) (s : IsSetti
   next_covers kept keeps =
       subst (λ n. Covers n (state_of next) kept) (sym setting)
       (subst (λ t. Covers m t kept) (sym state_is)
-      (covers_live m s before.events known e within lines covers wants kept
+      (covers_live m s before.events known e within lines covers wants asked own asks_is kept
       (λ j line live. keeps j line (ap (λ t. is_live t j) state_is ∙ live))))

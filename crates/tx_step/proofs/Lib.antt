@@ -5,6 +5,7 @@ pub mod Stepped
 pub mod Followed
 pub mod Moved
 pub mod Framed
+pub mod Going
 pub mod Touched
 pub mod Lined
 pub mod Due

@@ -1,13 +1,17 @@
 -- Lines in lists: those of CPUs, and those that may have changed.
-use Rattle.std.proofs.Common.{◌≡◌, ℕ, ◌<◌, Bool, true, false, List, [], ◌∷◌, ◌++◌, length, get_or}
-use Rattle.std.proofs.Common.{cond, refl, ap, ◌∙◌}
+use Rattle.std.proofs.Common.{◌≡◌, ℕ, ◌+◌, ◌/◌, ◌%◌, ◌<◌, ◌≤◌, Bool, true, false, List, [], ◌∷◌, ◌++◌}
+use Rattle.std.proofs.Common.{length, get_or, arith, cond, refl, ap, ◌∙◌}
 use Rattle.std.specs.Prelude.{◌&&◌, ◌||◌, ◌==◌, map}
 use Rattle.std.specs.List.{list_any, filter}
 use Rattle.std.proofs.lemmas.Bool.{cases_Bool, and_from, and_parts, or_right, or_left, eqb-true, eq-eqb, both_ways, or_cases}
+use Rattle.std.proofs.lemmas.Bool.{le-leb, lt-ltb}
 use Rattle.std.proofs.lemmas.List.Folds.{list_any_at, list_any-append}
 use Rattle.std.proofs.lemmas.Map.Views.{any-filter_same}
 use borrow.Enum.Arm.{by_way}
-use Rattle.tx_step.specs.Stored.{has, is_among}
+use Rattle.z_regs.specs.declared.ranges.Range.{Range}
+use Rattle.tx_footprint.specs.Places.{has_place, stores}
+use Rattle.tx_footprint.proofs.Spans.{address_of}
+use Rattle.tx_step.specs.Stored.{has, is_among, in_span, in_spans}
 use Rattle.tx_step.specs.declared.stored.StoredLine.{StoredLine}
 
 -- no element passes a test that none passes
@@ -60,3 +64,22 @@ passing_listed p (l ∷ rest) n is =
     by_way (or_cases (l.line == n && p l) (list_any (λ (x : StoredLine). x.line == n && p x) rest) is)
     (λ here. listed_here (p l) n l (filter p rest) here)
     (λ later. listed_by (p l) n l (filter p rest) rest (passing_listed p rest n later))
+
+-- a line that a range stores into is between the first and the last
+spanned : (r : Range) (line : ℕ) → (r.store && has_place 256 r line) ≡ true → in_span r line ≡ true
+spanned r line is =
+    let both = and_parts r.store (has_place 256 r line) is in
+    let at = address_of 256 r line both.1 in
+    let from : r.first ≤ at.0 = at.1 in
+    let below : at.0 < r.first + r.length = at.2 in
+    let here : at.0 / 256 ≡ line = at.3 in
+    let low : r.first / 256 ≤ line = omega arith in
+    let high : line < r.first / 256 + (r.first % 256 + r.length + 255) / 256 = omega arith in
+    and_from r.store _ both.0 (and_from _ _ (le-leb _ _ low) (lt-ltb _ _ high))
+
+pub all_spanned : (ranges : List Range) (line : ℕ) → stores ranges line ≡ true → in_spans ranges line ≡ true
+all_spanned [] line is = is
+all_spanned (r ∷ rest) line is =
+    by_way (or_cases (r.store && has_place 256 r line) (stores rest line) is)
+    (λ here. or_left (in_span r line) _ (spanned r line here))
+    (λ later. or_right (in_span r line) _ (all_spanned rest line later))

@@ -1,12 +1,13 @@
 -- Lists that are known by each of their places.
-use Rattle.std.proofs.Common.{◌≡◌, ℕ, ◌+◌, ◌<◌, List, length, map, get_or, sym, subst, ◌∙◌, arith}
+use Rattle.std.proofs.Common.{◌≡◌, ℕ, ◌+◌, ◌*◌, ◌/◌, ◌%◌, ◌<◌, List, length, map, get_or, refl}
+use Rattle.std.proofs.Common.{sym, subst, ◌∙◌, arith}
 use Rattle.std.specs.List.{range_with_len}
-use Rattle.std.proofs.lemmas.List.{ext_get_or, get_or_default}
+use Rattle.std.proofs.lemmas.List.{ext_get_or}
 use Rattle.std.proofs.lemmas.List.FromFn.{get_or-map-range_with_len, length-map-range_with_len}
 use Rattle.tx_meaning.specs.Limits.{Setting}
 use Rattle.tx_meaning.specs.State.{State, cpus_of}
-use Rattle.tx_serial.specs.Flat.{Storage, bytes_of, bytes_below}
-use Rattle.tx_step.specs.Sights.{cpus_seen, cpu_seen, CpuSeen}
+use Rattle.tx_serial.specs.Flat.{Storage}
+use Rattle.tx_step.specs.Sights.{cpus_seen, cpu_seen, CpuSeen, word_at, words_of}
 
 -- a list that has the value of a function at each place
 pub all_listed : {X : Type 0} (f : ℕ → X) (xs : List X) (n : ℕ) → length xs ≡ n
@@ -17,24 +18,39 @@ all_listed f xs n size each =
     let here : 0 + i ≡ i = omega arith in
     each i (f 0) inside ∙ sym (get_or-map-range_with_len f 0 n i i (f 0) inside here))
 
--- the same of numbers, read with 0 behind the end
-pub all_bytes : (storage : Storage) (xs : List ℕ) → length xs ≡ 1048576
-    → ((a : ℕ) → a < 1048576 → get_or xs a 0 ≡ storage a) → xs ≡ bytes_of storage
-unfolding bytes_below
-all_bytes storage xs size each =
-    all_listed storage xs 1048576 size (λ a d low.
-    let inside : a < length xs = subst (λ k. a < k) (sym size) low in
-    get_or_default xs a d 0 inside ∙ each a low)
+-- the same of words of storage
+pub all_words : (storage : Storage) (xs : List (List ℕ)) → length xs ≡ 131072
+    → ((w : ℕ) (d : List ℕ) → w < 131072 → get_or xs w d ≡ word_at storage w) → xs ≡ words_of storage
+unfolding words_of
+all_words storage xs size each = all_listed (word_at storage) xs 131072 size each
 
-pub bytes_size : (storage : Storage) → length (bytes_of storage) ≡ 1048576
-unfolding bytes_below
-bytes_size storage = length-map-range_with_len storage 0 1048576
+pub words_size : (storage : Storage) → length (words_of storage) ≡ 131072
+unfolding words_of
+words_size storage = length-map-range_with_len (word_at storage) 0 131072
 
-pub byte_at : (storage : Storage) (a : ℕ) → a < 1048576 → get_or (bytes_of storage) a 0 ≡ storage a
-unfolding bytes_below
-byte_at storage a low =
-    let here : 0 + a ≡ a = omega arith in
-    get_or-map-range_with_len storage 0 1048576 a a 0 low here
+pub word_there : (storage : Storage) (w : ℕ) (d : List ℕ) → w < 131072
+    → get_or (words_of storage) w d ≡ word_at storage w
+unfolding words_of
+word_there storage w d low =
+    let here : 0 + w ≡ w = omega arith in
+    get_or-map-range_with_len (word_at storage) 0 131072 w w d low here
+
+-- a byte stands in its word
+pub byte_in : (storage : Storage) (a d : ℕ) → get_or (word_at storage (a / 8)) (a % 8) d ≡ storage a
+byte_in storage a d =
+    let low : a % 8 < 8 = omega arith in
+    let here : 8 * (a / 8) + a % 8 ≡ a = omega arith in
+    get_or-map-range_with_len storage (8 * (a / 8)) 8 (a % 8) a d low here
+
+-- words are the same where all their bytes are
+pub same_word : (f g : Storage) (w : ℕ) → ((a : ℕ) → a / 8 ≡ w → f a ≡ g a) → word_at f w ≡ word_at g w
+same_word f g w same =
+    let size = length-map-range_with_len f (8 * w) 8 in
+    ext_get_or 0 (word_at f w) (word_at g w) (size ∙ sym (length-map-range_with_len g (8 * w) 8))
+    (λ i low. let inside : i < 8 = subst (λ k. i < k) size low in
+    let there : (8 * w + i) / 8 ≡ w = omega arith in
+    get_or-map-range_with_len f (8 * w) 8 i (8 * w + i) 0 inside refl ∙ same (8 * w + i) there
+    ∙ sym (get_or-map-range_with_len g (8 * w) 8 i (8 * w + i) 0 inside refl))
 
 pub cpus_size : (m : Setting) (s : State) → length (cpus_seen m s) ≡ cpus_of m
 cpus_size m s = length-map-range_with_len (cpu_seen m s) 0 (cpus_of m)

@@ -10,13 +10,13 @@ use Rattle.tx_meaning.specs.Limits.{Setting, RunLimits}
 use Rattle.tx_meaning.specs.Meaning.{meaning}
 use Rattle.tx_meaning.specs.State.{State, flat_of, flat_where}
 use Rattle.tx_meaning.specs.Views.{GoesOnWith}
-use Rattle.tx_serial.specs.Flat.{FlatState, bytes_of}
+use Rattle.tx_serial.specs.Flat.{FlatState}
 use Rattle.tx_serial.specs.History.{replay}
 use Rattle.tx_machine.specs.Machine.{Seen, setting_of, state_of, event_of, after, opened}
-use Rattle.tx_step.specs.Sights.{Sight, sight_of}
+use Rattle.tx_step.specs.Sights.{Sight, sight_of, words_of}
 use Rattle.tx_step.specs.Traces.{IsTraced, IsStepAt, AreSteps, sight_behind, forward_by, back_by}
 use Rattle.tx_step.specs.declared.following.Step.{Step}
-use Rattle.tx_step.proofs.Listed.{cpus_size, bytes_size}
+use Rattle.tx_step.proofs.Listed.{cpus_size, words_size}
 
 -- what is shown behind some events is shown behind them where more events follow
 pub sight_before : (m : Setting) (events rest : List Event) (p : ℕ) → p ≤ length events
@@ -76,15 +76,15 @@ pub same_storage : (before next : Seen) (e : Event) (sight : Sight) (steps : Lis
     → IsTraced before sight steps (length steps) → next ≡ after before e
     → GoesOnWith (state_of before).history (state_of next).history
     → sight.entries ≡ length (state_of next).history
-    → sight.bytes ≡ bytes_of (flat_of (setting_of next) (state_of next)).storage
+    → sight.words ≡ words_of (flat_of (setting_of next) (state_of next)).storage
 same_storage before next e sight steps t is grows size =
     let now = shown_now before sight steps t in
     let old = (state_of before).history in
     let long : length (old ++ grows.more) ≡ length old =
     ap length grows.is ∙ sym size ∙ ap (λ (v : Sight). v.entries) now in
     let history : old ≡ (state_of next).history = sym (none_more old grows.more long) ∙ grows.is in
-    ap (λ (v : Sight). v.bytes) now
-    ∙ ap (λ (f : FlatState). bytes_of f.storage)
+    ap (λ (v : Sight). v.words) now
+    ∙ ap (λ (f : FlatState). words_of f.storage)
     (same_flat (setting_of before) (state_of before) (state_of next) history
     ∙ ap (λ m. flat_of m (state_of next)) (sym (ap setting_of is)))
 
@@ -96,11 +96,11 @@ same_cpus before next e sight steps t is =
     ∙ cpus_size (setting_of before) (state_of before)
     ∙ sym (ap (λ (s : Seen). length s.image.cpus) is)
 
-pub full_bytes : (before : Seen) (sight : Sight) (steps : List Step) → IsTraced before sight steps (length steps)
-    → length sight.bytes ≡ 1048576
-full_bytes before sight steps t =
-    ap (λ (v : Sight). length v.bytes) (shown_now before sight steps t)
-    ∙ bytes_size (flat_of (setting_of before) (state_of before)).storage
+pub full_words : (before : Seen) (sight : Sight) (steps : List Step) → IsTraced before sight steps (length steps)
+    → length sight.words ≡ 131072
+full_words before sight steps t =
+    ap (λ (v : Sight). length v.words) (shown_now before sight steps t)
+    ∙ words_size (flat_of (setting_of before) (state_of before)).storage
 
 -- nothing has happened yet, and there is no step
 pub begins_traced : (image : Content) (limits : RunLimits) (machine : Seen) (sight : Sight) (steps : List Step)

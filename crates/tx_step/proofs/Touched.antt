@@ -29,6 +29,7 @@ use Rattle.tx_keeping.proofs.Truth.{Truth, flat_is, attempt_is, footprint_is, li
 use Rattle.tx_keeping.proofs.Turning.{happen_ok}
 use Rattle.tx_works.specs.Wanted.{wanted, wanted_by, real_ranges}
 use Rattle.tx_step.proofs.Framed.{happens_same, Same}
+use Rattle.tx_step.proofs.Going.{goes_on_unchanged}
 
 -- what a turn asks for is the same by what is kept
 wanted_is : (m : Setting) (k : Kept) → Truth m k → (i : ℕ)
@@ -118,22 +119,20 @@ module _ (m : Setting) (s : IsSetting m) (events : List Event) (known : AreKnown
       (ap (λ (t : State). footprint_of m t j) is_next ∙ footprint_is m next next_good.truth j)
       ∙ same.stored j refl
 
-  -- an attempt that has completed as many instructions as before keeps the bytes of the lines it has stored into
+  -- an attempt that goes on keeps the bytes of the lines it has stored into
   pub attempts_keep : (j a : ℕ) → is_live (meaning m events) j ≡ true
-      → ((happen m e (meaning m events)).state.numbers j).completed ≡ ((meaning m events).numbers j).completed
+      → is_live (happen m e (meaning m events)).state j ≡ true
       → (footprint_of m (meaning m events) j).stored (a / 256) ≡ true
       → (flat_of m (happen m e (meaning m events)).state).storage a ≡ (flat_of m (meaning m events)).storage a
-  attempts_keep j a live same is =
-      let keeps = (happen_ok m s e now good within).keeps j
-      (ap (λ (t : State). is_live t j) (sym is_now) ∙ live)
-      (ap (λ (t : State). (t.numbers j).completed) (sym is_next) ∙ same
-      ∙ ap (λ (t : State). (t.numbers j).completed) is_now) in
+  attempts_keep j a live lives is =
       let there : (now.locals j).attempt.footprint.stored (a / 256) ≡ true =
       sym (ap (λ (t : Sets). t.stored (a / 256))
       (ap (λ (t : State). footprint_of m t j) is_now ∙ footprint_is m now good.truth j)) ∙ is in
       ap (λ (t : State). (flat_of m t).storage a) is_next
       ∙ ap (λ (f : FlatState). f.storage a) (flat_is m next next_good.truth)
-      ∙ keeps.bytes a (or_right ((now.locals j).attempt.footprint.fetched (a / 256)) _ there)
+      ∙ goes_on_unchanged m s e now good within j (ap (λ (t : State). is_live t j) (sym is_now) ∙ live)
+      (ap (λ (t : State). is_live t j) (sym is_next) ∙ lives) a
+      (or_right ((now.locals j).attempt.footprint.fetched (a / 256)) _ there)
       ∙ sym (ap (λ (t : State). (flat_of m t).storage a) is_now
       ∙ ap (λ (f : FlatState). f.storage a) (flat_is m now good.truth))
 

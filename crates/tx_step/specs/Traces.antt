@@ -68,14 +68,14 @@ traced_code =
 abbrev pub forward_by : Step → Sight → Sight
 forward_by s v = record {
   cpus = redo s.cpus.items v.cpus;
-  bytes = redo s.bytes.items v.bytes;
+  words = redo s.words.items v.words;
   entries = s.after;
 }
 
 abbrev pub back_by : Step → Sight → Sight
 back_by s v = record {
   cpus = undo s.cpus.items v.cpus;
-  bytes = undo s.bytes.items v.bytes;
+  words = undo s.words.items v.words;
   entries = s.before;
 }
 

@@ -1,5 +1,6 @@
 //! Changes of a table, which are made and taken back.
-ghost use Rattle.std.specs.Prelude.{◌≡◌, ◌<◌, List, ℕ, IfOk, length, slice_set};
+ghost use Rattle.std.specs.Prelude.{◌≡◌, ◌<◌, List, ℕ, IfOk, IsTrue, length, slice_set};
+ghost use Rattle.byteorder.specs.Endian.{big_bytes};
 ghost use Rattle.tx_machine.specs.Machine.{setting_of, state_of};
 ghost use Rattle.tx_step.specs.Sights.{CpuSeen, cpu_seen};
 ghost use Rattle.tx_step.specs.Changes.{redo, undo, Leads};
@@ -28,8 +29,8 @@ fn put<T: Drop>(table: &mut [T], at: u32, value: T)
     }
 }
 
-/// Makes changes of bytes.
-pub fn redo_bytes(table: &mut [u8], changes: &[Change<u8>])
+/// Makes changes of words of storage.
+pub fn redo_words(table: &mut [[u8; 8]], changes: &[Change<[u8; 8]>])
     ensures { table.new ≡ redo changes.now table.old }
 {
     for change in changes {
@@ -37,8 +38,8 @@ pub fn redo_bytes(table: &mut [u8], changes: &[Change<u8>])
     }
 }
 
-/// Takes changes of bytes back.
-pub fn undo_bytes(table: &mut [u8], changes: &[Change<u8>])
+/// Takes changes of words of storage back.
+pub fn undo_words(table: &mut [[u8; 8]], changes: &[Change<[u8; 8]>])
     ensures { table.new ≡ undo changes.now table.old }
 {
     for behind in 0..changes.len() {
@@ -66,23 +67,38 @@ pub fn undo_cpus(table: &mut [CpuSight], changes: &[Change<CpuSight>])
     }
 }
 
-/// Writes a byte, and notes the change where it is one. The error is want of memory.
-pub fn note_byte(
-    table: &mut [u8],
-    changes: &mut Vec<Change<u8>>,
+/// The number in a word of storage.
+fn number_of(word: &[u8; 8]) -> u64
+    ensures { big_bytes 8 result ≡ word.now }
+{
+    u64::from_be_bytes(*word)
+}
+
+/// Whether two words of storage are the same.
+fn is_same_word(a: &[u8; 8], b: &[u8; 8]) -> bool
+    ensures { IsTrue result → a.now ≡ b.now }
+{
+    number_of(a) == number_of(b)
+}
+
+/// Writes a word of storage, and notes the change where it is one. The error is want of memory.
+pub fn note_word(
+    table: &mut [[u8; 8]],
+    changes: &mut Vec<Change<[u8; 8]>>,
     at: u32,
-    new: u8,
+    new: [u8; 8],
 ) -> Result<(), AllocError>
     requires { at < length table.old }
     ensures value { IfOk result (λ _. table.new ≡ slice_set table.old at new) }
-    ensures leads { IfOk result (λ _. (from : List ℕ) → Leads from changes.old.items table.old
+    ensures leads { IfOk result (λ _. (from : List (List ℕ)) → Leads from changes.old.items table.old
         → Leads from changes.new.items table.new) }
 {
     let old = table[at as usize];
-    if old != new {
-        changes.push(Change { at, old, new })?;
-        table[at as usize] = new;
+    if is_same_word(&old, &new) {
+        return Ok(());
     }
+    changes.push(Change { at, old, new })?;
+    table[at as usize] = new;
     Ok(())
 }
 

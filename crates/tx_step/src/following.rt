@@ -1,27 +1,26 @@
 //! What an event changes of all that is shown.
-ghost use Rattle.std.specs.Prelude.{◌≡◌, ◌≢◌, ◌⊎◌, ℕ, ◌/◌, ◌<◌, true, IfOk, List, length, slice_index};
-ghost use Rattle.std.specs.Prelude.{slice_index_or};
+ghost use Rattle.std.specs.Prelude.{◌≡◌, ◌≢◌, ◌⊎◌, ℕ, ◌/◌, ◌%◌, ◌<◌, true, IfOk, List, length};
+ghost use Rattle.std.specs.Prelude.{slice_index, slice_index_or};
 ghost use Rattle.z_regs.specs.Prefix.{storage_size};
 ghost use Rattle.tx_meaning.specs.State.{flat_of};
-ghost use Rattle.tx_serial.specs.Flat.{bytes_of};
 ghost use Rattle.tx_machine.specs.Machine.{setting_of, state_of};
-ghost use Rattle.tx_step.specs.Sights.{cpus_seen, sight_of};
+ghost use Rattle.tx_step.specs.Sights.{cpus_seen, sight_of, word_at, words_of};
 ghost use Rattle.tx_step.specs.Changes.{Leads};
 ghost use Rattle.tx_step.specs.Traces.{forward_by, back_by};
 ghost use Rattle.tx_step.specs.Stored.{due_lines, may_change, is_among};
 
-use crate::changes::{Change, note_byte, note_cpu, redo_bytes, redo_cpus, undo_bytes, undo_cpus};
+use crate::changes::{Change, note_cpu, note_word, redo_cpus, redo_words, undo_cpus, undo_words};
 use crate::seen::CpuSight;
-use crate::stored::StoredLines;
+use crate::stored::{Asked, StoredLines};
 use std::alloc::{AllocError, Global};
 use std::marker::Model;
 use tx_machine::machine::Machine;
 
-/// The bytes of storage.
-const STORAGE: u32 = 1_048_576;
+/// The words of storage, of eight bytes each.
+const WORDS: u32 = 131_072;
 
-/// The bytes of a line.
-const LINE: u32 = 256;
+/// The words of a line.
+const LINE: u32 = 32;
 
 /// The lines of storage.
 const LINES: u32 = 4096;
@@ -30,7 +29,7 @@ const LINES: u32 = 4096;
 #[derive(Drop)]
 pub struct View {
     cpus: Vec<CpuSight>,
-    bytes: Vec<u8>,
+    words: Vec<[u8; 8]>,
     entries: u64,
 }
 
@@ -39,7 +38,7 @@ impl Model for View {
 
     ghost Value = { Sight };
 
-    ghost view = { λ v. record { cpus = v.cpus.items; bytes = v.bytes.items; entries = v.entries } };
+    ghost view = { λ v. record { cpus = v.cpus.items; words = v.words.items; entries = v.entries } };
 }
 
 /// What one event changes.
@@ -47,8 +46,8 @@ impl Model for View {
 pub struct Step {
     /// The CPUs that it changes.
     pub cpus: Vec<Change<CpuSight>>,
-    /// The bytes of storage that it changes.
-    pub bytes: Vec<Change<u8>>,
+    /// The words of storage that it changes.
+    pub words: Vec<Change<[u8; 8]>>,
     /// How many entries the history has before it.
     pub before: u64,
     /// How many it has behind it.
@@ -67,16 +66,34 @@ fn cpus_in(alloc: Global, machine: &Machine) -> Result<Vec<CpuSight>, AllocError
     Ok(cpus)
 }
 
-/// The bytes of storage of a machine.
-fn bytes_in(alloc: Global, machine: &Machine) -> Result<Vec<u8>, AllocError>
-    ensures { IfOk result (λ bytes. bytes.items
-        ≡ bytes_of (flat_of (setting_of machine.now) (state_of machine.now)).storage) }
+/// The eight bytes of a word of storage of a machine.
+fn word_in(machine: &Machine, word: u32) -> [u8; 8]
+    requires { word < 131072 }
+    ensures { result ≡ word_at (flat_of (setting_of machine.now) (state_of machine.now)).storage word }
 {
-    let mut bytes = Vec::with_capacity(alloc, STORAGE as usize)?;
-    for address in 0..STORAGE {
-        bytes.push(machine.byte(address))?;
+    let first = 8 * word;
+    [
+        machine.byte(first),
+        machine.byte(first + 1),
+        machine.byte(first + 2),
+        machine.byte(first + 3),
+        machine.byte(first + 4),
+        machine.byte(first + 5),
+        machine.byte(first + 6),
+        machine.byte(first + 7),
+    ]
+}
+
+/// The words of storage of a machine.
+fn words_in(alloc: Global, machine: &Machine) -> Result<Vec<[u8; 8]>, AllocError>
+    ensures { IfOk result (λ words. words.items
+        ≡ words_of (flat_of (setting_of machine.now) (state_of machine.now)).storage) }
+{
+    let mut words = Vec::with_capacity(alloc, WORDS as usize)?;
+    for word in 0..WORDS {
+        words.push(word_in(machine, word))?;
     }
-    Ok(bytes)
+    Ok(words)
 }
 
 /// Makes CPUs those of a machine, and gives what that changes.
@@ -96,51 +113,55 @@ fn note_cpus(
     Ok(changes)
 }
 
-/// Makes the bytes of a line those of a machine, and adds what that changes.
+/// Makes the words of a line those of a machine, and adds what that changes.
 fn note_line(
     machine: &Machine,
-    bytes: &mut [u8],
-    changes: &mut Vec<Change<u8>>,
+    words: &mut [[u8; 8]],
+    changes: &mut Vec<Change<[u8; 8]>>,
     line: u32,
 ) -> Result<(), AllocError>
-    requires { length bytes.old ≡ storage_size }
-    ensures there { IfOk result (λ _. (a : ℕ) → a < storage_size → a / 256 ≡ line
-        → slice_index bytes.new a ≡ (flat_of (setting_of machine.now) (state_of machine.now)).storage a) }
-    ensures others { IfOk result (λ _. (a : ℕ)
-        → slice_index bytes.old a ≡ (flat_of (setting_of machine.now) (state_of machine.now)).storage a
-        → slice_index bytes.new a ≡ (flat_of (setting_of machine.now) (state_of machine.now)).storage a) }
-    ensures leads { IfOk result (λ _. (from : List ℕ) → Leads from changes.old.items bytes.old
-        → Leads from changes.new.items bytes.new) }
+    requires { length words.old ≡ 131072 }
+    ensures there { IfOk result (λ _. (w : ℕ) (d : List ℕ) → w < 131072 → w / 32 ≡ line
+        → slice_index_or words.new w d
+        ≡ word_at (flat_of (setting_of machine.now) (state_of machine.now)).storage w) }
+    ensures others { IfOk result (λ _. (w : ℕ) (d : List ℕ) → slice_index_or words.old w d
+        ≡ word_at (flat_of (setting_of machine.now) (state_of machine.now)).storage w
+        → slice_index_or words.new w d
+        ≡ word_at (flat_of (setting_of machine.now) (state_of machine.now)).storage w) }
+    ensures leads { IfOk result (λ _. (from : List (List ℕ)) → Leads from changes.old.items words.old
+        → Leads from changes.new.items words.new) }
 {
     if line >= LINES {
         return Ok(());
     }
     let first = LINE * line;
     for place in 0..LINE {
-        let address = first + place;
-        note_byte(bytes, changes, address, machine.byte(address))?;
+        let word = first + place;
+        note_word(words, changes, word, word_in(machine, word))?;
     }
     Ok(())
 }
 
-/// Makes the bytes of some lines those of a machine, and gives what that changes; all other bytes are so already.
+/// Makes the words of some lines those of a machine, and gives what that changes; all others are so already.
 fn note_lines(
     alloc: Global,
     machine: &Machine,
-    bytes: &mut [u8],
+    words: &mut [[u8; 8]],
     lines: &[u32],
-) -> Result<Vec<Change<u8>>, AllocError>
-    requires size { length bytes.old ≡ storage_size }
-    requires others { (a : ℕ) → a < storage_size → (is_among lines.now (a / 256) ≡ true)
-        ⊎ (slice_index bytes.old a ≡ (flat_of (setting_of machine.now) (state_of machine.now)).storage a) }
-    ensures value { IfOk result (λ _. bytes.new
-        ≡ bytes_of (flat_of (setting_of machine.now) (state_of machine.now)).storage) }
-    ensures leads { IfOk result (λ changes. Leads bytes.old changes.items bytes.new) }
+) -> Result<Vec<Change<[u8; 8]>>, AllocError>
+    requires size { length words.old ≡ 131072 }
+    requires others { (w : ℕ) (d : List ℕ) → w < 131072 → (is_among lines.now (w / 32) ≡ true)
+        ⊎ (slice_index_or words.old w d
+        ≡ word_at (flat_of (setting_of machine.now) (state_of machine.now)).storage w) }
+    ensures value { IfOk result (λ _. words.new
+        ≡ words_of (flat_of (setting_of machine.now) (state_of machine.now)).storage) }
+    ensures leads { IfOk result (λ changes. Leads words.old changes.items words.new) }
 {
     let mut changes = Vec::new(alloc);
     for line in lines {
-        note_line(machine, bytes, &mut changes, *line)?;
+        note_line(machine, words, &mut changes, *line)?;
     }
+    changes.shrink_to_fit();
     Ok(changes)
 }
 
@@ -151,48 +172,48 @@ impl View {
     {
         Ok(View {
             cpus: cpus_in(alloc, machine)?,
-            bytes: bytes_in(alloc, machine)?,
+            words: words_in(alloc, machine)?,
             entries: machine.journal().len() as u64,
         })
     }
 
-    /// The lines that may have changed in an event of a CPU: none where the history is as long as before. The
-    /// error is want of memory.
+    /// The lines that may have changed in an event: none where the history is as long as before. The error is
+    /// want of memory.
     fn lines_due(
         &self,
         alloc: Global,
         machine: &Machine,
         stored: &StoredLines,
-        cpu: u32,
+        asked: &Asked,
     ) -> Result<Vec<u32>, AllocError>
         requires { length self.now.cpus ≡ length machine.now.image.cpus }
         ensures { IfOk result (λ lines. self.now.entries ≢ length (state_of machine.now).history
-            → lines.items
-            ≡ due_lines self.now.cpus (setting_of machine.now) (state_of machine.now) cpu stored.now) }
+            → lines.items ≡ due_lines self.now.cpus (setting_of machine.now) (state_of machine.now) asked.now
+            stored.now) }
     {
         if self.entries == machine.journal().len() as u64 {
             return Ok(Vec::new(alloc));
         }
-        stored.changed(alloc, machine, &self.cpus, cpu)
+        stored.changed(alloc, machine, &self.cpus, asked)
     }
 
-    /// Makes this what a machine shows behind an event of a CPU, and gives what that changes. Bytes are looked at
-    /// where the history has grown, in the lines that may have changed.
+    /// Makes this what a machine shows behind an event, and gives what that changes. Storage is looked at where
+    /// the history has grown, in the lines that may have changed.
     pub fn follow(
         &mut self,
         alloc: Global,
         machine: &Machine,
         stored: &StoredLines,
-        cpu: u32,
+        asked: &Asked,
     ) -> Result<Step, AllocError>
         requires cpus { length self.old.cpus ≡ length machine.now.image.cpus }
-        requires size { length self.old.bytes ≡ storage_size }
+        requires size { length self.old.words ≡ 131072 }
         requires same { self.old.entries ≡ length (state_of machine.now).history
-            → self.old.bytes ≡ bytes_of (flat_of (setting_of machine.now) (state_of machine.now)).storage }
-        requires others { (a : ℕ) → a < storage_size
-            → (may_change self.old.cpus (setting_of machine.now) (state_of machine.now) cpu stored.now (a / 256)
-            ≡ true) ⊎ (slice_index self.old.bytes a
-            ≡ (flat_of (setting_of machine.now) (state_of machine.now)).storage a) }
+            → self.old.words ≡ words_of (flat_of (setting_of machine.now) (state_of machine.now)).storage }
+        requires others { (w : ℕ) (d : List ℕ) → w < 131072
+            → (may_change self.old.cpus (setting_of machine.now) (state_of machine.now) asked.now stored.now
+            (w / 32) ≡ true) ⊎ (slice_index_or self.old.words w d
+            ≡ word_at (flat_of (setting_of machine.now) (state_of machine.now)).storage w) }
         ensures value { IfOk result (λ _. self.new ≡ sight_of (setting_of machine.now) (state_of machine.now)) }
         ensures forward { IfOk result (λ step. forward_by step self.old ≡ self.new) }
         ensures back { IfOk result (λ step. back_by step self.new ≡ self.old) }
@@ -200,13 +221,13 @@ impl View {
     {
         let before = self.entries;
         let after = machine.journal().len() as u64;
-        let lines = self.lines_due(alloc, machine, stored, cpu)?;
-        let bytes = note_lines(alloc, machine, &mut self.bytes, &lines)?;
+        let lines = self.lines_due(alloc, machine, stored, asked)?;
+        let words = note_lines(alloc, machine, &mut self.words, &lines)?;
         let cpus = note_cpus(alloc, machine, &mut self.cpus)?;
         self.entries = after;
         Ok(Step {
             cpus,
-            bytes,
+            words,
             before,
             after,
         })
@@ -217,7 +238,7 @@ impl View {
         ensures { self.new ≡ forward_by step.now self.old }
     {
         redo_cpus(&mut self.cpus, &step.cpus);
-        redo_bytes(&mut self.bytes, &step.bytes);
+        redo_words(&mut self.words, &step.words);
         self.entries = step.after;
     }
 
@@ -226,7 +247,7 @@ impl View {
         ensures { self.new ≡ back_by step.now self.old }
     {
         undo_cpus(&mut self.cpus, &step.cpus);
-        undo_bytes(&mut self.bytes, &step.bytes);
+        undo_words(&mut self.words, &step.words);
         self.entries = step.before;
     }
 
@@ -240,10 +261,12 @@ impl View {
 
     /// The byte at an address.
     pub fn byte(&self, address: u32) -> u8
-        requires { address < length self.now.bytes }
-        ensures { result ≡ slice_index self.now.bytes address }
+        requires known { address < storage_size }
+        requires size { length self.now.words ≡ 131072 }
+        ensures { (d : List ℕ) → result
+            ≡ slice_index (slice_index_or self.now.words (address / 8) d) (address % 8) }
     {
-        self.bytes[address as usize]
+        self.words[(address / 8) as usize][(address % 8) as usize]
     }
 
     /// How many entries the history has.

@@ -6,7 +6,8 @@ ghost use Rattle.z_regs.specs.Prefix.{storage_size};
 ghost use Rattle.tx_footprint.specs.Places.{has_place, stores};
 ghost use Rattle.tx_machine.specs.Machine.{setting_of, state_of};
 ghost use Rattle.tx_meaning.specs.State.{is_live};
-ghost use Rattle.tx_step.specs.Stored.{has, completed_in, completed_of, is_where_it_was, due_lines};
+ghost use Rattle.tx_step.specs.Stored.{has, completed_in, completed_of, goes_on, in_span, in_spans, is_due};
+ghost use Rattle.tx_step.specs.Stored.{due_lines};
 
 use crate::seen::CpuSight;
 use std::alloc::{AllocError, Global};
@@ -24,6 +25,15 @@ pub struct StoredLine {
     pub cpu: u32,
     /// The line.
     pub line: u32,
+}
+
+/// What an event asks for.
+#[derive(Drop)]
+pub struct Asked {
+    /// Its CPU.
+    pub cpu: u32,
+    /// The ranges of storage that a turn of the CPU has to fetch or store then.
+    pub touches: Touches,
 }
 
 /// Lines that live attempts may have stored into. Contracts see their list.
@@ -61,13 +71,43 @@ fn completed_before(cpus: &[CpuSight], cpu: u32) -> u32
     }
 }
 
-/// Whether the attempt of a CPU is where it was seen.
-fn is_where_it_was(cpus: &[CpuSight], machine: &Machine, cpu: u32) -> bool
+/// Whether the attempt of a CPU goes on: it was seen live, and is live now.
+fn goes_on(cpus: &[CpuSight], machine: &Machine, cpu: u32) -> bool
     requires { length cpus.now ≡ length machine.now.image.cpus }
-    ensures { result ≡ is_where_it_was cpus.now (setting_of machine.now) (state_of machine.now) cpu }
+    ensures { result ≡ goes_on cpus.now (setting_of machine.now) (state_of machine.now) cpu }
 {
-    let before = completed_before(cpus, cpu);
-    before > 0 && completed(machine.live(cpu)) == before
+    completed_before(cpus, cpu) > 0 && completed(machine.live(cpu)) > 0
+}
+
+/// Whether a line is between the first and the last of those that a range stores into.
+fn in_span(range: Range, line: u32) -> bool
+    ensures { result ≡ in_span range line }
+{
+    let first = range.first / LINE;
+    let lines = (range.first % LINE + u64::from(range.length) + 255) / LINE;
+    let line = u64::from(line);
+    range.store && first <= line && line < first + lines
+}
+
+/// The same of some ranges.
+fn in_spans(touches: &Touches, line: u32) -> bool
+    ensures { result ≡ in_spans touches.now line }
+{
+    for i in 0..touches.count() {
+        if in_span(touches.at(i), line) {
+            return true;
+        }
+    }
+    false
+}
+
+/// Whether a line may have changed in an event, since the CPUs were seen so.
+fn is_due(cpus: &[CpuSight], machine: &Machine, asked: &Asked, line: &StoredLine) -> bool
+    requires { length cpus.now ≡ length machine.now.image.cpus }
+    ensures { result ≡ is_due cpus.now (setting_of machine.now) (state_of machine.now) asked.now line.now }
+{
+    (line.cpu == asked.cpu && in_spans(&asked.touches, line.line))
+        || !goes_on(cpus, machine, line.cpu)
 }
 
 /// Whether a CPU may have a live attempt.
@@ -145,22 +185,21 @@ impl StoredLines {
         self.lines.retain(|l| may_be_live(machine, l.cpu));
     }
 
-    /// The lines that may have changed in an event of a CPU, since the CPUs were seen so. The error is want of
-    /// memory.
+    /// The lines that may have changed in an event, since the CPUs were seen so. The error is want of memory.
     pub fn changed(
         &self,
         alloc: Global,
         machine: &Machine,
         cpus: &[CpuSight],
-        cpu: u32,
+        asked: &Asked,
     ) -> Result<Vec<u32>, AllocError>
         requires { length cpus.now ≡ length machine.now.image.cpus }
         ensures { IfOk result (λ lines. lines.items
-            ≡ due_lines cpus.now (setting_of machine.now) (state_of machine.now) cpu self.now) }
+            ≡ due_lines cpus.now (setting_of machine.now) (state_of machine.now) asked.now self.now) }
     {
         self.lines
             .iter()
-            .filter(|l| l.cpu == cpu || !is_where_it_was(cpus, machine, l.cpu))
+            .filter(|l| is_due(cpus, machine, asked, l))
             .map(|l| l.line)
             .collect(alloc)
     }

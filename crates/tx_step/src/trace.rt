@@ -15,7 +15,7 @@ ghost use Rattle.tx_step.specs.Traces.{forward_from, back_from};
 ghost use Rattle.tx_step.specs.Stored.{Covers};
 
 use crate::following::{Step, View};
-use crate::stored::StoredLines;
+use crate::stored::{Asked, StoredLines};
 use std::alloc::{AllocError, Global};
 use std::marker::Model;
 use std::sync::Arc;
@@ -101,9 +101,13 @@ fn follow(
         return Ok(());
     }
     let cpu = cpu_in(e);
-    stored.add_touches(cpu, &machine.wanted(cpu))?;
+    let asked = Asked {
+        cpu,
+        touches: machine.wanted(cpu),
+    };
+    stored.add_touches(cpu, &asked.touches)?;
     let _outcome = machine.event(e);
-    let step = view.follow(alloc, machine, stored, cpu)?;
+    let step = view.follow(alloc, machine, stored, &asked)?;
     if step.before != step.after {
         stored.keep_live(machine);
     }

@@ -1,16 +1,18 @@
--- The bytes of so many lines are those of the machine, and those that were so before are so still.
-use Rattle.std.proofs.Common.{◌≡◌, ℕ, ◌/◌, ◌<◌, true, take, get_or}
+-- The words of so many lines are those of the machine, and those that were so before are so still.
+use Rattle.std.proofs.Common.{◌≡◌, ℕ, ◌/◌, ◌<◌, true, List, take, get_or}
 use Rattle.tx_meaning.specs.State.{flat_of}
 use Rattle.tx_machine.specs.Machine.{setting_of, state_of}
 use Rattle.tx_step.specs.Changes.{Leads}
+use Rattle.tx_step.specs.Sights.{word_at}
 use Rattle.tx_step.specs.Stored.{is_among}
 use Rattle.tx_step.proofs.following.note_lines.Given as goal
 
 abbrev pub invariant-loop-line : goal.invariant-loop-line
 invariant-loop-line l = record {
-  there : (a : ℕ) → a < 1048576 → is_among (take l.line-index l.lines) (a / 256) ≡ true
-      → get_or l.bytes a 0 ≡ (flat_of (setting_of l.machine) (state_of l.machine)).storage a;
-  others : (a : ℕ) → get_or l.fn.bytes a 0 ≡ (flat_of (setting_of l.machine) (state_of l.machine)).storage a
-      → get_or l.bytes a 0 ≡ (flat_of (setting_of l.machine) (state_of l.machine)).storage a;
-  leads : Leads l.fn.bytes l.changes.items l.bytes;
+  there : (w : ℕ) (d : List ℕ) → w < 131072 → is_among (take l.line-index l.lines) (w / 32) ≡ true
+      → get_or l.words w d ≡ word_at (flat_of (setting_of l.machine) (state_of l.machine)).storage w;
+  others : (w : ℕ) (d : List ℕ)
+      → get_or l.fn.words w d ≡ word_at (flat_of (setting_of l.machine) (state_of l.machine)).storage w
+      → get_or l.words w d ≡ word_at (flat_of (setting_of l.machine) (state_of l.machine)).storage w;
+  leads : Leads l.fn.words l.changes.items l.words;
 }

@@ -1,14 +1,13 @@
 -- What the machine shows is followed, and a step is more.
-use Rattle.std.proofs.Common.{◌≡◌, ◌⊎◌, ℕ, ◌/◌, ◌<◌, true, All, length, get_or, sym, ap, subst, ◌∙◌}
+use Rattle.std.proofs.Common.{◌≡◌, ℕ, ◌<◌, true, All, length, sym, ap, subst, ◌∙◌}
 use Rattle.tx_footprint.specs.Places.{stores}
 use Rattle.tx_journal.specs.Image.{cpu_of_event}
-use Rattle.tx_meaning.specs.State.{flat_of}
 use Rattle.tx_meaning.specs.Views.{AreKnown}
 use Rattle.tx_machine.specs.Machine.{setting_of, state_of}
 use Rattle.tx_works.specs.Wanted.{wanted}
 use Rattle.tx_step.proofs.Due.{due_or_same, next_covers}
-use Rattle.tx_step.proofs.Stepped.{same_cpus, full_bytes, same_storage}
-use Rattle.tx_step.specs.Stored.{Covers, has, may_change}
+use Rattle.tx_step.proofs.Stepped.{same_cpus, full_words, same_storage}
+use Rattle.tx_step.specs.Stored.{Covers, has}
 use Rattle.tx_step.proofs.trace.follow.Goals as goal
 use Rattle.tx_step.proofs.trace.follow.Goals.{then-step, else-step}
 
@@ -19,7 +18,7 @@ follow-requires-clause-cpus c =
 
 pub follow-requires-clause-size : goal.follow-requires-clause-size
 follow-requires-clause-size c =
-    full_bytes c.args.machine.now c.args.view.now c.args.steps.now.items c.requires.traced
+    full_words c.args.machine.now c.args.view.now c.args.steps.now.items c.requires.traced
 
 pub follow-requires-clause-same : goal.follow-requires-clause-same
 follow-requires-clause-same c size =
@@ -27,13 +26,14 @@ follow-requires-clause-same c size =
     c.requires.traced c.event-outcome-2.ensures.machine c.event-outcome-2.ensures.grows size
 
 pub follow-requires-clause-others : goal.follow-requires-clause-others
-follow-requires-clause-others c a low =
+follow-requires-clause-others c w d low =
     let m = setting_of c.args.machine.now in
     let s = state_of c.args.machine.now in
     let next = c.event-outcome-2.new.self in
     let lines = c.add_touches.new.self in
     let i = cpu_of_event c.args.e in
     let cpu : c.cpu_in-cpu.result ≡ i = c.cpu_in-cpu.ensures in
+    let asks : c.wanted.result ≡ wanted m s i = c.wanted.ensures.value ∙ ap (wanted m s) cpu in
     let known : AreKnown m c.args.machine.now.events =
     subst (All (λ e. cpu_of_event e < length c.args.machine.now.image.cpus)) c.events-events.ensures.recorded
     c.events-events.ensures.known in
@@ -41,13 +41,11 @@ follow-requires-clause-others c a low =
     λ j line is. c.in_ok-add_touches.ensures.others j line (c.requires.covers j line is) in
     let wants : (line : ℕ) → stores (wanted m s i) line ≡ true → has lines i line ≡ true =
     λ line is. subst (λ j. has lines j line ≡ true) cpu (c.in_ok-add_touches.ensures.there line
-    (ap (λ r. stores r line) c.wanted.ensures.value ∙ ap (λ j. stores (wanted m s j) line) cpu ∙ is)) in
-    let view = c.args.view.now in
-    subst (λ j. (may_change view.cpus (setting_of next) (state_of next) j lines (a / 256) ≡ true)
-    ⊎ (get_or view.bytes a 0 ≡ (flat_of (setting_of next) (state_of next)).storage a)) (sym cpu)
-    (due_or_same c.args.machine.now next c.args.e lines c.requires.setting known c.requires.known
-    c.event-outcome-2.ensures.machine c.event-outcome-2.ensures.state covers wants view c.args.steps.now.items
-    c.requires.traced a low)
+    (ap (λ r. stores r line) asks ∙ is)) in
+    due_or_same c.args.machine.now next c.args.e lines c.requires.setting known c.requires.known
+    c.event-outcome-2.ensures.machine c.event-outcome-2.ensures.state covers wants
+    (record { cpu = c.cpu_in-cpu.result; touches = c.wanted.result }) cpu asks
+    c.args.view.now c.args.steps.now.items c.requires.traced w d low
 
 pub returns-clause-covers : goal.returns-clause-covers
 returns-clause-covers c =
@@ -57,6 +55,7 @@ returns-clause-covers c =
     let lines = c.add_touches.new.self in
     let i = cpu_of_event c.args.e in
     let cpu : c.cpu_in-cpu.result ≡ i = c.cpu_in-cpu.ensures in
+    let asks : c.wanted.result ≡ wanted m s i = c.wanted.ensures.value ∙ ap (wanted m s) cpu in
     let known : AreKnown m c.args.machine.now.events =
     subst (All (λ e. cpu_of_event e < length c.args.machine.now.image.cpus)) c.events-events.ensures.recorded
     c.events-events.ensures.known in
@@ -64,9 +63,10 @@ returns-clause-covers c =
     λ j line is. c.in_ok-add_touches.ensures.others j line (c.requires.covers j line is) in
     let wants : (line : ℕ) → stores (wanted m s i) line ≡ true → has lines i line ≡ true =
     λ line is. subst (λ j. has lines j line ≡ true) cpu (c.in_ok-add_touches.ensures.there line
-    (ap (λ r. stores r line) c.wanted.ensures.value ∙ ap (λ j. stores (wanted m s j) line) cpu ∙ is)) in
+    (ap (λ r. stores r line) asks ∙ is)) in
     next_covers c.args.machine.now next c.args.e lines c.requires.setting known c.requires.known
-    c.event-outcome-2.ensures.machine c.event-outcome-2.ensures.state covers wants c.if-step.stored
+    c.event-outcome-2.ensures.machine c.event-outcome-2.ensures.state covers wants
+    (record { cpu = c.cpu_in-cpu.result; touches = c.wanted.result }) cpu asks c.if-step.stored
     (elim c.if-step.branch [
       | then-step w ↦ λ j line live there. subst (λ l. has l j line ≡ true) (sym w.stored-is)
           (w.keep_live.ensures j line live there)

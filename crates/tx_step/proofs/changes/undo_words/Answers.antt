@@ -1,7 +1,7 @@
 -- The changes that are left lead to the end.
 use Rattle.std.proofs.Common.{◌∙◌, ◌+◌, ◌-◌, sym, arith, length}
 use Rattle.tx_step.proofs.Changed.{undo_at, undo_none, undo_all}
-use Rattle.tx_step.proofs.changes.undo_bytes.Goals as goal
+use Rattle.tx_step.proofs.changes.undo_words.Goals as goal
 
 pub loop-behind-init : goal.loop-behind-init
 loop-behind-init c = undo_all c.args.changes.now _ c.args.table.now (omega arith)

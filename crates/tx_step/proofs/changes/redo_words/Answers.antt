@@ -1,7 +1,7 @@
 -- The changes that are left lead to the end.
 use Rattle.std.proofs.Common.{◌∙◌, sym, arith}
 use Rattle.tx_step.proofs.Changed.{redo_at, redo_none}
-use Rattle.tx_step.proofs.changes.redo_bytes.Goals as goal
+use Rattle.tx_step.proofs.changes.redo_words.Goals as goal
 
 pub loop-change-preserved : goal.loop-change-preserved
 loop-change-preserved c =

@@ -1,7 +1,7 @@
 -- The changes that are left lead to the end.
 use Rattle.std.proofs.Common.{◌≡◌, ◌-◌, take, length}
 use Rattle.tx_step.specs.Changes.{undo}
-use Rattle.tx_step.proofs.changes.undo_bytes.Given as goal
+use Rattle.tx_step.proofs.changes.undo_words.Given as goal
 
 abbrev pub invariant-loop-behind : goal.invariant-loop-behind
 invariant-loop-behind l =
