@@ -29,7 +29,7 @@ use crate::interruption::{leave, load, store, waiting_after, waiting_with};
 use crate::outside::{delay_after, end_outside, perform_outside, told, wait_outside};
 use crate::pending::{Block, pending_after};
 use crate::performing::{Ended, MOST_BYTES, perform};
-use crate::plain::{Plain, plain_next};
+use crate::plain::{Plain, plain_inside, plain_outside};
 use crate::plan::{Plan, next_plan};
 use crate::program::Program;
 use crate::refusal::cause_in;
@@ -152,9 +152,9 @@ impl Cpu {
         next_plan(&self.attempt, &self.image, program)
     }
 
-    /// The next instruction, where nothing unusual is the case: nothing is left to do before it, no attempt is live,
-    /// the CPU has no prefix, and the instruction has been read before, goes, and fetches or stores no more than some
-    /// bytes in one line.
+    /// The next instruction, where nothing unusual is the case: nothing is left to do before it, the CPU has no
+    /// prefix, and the instruction has been read before, goes, and fetches or stores no more than some bytes in one
+    /// line. Inside a transaction it is neither a begin nor an end.
     pub fn plain<'a>(&self, program: &'a Program) -> Option<Plain<'a>>
         ensures quiet { IfSome result (λ p. IsQuiet (local_of self.now)) }
         ensures goes { IfSome result (λ p. fate_by_progress (items program.now.guard)
@@ -170,10 +170,10 @@ impl Cpu {
             return None;
         }
         if self.attempt.is_live() {
-            return None;
+            return plain_inside(&self.attempt, &self.image, program);
         }
         self.attempt.is_sound();
-        plain_next(&self.image, program)
+        plain_outside(&self.image, program)
     }
 
     /// The byte that the CPU sees over `base` at an absolute address.
