@@ -375,8 +375,8 @@ bare-ranges [] = refl
 bare-ranges (r ∷ rs) = ap (λ (xs : List Range). r ∷ xs) (bare-ranges rs)
 
 -- where none is live
-pub resting-admits : (c : Cpu) (i : Instr) (need : List Range) → Admits (resting c) i need
-resting-admits c i need = record {
+pub resting-admits : (c : Cpu) (i : Instr) (ranges : List Range) → Admits (resting c) i ranges
+resting-admits c i ranges = record {
   bare = λ k lt. refl;
   text = refl;
   allowed = refl;
@@ -421,7 +421,7 @@ pub outside-goes : {X : Type 0} (found : Option X) (ready : X → Ready) (first 
     → IfSome found (λ x. is_reached (ready x).shape (first x) text ≡ true)
     → IfSome found (λ x. fate_by_progress text (storage_of bytes) (resting c)
     ≡ Goes (ready x).instr (touched_by (ready x).shape.touch (first x) (ready x).shape.size))
-outside-goes None ready first text bytes c bare known at h = tt
-outside-goes (Some x) ready first text bytes c bare known at h =
-    goes-at text bytes (resting c) (ready x) (first x) bare known at h
+outside-goes None ready first text bytes c bare is at h = tt
+outside-goes (Some x) ready first text bytes c bare is at h =
+    goes-at text bytes (resting c) (ready x) (first x) bare is at h
     (resting-admits c (ready x).instr (touched_by (ready x).shape.touch (first x) (ready x).shape.size))

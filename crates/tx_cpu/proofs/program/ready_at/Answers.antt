@@ -16,4 +16,5 @@ returns c =
           (sym c.length_of-length.ensures)
           ∙ c.is_fetched-fetched.ensures (c.make_ready.ensures.shaped.fetches known);
       shape = c.make_ready.ensures.shaped.shape;
+      admitted = c.make_ready.ensures.shaped.admitted;
     }

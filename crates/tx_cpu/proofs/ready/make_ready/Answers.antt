@@ -13,6 +13,7 @@ returns-then-fetched-clause-shaped c =
     record {
       fetches = λ known. c.if-fetched.true;
       shape = λ known. c.shape_with-shape.ensures ∙ (λ k. shape_by (demand k) (operands k) c.args.instr);
+      admitted = c.is_admitted-admitted.ensures;
     }
 
 pub returns-clause-shaped : goal.returns-clause-shaped
@@ -21,4 +22,5 @@ returns-clause-shaped c =
     record {
       fetches = λ known. absurd (true≢false (sym other ∙ known));
       shape = λ known. absurd (true≢false (sym other ∙ known));
+      admitted = c.is_admitted-admitted.ensures;
     }
