@@ -1,7 +1,7 @@
--- An instruction goes whose operand lies where a plain one may touch it.
+-- An instruction goes whose operand lies where a plain one may touch it, and which the attempt admits.
 use Rattle.std.proofs.Common.{◌≡◌, ℕ, ◌+◌, ◌-◌, ◌*◌, ◌/◌, ◌%◌, ◌<◌, ◌≤◌, Bool, true, false, List, [], ◌∷◌, Option}
 use Rattle.std.proofs.Common.{Some, None, Ok, refl, sym, ap, subst, ◌∙◌, arith, length}
-use Rattle.std.specs.Prelude.{◌&&◌, ◌||◌, not, map, All, IfSome, nat_eq, nat_lt, nat_le}
+use Rattle.std.specs.Prelude.{◌&&◌, ◌||◌, not, map, All, nat_eq, nat_lt, nat_le}
 use Rattle.std.specs.List.{list_any, list_all}
 use Rattle.std.proofs.lemmas.Bool.{true≢false, and_parts}
 use Rattle.std.proofs.lemmas.Bool.Decides.{nat_tests}
@@ -48,6 +48,7 @@ use Rattle.tx_cpu.specs.declared.ready.Touch.{Touch}
 use Rattle.tx_cpu.specs.declared.ready.Touch.TheVariants as touch
 use Rattle.tx_cpu.specs.Parts.{storage_of}
 use Rattle.tx_cpu.specs.Plain.{IsPlain}
+use Rattle.tx_cpu.specs.Tracked.{Tracked, progress}
 use Rattle.tx_cpu.specs.Shapes.{shape_in, boundary_size, shape_by, is_other, IsReady, touched_by, is_in_line, is_open}
 use Rattle.tx_cpu.specs.Shapes.{is_reached, is_admitted}
 use Rattle.tx_cpu.proofs.Programs.{plain_length, plain_reading}
@@ -254,6 +255,7 @@ reached e i general code depth text small h = tested e.demand e.operands i gener
 
 -- ---- it goes
 
+-- of what may be touched the shape is known
 open-known : (t : Touch) (first n : ℕ) (text : List ℕ) → is_open t first n text ≡ true → is_other t ≡ false
 open-known touch.Nothing first n text h = refl
 open-known touch.Fetch first n text h = refl
@@ -375,7 +377,7 @@ bare-ranges [] = refl
 bare-ranges (r ∷ rs) = ap (λ (xs : List Range). r ∷ xs) (bare-ranges rs)
 
 -- where none is live
-pub resting-admits : (c : Cpu) (i : Instr) (ranges : List Range) → Admits (resting c) i ranges
+resting-admits : (c : Cpu) (i : Instr) (ranges : List Range) → Admits (resting c) i ranges
 resting-admits c i ranges = record {
   bare = λ k lt. refl;
   text = refl;
@@ -384,6 +386,7 @@ resting-admits c i ranges = record {
   fits = refl;
 }
 
+-- no begins restrict what every transaction may have
 unrestricted : (nest : List Begin) (e : Entry) → is_admitted e ≡ true → is_restricted nest e ≡ false
 unrestricted [] e h = refl
 unrestricted (outermost ∷ inner) e h =
@@ -394,9 +397,16 @@ unrestricted (outermost ∷ inner) e h =
     neither false true e a h = absurd (true≢false (sym h))
     neither false false e a h = refl
 
+-- sets within the limits do not overflow
 no-overflow : (nest : List Begin) (sets : Sets) → fit_of sets ≡ Ok tt → overflow_in nest sets ≡ None
 no-overflow [] sets h = refl
 no-overflow (outermost ∷ inner) sets h = ap overflow_of h
+
+-- an attempt that has completed nothing is none
+pub unbegun-admits : (t : Tracked) (c : Cpu) (i : Instr) (ranges : List Range) → progress t c ≡ resting c
+    → Admits (progress t c) i ranges
+unbegun-admits t c i ranges rests =
+    subst (λ (q : Progress). Admits q i ranges) (sym rests) (resting-admits c i ranges)
 
 -- where its tests say so, of a CPU without a prefix
 pub attempt-admits : (q : Progress) (i : Instr) (need : List Range) → q.cpu.prefix ≡ None
@@ -413,15 +423,3 @@ attempt-admits q i need none bare allowed text place fits = record {
       (ap (λ (rs : List Range). fit_of (touching q.footprint rs))
       (ap (λ p. absolute_ranges p need) none ∙ bare-ranges need) ∙ fits);
 }
-
--- a CPU without an attempt goes on by what is found so
-pub outside-goes : {X : Type 0} (found : Option X) (ready : X → Ready) (first : X → ℕ) (text bytes : List ℕ) (c : Cpu)
-    → c.prefix ≡ None → IfSome found (λ x. IsReady bytes text c.address (ready x))
-    → IfSome found (λ x. first x ≡ first_address (ready x).instr c.general)
-    → IfSome found (λ x. is_reached (ready x).shape (first x) text ≡ true)
-    → IfSome found (λ x. fate_by_progress text (storage_of bytes) (resting c)
-    ≡ Goes (ready x).instr (touched_by (ready x).shape.touch (first x) (ready x).shape.size))
-outside-goes None ready first text bytes c bare is at h = tt
-outside-goes (Some x) ready first text bytes c bare is at h =
-    goes-at text bytes (resting c) (ready x) (first x) bare is at h
-    (resting-admits c (ready x).instr (touched_by (ready x).shape.touch (first x) (ready x).shape.size))

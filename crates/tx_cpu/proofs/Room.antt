@@ -24,10 +24,12 @@ use Rattle.tx_cpu.proofs.Plainly.{InLine, in-line, line-end}
 abbrev listed : List ℕ → ℕ → Bool
 listed xs k = list_any (λ x. eqb x k) xs
 
+-- what is true whatever stands before it
 or-true : (b : Bool) → (b || true) ≡ true
 or-true true = refl
 or-true false = refl
 
+-- the first of a list is in it
 first-listed : (x k : ℕ) (xs : List ℕ) → k ≡ x → listed (x ∷ xs) k ≡ true
 first-listed x k xs e = ap (λ b. b || listed xs k) (eq-eqb x k (sym e))
 
@@ -61,12 +63,14 @@ either-line false false true false m has h = absurd (true≢false (sym h))
 either-line false false false true m has h = has refl
 either-line false false false false m has h = absurd (true≢false (sym h))
 
+-- a block that is touched was touched, or is a place of the range
 either-block : (b t p m : Bool) → (p ≡ true → m ≡ true) → (b || ((t && p) || false)) ≡ true → (b || m) ≡ true
 either-block true t p m has h = refl
 either-block false true true m has h = has refl
 either-block false true false m has h = absurd (true≢false (sym h))
 either-block false false p m has h = absurd (true≢false (sym h))
 
+-- a range in one line adds at most that line
 one-line-more : (sets : Sets) (r : Range) → r.first % 256 + r.length ≤ 256
     → line_count (touching sets (r ∷ [])) ≤ line_count sets + 1
 one-line-more sets r h =
@@ -84,6 +88,7 @@ one-line-more sets r h =
       count_listed storage_lines one,
     )
 
+-- and at most two blocks
 two-blocks-more : (sets : Sets) (r : Range) → r.first % 256 + r.length ≤ 256
     → block_count (touching sets (r ∷ [])) ≤ block_count sets + 2
 two-blocks-more sets r h =
@@ -97,6 +102,7 @@ two-blocks-more sets r h =
       count_listed storage_blocks two,
     )
 
+-- a footprint with room for them keeps its limits with the range
 one-fits : (sets : Sets) (r : Range) → r.first % 256 + r.length ≤ 256 → line_count sets + 1 ≤ 384
     → block_count sets + 2 ≤ 64 → fit_of (touching sets (r ∷ [])) ≡ Ok tt
 one-fits sets r h lines blocks =
@@ -104,7 +110,7 @@ one-fits sets r h lines blocks =
     let more-blocks = two-blocks-more sets r h in
     all_fit (touching sets (r ∷ [])) (omega (arith, more, lines)) (omega (arith, more-blocks, blocks))
 
--- so a footprint with that room keeps its limits
+-- and with an operand that lies in one line
 pub fits-with-room : (sets : Sets) (s : Shape) (first : ℕ) → is_placed s first ≡ true → line_count sets + 1 ≤ 384
     → block_count sets + 2 ≤ 64 → fit_of (touching sets (touched_by s.touch first s.size)) ≡ Ok tt
 fits-with-room sets s first h lines blocks = by s.touch s.size h
@@ -120,6 +126,7 @@ fits-with-room sets s first h lines blocks = by s.touch s.size h
         (in-line first n (and_parts (is_in_line first n) _ h).0).line lines blocks
     by touch.Other n h = absurd (true≢false (sym h))
 
+-- an operand that is open lies in a line, whatever the text pages are
 open-placed : (t : Touch) (first n : ℕ) (text : List ℕ) → is_open t first n text ≡ true → is_open t first n [] ≡ true
 open-placed touch.Nothing first n text h = refl
 open-placed touch.Fetch first n text h = h

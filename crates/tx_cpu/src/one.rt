@@ -29,7 +29,7 @@ use crate::interruption::{leave, load, store, waiting_after, waiting_with};
 use crate::outside::{delay_after, end_outside, perform_outside, told, wait_outside};
 use crate::pending::{Block, pending_after};
 use crate::performing::{Ended, MOST_BYTES, perform};
-use crate::plain::{Plain, plain_inside, plain_outside};
+use crate::plain::{Plain, plain_next};
 use crate::plan::{Plan, next_plan};
 use crate::program::Program;
 use crate::refusal::cause_in;
@@ -169,11 +169,7 @@ impl Cpu {
         if self.image.prefix.is_some() {
             return None;
         }
-        if self.attempt.is_live() {
-            return plain_inside(&self.attempt, &self.image, program);
-        }
-        self.attempt.is_sound();
-        plain_outside(&self.image, program)
+        plain_next(&self.attempt, &self.image, program)
     }
 
     /// The byte that the CPU sees over `base` at an absolute address.
