@@ -1,5 +1,5 @@
 -- An instruction goes whose operand lies where a plain one may touch it, and which the attempt admits.
-use Rattle.std.proofs.Common.{◌≡◌, ℕ, ◌+◌, ◌-◌, ◌*◌, ◌/◌, ◌%◌, ◌<◌, ◌≤◌, Bool, true, false, List, [], ◌∷◌, Option}
+use Rattle.std.proofs.Common.{◌≡◌, ℕ, ◌+◌, ◌-◌, ◌*◌, ◌/◌, ◌%◌, ◌<◌, ◌≤◌, Bool, true, false, List, [], ◌∷◌}
 use Rattle.std.proofs.Common.{Some, None, Ok, refl, sym, ap, subst, ◌∙◌, arith, length}
 use Rattle.std.specs.Prelude.{◌&&◌, ◌||◌, not, map, All, nat_eq, nat_lt, nat_le}
 use Rattle.std.specs.List.{list_any, list_all}
@@ -19,11 +19,11 @@ use Rattle.z_instr.specs.declared.operand.Operands.TheVariants.{FetchedSelected,
 use Rattle.z_instr.specs.declared.operand.Operands.TheVariants.{StoredAndFetched, BothFetched}
 use Rattle.z_instr.specs.declared.operand.Demand.{Demand}
 use Rattle.z_instr.specs.declared.operand.Demand.TheVariants as demand
-use Rattle.z_instr.specs.Operands.{Span, span, IsSmall, bytes_of, boundary, first_address, spans_in, spans, from_up}
-use Rattle.z_instr.specs.Operands.{registers_between, pieces, where_wrong, specification, addressing, protection}
+use Rattle.z_instr.specs.Operands.{Span, span, IsSmall, bytes_of, boundary, first_address, spans_in, from_up}
+use Rattle.z_instr.specs.Operands.{registers_between, where_wrong, specification, addressing, protection}
 use Rattle.z_instr.specs.Operands.{operation, unspecified_in, unspecified, is_inside, is_stored_into, tested_spans}
 use Rattle.z_instr.specs.Operands.{is_refused_service, inaccessible_in, inaccessible}
-use Rattle.z_instr.specs.Access.{accessible_pages, text_pages, unfetched, absolute_page}
+use Rattle.z_instr.specs.Access.{accessible_pages, text_pages, unfetched}
 use Rattle.z_instr.specs.Facts.{is_begin}
 use Rattle.z_instr.specs.Roles.{begins, is_end, sets_access_register}
 use Rattle.z_instr.specs.Table.{Entry, entry_at}
@@ -36,7 +36,7 @@ use Rattle.tx_control.specs.declared.begins.Begin.{Begin}
 use Rattle.tx_control.specs.declared.causes.Why.TheVariants.{Depth, Restricted}
 use Rattle.tx_footprint.specs.Touched.{Sets, touching, fit_of}
 use Rattle.tx_journal.specs.Image as image
-use Rattle.tx_serial.specs.Fate.{Fate, Goes, first_refusal, excepted, aborts_where, operands, fetch_refusal}
+use Rattle.tx_serial.specs.Fate.{Goes, first_refusal, excepted, aborts_where, operands, fetch_refusal}
 use Rattle.tx_serial.specs.Fate.{instruction_at, is_restricted, overflow_in, overflow_of}
 use Rattle.tx_progress.specs.Progress.{Progress, resting}
 use Rattle.tx_progress.specs.Trial.{at_hand, fate_by_progress, text_refusal_by, place_refusal_by}

@@ -1,15 +1,13 @@
 -- One operand in one line adds no more than one line and two blocks to a footprint.
-use Rattle.std.proofs.Common.{◌≡◌, ℕ, ◌+◌, ◌/◌, ◌%◌, ◌<◌, ◌≤◌, Bool, true, false, eqb, List, [], ◌∷◌, Ok}
-use Rattle.std.proofs.Common.{refl, sym, ap, ◌∙◌, arith, inl, inr, length}
-use Rattle.std.specs.Prelude.{◌&&◌, ◌||◌, not, All}
+use Rattle.std.proofs.Common.{◌≡◌, ℕ, ◌+◌, ◌/◌, ◌%◌, ◌≤◌, Bool, true, false, eqb, List, [], ◌∷◌, Ok}
+use Rattle.std.proofs.Common.{refl, sym, ap, ◌∙◌, arith, inl, inr}
+use Rattle.std.specs.Prelude.{◌&&◌, ◌||◌, not}
 use Rattle.std.specs.List.{list_any}
 use Rattle.std.proofs.lemmas.Bool.{true≢false, cases_eq, eq-eqb, and_parts}
-use Rattle.std.proofs.lemmas.List.Elements.{All-nil, All-cons}
-use Rattle.bit_set.specs.Counts.{count_below}
 use Rattle.bit_set.proofs.Counts.{count_le, count_or, count_listed}
 use Rattle.z_regs.specs.declared.ranges.Range.{Range}
 use Rattle.line_table.specs.Sizes.{storage_lines}
-use Rattle.tx_footprint.specs.Places.{IsInStorage, has_place}
+use Rattle.tx_footprint.specs.Places.{has_place}
 use Rattle.tx_footprint.specs.Sizes.{storage_blocks}
 use Rattle.tx_footprint.specs.Touched.{Sets, touching, line_count, block_count, fit_of}
 use Rattle.tx_footprint.proofs.Limits.{all_fit, nothing_more}
@@ -18,7 +16,7 @@ use Rattle.tx_cpu.specs.declared.ready.Shape.{Shape}
 use Rattle.tx_cpu.specs.declared.ready.Touch.{Touch}
 use Rattle.tx_cpu.specs.declared.ready.Touch.TheVariants as touch
 use Rattle.tx_cpu.specs.Shapes.{touched_by, is_in_line, is_open, is_placed, is_reached}
-use Rattle.tx_cpu.proofs.Plainly.{InLine, in-line, line-end}
+use Rattle.tx_cpu.proofs.Plainly.{in-line}
 
 -- a number is in a list of numbers
 abbrev listed : List ℕ → ℕ → Bool

@@ -1,6 +1,6 @@
 -- The shape of an instruction's operand, and when it lies where a plain instruction may touch it.
 use Rattle.std.specs.Prelude.{◌≡◌, ℕ, ◌+◌, ◌*◌, ◌≤◌, length, ◌/◌, ◌%◌, Bool, true, false, ◌&&◌, ◌||◌, not, nat_eq, nat_lt, nat_le}
-use Rattle.std.specs.Prelude.{List, [], ◌∷◌, Option, Some, None}
+use Rattle.std.specs.Prelude.{List, [], ◌∷◌, Some, None}
 use Rattle.std.specs.List.{list_any}
 use Rattle.z_regs.specs.Prefix.{storage_size}
 use Rattle.z_regs.specs.declared.ranges.Range.{Range}

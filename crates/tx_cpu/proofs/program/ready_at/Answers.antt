@@ -1,5 +1,5 @@
 -- What is known of an instruction is true where it is read.
-use Rattle.std.proofs.Common.{◌≡◌, Some, None, ap, sym, ◌∙◌, arith}
+use Rattle.std.proofs.Common.{Some, None, ap, sym, ◌∙◌, arith}
 use Rattle.std.specs.FinSet.{items}
 use Rattle.z_instr.specs.Access.{accessible_pages, text_pages, unfetched}
 use Rattle.tx_cpu.proofs.program.ready_at.Goals as goal

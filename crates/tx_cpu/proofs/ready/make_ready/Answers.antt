@@ -1,9 +1,9 @@
 -- Of an instruction that cannot be fetched no shape is known.
-use Rattle.std.proofs.Common.{◌≡◌, true, false, sym, ap, ◌∙◌}
+use Rattle.std.proofs.Common.{◌≡◌, true, sym, ap, ◌∙◌}
 use Rattle.std.proofs.lemmas.Bool.{true≢false}
-use Rattle.z_instr.specs.Table.{Entry, entry_at}
+use Rattle.z_instr.specs.Table.{Entry}
 use Rattle.tx_cpu.specs.declared.ready.Shape.{Shape}
-use Rattle.tx_cpu.specs.Shapes.{shape_by, is_other, no_shape}
+use Rattle.tx_cpu.specs.Shapes.{shape_by, is_other}
 use Rattle.tx_cpu.proofs.ready.make_ready.Goals as goal
 
 pub returns-then-fetched-clause-shaped : goal.returns-then-fetched-clause-shaped
