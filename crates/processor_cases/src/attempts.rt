@@ -158,3 +158,45 @@ fn attempts_that_are_the_same(rt: HostRuntime) -> Result<(), Fail> {
     }
     Ok(())
 }
+
+/// Programs, and which of their first eight instructions are plain ones. Those are not: a begin, an end inside, a
+/// store over two lines, one into the program, and a load that breaks a constraint. Behind the last two the program
+/// does not go on.
+static PLAIN: [(&str, [bool; 8]); 3] = [
+    (
+        " CPU X'4000'\n LGHI 3,1\n TBEGIN 0,0\n LG 1,X'9000'\n NTSTG 1,X'90F8'\n STG 1,X'90FC'\n AGR 1,3\n TEND\n \
+        TEND\n END\n",
+        [true, false, true, true, false, true, false, true],
+    ),
+    (
+        " CPU X'4000'\n LGHI 3,1\n TBEGIN 0,0\n STG 1,X'4800'\n TEND\n END\n",
+        [true, false, false, false, false, false, false, false],
+    ),
+    (
+        " CPU X'4000'\n LGHI 3,1\n TBEGINC 0,0\n LG 1,X'9000'\n STG 1,X'9008'\n AGR 1,3\n LG 1,X'9004'\n TEND\n \
+        END\n",
+        [true, false, true, true, true, false, false, false],
+    ),
+];
+
+/// Which of the first eight instructions of a program are plain ones.
+fn plain_ones(alloc: Global, listing: &str) -> Result<Vec<bool>, Fail> {
+    let image = assemble(alloc, listing.as_bytes())?;
+    let program = Program::open(alloc, Arc::new(alloc, image)?)?;
+    let mut alone = Alone::open(alloc, program.image())?;
+    let mut found = Vec::new(alloc);
+    for _ in 0..8 {
+        found.push(alone.cpu.plain(&program).is_some())?;
+        alone.step(&program);
+    }
+    Ok(found)
+}
+
+#[test]
+fn plain_instructions(rt: HostRuntime) -> Result<(), Fail> {
+    for (listing, plain) in &PLAIN {
+        let found = plain_ones(rt.alloc(), listing)?;
+        assert_eq!(rt; found.as_slice(), plain.as_slice(), "{listing}");
+    }
+    Ok(())
+}

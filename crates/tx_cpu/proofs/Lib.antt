@@ -25,3 +25,4 @@ pub mod Inside
 pub mod Preparing
 pub mod Programs
 pub mod Plainly
+mod Room

@@ -1,6 +1,6 @@
--- An instruction goes whose operand lies where a plain one may touch it.
-use Rattle.std.proofs.Common.{◌≡◌, ℕ, ◌+◌, ◌-◌, ◌*◌, ◌/◌, ◌%◌, ◌<◌, ◌≤◌, Bool, true, false, List, [], ◌∷◌, Option}
-use Rattle.std.proofs.Common.{Some, None, refl, sym, ap, subst, ◌∙◌, arith, length}
+-- An instruction goes whose operand lies where a plain one may touch it, and which the attempt admits.
+use Rattle.std.proofs.Common.{◌≡◌, ℕ, ◌+◌, ◌-◌, ◌*◌, ◌/◌, ◌%◌, ◌<◌, ◌≤◌, Bool, true, false, List, [], ◌∷◌}
+use Rattle.std.proofs.Common.{Some, None, Ok, refl, sym, ap, subst, ◌∙◌, arith, length}
 use Rattle.std.specs.Prelude.{◌&&◌, ◌||◌, not, map, All, nat_eq, nat_lt, nat_le}
 use Rattle.std.specs.List.{list_any, list_all}
 use Rattle.std.proofs.lemmas.Bool.{true≢false, and_parts}
@@ -8,6 +8,7 @@ use Rattle.std.proofs.lemmas.Bool.Decides.{nat_tests}
 use Rattle.std.proofs.lemmas.List.Elements.{All-head}
 use Rattle.z_regs.specs.Cpu.{Cpu}
 use Rattle.z_regs.specs.Prefix.{storage_size, absolute_of}
+use Rattle.z_regs.specs.Absolute.{absolute_range, absolute_ranges}
 use Rattle.z_regs.specs.declared.ranges.Range.{Range}
 use Rattle.z_instr.specs.declared.instr.Instr.{Instr}
 use Rattle.z_instr.specs.declared.operand.Size.{Size}
@@ -18,32 +19,38 @@ use Rattle.z_instr.specs.declared.operand.Operands.TheVariants.{FetchedSelected,
 use Rattle.z_instr.specs.declared.operand.Operands.TheVariants.{StoredAndFetched, BothFetched}
 use Rattle.z_instr.specs.declared.operand.Demand.{Demand}
 use Rattle.z_instr.specs.declared.operand.Demand.TheVariants as demand
-use Rattle.z_instr.specs.Operands.{Span, span, IsSmall, bytes_of, boundary, first_address, spans_in, spans, from_up}
-use Rattle.z_instr.specs.Operands.{registers_between, pieces, where_wrong, specification, addressing, protection}
+use Rattle.z_instr.specs.Operands.{Span, span, IsSmall, bytes_of, boundary, first_address, spans_in, from_up}
+use Rattle.z_instr.specs.Operands.{registers_between, where_wrong, specification, addressing, protection}
 use Rattle.z_instr.specs.Operands.{operation, unspecified_in, unspecified, is_inside, is_stored_into, tested_spans}
 use Rattle.z_instr.specs.Operands.{is_refused_service, inaccessible_in, inaccessible}
-use Rattle.z_instr.specs.Access.{accessible_pages, text_pages, unfetched, absolute_page}
-use Rattle.z_instr.specs.Roles.{begins}
+use Rattle.z_instr.specs.Access.{accessible_pages, text_pages, unfetched}
+use Rattle.z_instr.specs.Facts.{is_begin}
+use Rattle.z_instr.specs.Roles.{begins, is_end, sets_access_register}
 use Rattle.z_instr.specs.Table.{Entry, entry_at}
 use Rattle.z_instr.proofs.SmallOperands.{sizes}
 use Rattle.z_touch.specs.Refusals.{range_of}
 use Rattle.z_touch.proofs.SmallRanges.{inside_without, any-text_pages}
-use Rattle.store_cache.specs.Overlay.{nothing}
-use Rattle.tx_control.specs.declared.causes.Why.TheVariants.{Depth}
+use Rattle.tx_constraint.specs.Kept.{next_operand_breach}
+use Rattle.tx_control.specs.Nesting.{effective_a}
+use Rattle.tx_control.specs.declared.begins.Begin.{Begin}
+use Rattle.tx_control.specs.declared.causes.Why.TheVariants.{Depth, Restricted}
+use Rattle.tx_footprint.specs.Touched.{Sets, touching, fit_of}
 use Rattle.tx_journal.specs.Image as image
-use Rattle.tx_serial.specs.Fate.{Fate, Goes, first_refusal, excepted, aborts_where, operands, fetch_refusal}
-use Rattle.tx_serial.specs.Fate.{instruction_at}
-use Rattle.tx_serial.specs.Flat.{Storage}
+use Rattle.tx_serial.specs.Fate.{Goes, first_refusal, excepted, aborts_where, operands, fetch_refusal}
+use Rattle.tx_serial.specs.Fate.{instruction_at, is_restricted, overflow_in, overflow_of}
 use Rattle.tx_progress.specs.Progress.{Progress, resting}
-use Rattle.tx_progress.specs.Trial.{at_hand, fate_by_progress}
+use Rattle.tx_progress.specs.Trial.{at_hand, fate_by_progress, text_refusal_by, place_refusal_by}
+use Rattle.tx_progress.specs.Trial.{overflow_refusal_by, constraint_refusal}
+use Rattle.tx_cpu.specs.Admits.{Admits}
 use Rattle.tx_cpu.specs.declared.ready.Ready.{Ready}
 use Rattle.tx_cpu.specs.declared.ready.Shape.{Shape}
 use Rattle.tx_cpu.specs.declared.ready.Touch.{Touch}
 use Rattle.tx_cpu.specs.declared.ready.Touch.TheVariants as touch
 use Rattle.tx_cpu.specs.Parts.{storage_of}
 use Rattle.tx_cpu.specs.Plain.{IsPlain}
+use Rattle.tx_cpu.specs.Tracked.{Tracked, progress}
 use Rattle.tx_cpu.specs.Shapes.{shape_in, boundary_size, shape_by, is_other, IsReady, touched_by, is_in_line, is_open}
-use Rattle.tx_cpu.specs.Shapes.{is_reached}
+use Rattle.tx_cpu.specs.Shapes.{is_reached, is_admitted}
 use Rattle.tx_cpu.proofs.Programs.{plain_length, plain_reading}
 use Rattle.tx_cpu.proofs.Tests.{heads, tails, planned-read, tried-goes}
 
@@ -62,18 +69,29 @@ bounded StoredSelected i general known h = absurd (true≢false known)
 bounded StoredAndFetched i general known h = absurd (true≢false known)
 bounded BothFetched i general known h = absurd (true≢false known)
 
-well-specified : (d : Demand) (o : Operands) (i : Instr) (general : List ℕ)
+well-specified : (d : Demand) (o : Operands) (i : Instr) (general : List ℕ) (depth : ℕ)
     → is_other (shape_by d o i).touch ≡ false
     → nat_eq (first_address i general % bytes_of (shape_by d o i).boundary) 0 ≡ true
-    → unspecified_in d o i general 0 ≡ None
+    → unspecified_in d o i general depth ≡ None
 unfolding unspecified_in
-well-specified demand.Nothing o i general known h = refl
-well-specified demand.Boundary o i general known h = bounded o i general known h
-well-specified demand.EvenPair o i general known h = absurd (true≢false known)
-well-specified demand.AbortCode o i general known h = absurd (true≢false known)
-well-specified demand.Begin o i general known h = absurd (true≢false known)
-well-specified demand.BeginConstrained o i general known h = absurd (true≢false known)
-well-specified demand.ServiceZero o i general known h = absurd (true≢false known)
+well-specified demand.Nothing o i general depth known h = refl
+well-specified demand.Boundary o i general depth known h = bounded o i general known h
+well-specified demand.EvenPair o i general depth known h = absurd (true≢false known)
+well-specified demand.AbortCode o i general depth known h = absurd (true≢false known)
+well-specified demand.Begin o i general depth known h = absurd (true≢false known)
+well-specified demand.BeginConstrained o i general depth known h = absurd (true≢false known)
+well-specified demand.ServiceZero o i general depth known h = absurd (true≢false known)
+
+-- it begins no transaction
+begins-none : (d : Demand) (o : Operands) (i : Instr) → is_other (shape_by d o i).touch ≡ false
+    → is_begin d ≡ false
+begins-none demand.Nothing o i known = refl
+begins-none demand.Boundary o i known = refl
+begins-none demand.EvenPair o i known = refl
+begins-none demand.AbortCode o i known = refl
+begins-none demand.Begin o i known = absurd (true≢false known)
+begins-none demand.BeginConstrained o i known = absurd (true≢false known)
+begins-none demand.ServiceZero o i known = refl
 
 -- ---- the operand is the one of the row
 
@@ -209,43 +227,55 @@ tests-pass text ss p =
     λ k. where_wrong (not (p.inside k)) addressing
     (where_wrong (p.apart k) protection (where_wrong false operation None))
 
-tested : (d : Demand) (o : Operands) (i : Instr) (general : List ℕ) (code : ℕ) (text : List ℕ)
+tested : (d : Demand) (o : Operands) (i : Instr) (general : List ℕ) (code depth : ℕ) (text : List ℕ)
     → All IsSmall (spans_in o i general code)
     → is_open (shape_by d o i).touch (first_address i general) (shape_by d o i).size text ≡ true
     → where_wrong (not (list_all (is_inside (accessible_pages None))
-    (tested_spans d (spans_in o i general code) i general 0))) addressing
+    (tested_spans d (spans_in o i general code) i general depth))) addressing
     (where_wrong (list_any (is_stored_into (text_pages None text))
-    (tested_spans d (spans_in o i general code) i general 0)) protection
+    (tested_spans d (spans_in o i general code) i general depth)) protection
     (where_wrong (is_refused_service d i) operation None)) ≡ None
-tested demand.Nothing o i general code text small h =
+tested demand.Nothing o i general code depth text small h =
     tests-pass text (spans_in o i general code) (passed-in o Byte i general code text small h)
-tested demand.Boundary o i general code text small h =
+tested demand.Boundary o i general code depth text small h =
     tests-pass text (spans_in o i general code) (passed-in o (boundary_size o) i general code text small h)
-tested demand.EvenPair o i general code text small h = absurd (true≢false (sym h))
-tested demand.AbortCode o i general code text small h = absurd (true≢false (sym h))
-tested demand.Begin o i general code text small h = absurd (true≢false (sym h))
-tested demand.BeginConstrained o i general code text small h = absurd (true≢false (sym h))
-tested demand.ServiceZero o i general code text small h = absurd (true≢false (sym h))
+tested demand.EvenPair o i general code depth text small h = absurd (true≢false (sym h))
+tested demand.AbortCode o i general code depth text small h = absurd (true≢false (sym h))
+tested demand.Begin o i general code depth text small h = absurd (true≢false (sym h))
+tested demand.BeginConstrained o i general code depth text small h = absurd (true≢false (sym h))
+tested demand.ServiceZero o i general code depth text small h = absurd (true≢false (sym h))
 
-reached : (e : Entry) (i : Instr) (general : List ℕ) (code : ℕ) (text : List ℕ)
+reached : (e : Entry) (i : Instr) (general : List ℕ) (code depth : ℕ) (text : List ℕ)
     → All IsSmall (spans_in e.operands i general code)
     → is_open (shape_by e.demand e.operands i).touch (first_address i general)
     (shape_by e.demand e.operands i).size text ≡ true
-    → inaccessible_in e i general code 0 (accessible_pages None) (text_pages None text) ≡ None
+    → inaccessible_in e i general code depth (accessible_pages None) (text_pages None text) ≡ None
 unfolding inaccessible_in
-reached e i general code text small h = tested e.demand e.operands i general code text small h
+reached e i general code depth text small h = tested e.demand e.operands i general code depth text small h
 
 -- ---- it goes
 
+-- of what may be touched the shape is known
 open-known : (t : Touch) (first n : ℕ) (text : List ℕ) → is_open t first n text ≡ true → is_other t ≡ false
 open-known touch.Nothing first n text h = refl
 open-known touch.Fetch first n text h = refl
 open-known touch.Store first n text h = refl
 open-known touch.Other first n text h = sym h
 
-module _ (text bytes : List ℕ) (c : Cpu) (r : Ready) (bare : c.prefix ≡ None)
-    (ready : IsReady bytes text c.address r)
-    (h : is_reached r.shape (first_address r.instr c.general) text ≡ true) where
+-- an attempt goes on by it that admits it
+module _ (text bytes : List ℕ) (q : Progress) (r : Ready) (bare : q.cpu.prefix ≡ None)
+    (ready : IsReady bytes text q.cpu.address r)
+    (h : is_reached r.shape (first_address r.instr q.cpu.general) text ≡ true)
+    (lets : Admits q r.instr (touched_by r.shape.touch (first_address r.instr q.cpu.general) r.shape.size)) where
+  abbrev c : Cpu
+  c = q.cpu
+
+  abbrev row : Entry
+  row = entry_at r.instr.op.number
+
+  abbrev need : List Range
+  need = touched_by r.shape.touch (first_address r.instr c.general) r.shape.size
+
   parts : (nat_eq (first_address r.instr c.general % bytes_of r.shape.boundary) 0 ≡ true)
       × (is_open r.shape.touch (first_address r.instr c.general) r.shape.size text ≡ true)
   parts = and_parts (nat_eq (first_address r.instr c.general % bytes_of r.shape.boundary) 0) _ h
@@ -253,66 +283,143 @@ module _ (text bytes : List ℕ) (c : Cpu) (r : Ready) (bare : c.prefix ≡ None
   known : is_other r.shape.touch ≡ false
   known = open-known r.shape.touch (first_address r.instr c.general) r.shape.size text parts.1
 
-  shaped : r.shape ≡ shape_by (entry_at r.instr.op.number).demand (entry_at r.instr.op.number).operands r.instr
+  shaped : r.shape ≡ shape_by row.demand row.operands r.instr
   shaped = ready.shape known
 
-  known-row : is_other (shape_by (entry_at r.instr.op.number).demand (entry_at r.instr.op.number).operands
-      r.instr).touch ≡ false
+  known-row : is_other (shape_by row.demand row.operands r.instr).touch ≡ false
   known-row = ap (λ (s : Shape). is_other s.touch) (sym shaped) ∙ known
 
-  plain-bytes : IsPlain nothing c.prefix c.address c.address
+  plain-bytes : IsPlain q.overlay c.prefix c.address c.address
   plain-bytes = record {
     ends = ready.ends;
     there = λ k lt. ap (λ p. absolute_of p (c.address + k)) bare;
-    bare = λ k lt. refl;
+    bare = lets.bare;
   }
 
-  fetches : fetch_refusal text (at_hand (storage_of bytes) (resting c)) ≡ None
+  fetches : fetch_refusal text (at_hand (storage_of bytes) q) ≡ None
   fetches =
       ap (unfetched (accessible_pages c.prefix) (text_pages c.prefix text) c.address)
-      (sym (plain_length (resting c) bytes c.address plain-bytes))
+      (sym (plain_length q bytes c.address plain-bytes))
       ∙ ap (λ p. unfetched (accessible_pages p) (text_pages p text) c.address (image.length_at bytes c.address)) bare
       ∙ ready.fetches known
 
-  reads : instruction_at (at_hand (storage_of bytes) (resting c)) ≡ Some r.instr
-  reads = sym (plain_reading (resting c) bytes c.address ready.size plain-bytes) ∙ ready.read
+  reads : instruction_at (at_hand (storage_of bytes) q) ≡ Some r.instr
+  reads = sym (plain_reading q bytes c.address ready.size plain-bytes) ∙ ready.read
 
-  no-heads : None ≡ first_refusal (heads (storage_of bytes) (resting c) r.instr)
-  no-heads =
-      let on = subst (λ (s : Shape). nat_eq (first_address r.instr c.general % bytes_of s.boundary) 0 ≡ true)
-      shaped parts.0 in
-      let specified : unspecified r.instr c.general 0 ≡ None =
-      well-specified (entry_at r.instr.op.number).demand (entry_at r.instr.op.number).operands r.instr c.general
-      known-row on in
-      let shallow : (begins (entry_at r.instr.op.number) && nat_le 16 0) ≡ false =
-      and-no (begins (entry_at r.instr.op.number)) in
-      let passed : first_refusal (heads (storage_of bytes) (resting c) r.instr) ≡ None =
-      λ k. first_refusal (None ∷ None ∷ excepted r.instr (specified k) ∷ aborts_where (shallow k) Depth ∷ []) in
-      sym passed
-
-  no-tails : None ≡ first_refusal (tails text (storage_of bytes) (resting c) r.instr)
-  no-tails =
-      let opened = subst (λ (s : Shape). is_open s.touch (first_address r.instr c.general) s.size text ≡ true)
-      shaped parts.1 in
-      let there : inaccessible r.instr c.general c.condition 0 (accessible_pages c.prefix)
-      (text_pages c.prefix text) ≡ None =
-      ap (λ p. inaccessible r.instr c.general c.condition 0 (accessible_pages p) (text_pages p text)) bare
-      ∙ reached (entry_at r.instr.op.number) r.instr c.general c.condition text
-      (sizes (entry_at r.instr.op.number).operands r.instr c.general c.condition) opened in
-      let passed : first_refusal (tails text (storage_of bytes) (resting c) r.instr) ≡ None =
-      λ k. first_refusal (excepted r.instr (there k) ∷ None ∷ None ∷ []) in
-      sym passed
-
-  touches : touched_by r.shape.touch (first_address r.instr c.general) r.shape.size ≡ operands r.instr c
+  touches : need ≡ operands r.instr c
   touches =
       ap (λ (s : Shape). touched_by s.touch (first_address r.instr c.general) s.size) shaped
-      ∙ ranges-by (entry_at r.instr.op.number).demand (entry_at r.instr.op.number).operands r.instr c.general
-      c.condition known-row
+      ∙ ranges-by row.demand row.operands r.instr c.general c.condition known-row
 
-  pub plain-goes : fate_by_progress text (storage_of bytes) (resting c)
-      ≡ Goes r.instr (touched_by r.shape.touch (first_address r.instr c.general) r.shape.size)
+  specified : unspecified r.instr c.general (length q.nest) ≡ None
+  specified =
+      well-specified row.demand row.operands r.instr c.general (length q.nest) known-row
+      (subst (λ (s : Shape). nat_eq (first_address r.instr c.general % bytes_of s.boundary) 0 ≡ true) shaped parts.0)
+
+  shallow : (begins row && nat_le 16 (length q.nest)) ≡ false
+  shallow = ap (λ b. b && nat_le 16 (length q.nest)) (begins-none row.demand row.operands r.instr known-row)
+
+  no-heads : None ≡ first_refusal (heads (storage_of bytes) q r.instr)
+  no-heads =
+      let passed : first_refusal (heads (storage_of bytes) q r.instr) ≡ None =
+      λ k. first_refusal (lets.text k ∷ aborts_where (lets.allowed k) Restricted
+      ∷ excepted r.instr (specified k) ∷ aborts_where (shallow k) Depth ∷ []) in
+      sym passed
+
+  there : inaccessible r.instr c.general c.condition (length q.nest) (accessible_pages c.prefix)
+      (text_pages c.prefix text) ≡ None
+  there =
+      ap (λ p. inaccessible r.instr c.general c.condition (length q.nest) (accessible_pages p) (text_pages p text))
+      bare
+      ∙ reached row r.instr c.general c.condition (length q.nest) text
+      (sizes row.operands r.instr c.general c.condition)
+      (subst (λ (s : Shape). is_open s.touch (first_address r.instr c.general) s.size text ≡ true) shaped parts.1)
+
+  place : place_refusal_by q r.instr ≡ None
+  place =
+      ap (λ (rs : List Range). constraint_refusal (λ kept. next_operand_breach kept r.instr rs) r.instr q.constraint)
+      (sym touches) ∙ lets.place
+
+  room : overflow_refusal_by q r.instr ≡ None
+  room =
+      ap (λ (rs : List Range). overflow_in q.nest (touching q.footprint (absolute_ranges c.prefix rs))) (sym touches)
+      ∙ lets.fits
+
+  no-tails : None ≡ first_refusal (tails text (storage_of bytes) q r.instr)
+  no-tails =
+      let passed : first_refusal (tails text (storage_of bytes) q r.instr) ≡ None =
+      λ k. first_refusal (excepted r.instr (there k) ∷ place k ∷ room k ∷ []) in
+      sym passed
+
+  pub plain-goes : fate_by_progress text (storage_of bytes) q ≡ Goes r.instr need
   plain-goes =
-      let need = touched_by r.shape.touch (first_address r.instr c.general) r.shape.size in
-      sym (planned-read text (storage_of bytes) (resting c) r.instr (Goes r.instr need) fetches reads
-      (tried-goes (resting c) r.instr (heads (storage_of bytes) (resting c) r.instr)
-      (tails text (storage_of bytes) (resting c) r.instr) need no-heads no-tails touches))
+      sym (planned-read text (storage_of bytes) q r.instr (Goes r.instr need) fetches reads
+      (tried-goes q r.instr (heads (storage_of bytes) q r.instr) (tails text (storage_of bytes) q r.instr) need
+      no-heads no-tails touches))
+
+-- so it does by the first address that was found
+pub goes-at : (text bytes : List ℕ) (q : Progress) (r : Ready) (first : ℕ) → q.cpu.prefix ≡ None
+    → IsReady bytes text q.cpu.address r → first ≡ first_address r.instr q.cpu.general
+    → is_reached r.shape first text ≡ true → Admits q r.instr (touched_by r.shape.touch first r.shape.size)
+    → fate_by_progress text (storage_of bytes) q ≡ Goes r.instr (touched_by r.shape.touch first r.shape.size)
+goes-at text bytes q r first bare ready at h lets =
+    subst (λ a. fate_by_progress text (storage_of bytes) q ≡ Goes r.instr (touched_by r.shape.touch a r.shape.size))
+    (sym at)
+    (plain-goes text bytes q r bare ready (ap (λ a. is_reached r.shape a text) (sym at) ∙ h)
+    (subst (λ a. Admits q r.instr (touched_by r.shape.touch a r.shape.size)) at lets))
+
+-- ---- attempts that admit it
+
+-- without a prefix real addresses are absolute ones
+bare-ranges : (need : List Range) → absolute_ranges None need ≡ need
+unfolding absolute_range
+bare-ranges [] = refl
+bare-ranges (r ∷ rs) = ap (λ (xs : List Range). r ∷ xs) (bare-ranges rs)
+
+-- where none is live
+resting-admits : (c : Cpu) (i : Instr) (ranges : List Range) → Admits (resting c) i ranges
+resting-admits c i ranges = record {
+  bare = λ k lt. refl;
+  text = refl;
+  allowed = refl;
+  place = refl;
+  fits = refl;
+}
+
+-- no begins restrict what every transaction may have
+unrestricted : (nest : List Begin) (e : Entry) → is_admitted e ≡ true → is_restricted nest e ≡ false
+unrestricted [] e h = refl
+unrestricted (outermost ∷ inner) e h =
+    neither e.restricted (sets_access_register e) (is_end e) (not (effective_a (outermost ∷ inner))) h
+  where
+    neither : (r s e a : Bool) → not (r || (s || e)) ≡ true → (r || (s && a)) ≡ false
+    neither true s e a h = sym h
+    neither false true e a h = absurd (true≢false (sym h))
+    neither false false e a h = refl
+
+-- sets within the limits do not overflow
+no-overflow : (nest : List Begin) (sets : Sets) → fit_of sets ≡ Ok tt → overflow_in nest sets ≡ None
+no-overflow [] sets h = refl
+no-overflow (outermost ∷ inner) sets h = ap overflow_of h
+
+-- an attempt that has completed nothing is none
+pub unbegun-admits : (t : Tracked) (c : Cpu) (i : Instr) (ranges : List Range) → progress t c ≡ resting c
+    → Admits (progress t c) i ranges
+unbegun-admits t c i ranges rests =
+    subst (λ (q : Progress). Admits q i ranges) (sym rests) (resting-admits c i ranges)
+
+-- where its tests say so, of a CPU without a prefix
+pub attempt-admits : (q : Progress) (i : Instr) (need : List Range) → q.cpu.prefix ≡ None
+    → ((k : ℕ) → k < 6 → q.overlay (q.cpu.address + k) ≡ None) → is_admitted (entry_at i.op.number) ≡ true
+    → text_refusal_by q i ≡ None
+    → constraint_refusal (λ kept. next_operand_breach kept i need) i q.constraint ≡ None
+    → fit_of (touching q.footprint need) ≡ Ok tt → Admits q i need
+attempt-admits q i need none bare allowed text place fits = record {
+  bare = bare;
+  text = text;
+  allowed = unrestricted q.nest (entry_at i.op.number) allowed;
+  place = place;
+  fits = no-overflow q.nest (touching q.footprint (absolute_ranges q.cpu.prefix need))
+      (ap (λ (rs : List Range). fit_of (touching q.footprint rs))
+      (ap (λ p. absolute_ranges p need) none ∙ bare-ranges need) ∙ fits);
+}

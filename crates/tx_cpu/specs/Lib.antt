@@ -3,6 +3,7 @@ pub mod Tracked
 pub mod Parts
 pub mod Same
 pub mod Plain
+pub mod Admits
 pub mod Plans
 pub mod Programs
 pub mod Shapes

@@ -1,11 +1,12 @@
 -- The shape of an instruction's operand, and when it lies where a plain instruction may touch it.
-use Rattle.std.specs.Prelude.{◌≡◌, ℕ, ◌+◌, ◌*◌, ◌≤◌, length, ◌/◌, ◌%◌, Bool, true, false, ◌&&◌, not, nat_eq, nat_lt, nat_le}
-use Rattle.std.specs.Prelude.{List, [], ◌∷◌, Option, Some, None}
+use Rattle.std.specs.Prelude.{◌≡◌, ℕ, ◌+◌, ◌*◌, ◌≤◌, length, ◌/◌, ◌%◌, Bool, true, false, ◌&&◌, ◌||◌, not, nat_eq, nat_lt, nat_le}
+use Rattle.std.specs.Prelude.{List, [], ◌∷◌, Some, None}
 use Rattle.std.specs.List.{list_any}
 use Rattle.z_regs.specs.Prefix.{storage_size}
 use Rattle.z_regs.specs.declared.ranges.Range.{Range}
 use Rattle.z_instr.specs.Operands.{bytes_of, registers_between}
-use Rattle.z_instr.specs.Table.{entry_at}
+use Rattle.z_instr.specs.Roles.{sets_access_register, is_end}
+use Rattle.z_instr.specs.Table.{Entry, entry_at}
 use Rattle.z_instr.specs.Access.{accessible_pages, text_pages, unfetched}
 use Rattle.z_instr.specs.declared.instr.Instr.{Instr}
 use Rattle.z_instr.specs.declared.operand.Size.{Size}
@@ -49,11 +50,16 @@ abbrev pub is_other : Touch → Bool
 is_other touch.Other = true
 is_other _ = false
 
+-- a transaction may have it whatever its begins allow, and goes on behind it
+abbrev pub is_admitted : Entry → Bool
+is_admitted e = not (e.restricted || (sets_access_register e || is_end e))
+
 -- where its shape is known, it can be fetched, and has the operand that its row says
 pub record IsShaped (fetched : Bool) (r : Ready) : Type 0 where
   pub fetches : is_other r.shape.touch ≡ false → fetched ≡ true
   pub shape : is_other r.shape.touch ≡ false
       → r.shape ≡ shape_by (entry_at r.instr.op.number).demand (entry_at r.instr.op.number).operands r.instr
+  pub admitted : r.admitted ≡ is_admitted (entry_at r.instr.op.number)
 
 -- what is read at an address, six bytes or more before the end of storage, and what is known of it
 pub record IsReady (storage text : List ℕ) (place : ℕ) (r : Ready) : Type 0 where
@@ -64,6 +70,7 @@ pub record IsReady (storage text : List ℕ) (place : ℕ) (r : Ready) : Type 0 
       → unfetched (accessible_pages None) (text_pages None text) place (length_at storage place) ≡ None
   pub shape : is_other r.shape.touch ≡ false
       → r.shape ≡ shape_by (entry_at r.instr.op.number).demand (entry_at r.instr.op.number).operands r.instr
+  pub admitted : r.admitted ≡ is_admitted (entry_at r.instr.op.number)
 
 -- ---- the operand at an address
 
@@ -83,6 +90,10 @@ is_open touch.Nothing first size text = true
 is_open touch.Fetch first size text = is_in_line first size
 is_open touch.Store first size text = is_in_line first size && not (list_any (nat_eq (first / 4096)) text)
 is_open touch.Other first size text = false
+
+-- the same where there are no text pages
+abbrev pub is_placed : Shape → ℕ → Bool
+is_placed s first = is_open s.touch first s.size []
 
 -- and on their boundary
 abbrev pub is_reached : Shape → ℕ → List ℕ → Bool

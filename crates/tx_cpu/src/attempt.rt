@@ -28,7 +28,7 @@ ghost use Rattle.z_regs.specs.Cpu.{cpu_of};
 ghost use Rattle.z_regs.specs.Prefix.{is_prefix, absolute_of};
 ghost use Rattle.z_regs.specs.Absolute.{IsAccessible, absolute_ranges};
 ghost use Rattle.tx_constraint.specs.Kept.{next_text_breach, next_operand_breach};
-ghost use Rattle.tx_footprint.specs.Touched.{touching};
+ghost use Rattle.tx_footprint.specs.Touched.{touching, line_count, block_count};
 ghost use Rattle.tx_serial.specs.Flat.{bytes_seen};
 ghost use Rattle.tx_serial.specs.Fate.{overflow_in};
 ghost use Rattle.tx_progress.specs.Trial.{constraint_refusal};
@@ -45,7 +45,7 @@ use std::marker::Model;
 use store_cache::{BLOCK_SIZE, StoreCache};
 use tx_constraint::Constraint;
 use tx_control::{Nest, Why};
-use tx_footprint::{Footprint, Overflow};
+use tx_footprint::{Footprint, MOST_BLOCKS, MOST_LINES, Overflow};
 use z_effect::{opened, register};
 use z_instr::format::length_in;
 use z_instr::instr::Instr;
@@ -208,7 +208,7 @@ impl Attempt {
     }
 
     /// Whether the attempt has stored a byte in the block of an address, or in that of the last of six bytes.
-    fn has_stored(&self, place: u64) -> bool
+    pub fn has_stored(&self, place: u64) -> bool
         requires { place + 6 ≤ storage_size }
         ensures { result ≡ false → (k : ℕ) → k < 6 → (stores_of self.now.stores).overlay (place + k) ≡ None }
     {
@@ -403,5 +403,13 @@ impl Attempt {
         self.constraint = None;
         self.count = 0;
         self.resumes_at = 0;
+    }
+
+    /// Whether the footprint has room for one more line and two more blocks.
+    pub fn has_room(&self) -> bool
+        ensures lines { result ≡ true → line_count (sets_of self.now.footprint) + 1 ≤ 384 }
+        ensures blocks { result ≡ true → block_count (sets_of self.now.footprint) + 2 ≤ 64 }
+    {
+        self.footprint.lines() < MOST_LINES && self.footprint.blocks() + 2 <= MOST_BLOCKS
     }
 }

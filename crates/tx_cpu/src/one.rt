@@ -152,9 +152,9 @@ impl Cpu {
         next_plan(&self.attempt, &self.image, program)
     }
 
-    /// The next instruction, where nothing unusual is the case: nothing is left to do before it, no attempt is live,
-    /// the CPU has no prefix, and the instruction has been read before, goes, and fetches or stores no more than some
-    /// bytes in one line.
+    /// The next instruction, where nothing unusual is the case: nothing is left to do before it, the CPU has no
+    /// prefix, and the instruction has been read before, goes, and fetches or stores no more than some bytes in one
+    /// line. Inside a transaction it is neither a begin nor an end.
     pub fn plain<'a>(&self, program: &'a Program) -> Option<Plain<'a>>
         ensures quiet { IfSome result (λ p. IsQuiet (local_of self.now)) }
         ensures goes { IfSome result (λ p. fate_by_progress (items program.now.guard)
@@ -169,11 +169,7 @@ impl Cpu {
         if self.image.prefix.is_some() {
             return None;
         }
-        if self.attempt.is_live() {
-            return None;
-        }
-        self.attempt.is_sound();
-        plain_next(&self.image, program)
+        plain_next(&self.attempt, &self.image, program)
     }
 
     /// The byte that the CPU sees over `base` at an absolute address.

@@ -1,17 +1,22 @@
 //! The next instruction where nothing unusual is the case.
-ghost use Rattle.std.specs.Prelude.{◌≡◌, ◌<◌, ◌≤◌, ◌+◌, ◌/◌, ◌%◌, IfSome, true, nat_eq, not, None};
+ghost use Rattle.std.specs.Prelude.{◌≡◌, ◌<◌, ◌≤◌, ◌+◌, ◌/◌, ◌%◌, IfSome, true, nat_eq, not, None, Ok};
 ghost use Rattle.std.specs.List.{list_any};
 ghost use Rattle.std.specs.FinSet.{items};
 ghost use Rattle.z_regs.specs.Cpu.{cpu_of};
 ghost use Rattle.z_regs.specs.Prefix.{storage_size};
 ghost use Rattle.z_instr.specs.Operands.{bytes_of};
+ghost use Rattle.z_instr.specs.Table.{entry_at};
+ghost use Rattle.tx_constraint.specs.Kept.{next_text_breach, next_operand_breach};
+ghost use Rattle.tx_footprint.specs.Touched.{sets_of, touching, fit_of};
 ghost use Rattle.tx_serial.specs.Fate.{Goes};
-ghost use Rattle.tx_progress.specs.Progress.{resting};
-ghost use Rattle.tx_progress.specs.Trial.{fate_by_progress};
+ghost use Rattle.tx_progress.specs.Trial.{fate_by_progress, constraint_refusal};
+ghost use Rattle.tx_cpu.specs.Admits.{Admits};
+ghost use Rattle.tx_cpu.specs.Tracked.{progress};
 ghost use Rattle.tx_cpu.specs.Parts.{storage_of};
 ghost use Rattle.tx_cpu.specs.Shapes.{is_in_line as lies_in_line, is_open as lies_open, is_reached as lies_reached};
-ghost use Rattle.tx_cpu.specs.Shapes.{touched_by};
+ghost use Rattle.tx_cpu.specs.Shapes.{touched_by, is_placed, is_admitted as goes_on_inside};
 
+use crate::attempt::Attempt;
 use crate::program::Program;
 use crate::ready::{Ready, Shape, Touch};
 use z_instr::addresses::first_address;
@@ -104,18 +109,115 @@ fn is_reached(shape: Shape, first: u64, guard: &Guard) -> bool
     is_on(first, shape.boundary) && is_open(shape.touch, first, shape.size, guard)
 }
 
-/// The next instruction of a CPU without a prefix and without an attempt, where it has been read before, and fetches
-/// or stores no more than some bytes in one line.
-pub fn plain_next<'a>(image: &CpuImage, program: &'a Program) -> Option<Plain<'a>>
+/// Whether the constraints of a constrained attempt admit an instruction at an address, with its operand.
+#[inline(never)]
+fn admits_constrained(attempt: &Attempt, ready: &Ready, at: u64, first: u64) -> bool
+    ensures text { result ≡ true → constraint_refusal (λ kept. next_text_breach kept ready.now.instr at)
+        ready.now.instr attempt.now.constraint ≡ None }
+    ensures place { result ≡ true → constraint_refusal (λ kept. next_operand_breach kept ready.now.instr
+        (touched_by ready.now.shape.touch first ready.now.shape.size)) ready.now.instr attempt.now.constraint
+        ≡ None }
+{
+    if attempt.admit_text(&ready.instr, at).is_err() {
+        return false;
+    }
+    let need = operands_at(ready.shape, first);
+    attempt.admit_operands(&ready.instr, &need).is_ok()
+}
+
+/// Whether its constraints admit it, where the attempt has any.
+fn keeps_constraints(attempt: &Attempt, ready: &Ready, at: u64, first: u64) -> bool
+    ensures text { result ≡ true → constraint_refusal (λ kept. next_text_breach kept ready.now.instr at)
+        ready.now.instr attempt.now.constraint ≡ None }
+    ensures place { result ≡ true → constraint_refusal (λ kept. next_operand_breach kept ready.now.instr
+        (touched_by ready.now.shape.touch first ready.now.shape.size)) ready.now.instr attempt.now.constraint
+        ≡ None }
+{
+    if !attempt.is_constrained() {
+        return true;
+    }
+    admits_constrained(attempt, ready, at, first)
+}
+
+/// Whether the footprint keeps its limits with an operand that lies in one line, where it has to be counted.
+#[cold]
+fn fits_counted(attempt: &Attempt, shape: Shape, first: u64) -> bool
+    requires { is_placed shape first ≡ true }
+    ensures { result ≡ true → fit_of (touching (sets_of attempt.now.footprint)
+        (touched_by shape.touch first shape.size)) ≡ Ok tt }
+{
+    let need = operands_at(shape, first);
+    attempt.footprint().fits(&need).is_ok()
+}
+
+/// Whether the footprint keeps its limits with an operand that lies in one line.
+fn fits(attempt: &Attempt, shape: Shape, first: u64) -> bool
+    requires { is_placed shape first ≡ true }
+    ensures { result ≡ true → fit_of (touching (sets_of attempt.now.footprint)
+        (touched_by shape.touch first shape.size)) ≡ Ok tt }
+{
+    if attempt.has_room() {
+        return true;
+    }
+    fits_counted(attempt, shape, first)
+}
+
+/// Whether a live attempt admits the next instruction of its CPU, whose operand is reached.
+fn admits_inside(attempt: &Attempt, image: &CpuImage, ready: &Ready, first: u64) -> bool
+    requires prefix { image.now.prefix ≡ None }
+    requires ends { image.now.address + 6 ≤ storage_size }
+    requires admitted { ready.now.admitted ≡ goes_on_inside (entry_at ready.now.instr.op.number) }
+    requires placed { is_placed ready.now.shape first ≡ true }
+    ensures { result ≡ true → Admits (progress attempt.now (cpu_of image.now)) ready.now.instr
+        (touched_by ready.now.shape.touch first ready.now.shape.size) }
+{
+    if attempt.has_stored(image.address) {
+        return false;
+    }
+    if !ready.admitted {
+        return false;
+    }
+    if !keeps_constraints(attempt, ready, image.address, first) {
+        return false;
+    }
+    fits(attempt, ready.shape, first)
+}
+
+/// Whether the attempt admits the next instruction of its CPU, whose operand is reached; it does where none is live.
+fn admits(attempt: &Attempt, image: &CpuImage, ready: &Ready, first: u64) -> bool
+    requires prefix { image.now.prefix ≡ None }
+    requires ends { image.now.address + 6 ≤ storage_size }
+    requires admitted { ready.now.admitted ≡ goes_on_inside (entry_at ready.now.instr.op.number) }
+    requires placed { is_placed ready.now.shape first ≡ true }
+    ensures { result ≡ true → Admits (progress attempt.now (cpu_of image.now)) ready.now.instr
+        (touched_by ready.now.shape.touch first ready.now.shape.size) }
+{
+    attempt.is_sound();
+    if !attempt.is_live() {
+        return true;
+    }
+    admits_inside(attempt, image, ready, first)
+}
+
+/// The next instruction of a CPU without a prefix, where it has been read before, fetches or stores no more than some
+/// bytes in one line, and goes.
+pub fn plain_next<'a>(
+    attempt: &Attempt,
+    image: &CpuImage,
+    program: &'a Program,
+) -> Option<Plain<'a>>
     requires { image.now.prefix ≡ None }
     ensures goes { IfSome result (λ p. fate_by_progress (items program.now.guard) (storage_of program.now.storage)
-        (resting (cpu_of image.now)) ≡ Goes p.ready.now.instr
+        (progress attempt.now (cpu_of image.now)) ≡ Goes p.ready.now.instr
         (touched_by p.ready.now.shape.touch p.first p.ready.now.shape.size)) }
     ensures reached { IfSome result (λ p. lies_reached p.ready.now.shape p.first (items program.now.guard) ≡ true) }
 {
     let ready = program.known(image.address)?;
     let first = first_address(&ready.instr, &image.general);
     if !is_reached(ready.shape, first, program.guard()) {
+        return None;
+    }
+    if !admits(attempt, image, ready, first) {
         return None;
     }
     Some(Plain { ready, first })

@@ -2,12 +2,16 @@
 ghost use Rattle.std.specs.Prelude.{◌≡◌, ◌<◌, true, None};
 ghost use Rattle.std.specs.FinSet.{items};
 ghost use Rattle.z_instr.specs.Access.{accessible_pages, text_pages, unfetched};
+ghost use Rattle.z_instr.specs.Table.{entry_at};
 ghost use Rattle.tx_cpu.specs.Shapes.{no_shape, shape_in, boundary_size, shape_by, IsShaped};
+ghost use Rattle.tx_cpu.specs.Shapes.{is_admitted as goes_on_inside};
 
 use z_instr::addresses::registers_named;
 use z_instr::instr::Instr;
 use z_instr::lookup::line;
+use z_instr::op::Op;
 use z_instr::operand::{Demand, Operands, Size};
+use z_instr::roles::{is_end, sets_access_register};
 use z_regs::{CpuImage, Guard};
 use z_touch::fetchable;
 
@@ -42,6 +46,8 @@ pub struct Ready {
     pub instr: Instr,
     /// The shape of its operand.
     pub shape: Shape,
+    /// Whether every transaction may have it, and goes on behind it.
+    pub admitted: bool,
 }
 
 /// The shape of which nothing is known.
@@ -106,6 +112,13 @@ fn shape_with(demand: Demand, operands: Operands, instr: &Instr) -> Shape
     }
 }
 
+/// Whether a transaction may have an operation whatever its begins allow, and goes on behind it.
+fn is_admitted(op: Op) -> bool
+    ensures { result ≡ goes_on_inside (entry_at op.number) }
+{
+    !(line(op).restricted || sets_access_register(op) || is_end(op))
+}
+
 /// Whether a CPU without a prefix can fetch so many bytes from an address on.
 pub fn is_fetched(address: u64, guard: &Guard, length: u8) -> bool
     requires { 0 < length }
@@ -123,13 +136,19 @@ pub fn make_ready(instr: Instr, fetched: bool) -> Ready
     ensures instr { result.instr ≡ instr }
     ensures shaped { IsShaped fetched result }
 {
+    let admitted = is_admitted(instr.op);
     if fetched {
         let kind = line(instr.op).kind;
         let shape = shape_with(kind.demand(), kind.operands(), &instr);
-        return Ready { instr, shape };
+        return Ready {
+            instr,
+            shape,
+            admitted,
+        };
     }
     Ready {
         instr,
         shape: unknown(),
+        admitted,
     }
 }

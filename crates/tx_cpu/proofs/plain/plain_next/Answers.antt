@@ -1,20 +1,25 @@
--- It goes.
-use Rattle.std.proofs.Common.{rules, ◌≡◌, true, ap, sym, ◌∙◌}
+-- It goes, since the attempt admits it.
+use Rattle.std.proofs.Common.{rules, ◌≡◌, true}
 use Rattle.std.specs.FinSet.{items}
 use Rattle.z_regs.specs.Cpu.{cpu_of}
-use Rattle.z_instr.specs.Operands.{first_address}
-use Rattle.tx_serial.specs.Fate.{Goes}
-use Rattle.tx_cpu.specs.Shapes.{is_reached, touched_by}
-use Rattle.tx_cpu.proofs.Plainly.{plain-goes}
+use Rattle.tx_cpu.specs.Shapes.{is_reached}
+use Rattle.tx_cpu.specs.Tracked.{progress}
+use Rattle.tx_cpu.proofs.Plainly.{goes-at}
+use Rattle.tx_cpu.proofs.Room.{reached-placed}
 use Rattle.tx_cpu.proofs.plain.plain_next.Goals as goal
+
+pub admits-requires-clause-placed : goal.admits-requires-clause-placed
+admits-requires-clause-placed c =
+    let text = items c.args.program.now.guard in
+    let shape = c.in_ok-ready.ready.now.shape in
+    let reached : is_reached shape c.first_address-first.result text ≡ true = search rules in
+    reached-placed shape c.first_address-first.result text reached
 
 pub returns-clause-goes : goal.returns-clause-goes
 returns-clause-goes c =
     let text = items c.args.program.now.guard in
-    let cpu = cpu_of c.args.image.now in
     let r = c.in_ok-ready.ready.now in
-    let at : c.first_address-first.result ≡ first_address r.instr cpu.general = c.first_address-first.ensures in
     let reached : is_reached r.shape c.first_address-first.result text ≡ true = search rules in
-    plain-goes text c.args.program.now.storage cpu r c.requires c.in_ok-ready.ensures
-    (ap (λ a. is_reached r.shape a text) (sym at) ∙ reached)
-    ∙ ap (λ a. Goes r.instr (touched_by r.shape.touch a r.shape.size)) (sym at)
+    goes-at text c.args.program.now.storage (progress c.args.attempt.now (cpu_of c.args.image.now)) r
+    c.first_address-first.result c.requires c.in_ok-ready.ensures c.first_address-first.ensures reached
+    (c.admits.ensures c.if-not-admits.false)

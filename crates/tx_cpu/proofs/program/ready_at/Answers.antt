@@ -1,5 +1,5 @@
 -- What is known of an instruction is true where it is read.
-use Rattle.std.proofs.Common.{◌≡◌, Some, None, ap, sym, ◌∙◌, arith}
+use Rattle.std.proofs.Common.{Some, None, ap, sym, ◌∙◌, arith}
 use Rattle.std.specs.FinSet.{items}
 use Rattle.z_instr.specs.Access.{accessible_pages, text_pages, unfetched}
 use Rattle.tx_cpu.proofs.program.ready_at.Goals as goal
@@ -16,4 +16,5 @@ returns c =
           (sym c.length_of-length.ensures)
           ∙ c.is_fetched-fetched.ensures (c.make_ready.ensures.shaped.fetches known);
       shape = c.make_ready.ensures.shaped.shape;
+      admitted = c.make_ready.ensures.shaped.admitted;
     }

@@ -1,9 +1,9 @@
 -- Of an instruction that cannot be fetched no shape is known.
-use Rattle.std.proofs.Common.{◌≡◌, true, false, sym, ap, ◌∙◌}
+use Rattle.std.proofs.Common.{◌≡◌, true, sym, ap, ◌∙◌}
 use Rattle.std.proofs.lemmas.Bool.{true≢false}
-use Rattle.z_instr.specs.Table.{Entry, entry_at}
+use Rattle.z_instr.specs.Table.{Entry}
 use Rattle.tx_cpu.specs.declared.ready.Shape.{Shape}
-use Rattle.tx_cpu.specs.Shapes.{shape_by, is_other, no_shape}
+use Rattle.tx_cpu.specs.Shapes.{shape_by, is_other}
 use Rattle.tx_cpu.proofs.ready.make_ready.Goals as goal
 
 pub returns-then-fetched-clause-shaped : goal.returns-then-fetched-clause-shaped
@@ -13,6 +13,7 @@ returns-then-fetched-clause-shaped c =
     record {
       fetches = λ known. c.if-fetched.true;
       shape = λ known. c.shape_with-shape.ensures ∙ (λ k. shape_by (demand k) (operands k) c.args.instr);
+      admitted = c.is_admitted-admitted.ensures;
     }
 
 pub returns-clause-shaped : goal.returns-clause-shaped
@@ -21,4 +22,5 @@ returns-clause-shaped c =
     record {
       fetches = λ known. absurd (true≢false (sym other ∙ known));
       shape = λ known. absurd (true≢false (sym other ∙ known));
+      admitted = c.is_admitted-admitted.ensures;
     }

@@ -1,0 +1,17 @@
+-- All of its tests say so.
+use Rattle.std.proofs.Common.{sym, ◌∙◌}
+use Rattle.z_regs.specs.Cpu.{cpu_of}
+use Rattle.tx_cpu.specs.Shapes.{touched_by}
+use Rattle.tx_cpu.specs.Tracked.{progress}
+use Rattle.tx_cpu.proofs.Plainly.{attempt-admits}
+use Rattle.tx_cpu.proofs.plain.admits_inside.Goals as goal
+
+pub returns : goal.returns
+returns c fits =
+    let r = c.args.ready.now in
+    attempt-admits (progress c.args.attempt.now (cpu_of c.args.image.now)) r.instr
+    (touched_by r.shape.touch c.args.first r.shape.size) c.requires.prefix
+    (c.has_stored.ensures c.if-has_stored.false)
+    (sym c.requires.admitted ∙ c.if-not-ready.false)
+    (c.keeps_constraints.ensures.text c.if-not-keeps_constraints.false)
+    (c.keeps_constraints.ensures.place c.if-not-keeps_constraints.false) (c.fits.ensures fits)
