@@ -65,6 +65,7 @@ impl Works {
     }
 
     /// The live attempt of the CPU itself ends by this cause.
+    #[inline(never)]
     pub(crate) fn end_by(&mut self, cpu: u32, why: Why, at: u64) -> Turned
         requires cpu { cpu < length self.old.slots }
         requires live { (rest : Seat) → is_live (kept_by rest self.old).state cpu ≡ true }
@@ -91,6 +92,7 @@ impl Works {
     }
 
     /// The block that is pending for the CPU is stored, and this is written down.
+    #[inline(never)]
     pub(crate) fn store_block(&mut self, cpu: u32) -> Turned
         requires cpu { cpu < length self.old.slots }
         requires room { length self.old.history < self.old.room }
@@ -116,6 +118,7 @@ impl Works {
     }
 
     /// The interruption that waits for the CPU is taken, and this is written down. No attempt is live.
+    #[inline(never)]
     pub(crate) fn take(&mut self, cpu: u32) -> Turned
         requires cpu { cpu < length self.old.slots }
         requires live { (rest : Seat) → is_live (kept_by rest self.old).state cpu ≡ false }
@@ -144,6 +147,7 @@ impl Works {
 
     /// An exception stops the program of the CPU before anything has changed, and this is written down. No
     /// attempt is live.
+    #[inline(never)]
     pub(crate) fn stop(&mut self, cpu: u32, e: Exception) -> Turned
         requires cpu { cpu < length self.old.slots }
         requires live { (rest : Seat) → is_live (kept_by rest self.old).state cpu ≡ false }

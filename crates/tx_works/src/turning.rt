@@ -37,6 +37,7 @@ use z_regs::Touches;
 
 impl Works {
     /// A request of the CPU was rejected: its turn is at its end, and a starved attempt is aborted.
+    #[inline(never)]
     fn refuse(&mut self, cpu: u32, refused: Refused) -> Turned
         requires cpu { cpu < length self.old.slots }
         requires asks { (rest : Seat) → MayAsk (length self.old.slots) cpu (kept_by rest self.old) }
@@ -76,6 +77,7 @@ impl Works {
     }
 
     /// An instruction that goes: it is executed where the lines of its operands are there.
+    #[inline(never)]
     fn go(&mut self, cpu: u32, instr: &Instr, need: &Touches) -> Turned
         requires cpu { cpu < length self.old.slots }
         requires prepared { (rest : Seat) →
@@ -133,6 +135,7 @@ impl Works {
     }
 
     /// The block that is pending for the CPU is stored, where its lines are there.
+    #[inline(never)]
     fn store_pending(&mut self, cpu: u32, address: u64) -> Turned
         requires cpu { cpu < length self.old.slots }
         requires inside { address + 256 ≤ storage_size }
@@ -155,6 +158,7 @@ impl Works {
 
     /// The interruption that waits for the CPU is taken, where its lines are there. `block` says whether it
     /// has a diagnostic block.
+    #[inline(never)]
     fn take_waiting(&mut self, cpu: u32, block: bool) -> Turned
         requires cpu { cpu < length self.old.slots }
         requires rests { (rest : Seat) → is_live (kept_by rest self.old).state cpu ≡ false }
@@ -190,6 +194,31 @@ impl Works {
         self.slots[cpu as usize].cpu.prepare(program)
     }
 
+    /// The next instruction of the CPU, which is planned first.
+    #[inline(never)]
+    fn attempt_planned(&mut self, cpu: u32, program: &Program) -> Turned
+        requires cpu { cpu < length self.old.slots }
+        requires turns { (rest : Seat) (limits : RunLimits) →
+            MayTurn (record { image = program.now; limits = limits }) cpu (kept_by rest self.old) }
+        requires acts { (rest : Seat) → MayAct cpu self.old rest }
+        requires cpus { length program.now.cpus ≡ length self.old.slots }
+        ensures value { (rest : Seat) (limits : RunLimits) →
+            let m : Setting = record { image = program.now; limits = limits } in let k = kept_by rest self.old in
+            turned_as (kept_by rest self.new) result ≡
+            k_attempting m cpu k (fate_by_progress (text_of m) k.storage (k.locals cpu).attempt) }
+        ensures size { IsSameSize self.old self.new }
+    {
+        let plan = self.plan(cpu, program);
+        match &plan {
+            Plan::Go { instr, need } => self.go(cpu, instr, need),
+            Plan::Ends(why) => {
+                let at = self.next_address(cpu);
+                self.end_by(cpu, *why, at)
+            }
+            Plan::Stops(e) => self.stop(cpu, *e),
+        }
+    }
+
     /// The next instruction of the CPU.
     fn attempt(&mut self, cpu: u32, program: &Program) -> Turned
         requires cpu { cpu < length self.old.slots }
@@ -203,22 +232,15 @@ impl Works {
             k_attempting m cpu k (fate_by_progress (text_of m) k.storage (k.locals cpu).attempt) }
         ensures size { IsSameSize self.old self.new }
     {
-        if let Some(plain) = self.plain(cpu, program) {
-            return self.go_plainly(cpu, &plain, program);
-        }
-        let plan = self.plan(cpu, program);
-        match &plan {
-            Plan::Go { instr, need } => self.go(cpu, instr, need),
-            Plan::Ends(why) => {
-                let at = self.next_address(cpu);
-                self.end_by(cpu, *why, at)
-            }
-            Plan::Stops(e) => self.stop(cpu, *e),
+        match self.plain(cpu, program) {
+            Some(plain) => self.go_plainly(cpu, &plain, program),
+            None => self.attempt_planned(cpu, program),
         }
     }
 
     /// An external interruption comes to the CPU: it aborts a live attempt, and the head of the stop queue goes
     /// to the tail.
+    #[inline(never)]
     pub(crate) fn external(&mut self, cpu: u32) -> Turned
         requires cpu { cpu < length self.old.slots }
         requires room { length self.old.history < self.old.room }
