@@ -212,9 +212,12 @@ impl Attempt {
         requires { place + 6 ≤ storage_size }
         ensures { result ≡ false → (k : ℕ) → k < 6 → (stores_of self.now.stores).overlay (place + k) ≡ None }
     {
-        let block = BLOCK_SIZE as u64;
-        self.stores.has_block((place / block) as u32)
-            || self.stores.has_block(((place + 5) / block) as u32)
+        let first = place / BLOCK_SIZE as u64;
+        let last = (place + 5) / BLOCK_SIZE as u64;
+        if self.stores.has_block(first as u32) {
+            return true;
+        }
+        last != first && self.stores.has_block(last as u32)
     }
 
     /// The absolute address of the six bytes from a real address on, where they lie one after the other in storage
