@@ -1,5 +1,5 @@
 //! Instructions performed on the bytes of their operands.
-ghost use Rattle.std.specs.Prelude.{◌≡◌, ◌≤◌, ℕ, length, map, take, All, false, true};
+ghost use Rattle.std.specs.Prelude.{◌≡◌, ◌≤◌, ℕ, length, map, take, get_or, All, false, true};
 ghost use Rattle.z_regs.specs.Cpu.{cpu_of};
 ghost use Rattle.z_regs.specs.Prefix.{storage_size};
 ghost use Rattle.z_regs.specs.Absolute.{IsAccessible};
@@ -10,7 +10,7 @@ ghost use Rattle.z_effect.specs.One.{one};
 ghost use Rattle.tx_serial.specs.Fate.{operands};
 ghost use Rattle.tx_cpu.specs.Parts.{storage_of};
 ghost use Rattle.tx_cpu.specs.Performed.{ended_in, IsLeft, trimmed, outcome_from, first_size};
-ghost use Rattle.tx_cpu.specs.Performed.{is_transaction, transaction_in, lasting_size};
+ghost use Rattle.tx_cpu.specs.Performed.{is_transaction, transaction_in, lasting_size, no_range};
 ghost use Rattle.tx_cpu.specs.Tracked.{progress};
 ghost use Rattle.tx_cpu.specs.Gathered.{IsDoubleword};
 ghost use Rattle.tx_cpu.specs.Going.{IsStoredDoubleword};
@@ -98,9 +98,11 @@ fn execute_transaction(
     instr: &Instr,
     image: &mut CpuImage,
     depth: u32,
-    stored: &mut [u8; MOST_BYTES],
+    stored: &mut [u8],
 ) -> Ended
-    requires { depth ≤ 16 }
+    requires depth { depth ≤ 16 }
+    requires room { lasting_size kind ≤ length stored.old }
+    ensures size { length stored.new ≡ length stored.old }
     ensures value { outcome_from result (cpu_of image.new) (take (lasting_size kind) stored.new) ≡
         transaction_effect kind (length_of instr.now) instr.now (cpu_of image.old) depth }
     ensures image { cpu_of image.new ≡ cpu_after (cpu_of image.old)
@@ -113,7 +115,7 @@ fn execute_transaction(
     match kind {
         Transaction::Abort => Ended::Aborting(abort_code),
         Transaction::StoreLasting => {
-            BigEndian::write_u64(&mut stored[..], source);
+            BigEndian::write_u64(stored, source);
             Ended::Completed
         }
         Transaction::Begin => Ended::Completed,
@@ -143,11 +145,12 @@ fn execute_lent<V: Bytes>(
     instr: &Instr,
     need: &Touches,
     image: &mut CpuImage,
-    stored: &mut [u8; MOST_BYTES],
+    stored: &mut [u8],
     base: &mut V,
 ) -> Ended
     requires plain { is_transaction (kind_at instr.now.op.number) ≡ false }
     requires need { need.now ≡ operands instr.now (cpu_of image.old) }
+    requires room { (get_or need.now 0 no_range).length ≤ length stored.old }
     requires accessible { All (IsAccessible image.old.prefix) need.now }
     requires size { length (V.bytes base.old) ≡ storage_size }
     ensures value { outcome_from result (cpu_of image.new) (take (first_size need.now) stored.new) ≡
@@ -156,6 +159,7 @@ fn execute_lent<V: Bytes>(
     ensures image { cpu_of image.new ≡ cpu_after (cpu_of image.old) (outcome_by
         (storage_of (V.bytes base.old)) instr.now need.now (progress attempt.now (cpu_of image.old))) }
     ensures same { V.bytes base.new ≡ V.bytes base.old }
+    ensures size { length stored.new ≡ length stored.old }
 {
     let prefix = image.prefix;
     let first = operand(need, 0);
@@ -174,16 +178,18 @@ fn execute_lent<V: Bytes>(
 }
 
 /// Performs an instruction on the bytes that the attempt sees of its operands, so that only the CPU is
-/// changed, and keeps apart what is stored in its first operand; no other is ever stored into.
+/// changed, and keeps apart what is stored in its first operand; no other is ever stored into. There must be room
+/// for all of the first operand.
 pub fn perform<V: Bytes>(
     attempt: &Attempt,
     instr: &Instr,
     need: &Touches,
     image: &mut CpuImage,
-    stored: &mut [u8; MOST_BYTES],
+    stored: &mut [u8],
     base: &mut V,
 ) -> Ended
     requires need { need.now ≡ operands instr.now (cpu_of image.old) }
+    requires room { (get_or need.now 0 no_range).length ≤ length stored.old }
     requires accessible { All (IsAccessible image.old.prefix) need.now }
     requires size { length (V.bytes base.old) ≡ storage_size }
     ensures value { outcome_from result (cpu_of image.new) (take (first_size need.now) stored.new) ≡
@@ -194,6 +200,7 @@ pub fn perform<V: Bytes>(
     ensures lasting { stores_lastingly (entry_at instr.now.op.number) ≡ true → IsStoredDoubleword need.now
         → IsDoubleword need.now stored.new (register_of (cpu_of image.old) instr.now.r1) }
     ensures same { V.bytes base.new ≡ V.bytes base.old }
+    ensures size { length stored.new ≡ length stored.old }
 {
     let depth = attempt.nest().depth();
     match transaction_of(instr.op) {

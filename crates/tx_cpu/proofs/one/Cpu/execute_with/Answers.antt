@@ -22,7 +22,7 @@ use Rattle.tx_cpu.specs.contracts.one.Cpu.{the_view}
 use Rattle.tx_cpu.proofs.Inside.{stepped-is, committed-is, exceeded-is, suppressed-is, aborting-is}
 use Rattle.tx_cpu.proofs.Inside.{exceeds-no-end, end-bare, equal-so}
 use Rattle.tx_cpu.proofs.Stored.{operands-first}
-use Rattle.tx_cpu.proofs.one.Cpu.execute_inside.Goals as goal
+use Rattle.tx_cpu.proofs.one.Cpu.execute_with.Goals as goal
 
 pub advance-requires-in-Exceeded-clause-goes_on : goal.advance-requires-in-Exceeded-clause-goes_on
 advance-requires-in-Exceeded-clause-goes_on g c =
