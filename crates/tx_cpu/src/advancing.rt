@@ -5,11 +5,16 @@ ghost use Rattle.z_instr.specs.Table.{entry_at};
 ghost use Rattle.tx_constraint.specs.Kept.{Kept};
 ghost use Rattle.tx_constraint.specs.Octowords.{with_octowords};
 ghost use Rattle.tx_serial.specs.Run.{nest_after};
+ghost use Rattle.std.specs.Prelude.{IsTrue, All, Ok};
 ghost use Rattle.z_regs.specs.Cpu.{cpu_of};
+ghost use Rattle.z_regs.specs.Prefix.{is_prefix};
+ghost use Rattle.z_regs.specs.Absolute.{IsAccessible, absolute_ranges};
+ghost use Rattle.tx_footprint.specs.Touched.{sets_of, touching, fit_of};
 ghost use Rattle.tx_cpu.specs.Advancing.{grown, opened_by, IsBefore};
 
 use tx_constraint::Constraint;
 use tx_control::{Begin, Nest};
+use tx_footprint::Footprint;
 use z_effect::{opened, register};
 use z_instr::instr::Instr;
 use z_instr::laws::operands_are_small;
@@ -66,6 +71,23 @@ pub fn change_nest(nest: &mut Nest, instr: &Instr, opens: Option<Begin>)
     if is_end(instr.op) {
         nest.leave();
     }
+}
+
+/// The operands, at most two, are touched too.
+pub fn touch(footprint: &mut Footprint, need: &Touches, prefix: Option<u32>)
+    requires prefix_in { IsTrue (is_prefix prefix) }
+    requires few { length need.now ≤ 2 }
+    requires accessible { All (IsAccessible prefix) need.now }
+    requires fits { fit_of (touching (sets_of footprint.old) (absolute_ranges prefix need.now)) ≡ Ok tt }
+    ensures { sets_of footprint.new ≡ touching (sets_of footprint.old) (absolute_ranges prefix need.now) }
+{
+    if need.count() == 0 {
+        return;
+    }
+    if prefix.is_some() || need.count() > 1 {
+        return footprint.add(&need.absolute(prefix));
+    }
+    footprint.add_one(need.at(0));
 }
 
 /// Counts the instruction and its operands in a constrained attempt.

@@ -34,7 +34,7 @@ ghost use Rattle.tx_cpu.specs.Refused.{found};
 ghost use Rattle.tx_cpu.specs.Plain.{IsPlain};
 ghost use Rattle.std.specs.Prelude.{IfSome, None, false};
 
-use crate::advancing::{Before, add_operands, change_nest};
+use crate::advancing::{Before, add_operands, change_nest, touch};
 use crate::gathering::gather_stores;
 use crate::refusal::{Refusal, breach};
 use std::alloc::Global;
@@ -213,6 +213,21 @@ impl Attempt {
             || self.stores.has_block(((place + 5) / block) as u32)
     }
 
+    /// Whether the attempt has stored nothing in the blocks of some bytes, by absolute addresses.
+    pub fn is_bare(&self, first: u64, length: u32) -> bool
+        requires { first + length ≤ storage_size }
+        ensures { result ≡ true → (k : ℕ) → k < length → (stores_of self.now.stores).overlay (first + k) ≡ None }
+    {
+        let block = BLOCK_SIZE as u64;
+        let end = (first + u64::from(length) + block - 1) / block;
+        for at in first / block..end {
+            if self.stores.has_block(at as u32) {
+                return false;
+            }
+        }
+        true
+    }
+
     /// The absolute address of the six bytes from a real address on, where they lie one after the other in storage
     /// and the attempt has stored nothing near them; else None.
     pub fn text_place(&self, first: u64, prefix: Option<u32>) -> Option<u64>
@@ -365,7 +380,7 @@ impl Attempt {
             before.source,
             before.prefix,
         );
-        self.footprint.add(&need.absolute(before.prefix));
+        touch(&mut self.footprint, need, before.prefix);
         change_nest(&mut self.nest, instr, before.opens);
         add_operands(&mut self.constraint, need);
         self.count += 1;

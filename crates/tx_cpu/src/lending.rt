@@ -1,6 +1,6 @@
 //! Storage lends the places of operands to an attempt: while an instruction is performed, the bytes that the attempt
 //! sees there stand in storage, and then those of storage come back.
-ghost use Rattle.std.specs.Prelude.{◌≡◌, ◌≤◌, ◌+◌, length, take, drop, slice_get, get_or, IsTrue, All};
+ghost use Rattle.std.specs.Prelude.{List, ℕ, true, ◌≡◌, ◌≤◌, ◌+◌, length, take, drop, slice_get, get_or, IsTrue, All};
 ghost use Rattle.z_regs.specs.Prefix.{is_prefix, storage_size};
 ghost use Rattle.z_regs.specs.Absolute.{IsAccessible};
 ghost use Rattle.z_effect.specs.After.{range_at, written};
@@ -8,7 +8,7 @@ ghost use Rattle.store_cache.specs.Entries.{stores_of};
 ghost use Rattle.tx_serial.specs.Flat.{bytes_seen};
 ghost use Rattle.tx_progress.specs.Progress.{seen_through};
 ghost use Rattle.tx_cpu.specs.Parts.{storage_of};
-ghost use Rattle.tx_cpu.specs.Performed.{no_range};
+ghost use Rattle.tx_cpu.specs.Performed.{no_range, IsFetched};
 
 use crate::attempt::Attempt;
 use z_regs::{Bytes, Range, Touches, place_of};
@@ -24,6 +24,36 @@ pub fn operand(need: &Touches, number: u8) -> Range
         first: 0,
         length: 0,
         store: false,
+    }
+}
+
+/// Whether the CPU sees these operands, at most two, as they are in storage: it has no prefix, and its attempt has
+/// stored nothing in their blocks.
+pub fn are_bare(attempt: &Attempt, need: &Touches, prefix: Option<u32>) -> bool
+    requires few { length need.now ≤ 2 }
+    requires accessible { All (IsAccessible prefix) need.now }
+    ensures { result ≡ true → (s : List ℕ) → All (IsFetched prefix
+        (seen_through (stores_of attempt.now.stores).overlay (storage_of s)) s) need.now }
+{
+    if prefix.is_some() {
+        return false;
+    }
+    let first = operand(need, 0);
+    if !attempt.is_bare(first.first, first.length) {
+        return false;
+    }
+    let second = operand(need, 1);
+    attempt.is_bare(second.first, second.length)
+}
+
+/// The bytes of storage from an address on.
+pub fn fetch<V: Bytes>(bytes: &mut [u8], first: u64, base: &V)
+    requires end { first + length bytes.old ≤ length (V.bytes base.now) }
+    requires size { length (V.bytes base.now) ≡ storage_size }
+    ensures { bytes.new ≡ range_at (V.bytes base.now) first (length bytes.old) }
+{
+    for k in 0..bytes.len() {
+        bytes[k] = base.get(first + k as u64);
     }
 }
 

@@ -243,18 +243,16 @@ impl Cpu {
         ensures size { length (V.bytes base.new) ≡ storage_size }
     {
         self.attempt.is_sound();
-        let before = self.image;
-        let mut stored = [0; MOST_BYTES];
+        self.saved = self.image;
         perform(
             &self.attempt,
             instr,
             need,
             &mut self.image,
-            &mut stored,
+            &mut [0; 0],
             base,
         );
-        self.saved = before;
-        self.attempt.begin(instr, &before);
+        self.attempt.begin(instr, &self.saved);
         Done::Began
     }
 

@@ -6,6 +6,7 @@ use Rattle.std.proofs.lemmas.List.{get_or-drop, drop-drop, drop-set-lt}
 use Rattle.z_effect.specs.After.{range_at, written}
 use Rattle.z_effect.proofs.Stored.{above}
 use Rattle.z_regs.proofs.Writes.{written_none, write_step}
+use Rattle.tx_cpu.proofs.Returning.{range-more}
 use Rattle.tx_cpu.proofs.lending.exchange.Goals as goal
 
 pub loop-k-init : goal.loop-k-init
@@ -30,12 +31,6 @@ head-of k xs ys e =
 
 rest-of : (k : ℕ) (xs ys : List ℕ) → drop k xs ≡ drop k ys → drop (k + 1) xs ≡ drop (k + 1) ys
 rest-of k xs ys e = sym (drop-drop 1 k xs) ∙ ap (drop 1) e ∙ drop-drop 1 k ys
-
-range-more : (s : List ℕ) (a k : ℕ) → a + k < length s
-    → range_at s a k ++ get_or s (a + k) 0 ∷ [] ≡ range_at s a (k + 1)
-range-more s a k h =
-    let short : k < length (drop a s) = omega (arith, length-drop a s, h) in
-    ap (λ b. range_at s a k ++ b ∷ []) (sym (get_or-drop a s k 0)) ∙ sym (take_more (drop a s) k 0 short)
 
 pub loop-k-preserved : goal.loop-k-preserved
 loop-k-preserved g c =

@@ -28,4 +28,4 @@ returns-in-Some-clause-lasting g c is d =
 pub returns-in-None-clause-lasting : goal.returns-in-None-clause-lasting
 returns-in-None-clause-lasting g c is d =
     lasting-doubleword c.args.instr.now (cpu_of c.args.image.now) _ (length c.args.attempt.now.nest) _
-    c.execute_lent.new.stored c.args.need.now c.execute_lent.result c.execute_lent.ensures.value is d
+    c.execute_seen.new.stored c.args.need.now c.execute_seen.result c.execute_seen.ensures.value is d

@@ -1,19 +1,16 @@
 -- The attempt is sound with one instruction more.
 use Rattle.std.proofs.Common.{◌≡◌, ◌<◌, Bool, true, false, Option, Some, None, refl, sym, subst, ap, ◌∙◌}
-use Rattle.std.specs.Prelude.{All, is_some, if◌then◌else◌}
+use Rattle.std.specs.Prelude.{is_some, if◌then◌else◌}
 use Rattle.z_instr.specs.Roles.{begins}
 use Rattle.z_instr.specs.Table.{entry_at}
 use Rattle.z_effect.specs.Beginning.{begin_of}
 use Rattle.tx_control.specs.declared.begins.Begin.{Begin}
-use Rattle.tx_footprint.specs.Places.{IsInStorage}
-use Rattle.tx_footprint.specs.Touched.{sets_of, touching}
 use Rattle.tx_cpu.specs.Advancing.{MayAdvance}
 use Rattle.tx_cpu.specs.Performed.{StoresFirst}
 use Rattle.tx_cpu.specs.Tracked.{Tracked}
 use Rattle.tx_cpu.specs.contracts.attempt.Attempt.{the_view}
 use Rattle.tx_cpu.proofs.Advances.{room-for, advanced-sound}
 use Rattle.tx_cpu.proofs.Lent.{at-most-two}
-use Rattle.tx_cpu.proofs.Reached.{ranges_in_storage}
 use Rattle.tx_cpu.proofs.Stored.{operands-first}
 use Rattle.tx_cpu.proofs.attempt.Attempt.advance.Goals as goal
 
@@ -32,15 +29,10 @@ gather_stores-requires-clause-room c =
     (subst StoresFirst (sym known.operands_are) (operands-first i known.cpu)) c.self.invariant
     (subst (λ (t : Tracked). MayAdvance t i prefix need) (sym c.self.view_is) c.requires.goes_on)
 
-pub absolute-requires-clause-few : goal.absolute-requires-clause-few
-absolute-requires-clause-few c =
+pub touch-requires-clause-few : goal.touch-requires-clause-few
+touch-requires-clause-few c =
     let known = c.requires.known in
     at-most-two c.args.instr.now known.cpu c.args.need.now known.operands_are
-
-pub add-requires-clause-in_storage : goal.add-requires-clause-in_storage
-add-requires-clause-in_storage c =
-    subst (All IsInStorage) (sym c.absolute.ensures)
-    (ranges_in_storage c.args.before.now.prefix c.args.need.now c.requires.prefix_in c.requires.accessible)
 
 some-where : (b : Bool) (level : Begin) → is_some (if b then Some level else None) ≡ b
 some-where true level = refl
@@ -67,5 +59,4 @@ invariant_of-self c =
     c.requires.prefix_in c.requires.accessible
     (subst StoresFirst (sym known.operands_are) (operands-first i known.cpu))
     (c.change_nest.ensures known.cpu.general known.known.opens)
-    (c.add.ensures ∙ ap (touching (sets_of c.self.inside.footprint)) c.absolute.ensures) c.add_operands.ensures c.gather_stores.ensures.overlay
-    c.gather_stores.ensures.lasting
+    c.touch.ensures c.add_operands.ensures c.gather_stores.ensures.overlay c.gather_stores.ensures.lasting
