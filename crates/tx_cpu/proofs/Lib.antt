@@ -11,6 +11,7 @@ pub mod Agreeing
 pub mod Stored
 pub mod Returning
 pub mod Lent
+pub mod Pieces
 pub mod Bare
 pub mod Laying
 pub mod Completing
