@@ -16,12 +16,12 @@ use Rattle.z_effect.specs.One.{one}
 use Rattle.z_effect.specs.Outcome.{Outcome, Did, Overflowed, Divides, Aborts}
 use Rattle.store_cache.specs.Overlay.{Overlay}
 use Rattle.tx_serial.specs.Fate.{operands}
-use Rattle.tx_serial.specs.Flat.{Storage, operand_bytes}
+use Rattle.tx_serial.specs.Flat.{Storage, bytes_seen, operand_bytes}
 use Rattle.tx_progress.specs.Progress.{seen_through}
 use Rattle.tx_cpu.specs.declared.performing.Ended.{Ended}
 use Rattle.tx_cpu.specs.Parts.{storage_of}
 use Rattle.tx_cpu.specs.Performed.{IsFetched, IsLeft, IsKeptApart, StoresFirst, no_range, first_size, first_bytes}
-use Rattle.tx_cpu.proofs.Fetching.{all-inside, touched-fetched}
+use Rattle.tx_cpu.proofs.Fetching.{all-inside, touched-fetched, taken-at}
 use Rattle.tx_cpu.proofs.Returning.{after-over, length-range}
 use Rattle.tx_cpu.proofs.Stored.{none-written, plain-outcome}
 
@@ -37,6 +37,14 @@ bare-one : (o : Overlay) (prefix : Option ℕ) (r : Range) (s : List ℕ) → pr
 bare-one o prefix r s none bare k lt =
     sym (ap (λ (p : Option ℕ). seen_through o (storage_of s) (absolute_of p (r.first + k))) none
     ∙ ap (λ (v : Option ℕ). unwrap_or v (get_or s (r.first + k) 0)) (bare k lt))
+
+-- so many of them, from an address on
+pub bare-seen : (o : Overlay) (prefix : Option ℕ) (first n : ℕ) (s : List ℕ) → prefix ≡ None
+    → ((k : ℕ) → k < n → o (first + k) ≡ None) → first + n ≤ length s
+    → range_at s first n ≡ bytes_seen prefix (seen_through o (storage_of s)) first n
+bare-seen o prefix first n s none bare h =
+    taken-at n first s (λ a. seen_through o (storage_of s) (absolute_of prefix a))
+    (bare-one o prefix (record { first = first; length = n; store = false }) s none bare) h
 
 -- they are seen as they are in storage
 pub bare-fetched : (o : Overlay) (prefix : Option ℕ) (need : List Range) → prefix ≡ None → length need ≤ 2

@@ -91,8 +91,8 @@ pub fn fetch<V: Bytes>(bytes: &mut [u8], first: u64, base: &V)
     fetch_bytes(&mut bytes[8 * whole..], first + 8 * whole as u64, base);
 }
 
-/// The bytes that the attempt sees from a real address on.
-pub fn see<V: Bytes>(attempt: &Attempt, bytes: &mut [u8], first: u64, prefix: Option<u32>, base: &V)
+/// The bytes that the attempt sees from a real address on, looked up one by one.
+fn see_bytes<V: Bytes>(attempt: &Attempt, bytes: &mut [u8], first: u64, prefix: Option<u32>, base: &V)
     requires prefix_in { IsTrue (is_prefix prefix) }
     requires end { first + length bytes.old ≤ storage_size }
     requires size { length (V.bytes base.now) ≡ storage_size }
@@ -102,6 +102,21 @@ pub fn see<V: Bytes>(attempt: &Attempt, bytes: &mut [u8], first: u64, prefix: Op
     for k in 0..bytes.len() {
         bytes[k] = attempt.seen(place_of(prefix, first + k as u64), base);
     }
+}
+
+/// The bytes that the attempt sees from a real address on: those of storage where it has stored nothing
+/// in their blocks.
+pub fn see<V: Bytes>(attempt: &Attempt, bytes: &mut [u8], first: u64, prefix: Option<u32>, base: &V)
+    requires prefix_in { IsTrue (is_prefix prefix) }
+    requires end { first + length bytes.old ≤ storage_size }
+    requires size { length (V.bytes base.now) ≡ storage_size }
+    ensures { bytes.new ≡ bytes_seen prefix (seen_through (stores_of attempt.now.stores).overlay
+        (storage_of (V.bytes base.now))) first (length bytes.old) }
+{
+    if prefix.is_some() || !attempt.is_bare(first, bytes.len() as u32) {
+        return see_bytes(attempt, bytes, first, prefix, base);
+    }
+    fetch(bytes, first, base);
 }
 
 /// The bytes change places with those of storage from an address on, one by one.
