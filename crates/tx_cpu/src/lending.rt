@@ -92,7 +92,13 @@ pub fn fetch<V: Bytes>(bytes: &mut [u8], first: u64, base: &V)
 }
 
 /// The bytes that the attempt sees from a real address on, looked up one by one.
-fn see_bytes<V: Bytes>(attempt: &Attempt, bytes: &mut [u8], first: u64, prefix: Option<u32>, base: &V)
+fn see_bytes<V: Bytes>(
+    attempt: &Attempt,
+    bytes: &mut [u8],
+    first: u64,
+    prefix: Option<u32>,
+    base: &V,
+)
     requires prefix_in { IsTrue (is_prefix prefix) }
     requires end { first + length bytes.old ≤ storage_size }
     requires size { length (V.bytes base.now) ≡ storage_size }

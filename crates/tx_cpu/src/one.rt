@@ -284,14 +284,7 @@ impl Cpu {
     {
         self.attempt.is_sound();
         let before = Before::of(instr, &self.image);
-        let ended = perform(
-            &self.attempt,
-            instr,
-            need,
-            &mut self.image,
-            stored,
-            base,
-        );
+        let ended = perform(&self.attempt, instr, need, &mut self.image, stored, base);
         match ended {
             Ended::Completed => {
                 if self.is_last(instr) {
