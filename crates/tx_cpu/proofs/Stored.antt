@@ -29,12 +29,10 @@ use Rattle.z_instr.proofs.TableFacts.{operands_at}
 use Rattle.z_regs.specs.Absolute.{IsAccessible}
 use Rattle.store_cache.specs.Overlay.{Store}
 use Rattle.tx_serial.specs.Fate.{operands}
-use Rattle.tx_serial.specs.Flat.{Storage, operand_stores, operand_bytes, bytes_seen, stores_at, laid_over}
+use Rattle.tx_serial.specs.Flat.{Storage, operand_stores, operand_bytes, stores_at, laid_over}
 use Rattle.tx_serial.specs.Flat.{with_bytes_at}
 use Rattle.tx_serial.proofs.StoredBytes.{Fills, one_fills, stored_size, touched_size}
 use Rattle.tx_serial.proofs.StoredBytes.{length-operand_bytes}
-use Rattle.tx_cpu.specs.Parts.{storage_of}
-use Rattle.tx_cpu.proofs.Fetching.{taken-at}
 use Rattle.tx_cpu.specs.declared.performing.Ended.{Ended}
 use Rattle.tx_cpu.specs.declared.performing.Ended.TheVariants as ended
 use Rattle.tx_cpu.specs.Performed.{IsLeft, trimmed, outcome_from, first_size, first_bytes}

@@ -6,7 +6,6 @@ use Rattle.z_regs.specs.declared.ranges.Range.{Range}
 use Rattle.tx_footprint.specs.Places.{IsInStorage}
 use Rattle.tx_footprint.specs.Touched.{touching, sets_of, fit_of}
 use Rattle.tx_footprint.proofs.Limits.{nothing_more}
-use Rattle.tx_footprint.proofs.Marking.{storage_at}
 use Rattle.tx_footprint.proofs.Ones.{only}
 use Rattle.tx_cpu.proofs.Bare.{none-so}
 use Rattle.tx_cpu.proofs.Reached.{ranges_in_storage}

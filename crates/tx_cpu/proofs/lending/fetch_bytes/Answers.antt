@@ -1,5 +1,5 @@
 -- One byte more is fetched.
-use Rattle.std.proofs.Common.{◌≡◌, ◌+◌, ◌<◌, ◌++◌, ◌∷◌, [], length, ap, sym, ◌∙◌, arith}
+use Rattle.std.proofs.Common.{◌≡◌, ◌<◌, ◌++◌, ◌∷◌, [], length, ap, sym, ◌∙◌, arith}
 use Rattle.std.proofs.lemmas.List.{take_more_set, take_all}
 use Rattle.z_effect.specs.After.{range_at}
 use Rattle.tx_cpu.proofs.Returning.{range-more}

@@ -1,5 +1,5 @@
 -- Bytes over which nothing is stored are those of storage.
-use Rattle.std.proofs.Common.{◌≡◌, ◌<◌, List, ℕ, length, sym, ◌∙◌, arith}
+use Rattle.std.proofs.Common.{List, ℕ, length, sym, ◌∙◌, arith}
 use Rattle.store_cache.specs.Entries.{stores_of}
 use Rattle.tx_cpu.proofs.Bare.{none-so, bare-seen}
 use Rattle.tx_cpu.proofs.lending.see.Goals as goal

@@ -1,5 +1,5 @@
 -- The bytes that are stored are kept apart, and those that were there come back.
-use Rattle.std.proofs.Common.{rules, ◌≡◌, ◌≤◌, List, ℕ, ap, sym, subst, ◌∙◌, arith, length, get_or, take}
+use Rattle.std.proofs.Common.{◌≡◌, List, ℕ, ap, sym, subst, ◌∙◌, arith, length, get_or}
 use Rattle.std.proofs.lemmas.List.{length-take-le}
 use Rattle.z_regs.specs.Cpu.{cpu_of}
 use Rattle.z_regs.specs.declared.ranges.Range.{Range}

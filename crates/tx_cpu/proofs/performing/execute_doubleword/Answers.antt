@@ -1,5 +1,5 @@
 -- The doubleword that is stored is kept apart, and the one that was there comes back.
-use Rattle.std.proofs.Common.{◌≡◌, ◌++◌, List, ℕ, ap, sym, subst, ◌∙◌, arith, length, get_or, take, drop}
+use Rattle.std.proofs.Common.{◌≡◌, List, ℕ, ap, sym, subst, ◌∙◌, arith, get_or, take, drop}
 use Rattle.byteorder.specs.Endian.{big_bytes}
 use Rattle.z_regs.specs.Cpu.{cpu_of}
 use Rattle.z_regs.specs.declared.ranges.Range.{Range}
