@@ -1,9 +1,8 @@
 -- An instruction that is executed on storage as it is, where an attempt sees its operands so.
-use Rattle.std.proofs.Common.{◌≡◌, ℕ, ◌+◌, ◌<◌, ◌≤◌, false, List, [], ◌∷◌, Option, None, Some, refl, sym, ap, ◌∙◌}
-use Rattle.std.proofs.Common.{arith, length, get_or, take}
+use Rattle.std.proofs.Common.{◌≡◌, ℕ, ◌+◌, ◌<◌, ◌≤◌, false, List, [], ◌∷◌, Option, None, Some, refl, sym, ap}
+use Rattle.std.proofs.Common.{◌∙◌, arith, length, get_or, take}
 use Rattle.std.specs.Prelude.{map, cond, unwrap_or, is_some, All}
 use Rattle.std.proofs.lemmas.Bool.{true≢false}
-use Rattle.std.proofs.lemmas.List.Elements.{All-nil, All-cons}
 use Rattle.z_regs.specs.Absolute.{IsAccessible}
 use Rattle.z_regs.specs.Cpu.{Cpu}
 use Rattle.z_regs.specs.Prefix.{storage_size, absolute_of}
@@ -20,11 +19,13 @@ use Rattle.tx_serial.specs.Flat.{Storage, bytes_seen, operand_bytes}
 use Rattle.tx_progress.specs.Progress.{seen_through}
 use Rattle.tx_cpu.specs.declared.performing.Ended.{Ended}
 use Rattle.tx_cpu.specs.Parts.{storage_of}
-use Rattle.tx_cpu.specs.Performed.{IsFetched, IsLeft, IsKeptApart, StoresFirst, no_range, first_size, first_bytes}
+use Rattle.tx_cpu.specs.Performed.{IsFetched, IsLeft, IsKeptApart, StoresFirst, no_range, first_size}
+use Rattle.tx_cpu.specs.Performed.{first_bytes}
 use Rattle.tx_cpu.proofs.Fetching.{all-inside, touched-fetched, taken-at}
 use Rattle.tx_cpu.proofs.Returning.{after-over, length-range}
 use Rattle.tx_cpu.proofs.Stored.{none-written, plain-outcome}
 
+-- an option without a value
 pub none-so : (o : Option ℕ) → is_some o ≡ false → o ≡ None
 none-so None h = refl
 none-so (Some p) h = absurd (true≢false h)
@@ -45,21 +46,6 @@ pub bare-seen : (o : Overlay) (prefix : Option ℕ) (first n : ℕ) (s : List �
 bare-seen o prefix first n s none bare h =
     taken-at n first s (λ a. seen_through o (storage_of s) (absolute_of prefix a))
     (bare-one o prefix (record { first = first; length = n; store = false }) s none bare) h
-
--- they are seen as they are in storage
-pub bare-fetched : (o : Overlay) (prefix : Option ℕ) (need : List Range) → prefix ≡ None → length need ≤ 2
-    → ((k : ℕ) → k < (get_or need 0 no_range).length → o ((get_or need 0 no_range).first + k) ≡ None)
-    → ((k : ℕ) → k < (get_or need 1 no_range).length → o ((get_or need 1 no_range).first + k) ≡ None)
-    → (s : List ℕ) → All (IsFetched prefix (seen_through o (storage_of s)) s) need
-bare-fetched o prefix [] none few one two s = All-nil (IsFetched prefix (seen_through o (storage_of s)) s)
-bare-fetched o prefix (r ∷ []) none few one two s =
-    let P : Range → Type 0 = IsFetched prefix (seen_through o (storage_of s)) s in
-    All-cons P r [] (bare-one o prefix r s none one) (All-nil P)
-bare-fetched o prefix (r ∷ q ∷ []) none few one two s =
-    let P : Range → Type 0 = IsFetched prefix (seen_through o (storage_of s)) s in
-    All-cons P r (q ∷ []) (bare-one o prefix r s none one)
-    (All-cons P q [] (bare-one o prefix q s none two) (All-nil P))
-bare-fetched o prefix (r ∷ q ∷ p ∷ rest) none few one two s = absurd (omega (arith, few))
 
 -- ---- nothing is stored
 

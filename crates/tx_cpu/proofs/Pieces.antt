@@ -1,6 +1,7 @@
 -- Lists of which one piece after the other changes.
 use Rattle.std.proofs.Common.{◌≡◌, ℕ, ◌+◌, ◌-◌, ◌≤◌, List, ◌++◌, length, take, drop, ap, sym, ◌∙◌, arith}
-use Rattle.std.proofs.Common.{take-add, take-append-drop, drop-drop, length-append, length-drop, length-take-le}
+use Rattle.std.proofs.Common.{take-add, take-append-drop, drop-drop}
+use Rattle.std.proofs.Common.{length-append, length-drop, length-take-le}
 use Rattle.std.proofs.lemmas.List.{append_assoc, append-nil, take_all, drop_all}
 use Rattle.std.proofs.Math.Seq.{take-append_seam, drop-append_seam}
 use Rattle.z_effect.specs.After.{range_at, written}
@@ -67,8 +68,8 @@ joined s a xs n m e size h =
 -- ---- pieces that are written
 
 -- the next piece behind the first bytes
-pub written-piece : (s : List ℕ) (a : ℕ) (xs : List ℕ) (n m : ℕ) → a + length xs ≤ length s → n + m ≤ length xs
-    → written (written s a (take n xs)) (a + n) (take m (drop n xs)) ≡ written s a (take (n + m) xs)
+pub written-piece : (s : List ℕ) (a : ℕ) (xs : List ℕ) (n m : ℕ) → a + length xs ≤ length s
+    → n + m ≤ length xs → written (written s a (take n xs)) (a + n) (take m (drop n xs)) ≡ written s a (take (n + m) xs)
 written-piece s a xs n m h l =
     let size : length (take n xs) ≡ n = length-take-le n xs (omega (arith, l)) in
     ap (λ k. written (written s a (take n xs)) (a + k) (take m (drop n xs))) (sym size)

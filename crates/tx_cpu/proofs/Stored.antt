@@ -36,7 +36,8 @@ use Rattle.tx_serial.proofs.StoredBytes.{length-operand_bytes}
 use Rattle.tx_cpu.specs.declared.performing.Ended.{Ended}
 use Rattle.tx_cpu.specs.declared.performing.Ended.TheVariants as ended
 use Rattle.tx_cpu.specs.Performed.{IsLeft, trimmed, outcome_from, first_size, first_bytes}
-use Rattle.tx_cpu.specs.Performed.{no_range, transaction_in, is_transaction, lasting_size, StoresNone, StoresFirst}
+use Rattle.tx_cpu.specs.Performed.{no_range, transaction_in, is_transaction, lasting_size}
+use Rattle.tx_cpu.specs.Performed.{StoresNone, StoresFirst}
 
 -- ---- only the first operand
 
@@ -275,6 +276,7 @@ lasting-first i c t need en ek =
     ∙ ap (λ (o : Operands). first_size (map range_of (spans_in o i c.general c.condition))) rows
     ∙ lasting-operands t i c.general c.condition
 
+-- no more of a number
 within-first : (b : Bool) (n : ℕ) → cond b n 0 ≤ n
 within-first true n = omega arith
 within-first false n = omega arith

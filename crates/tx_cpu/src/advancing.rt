@@ -1,4 +1,5 @@
-//! What one instruction more changes of the begins and of the constraints of an attempt.
+//! What is asked of the CPU before an instruction, and what one instruction more changes of the begins, the
+//! footprint and the constraints of an attempt.
 ghost use Rattle.std.specs.Prelude.{◌≡◌, ◌<◌, ◌≤◌, ℕ, List, length, true, is_some, Some};
 ghost use Rattle.z_instr.specs.Roles.{begins as is_begun, is_end as ends};
 ghost use Rattle.z_instr.specs.Table.{entry_at};

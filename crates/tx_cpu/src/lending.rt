@@ -2,7 +2,8 @@
 //! sees there stand in storage, and then those of storage come back.
 ghost use Rattle.byteorder.specs.Endian.{big_bytes};
 ghost use Rattle.std.specs.Prelude.{◌++◌};
-ghost use Rattle.std.specs.Prelude.{List, ℕ, true, ◌≡◌, ◌≤◌, ◌+◌, length, take, drop, slice_get, get_or, IsTrue, All};
+ghost use Rattle.std.specs.Prelude.{List, ℕ, true, ◌≡◌, ◌≤◌, ◌+◌, length, take, drop, slice_get, get_or};
+ghost use Rattle.std.specs.Prelude.{IsTrue, All};
 ghost use Rattle.z_regs.specs.Prefix.{is_prefix, storage_size};
 ghost use Rattle.z_regs.specs.Absolute.{IsAccessible};
 ghost use Rattle.z_effect.specs.After.{range_at, written};
@@ -30,8 +31,8 @@ pub fn operand(need: &Touches, number: u8) -> Range
     }
 }
 
-/// Whether the CPU sees these operands, at most two, as they are in storage: it has no prefix, and its attempt has
-/// stored nothing in their blocks.
+/// Whether the CPU sees these operands, at most two, as they are in storage: it has no prefix, and its attempt
+/// has stored nothing in their blocks.
 pub fn are_bare(attempt: &Attempt, need: &Touches, prefix: Option<u32>) -> bool
     requires few { length need.now ≤ 2 }
     requires accessible { All (IsAccessible prefix) need.now }

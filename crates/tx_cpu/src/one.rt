@@ -309,7 +309,8 @@ impl Cpu {
         }
     }
 
-    /// Executes an instruction inside a transaction. Most have no operand in storage, or one of at most eight bytes.
+    /// Executes an instruction inside a transaction. Most have no operand in storage, or one of at most eight
+    /// bytes.
     fn execute_inside<V: Bytes>(&mut self, instr: &Instr, need: &Touches, base: &mut V) -> Done
         requires live { is_live (local_of self.old).attempt ≡ true }
         requires goes { MayGo self.old.attempt self.old.image instr.now need.now }

@@ -140,8 +140,8 @@ pub fn transaction_of(op: Op) -> Option<Transaction>
     }
 }
 
-/// Executes an instruction that is not about transactions on storage as it is, and keeps apart the doubleword that it
-/// stores in its first operand; storage stays.
+/// Executes an instruction that is not about transactions on storage as it is, and keeps apart the doubleword that
+/// is its first operand then, where it stores there. Storage stays.
 fn execute_doubleword<V: Bytes>(
     instr: &Instr,
     need: &Touches,
@@ -155,8 +155,9 @@ fn execute_doubleword<V: Bytes>(
     requires eight { (get_or need.now 0 no_range).length ≡ 8 }
     requires accessible { All (IsAccessible image.old.prefix) need.now }
     requires size { length (V.bytes base.old) ≡ storage_size }
-    ensures done { (seen : Storage) (depth : ℕ) → All (IsFetched image.old.prefix seen (V.bytes base.old)) need.now
-        → IsKeptApart (one instr.now (cpu_of image.old) depth (operand_bytes image.old.prefix seen need.now))
+    ensures done { (seen : Storage) (depth : ℕ)
+        → All (IsFetched image.old.prefix seen (V.bytes base.old)) need.now → IsKeptApart
+        (one instr.now (cpu_of image.old) depth (operand_bytes image.old.prefix seen need.now))
         (first_size need.now) (cpu_of image.old) (cpu_of image.new) stored.new result }
     ensures same { V.bytes base.new ≡ V.bytes base.old }
     ensures size { length stored.new ≡ length stored.old }
@@ -170,7 +171,7 @@ fn execute_doubleword<V: Bytes>(
     ended
 }
 
-/// The same with what it stores in a first operand of any size.
+/// The same of an instruction whose first operand has any size.
 fn execute_apart<V: Bytes>(
     instr: &Instr,
     need: &Touches,
@@ -183,8 +184,9 @@ fn execute_apart<V: Bytes>(
     requires room { (get_or need.now 0 no_range).length ≤ length stored.old }
     requires accessible { All (IsAccessible image.old.prefix) need.now }
     requires size { length (V.bytes base.old) ≡ storage_size }
-    ensures done { (seen : Storage) (depth : ℕ) → All (IsFetched image.old.prefix seen (V.bytes base.old)) need.now
-        → IsKeptApart (one instr.now (cpu_of image.old) depth (operand_bytes image.old.prefix seen need.now))
+    ensures done { (seen : Storage) (depth : ℕ)
+        → All (IsFetched image.old.prefix seen (V.bytes base.old)) need.now → IsKeptApart
+        (one instr.now (cpu_of image.old) depth (operand_bytes image.old.prefix seen need.now))
         (first_size need.now) (cpu_of image.old) (cpu_of image.new) stored.new result }
     ensures same { V.bytes base.new ≡ V.bytes base.old }
     ensures size { length stored.new ≡ length stored.old }
@@ -197,7 +199,7 @@ fn execute_apart<V: Bytes>(
     ended
 }
 
-/// The same, where it may store nothing too.
+/// The same in the shortest way: of an instruction that stores nothing, nothing is kept apart.
 fn execute_there<V: Bytes>(
     instr: &Instr,
     need: &Touches,
@@ -210,8 +212,9 @@ fn execute_there<V: Bytes>(
     requires room { (get_or need.now 0 no_range).length ≤ length stored.old }
     requires accessible { All (IsAccessible image.old.prefix) need.now }
     requires size { length (V.bytes base.old) ≡ storage_size }
-    ensures done { (seen : Storage) (depth : ℕ) → All (IsFetched image.old.prefix seen (V.bytes base.old)) need.now
-        → IsKeptApart (one instr.now (cpu_of image.old) depth (operand_bytes image.old.prefix seen need.now))
+    ensures done { (seen : Storage) (depth : ℕ)
+        → All (IsFetched image.old.prefix seen (V.bytes base.old)) need.now → IsKeptApart
+        (one instr.now (cpu_of image.old) depth (operand_bytes image.old.prefix seen need.now))
         (first_size need.now) (cpu_of image.old) (cpu_of image.new) stored.new result }
     ensures same { V.bytes base.new ≡ V.bytes base.old }
     ensures size { length stored.new ≡ length stored.old }
@@ -265,7 +268,7 @@ fn execute_lent<V: Bytes>(
     ended
 }
 
-/// The same. Where the attempt sees the operands as they are in storage, storage lends nothing.
+/// The same. Where the attempt sees the operands as they are in storage, they are not lent.
 fn execute_seen<V: Bytes>(
     attempt: &Attempt,
     instr: &Instr,
@@ -294,8 +297,8 @@ fn execute_seen<V: Bytes>(
 }
 
 /// Performs an instruction on the bytes that the attempt sees of its operands, so that only the CPU is
-/// changed, and keeps apart what is stored in its first operand; no other is ever stored into. There must be room
-/// for all of the first operand.
+/// changed, and keeps apart what is stored in its first operand; no other is ever stored into. There must be
+/// room for all of the first operand.
 pub fn perform<V: Bytes>(
     attempt: &Attempt,
     instr: &Instr,

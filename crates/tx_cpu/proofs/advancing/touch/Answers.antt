@@ -11,7 +11,9 @@ use Rattle.tx_cpu.proofs.Bare.{none-so}
 use Rattle.tx_cpu.proofs.Reached.{ranges_in_storage}
 use Rattle.tx_cpu.proofs.advancing.touch.Goals as goal
 
-no-ranges : (prefix : Option ℕ) (need : List Range) → length need ≡ 0 → length (absolute_ranges prefix need) ≡ 0
+-- no ranges, and one without a prefix, by absolute addresses
+no-ranges : (prefix : Option ℕ) (need : List Range) → length need ≡ 0
+    → length (absolute_ranges prefix need) ≡ 0
 no-ranges prefix [] h = refl
 no-ranges prefix (r ∷ rs) h = absurd (omega (arith, h))
 

@@ -1,11 +1,12 @@
 -- One doubleword more changes places, and then the rest.
-use Rattle.std.proofs.Common.{◌≡◌, ◌+◌, ◌-◌, ◌*◌, ◌/◌, ◌≤◌, ◌++◌, List, ℕ, length, take, drop, refl, ap, sym, ◌∙◌, arith}
+use Rattle.std.proofs.Common.{◌≡◌, ◌+◌, ◌-◌, ◌*◌, ◌/◌, ◌≤◌, ◌++◌, List, ℕ, length, take, drop}
+use Rattle.std.proofs.Common.{refl, ap, sym, ◌∙◌, arith}
 use Rattle.std.proofs.Common.{drop-drop, length-drop, length-take-le}
 use Rattle.z_effect.specs.After.{range_at, written}
 use Rattle.z_effect.proofs.Stored.{length-written}
 use Rattle.z_regs.proofs.Writes.{written_none}
-use Rattle.tx_cpu.proofs.Pieces.{all-of, put-rest, piece-taken, piece-left, piece-size, range-joined, joined, written-piece}
-use Rattle.tx_cpu.proofs.Pieces.{written-rest, range-above}
+use Rattle.tx_cpu.proofs.Pieces.{all-of, put-rest, piece-taken, piece-left, piece-size, range-joined, joined}
+use Rattle.tx_cpu.proofs.Pieces.{written-piece, written-rest, range-above}
 use Rattle.tx_cpu.proofs.lending.exchange.Goals as goal
 
 pub loop-k-init : goal.loop-k-init
@@ -32,7 +33,8 @@ loop-k-preserved g c =
     let item : List ℕ = take 8 (drop (8 * k) now) in
     let count : length item ≡ 8 =
     length-take-le 8 (drop (8 * k) now) (omega (arith, room, length-drop (8 * k) now)) in
-    let head : length (take (8 * k) bytes) ≡ 8 * k = length-take-le (8 * k) bytes (omega (arith, room, inv.long)) in
+    let head : length (take (8 * k) bytes) ≡ 8 * k =
+    length-take-le (8 * k) bytes (omega (arith, room, inv.long)) in
     let piece : List ℕ = range_at before (first + 8 * k) 8 in
     let whole : length piece ≡ 8 =
     length-take-le 8 (drop (first + 8 * k) before)
@@ -48,16 +50,20 @@ loop-k-preserved g c =
           ∙ ap (λ (s : List ℕ). written s (first + 8 * k) (take 8 (drop (8 * k) bytes))) inv.storage
           ∙ written-piece old first bytes (8 * k) 8 (omega (arith, end)) (omega (arith, room, inv.long))
           ∙ ap (λ n. written old first (take n bytes)) more;
-      taken = ap (λ n. take n (take (8 * k) now ++ (new ++ drop (length now - 8 * k) (drop (8 * k) now)))) (sym more)
+      taken = ap (λ n. take n
+          (take (8 * k) now ++ (new ++ drop (length now - 8 * k) (drop (8 * k) now)))) (sym more)
           ∙ ap (take (8 * k + 8)) put
-          ∙ ap (λ (bs : List ℕ). take (8 * k + 8) (take (8 * k) now ++ bs)) c.exchange_doubleword.ensures.bytes
+          ∙ ap (λ (bs : List ℕ). take (8 * k + 8) (take (8 * k) now ++ bs))
+          c.exchange_doubleword.ensures.bytes
           ∙ piece-taken (8 * k) now piece _ whole (omega (arith, room))
           ∙ (λ j. inv.taken j ++ there j)
           ∙ range-joined old first (8 * k) 8
           ∙ ap (range_at old first) more;
-      left = ap (λ n. drop n (take (8 * k) now ++ (new ++ drop (length now - 8 * k) (drop (8 * k) now)))) (sym more)
+      left = ap (λ n. drop n
+          (take (8 * k) now ++ (new ++ drop (length now - 8 * k) (drop (8 * k) now)))) (sym more)
           ∙ ap (drop (8 * k + 8)) put
-          ∙ ap (λ (bs : List ℕ). drop (8 * k + 8) (take (8 * k) now ++ bs)) c.exchange_doubleword.ensures.bytes
+          ∙ ap (λ (bs : List ℕ). drop (8 * k + 8) (take (8 * k) now ++ bs))
+          c.exchange_doubleword.ensures.bytes
           ∙ piece-left (8 * k) now piece _ whole (omega (arith, room))
           ∙ ap (drop 8) (all-of (8 * k) now ∙ inv.left)
           ∙ drop-drop 8 (8 * k) bytes
@@ -94,7 +100,8 @@ returns-clause-bytes g c =
     ap (λ (s : List ℕ). range_at s (first + 8 * whole) (length (drop (8 * whole) now))) laid
     ∙ range-above old first (take (8 * whole) bytes) (8 * whole) (length (drop (8 * whole) now))
     (omega (arith, rest, c.requires.end)) head in
-    put-rest (8 * whole) now c.exchange_bytes.new.bytes ∙ ap (λ (bs : List ℕ). take (8 * whole) now ++ bs) (c.exchange_bytes.ensures.bytes
+    put-rest (8 * whole) now c.exchange_bytes.new.bytes
+    ∙ ap (λ (bs : List ℕ). take (8 * whole) now ++ bs) (c.exchange_bytes.ensures.bytes
     ∙ ap (λ (bs : List ℕ). range_at before (first + 8 * whole) (length bs)) (all-of (8 * whole) now) ∙ there)
     ∙ joined old first now (8 * whole) (length bytes)
     (ap (λ k. take (8 * k) now) (sym end) ∙ inv.taken ∙ ap (λ k. range_at old first (8 * k)) end)

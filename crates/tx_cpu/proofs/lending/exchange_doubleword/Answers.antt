@@ -9,4 +9,5 @@ returns-clause-bytes g c =
 
 pub returns-clause-storage : goal.returns-clause-storage
 returns-clause-storage g c =
-    c.put_word.ensures ∙ ap (written (g.V.Bytes.bytes c.args.base.now) c.args.first) c.doubleword_at-item.ensures
+    c.put_word.ensures
+    ∙ ap (written (g.V.Bytes.bytes c.args.base.now) c.args.first) c.doubleword_at-item.ensures

@@ -1,5 +1,6 @@
 -- One doubleword more is fetched, and then the rest.
-use Rattle.std.proofs.Common.{◌≡◌, ◌+◌, ◌-◌, ◌*◌, ◌/◌, ◌≤◌, ◌++◌, List, ℕ, length, take, drop, ap, sym, ◌∙◌, arith}
+use Rattle.std.proofs.Common.{◌≡◌, ◌+◌, ◌-◌, ◌*◌, ◌/◌, ◌≤◌, ◌++◌, List, ℕ, length, take, drop}
+use Rattle.std.proofs.Common.{ap, sym, ◌∙◌, arith}
 use Rattle.byteorder.specs.Endian.{big_bytes}
 use Rattle.byteorder.specs.Numbers.{length-bytes_high_first}
 use Rattle.z_effect.specs.After.{range_at}
@@ -20,7 +21,8 @@ loop-k-preserved g c =
     let new : List ℕ = c.write_u64.new.buf in
     let put = put-rest (8 * k) now new in
     record {
-      taken = ap (λ n. take n (take (8 * k) now ++ (new ++ drop (length now - 8 * k) (drop (8 * k) now)))) (sym more)
+      taken = ap (λ n. take n
+          (take (8 * k) now ++ (new ++ drop (length now - 8 * k) (drop (8 * k) now)))) (sym more)
           ∙ ap (take (8 * k + 8)) put
           ∙ ap (λ (bs : List ℕ). take (8 * k + 8) (take (8 * k) now ++ bs)) c.write_u64.ensures
           ∙ piece-taken (8 * k) now item _ count (omega (arith, room))

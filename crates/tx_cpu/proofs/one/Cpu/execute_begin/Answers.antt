@@ -18,7 +18,8 @@ use Rattle.tx_cpu.proofs.one.Cpu.execute_begin.Goals as goal
 
 pub perform-requires-clause-room : goal.perform-requires-clause-room
 perform-requires-clause-room g c =
-    let none = c.requires.need ∙ begin_bare c.args.instr.now (local_of c.args.self.now).attempt.cpu c.requires.begins in
+    let none = c.requires.need
+    ∙ begin_bare c.args.instr.now (local_of c.args.self.now).attempt.cpu c.requires.begins in
     let size : (get_or c.args.need.now 0 no_range).length ≡ 0 =
     ap (λ (rs : List Range). (get_or rs 0 no_range).length) none in
     omega (arith, size)
