@@ -1,9 +1,8 @@
 -- Bytes of operands that are fetched one by one.
 use Rattle.std.proofs.Common.{◌≡◌, ℕ, zero, suc, ◌+◌, ◌<◌, ◌≤◌, List, [], ◌∷◌, ◌++◌, Option}
-use Rattle.std.proofs.Common.{refl, sym, ap, ◌∙◌, arith, length, get_or, set, take, drop, inl, inr}
+use Rattle.std.proofs.Common.{refl, sym, ap, ◌∙◌, arith, length, get_or, take, drop}
 use Rattle.std.specs.Prelude.{map, All}
-use Rattle.std.proofs.lemmas.Bool.{cases_eq}
-use Rattle.std.proofs.lemmas.List.{get_or-set_same, get_or-set_other, drop_more, append-nil}
+use Rattle.std.proofs.lemmas.List.{drop_more, append-nil}
 use Rattle.std.proofs.lemmas.List.Elements.{All-head, All-tail}
 use Rattle.z_regs.specs.Prefix.{storage_size, absolute_of}
 use Rattle.z_regs.specs.Absolute.{IsAccessible}

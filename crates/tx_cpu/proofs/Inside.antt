@@ -1,6 +1,6 @@
 -- What is kept of a CPU after an instruction inside a transaction.
-use Rattle.std.proofs.Common.{◌≡◌, ℕ, ◌+◌, ◌-◌, ◌<◌, Bool, true, false, List, [], ◌∷◌, ◌++◌, refl, sym, ap}
-use Rattle.std.proofs.Common.{subst, ◌∙◌, arith, length, take}
+use Rattle.std.proofs.Common.{◌≡◌, ℕ, ◌+◌, ◌-◌, ◌<◌, Option, Bool, true, false, List, [], ◌∷◌, ◌++◌, refl, sym}
+use Rattle.std.proofs.Common.{ap, subst, ◌∙◌, arith, length, take}
 use Rattle.std.specs.Prelude.{if◌then◌else◌, nat_lt, nat_eq, ◌&&◌, ◌||◌, not, map}
 use Rattle.std.proofs.lemmas.Bool.{true≢false, or_right}
 use Rattle.std.proofs.lemmas.Bool.Decides.{nat_tests}
@@ -114,6 +114,17 @@ abbrev pub IsNext : Parts → Instr → List Range → List ℕ → Tracked → 
 IsNext p i need stored t = (x : Cpu) → progress t x
     ≡ advanced i need x (operand_stores p.image.prefix need (take (first_size need) stored))
     (progress p.attempt p.image)
+
+-- so it is by the prefix that the CPU had before
+pub next-known : (p : Parts) (i : Instr) (need : List Range) (stored : List ℕ) (t : Tracked)
+    (prefix : Option ℕ) → prefix ≡ p.image.prefix
+    → ((x : Cpu) → progress t x
+    ≡ advanced i need x (operand_stores prefix need (take (first_size need) stored))
+    (progress p.attempt p.image))
+    → IsNext p i need stored t
+next-known p i need stored t prefix e h x =
+    h x ∙ ap (λ (q : Option ℕ). advanced i need x (operand_stores q need (take (first_size need) stored))
+    (progress p.attempt p.image)) e
 
 next-so : (p : Parts) (i : Instr) (need : List Range) (c image : Cpu) (bytes stored : List ℕ) (t : Tracked)
     → StoresFirst need → image ≡ c → take (first_size need) stored ≡ take (first_size need) bytes

@@ -11,6 +11,8 @@ pub mod Agreeing
 pub mod Stored
 pub mod Returning
 pub mod Lent
+pub mod Pieces
+pub mod Bare
 pub mod Laying
 pub mod Completing
 pub mod Beginnings

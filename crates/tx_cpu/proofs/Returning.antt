@@ -4,6 +4,7 @@ use Rattle.std.proofs.Common.{◌-◌, refl, sym, ap, ◌∙◌, arith, length, 
 use Rattle.std.specs.Prelude.{map, cond, All}
 use Rattle.std.proofs.lemmas.Bool.{cases_lt}
 use Rattle.std.proofs.lemmas.List.{ext_get_or, length-take, length-take-le, length-drop, get_or_past}
+use Rattle.std.proofs.lemmas.List.{take_more, get_or-drop}
 use Rattle.std.proofs.lemmas.List.Elements.{All-nil, All-cons}
 use Rattle.std.proofs.Math.Seq.{take-append_seam}
 use Rattle.z_regs.specs.Absolute.{IsAccessible}
@@ -67,6 +68,13 @@ come-back s zs ys a n h l size e =
 
 pub length-range : (s : List ℕ) (a n : ℕ) → a + n ≤ length s → length (range_at s a n) ≡ n
 length-range s a n h = length-take-le n (drop a s) (omega (arith, length-drop a s, h))
+
+-- one byte more
+pub range-more : (s : List ℕ) (a k : ℕ) → a + k < length s
+    → range_at s a k ++ get_or s (a + k) 0 ∷ [] ≡ range_at s a (k + 1)
+range-more s a k h =
+    let short : k < length (drop a s) = omega (arith, length-drop a s, h) in
+    ap (λ b. range_at s a k ++ b ∷ []) (sym (get_or-drop a s k 0)) ∙ sym (take_more (drop a s) k 0 short)
 
 -- ---- true bytes
 

@@ -1,7 +1,7 @@
 -- Only the first operand of an instruction is ever stored into, and its new bytes are found there.
 use Rattle.std.proofs.Common.{◌≡◌, ℕ, zero, suc, ◌+◌, ◌≤◌, Bool, true, false, List, [], ◌∷◌, ◌++◌, Option}
 use Rattle.std.proofs.Common.{Some, None, refl, sym, ap, subst, ◌∙◌, arith, length, take, drop}
-use Rattle.std.specs.Prelude.{cond, map, All, slice_get}
+use Rattle.std.specs.Prelude.{cond, map, get_or, All, slice_get}
 use Rattle.std.proofs.lemmas.List.{length-take-le, append_assoc, append-nil}
 use Rattle.std.proofs.lemmas.List.Elements.{All-head}
 use Rattle.std.proofs.Math.Seq.{drop-append_seam, take-append_seam}
@@ -29,16 +29,15 @@ use Rattle.z_instr.proofs.TableFacts.{operands_at}
 use Rattle.z_regs.specs.Absolute.{IsAccessible}
 use Rattle.store_cache.specs.Overlay.{Store}
 use Rattle.tx_serial.specs.Fate.{operands}
-use Rattle.tx_serial.specs.Flat.{Storage, operand_stores, operand_bytes, bytes_seen, stores_at, laid_over}
+use Rattle.tx_serial.specs.Flat.{Storage, operand_stores, operand_bytes, stores_at, laid_over}
 use Rattle.tx_serial.specs.Flat.{with_bytes_at}
 use Rattle.tx_serial.proofs.StoredBytes.{Fills, one_fills, stored_size, touched_size}
 use Rattle.tx_serial.proofs.StoredBytes.{length-operand_bytes}
-use Rattle.tx_cpu.specs.Parts.{storage_of}
-use Rattle.tx_cpu.proofs.Fetching.{taken-at}
 use Rattle.tx_cpu.specs.declared.performing.Ended.{Ended}
 use Rattle.tx_cpu.specs.declared.performing.Ended.TheVariants as ended
 use Rattle.tx_cpu.specs.Performed.{IsLeft, trimmed, outcome_from, first_size, first_bytes}
-use Rattle.tx_cpu.specs.Performed.{transaction_in, is_transaction, lasting_size, StoresNone, StoresFirst}
+use Rattle.tx_cpu.specs.Performed.{no_range, transaction_in, is_transaction, lasting_size}
+use Rattle.tx_cpu.specs.Performed.{StoresNone, StoresFirst}
 
 -- ---- only the first operand
 
@@ -266,6 +265,35 @@ trimmed-again ended.Exceeded c n bs = ap (Overflowed c) (sym (take-take n bs))
 trimmed-again ended.Suppressed c n bs = refl
 trimmed-again (ended.Aborting code) c n bs = refl
 
+-- what a transaction instruction stores, it stores into its first operand
+lasting-first : (i : Instr) (c : Cpu) (t : Transaction) (need : List Range) → need ≡ operands i c
+    → transaction_in (kind_at i.op.number) ≡ Some t → first_size need ≡ lasting_size t
+lasting-first i c t need en ek =
+    let same : kind_at i.op.number ≡ kind.Transaction t = some-transaction (kind_at i.op.number) t ek in
+    let rows : (entry_at i.op.number).operands ≡ operands_of (kind.Transaction t) =
+    operands_at i.op.number i.op.known ∙ ap operands_of same in
+    ap first_size en
+    ∙ ap (λ (o : Operands). first_size (map range_of (spans_in o i c.general c.condition))) rows
+    ∙ lasting-operands t i c.general c.condition
+
+-- no more of a number
+within-first : (b : Bool) (n : ℕ) → cond b n 0 ≤ n
+within-first true n = omega arith
+within-first false n = omega arith
+
+-- no more is stored than the first operand has
+pub first-within : (rs : List Range) → first_size rs ≤ (get_or rs 0 no_range).length
+first-within [] = omega arith
+first-within (r ∷ rs) = within-first r.store r.length
+
+-- so there is room for it where there is for the first operand
+pub lasting-room : (i : Instr) (c : Cpu) (t : Transaction) (need : List Range) (n : ℕ) → need ≡ operands i c
+    → transaction_in (kind_at i.op.number) ≡ Some t → (get_or need 0 no_range).length ≤ n → lasting_size t ≤ n
+lasting-room i c t need n en ek h =
+    let size = lasting-first i c t need en ek in
+    let within = first-within need in
+    omega (arith, size, within, h)
+
 pub transaction-outcome : (i : Instr) (c new : Cpu) (depth d : ℕ) (bytes stored : List ℕ) (t : Transaction)
     (need : List Range) (e : Ended) → need ≡ operands i c → transaction_in (kind_at i.op.number) ≡ Some t
     → d ≡ depth
@@ -273,12 +301,7 @@ pub transaction-outcome : (i : Instr) (c new : Cpu) (depth d : ℕ) (bytes store
     → outcome_from e new (take (first_size need) stored) ≡ trimmed (first_size need) (one i c depth bytes)
 transaction-outcome i c new depth d bytes stored t need e en ek ed h =
     let same : kind_at i.op.number ≡ kind.Transaction t = some-transaction (kind_at i.op.number) t ek in
-    let rows : (entry_at i.op.number).operands ≡ operands_of (kind.Transaction t) =
-    operands_at i.op.number i.op.known ∙ ap operands_of same in
-    let size : first_size need ≡ lasting_size t =
-    ap first_size en
-    ∙ ap (λ (o : Operands). first_size (map range_of (spans_in o i c.general c.condition))) rows
-    ∙ lasting-operands t i c.general c.condition in
+    let size : first_size need ≡ lasting_size t = lasting-first i c t need en ek in
     let whole : outcome_from e new (take (first_size need) stored) ≡ one i c depth bytes =
     ap (λ n. outcome_from e new (take n stored)) size ∙ h
     ∙ ap (transaction_effect t (length_of i) i c) ed

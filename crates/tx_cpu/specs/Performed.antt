@@ -129,3 +129,8 @@ storage_outside prefix ranges ended.Completed bytes s = laid_over s (operand_sto
 storage_outside prefix ranges ended.Exceeded bytes s = laid_over s (operand_stores prefix ranges bytes)
 storage_outside prefix ranges ended.Suppressed bytes s = s
 storage_outside prefix ranges (ended.Aborting code) bytes s = s
+
+-- so many bytes that are kept apart, and the end, are those of its outcome, and so is the CPU
+pub record IsKeptApart (o : Outcome) (n : ℕ) (old new : Cpu) (stored : List ℕ) (e : Ended) : Type 0 where
+  pub value : outcome_from e new (take n stored) ≡ trimmed n o
+  pub image : new ≡ cpu_after old o

@@ -5,14 +5,12 @@ ghost use Rattle.std.specs.Prelude.{true, Some, []};
 ghost use Rattle.z_instr.specs.Roles.{begins as is_begun, block_named};
 ghost use Rattle.z_instr.specs.Table.{entry_at};
 ghost use Rattle.tx_progress.specs.Progress.{advanced};
-ghost use Rattle.std.specs.Prelude.{take, ◌^◌};
-ghost use Rattle.tx_serial.specs.Fate.{operands};
+ghost use Rattle.std.specs.Prelude.{take, get_or, ◌^◌};
 ghost use Rattle.tx_serial.specs.Flat.{operand_stores};
 ghost use Rattle.z_instr.specs.Roles.{stores_lastingly as lasts};
-ghost use Rattle.z_effect.specs.Registers.{register as register_of};
-ghost use Rattle.tx_cpu.specs.Advancing.{MayAdvance};
+ghost use Rattle.tx_cpu.specs.Advancing.{MayAdvance, IsBefore, WasBefore};
 ghost use Rattle.tx_cpu.specs.Gathered.{IsDoubleword};
-ghost use Rattle.tx_cpu.specs.Performed.{first_size};
+ghost use Rattle.tx_cpu.specs.Performed.{first_size, no_range};
 ghost use Rattle.z_regs.specs.Cpu.{Cpu};
 ghost use Rattle.z_regs.specs.Prefix.{storage_size};
 ghost use Rattle.store_cache.specs.Entries.{stores_of};
@@ -36,9 +34,8 @@ ghost use Rattle.tx_cpu.specs.Refused.{found};
 ghost use Rattle.tx_cpu.specs.Plain.{IsPlain};
 ghost use Rattle.std.specs.Prelude.{IfSome, None, false};
 
-use crate::advancing::{add_operands, change_nest};
+use crate::advancing::{Before, add_operands, change_nest, touch};
 use crate::gathering::gather_stores;
-use crate::performing::MOST_BYTES;
 use crate::refusal::{Refusal, breach};
 use std::alloc::Global;
 use std::marker::Model;
@@ -46,10 +43,9 @@ use store_cache::{BLOCK_SIZE, StoreCache};
 use tx_constraint::Constraint;
 use tx_control::{Nest, Why};
 use tx_footprint::{Footprint, MOST_BLOCKS, MOST_LINES, Overflow};
-use z_effect::{opened, register};
+use z_effect::opened;
 use z_instr::format::length_in;
 use z_instr::instr::Instr;
-use z_instr::laws::operands_are_small;
 use z_instr::lookup::line;
 use z_regs::{AREA_SIZE, Bytes, CpuImage, NoMemory, STORAGE_SIZE, Touches, place_of};
 
@@ -220,6 +216,22 @@ impl Attempt {
         last != first && self.stores.has_block(last as u32)
     }
 
+    /// Whether the attempt has stored nothing in the blocks of some bytes, by absolute addresses.
+    pub fn is_bare(&self, first: u64, length: u32) -> bool
+        requires { first + length ≤ storage_size }
+        ensures { result ≡ true → (k : ℕ) → k < length
+            → (stores_of self.now.stores).overlay (first + k) ≡ None }
+    {
+        let block = BLOCK_SIZE as u64;
+        let end = (first + u64::from(length) + block - 1) / block;
+        for at in first / block..end {
+            if self.stores.has_block(at as u32) {
+                return false;
+            }
+        }
+        true
+    }
+
     /// The absolute address of the six bytes from a real address on, where they lie one after the other in storage
     /// and the attempt has stored nothing near them; else None.
     pub fn text_place(&self, first: u64, prefix: Option<u32>) -> Option<u64>
@@ -347,31 +359,33 @@ impl Attempt {
     }
 
     /// One instruction more is completed in a live attempt, which has stored these bytes and leaves a begin
-    /// open; before it the CPU was so.
-    pub fn advance(
-        &mut self,
-        instr: &Instr,
-        need: &Touches,
-        stored: &[u8; MOST_BYTES],
-        before: &CpuImage,
-    )
+    /// open; this is known of the CPU as it was before it.
+    pub fn advance(&mut self, instr: &Instr, need: &Touches, stored: &[u8], before: &Before)
         requires live { 0 < self.old.count }
         requires count { self.old.count + 1 < 2 ^ 32 }
-        requires need { need.now ≡ operands instr.now (cpu_of before.now) }
+        requires known { WasBefore before.now instr.now need.now }
+        requires prefix_in { IsTrue (is_prefix before.now.prefix) }
+        requires size { (get_or need.now 0 no_range).length ≤ length stored.now }
         requires accessible { All (IsAccessible before.now.prefix) need.now }
         requires goes_on { MayAdvance self.old instr.now before.now.prefix need.now }
         requires lasting { lasts (entry_at instr.now.op.number) ≡ true
-            → IsDoubleword need.now stored.now (register_of (cpu_of before.now) instr.now.r1) }
-        ensures value { (c : Cpu) → progress self.new c ≡ advanced instr.now need.now c
+            → IsDoubleword need.now stored.now before.now.source }
+        ensures value { (x c : Cpu) → IsBefore before.now instr.now x →
+            progress self.new c ≡ advanced instr.now need.now c
             (operand_stores before.now.prefix need.now (take (first_size need.now) stored.now))
-            (progress self.old (cpu_of before.now)) }
+            (progress self.old x) }
         ensures live { 0 < self.new.count }
     {
-        operands_are_small();
-        let source = register(before, instr.r1);
-        gather_stores(&mut self.stores, instr, need, stored, source, before.prefix);
-        self.footprint.add(&need.absolute(before.prefix));
-        change_nest(&mut self.nest, instr, before);
+        gather_stores(
+            &mut self.stores,
+            instr,
+            need,
+            stored,
+            before.source,
+            before.prefix,
+        );
+        touch(&mut self.footprint, need, before.prefix);
+        change_nest(&mut self.nest, instr, before.opens);
         add_operands(&mut self.constraint, need);
         self.count += 1;
     }

@@ -6,16 +6,15 @@ ghost use Rattle.byteorder.specs.Endian.{big_bytes};
 ghost use Rattle.store_cache.specs.Stores.{lasting_bytes};
 ghost use Rattle.tx_serial.specs.Flat.{stores_at};
 ghost use Rattle.tx_progress.specs.Progress.{laying};
-ghost use Rattle.std.specs.Prelude.{take, slice_get, All, Some, true};
+ghost use Rattle.std.specs.Prelude.{take, slice_get, get_or, All, Some, true};
 ghost use Rattle.z_regs.specs.Absolute.{IsAccessible};
 ghost use Rattle.z_instr.specs.Table.{entry_at};
 ghost use Rattle.tx_serial.specs.Flat.{operand_stores};
 ghost use Rattle.tx_serial.specs.Run.{lasting_of};
 ghost use Rattle.z_instr.specs.Roles.{stores_lastingly as lasts};
-ghost use Rattle.tx_cpu.specs.Performed.{StoresFirst, first_size};
+ghost use Rattle.tx_cpu.specs.Performed.{StoresFirst, first_size, no_range};
 ghost use Rattle.tx_cpu.specs.Gathered.{HasRoomFor, IsDoubleword, with_gathered};
 
-use crate::performing::MOST_BYTES;
 use store_cache::{BLOCK_SIZE, StoreCache};
 use z_instr::instr::Instr;
 use z_instr::kind::{Kind, Transaction};
@@ -66,10 +65,11 @@ pub fn gather_stores(
     stores: &mut StoreCache,
     instr: &Instr,
     need: &Touches,
-    stored: &[u8; MOST_BYTES],
+    stored: &[u8],
     source: u64,
     prefix: Option<u32>,
 )
+    requires size { (get_or need.now 0 no_range).length ≤ length stored.now }
     requires prefix_in { IsTrue (is_prefix prefix) }
     requires first { StoresFirst need.now }
     requires accessible { All (IsAccessible prefix) need.now }

@@ -1,7 +1,8 @@
 //! The CPU.
 ghost use Rattle.z_instr.specs.Roles.{begins as is_begun, is_end as is_ended, block_named};
 ghost use Rattle.z_instr.specs.Table.{entry_at};
-ghost use Rattle.std.specs.Prelude.{ℕ, Some, ◌+◌, ◌≤◌, ◌^◌, ◌&&◌, nat_eq};
+ghost use Rattle.tx_cpu.specs.Performed.{no_range};
+ghost use Rattle.std.specs.Prelude.{get_or, ℕ, Some, ◌+◌, ◌≤◌, ◌^◌, ◌&&◌, nat_eq};
 ghost use Rattle.std.specs.Prelude.{◌≡◌, ◌<◌, ◌↔◌, IsTrue, IfOk, is_some, length, true, false, All};
 ghost use Rattle.z_regs.specs.Cpu.{cpu_of};
 ghost use Rattle.z_regs.specs.Prefix.{storage_size};
@@ -24,8 +25,10 @@ ghost use Rattle.tx_serial.specs.Flat.{address_of};
 ghost use Rattle.tx_cpu.specs.Plans.{IsPrepared, IsPlanPrepared, HasDoneRoom};
 ghost use Rattle.tx_cpu.specs.Same.{AreSameAttempts};
 
+use crate::advancing::Before;
 use crate::attempt::Attempt;
 use crate::interruption::{leave, load, store, waiting_after, waiting_with};
+use crate::lending::operand;
 use crate::outside::{delay_after, end_outside, perform_outside, told, wait_outside};
 use crate::pending::{Block, pending_after};
 use crate::performing::{Ended, MOST_BYTES, perform};
@@ -236,18 +239,16 @@ impl Cpu {
         ensures size { length (V.bytes base.new) ≡ storage_size }
     {
         self.attempt.is_sound();
-        let before = self.image;
-        let mut stored = [0; MOST_BYTES];
+        self.saved = self.image;
         perform(
             &self.attempt,
             instr,
             need,
             &mut self.image,
-            &mut stored,
+            &mut [0; 0],
             base,
         );
-        self.saved = before;
-        self.attempt.begin(instr, &before);
+        self.attempt.begin(instr, &self.saved);
         Done::Began
     }
 
@@ -259,7 +260,53 @@ impl Cpu {
         is_end(instr.op) && self.attempt.nest().depth() == 1
     }
 
-    /// Executes an instruction inside a transaction.
+    /// Executes an instruction inside a transaction, with room for the bytes of its first operand.
+    fn execute_with<V: Bytes>(
+        &mut self,
+        instr: &Instr,
+        need: &Touches,
+        stored: &mut [u8],
+        base: &mut V,
+    ) -> Done
+        requires live { is_live (local_of self.old).attempt ≡ true }
+        requires goes { MayGo self.old.attempt self.old.image instr.now need.now }
+        requires count { (local_of self.old).attempt.count + 1 < 2 ^ 32 }
+        requires room { (get_or need.now 0 no_range).length ≤ length stored.old }
+        requires size { length (V.bytes base.old) ≡ storage_size }
+        ensures value { record { after = beside self.new (V.bytes base.new); told = result } ≡
+            inside instr.now need.now (beside self.old (V.bytes base.old))
+            (outcome_by (storage_of (V.bytes base.old)) instr.now need.now (local_of self.old).attempt) }
+        ensures size { length (V.bytes base.new) ≡ storage_size }
+    {
+        self.attempt.is_sound();
+        let before = Before::of(instr, &self.image);
+        let ended = perform(&self.attempt, instr, need, &mut self.image, stored, base);
+        match ended {
+            Ended::Completed => {
+                if self.is_last(instr) {
+                    let count = self.attempt.count() + 1;
+                    self.attempt.commit(base);
+                    return Done::Committed(count);
+                }
+                self.attempt.advance(instr, need, stored, &before);
+                self.attempt.is_sound();
+                Done::Stepped
+            }
+            Ended::Exceeded => {
+                self.attempt.advance(instr, need, stored, &before);
+                let overflow = exception(FIXED_POINT_OVERFLOW, length_in(line(instr.op).format));
+                Done::Ended(cause_in(self.attempt.nest(), overflow))
+            }
+            Ended::Suppressed => {
+                let divide = exception(FIXED_POINT_DIVIDE, length_in(line(instr.op).format));
+                Done::Ended(cause_in(self.attempt.nest(), divide))
+            }
+            Ended::Aborting(code) => Done::Ended(Why::Tabort(code)),
+        }
+    }
+
+    /// Executes an instruction inside a transaction. Most have no operand in storage, or one of at most eight
+    /// bytes.
     fn execute_inside<V: Bytes>(&mut self, instr: &Instr, need: &Touches, base: &mut V) -> Done
         requires live { is_live (local_of self.old).attempt ≡ true }
         requires goes { MayGo self.old.attempt self.old.image instr.now need.now }
@@ -270,40 +317,14 @@ impl Cpu {
             (outcome_by (storage_of (V.bytes base.old)) instr.now need.now (local_of self.old).attempt) }
         ensures size { length (V.bytes base.new) ≡ storage_size }
     {
-        self.attempt.is_sound();
-        let before = self.image;
-        let length = length_in(line(instr.op).format);
-        let mut stored = [0; MOST_BYTES];
-        let ended = perform(
-            &self.attempt,
-            instr,
-            need,
-            &mut self.image,
-            &mut stored,
-            base,
-        );
-        match ended {
-            Ended::Completed => {
-                if self.is_last(instr) {
-                    let count = self.attempt.count() + 1;
-                    self.attempt.commit(base);
-                    return Done::Committed(count);
-                }
-                self.attempt.advance(instr, need, &stored, &before);
-                self.attempt.is_sound();
-                Done::Stepped
-            }
-            Ended::Exceeded => {
-                self.attempt.advance(instr, need, &stored, &before);
-                let overflow = exception(FIXED_POINT_OVERFLOW, length);
-                Done::Ended(cause_in(self.attempt.nest(), overflow))
-            }
-            Ended::Suppressed => {
-                let divide = exception(FIXED_POINT_DIVIDE, length);
-                Done::Ended(cause_in(self.attempt.nest(), divide))
-            }
-            Ended::Aborting(code) => Done::Ended(Why::Tabort(code)),
+        let most = operand(need, 0).length;
+        if most == 0 {
+            return self.execute_with(instr, need, &mut [0; 0], base);
         }
+        if most <= 8 {
+            return self.execute_with(instr, need, &mut [0; 8], base);
+        }
+        self.execute_with(instr, need, &mut [0; MOST_BYTES], base)
     }
 
     /// Executes an instruction that `prepare` has found to go, with its operands, and tells what came of it.

@@ -1,5 +1,5 @@
 //! Instructions performed on the bytes of their operands.
-ghost use Rattle.std.specs.Prelude.{◌≡◌, ◌≤◌, ℕ, length, map, take, All, false, true};
+ghost use Rattle.std.specs.Prelude.{◌≡◌, ◌≤◌, ℕ, length, map, take, get_or, All, false, true};
 ghost use Rattle.z_regs.specs.Cpu.{cpu_of};
 ghost use Rattle.z_regs.specs.Prefix.{storage_size};
 ghost use Rattle.z_regs.specs.Absolute.{IsAccessible};
@@ -10,7 +10,9 @@ ghost use Rattle.z_effect.specs.One.{one};
 ghost use Rattle.tx_serial.specs.Fate.{operands};
 ghost use Rattle.tx_cpu.specs.Parts.{storage_of};
 ghost use Rattle.tx_cpu.specs.Performed.{ended_in, IsLeft, trimmed, outcome_from, first_size};
-ghost use Rattle.tx_cpu.specs.Performed.{is_transaction, transaction_in, lasting_size};
+ghost use Rattle.tx_serial.specs.Flat.{Storage, operand_bytes};
+ghost use Rattle.tx_cpu.specs.Performed.{IsFetched, IsKeptApart};
+ghost use Rattle.tx_cpu.specs.Performed.{is_transaction, transaction_in, lasting_size, no_range};
 ghost use Rattle.tx_cpu.specs.Tracked.{progress};
 ghost use Rattle.tx_cpu.specs.Gathered.{IsDoubleword};
 ghost use Rattle.tx_cpu.specs.Going.{IsStoredDoubleword};
@@ -22,7 +24,7 @@ ghost use Rattle.z_effect.specs.One.{length_of};
 ghost use Rattle.z_effect.specs.TransactionEffect.{transaction_effect};
 
 use crate::attempt::Attempt;
-use crate::lending::{exchange, operand, see};
+use crate::lending::{are_bare, exchange, fetch, operand, see};
 use byteorder::{BigEndian, ByteOrder};
 use tx_control::Exception;
 use tx_control::codes::FIXED_POINT_DIVIDE;
@@ -98,9 +100,11 @@ fn execute_transaction(
     instr: &Instr,
     image: &mut CpuImage,
     depth: u32,
-    stored: &mut [u8; MOST_BYTES],
+    stored: &mut [u8],
 ) -> Ended
-    requires { depth ≤ 16 }
+    requires depth { depth ≤ 16 }
+    requires room { lasting_size kind ≤ length stored.old }
+    ensures size { length stored.new ≡ length stored.old }
     ensures value { outcome_from result (cpu_of image.new) (take (lasting_size kind) stored.new) ≡
         transaction_effect kind (length_of instr.now) instr.now (cpu_of image.old) depth }
     ensures image { cpu_of image.new ≡ cpu_after (cpu_of image.old)
@@ -113,7 +117,7 @@ fn execute_transaction(
     match kind {
         Transaction::Abort => Ended::Aborting(abort_code),
         Transaction::StoreLasting => {
-            BigEndian::write_u64(&mut stored[..], source);
+            BigEndian::write_u64(stored, source);
             Ended::Completed
         }
         Transaction::Begin => Ended::Completed,
@@ -136,6 +140,95 @@ pub fn transaction_of(op: Op) -> Option<Transaction>
     }
 }
 
+/// Executes an instruction that is not about transactions on storage as it is, and keeps apart the doubleword that
+/// is its first operand then, where it stores there. Storage stays.
+fn execute_doubleword<V: Bytes>(
+    instr: &Instr,
+    need: &Touches,
+    image: &mut CpuImage,
+    stored: &mut [u8],
+    base: &mut V,
+) -> Ended
+    requires plain { is_transaction (kind_at instr.now.op.number) ≡ false }
+    requires need { need.now ≡ operands instr.now (cpu_of image.old) }
+    requires room { (get_or need.now 0 no_range).length ≤ length stored.old }
+    requires eight { (get_or need.now 0 no_range).length ≡ 8 }
+    requires accessible { All (IsAccessible image.old.prefix) need.now }
+    requires size { length (V.bytes base.old) ≡ storage_size }
+    ensures done { (seen : Storage) (depth : ℕ)
+        → All (IsFetched image.old.prefix seen (V.bytes base.old)) need.now → IsKeptApart
+        (one instr.now (cpu_of image.old) depth (operand_bytes image.old.prefix seen need.now))
+        (first_size need.now) (cpu_of image.old) (cpu_of image.new) stored.new result }
+    ensures same { V.bytes base.new ≡ V.bytes base.old }
+    ensures size { length stored.new ≡ length stored.old }
+{
+    let first = operand(need, 0);
+    let kept = base.word(first.first, 8);
+    let ended = execute_plain(instr, need, image, base);
+    let item = base.word(first.first, 8);
+    base.put_word(first.first, 8, kept);
+    BigEndian::write_u64(stored, item);
+    ended
+}
+
+/// The same of an instruction whose first operand has any size.
+fn execute_apart<V: Bytes>(
+    instr: &Instr,
+    need: &Touches,
+    image: &mut CpuImage,
+    stored: &mut [u8],
+    base: &mut V,
+) -> Ended
+    requires plain { is_transaction (kind_at instr.now.op.number) ≡ false }
+    requires need { need.now ≡ operands instr.now (cpu_of image.old) }
+    requires room { (get_or need.now 0 no_range).length ≤ length stored.old }
+    requires accessible { All (IsAccessible image.old.prefix) need.now }
+    requires size { length (V.bytes base.old) ≡ storage_size }
+    ensures done { (seen : Storage) (depth : ℕ)
+        → All (IsFetched image.old.prefix seen (V.bytes base.old)) need.now → IsKeptApart
+        (one instr.now (cpu_of image.old) depth (operand_bytes image.old.prefix seen need.now))
+        (first_size need.now) (cpu_of image.old) (cpu_of image.new) stored.new result }
+    ensures same { V.bytes base.new ≡ V.bytes base.old }
+    ensures size { length stored.new ≡ length stored.old }
+{
+    let first = operand(need, 0);
+    let here = &mut stored[..first.length as usize];
+    fetch(here, first.first, base);
+    let ended = execute_plain(instr, need, image, base);
+    exchange(here, first.first, base);
+    ended
+}
+
+/// The same in the shortest way: of an instruction that stores nothing, nothing is kept apart.
+fn execute_there<V: Bytes>(
+    instr: &Instr,
+    need: &Touches,
+    image: &mut CpuImage,
+    stored: &mut [u8],
+    base: &mut V,
+) -> Ended
+    requires plain { is_transaction (kind_at instr.now.op.number) ≡ false }
+    requires need { need.now ≡ operands instr.now (cpu_of image.old) }
+    requires room { (get_or need.now 0 no_range).length ≤ length stored.old }
+    requires accessible { All (IsAccessible image.old.prefix) need.now }
+    requires size { length (V.bytes base.old) ≡ storage_size }
+    ensures done { (seen : Storage) (depth : ℕ)
+        → All (IsFetched image.old.prefix seen (V.bytes base.old)) need.now → IsKeptApart
+        (one instr.now (cpu_of image.old) depth (operand_bytes image.old.prefix seen need.now))
+        (first_size need.now) (cpu_of image.old) (cpu_of image.new) stored.new result }
+    ensures same { V.bytes base.new ≡ V.bytes base.old }
+    ensures size { length stored.new ≡ length stored.old }
+{
+    let first = operand(need, 0);
+    if !first.store {
+        return execute_plain(instr, need, image, base);
+    }
+    if first.length == 8 {
+        return execute_doubleword(instr, need, image, stored, base);
+    }
+    execute_apart(instr, need, image, stored, base)
+}
+
 /// Executes an instruction that is not about transactions on the bytes that the attempt sees of its operands,
 /// and keeps apart what is stored in the first of them; no other is ever stored into. Storage stays.
 fn execute_lent<V: Bytes>(
@@ -143,11 +236,12 @@ fn execute_lent<V: Bytes>(
     instr: &Instr,
     need: &Touches,
     image: &mut CpuImage,
-    stored: &mut [u8; MOST_BYTES],
+    stored: &mut [u8],
     base: &mut V,
 ) -> Ended
     requires plain { is_transaction (kind_at instr.now.op.number) ≡ false }
     requires need { need.now ≡ operands instr.now (cpu_of image.old) }
+    requires room { (get_or need.now 0 no_range).length ≤ length stored.old }
     requires accessible { All (IsAccessible image.old.prefix) need.now }
     requires size { length (V.bytes base.old) ≡ storage_size }
     ensures value { outcome_from result (cpu_of image.new) (take (first_size need.now) stored.new) ≡
@@ -156,6 +250,7 @@ fn execute_lent<V: Bytes>(
     ensures image { cpu_of image.new ≡ cpu_after (cpu_of image.old) (outcome_by
         (storage_of (V.bytes base.old)) instr.now need.now (progress attempt.now (cpu_of image.old))) }
     ensures same { V.bytes base.new ≡ V.bytes base.old }
+    ensures size { length stored.new ≡ length stored.old }
 {
     let prefix = image.prefix;
     let first = operand(need, 0);
@@ -173,17 +268,47 @@ fn execute_lent<V: Bytes>(
     ended
 }
 
+/// The same. Where the attempt sees the operands as they are in storage, they are not lent.
+fn execute_seen<V: Bytes>(
+    attempt: &Attempt,
+    instr: &Instr,
+    need: &Touches,
+    image: &mut CpuImage,
+    stored: &mut [u8],
+    base: &mut V,
+) -> Ended
+    requires plain { is_transaction (kind_at instr.now.op.number) ≡ false }
+    requires need { need.now ≡ operands instr.now (cpu_of image.old) }
+    requires room { (get_or need.now 0 no_range).length ≤ length stored.old }
+    requires accessible { All (IsAccessible image.old.prefix) need.now }
+    requires size { length (V.bytes base.old) ≡ storage_size }
+    ensures value { outcome_from result (cpu_of image.new) (take (first_size need.now) stored.new) ≡
+        trimmed (first_size need.now) (outcome_by (storage_of (V.bytes base.old)) instr.now need.now
+        (progress attempt.now (cpu_of image.old))) }
+    ensures image { cpu_of image.new ≡ cpu_after (cpu_of image.old) (outcome_by
+        (storage_of (V.bytes base.old)) instr.now need.now (progress attempt.now (cpu_of image.old))) }
+    ensures same { V.bytes base.new ≡ V.bytes base.old }
+    ensures size { length stored.new ≡ length stored.old }
+{
+    if are_bare(attempt, need, image.prefix) {
+        return execute_there(instr, need, image, stored, base);
+    }
+    execute_lent(attempt, instr, need, image, stored, base)
+}
+
 /// Performs an instruction on the bytes that the attempt sees of its operands, so that only the CPU is
-/// changed, and keeps apart what is stored in its first operand; no other is ever stored into.
+/// changed, and keeps apart what is stored in its first operand; no other is ever stored into. There must be
+/// room for all of the first operand.
 pub fn perform<V: Bytes>(
     attempt: &Attempt,
     instr: &Instr,
     need: &Touches,
     image: &mut CpuImage,
-    stored: &mut [u8; MOST_BYTES],
+    stored: &mut [u8],
     base: &mut V,
 ) -> Ended
     requires need { need.now ≡ operands instr.now (cpu_of image.old) }
+    requires room { (get_or need.now 0 no_range).length ≤ length stored.old }
     requires accessible { All (IsAccessible image.old.prefix) need.now }
     requires size { length (V.bytes base.old) ≡ storage_size }
     ensures value { outcome_from result (cpu_of image.new) (take (first_size need.now) stored.new) ≡
@@ -194,10 +319,11 @@ pub fn perform<V: Bytes>(
     ensures lasting { stores_lastingly (entry_at instr.now.op.number) ≡ true → IsStoredDoubleword need.now
         → IsDoubleword need.now stored.new (register_of (cpu_of image.old) instr.now.r1) }
     ensures same { V.bytes base.new ≡ V.bytes base.old }
+    ensures size { length stored.new ≡ length stored.old }
 {
     let depth = attempt.nest().depth();
     match transaction_of(instr.op) {
         Some(kind) => execute_transaction(kind, instr, image, depth, stored),
-        None => execute_lent(attempt, instr, need, image, stored, base),
+        None => execute_seen(attempt, instr, need, image, stored, base),
     }
 }

@@ -1,11 +1,12 @@
--- One byte more changes places.
-use Rattle.std.proofs.Common.{◌≡◌, ◌+◌, ◌<◌, ◌≤◌, ◌++◌, ◌∷◌, [], ℕ, List, length, get_or, set, take, drop}
+-- One doubleword more changes places, and then the rest.
+use Rattle.std.proofs.Common.{◌≡◌, ◌+◌, ◌-◌, ◌*◌, ◌/◌, ◌≤◌, ◌++◌, List, ℕ, length, take, drop}
 use Rattle.std.proofs.Common.{refl, ap, sym, ◌∙◌, arith}
-use Rattle.std.proofs.lemmas.List.{take_more, take_more_set, take_all, length-set, length-take-le, length-drop}
-use Rattle.std.proofs.lemmas.List.{get_or-drop, drop-drop, drop-set-lt}
+use Rattle.std.proofs.Common.{drop-drop, length-drop, length-take-le}
 use Rattle.z_effect.specs.After.{range_at, written}
-use Rattle.z_effect.proofs.Stored.{above}
-use Rattle.z_regs.proofs.Writes.{written_none, write_step}
+use Rattle.z_effect.proofs.Stored.{length-written}
+use Rattle.z_regs.proofs.Writes.{written_none}
+use Rattle.tx_cpu.proofs.Pieces.{all-of, put-rest, piece-taken, piece-left, piece-size, range-joined, joined}
+use Rattle.tx_cpu.proofs.Pieces.{written-piece, written-rest, range-above}
 use Rattle.tx_cpu.proofs.lending.exchange.Goals as goal
 
 pub loop-k-init : goal.loop-k-init
@@ -13,29 +14,9 @@ loop-k-init g c = record {
   storage = written_none (g.V.Bytes.bytes c.args.base.now) c.args.first;
   taken = refl;
   left = refl;
+  long = refl;
   size = c.requires.size;
 }
-
-pub get-byte-requires : goal.get-byte-requires
-get-byte-requires g c = omega (arith, c.requires.end, c.requires.size, c.loop-k.invariant.size)
-
-pub put-requires : goal.put-requires
-put-requires g c = omega (arith, c.requires.end, c.requires.size, c.loop-k.invariant.size)
-
-head-of : (k : ℕ) (xs ys : List ℕ) → drop k xs ≡ drop k ys → get_or xs k 0 ≡ get_or ys k 0
-head-of k xs ys e =
-    let same : k + 0 ≡ k = omega arith in
-    ap (λ i. get_or xs i 0) (sym same) ∙ sym (get_or-drop k xs 0 0) ∙ ap (λ (zs : List ℕ). get_or zs 0 0) e
-    ∙ get_or-drop k ys 0 0 ∙ ap (λ i. get_or ys i 0) same
-
-rest-of : (k : ℕ) (xs ys : List ℕ) → drop k xs ≡ drop k ys → drop (k + 1) xs ≡ drop (k + 1) ys
-rest-of k xs ys e = sym (drop-drop 1 k xs) ∙ ap (drop 1) e ∙ drop-drop 1 k ys
-
-range-more : (s : List ℕ) (a k : ℕ) → a + k < length s
-    → range_at s a k ++ get_or s (a + k) 0 ∷ [] ≡ range_at s a (k + 1)
-range-more s a k h =
-    let short : k < length (drop a s) = omega (arith, length-drop a s, h) in
-    ap (λ b. range_at s a k ++ b ∷ []) (sym (get_or-drop a s k 0)) ∙ sym (take_more (drop a s) k 0 short)
 
 pub loop-k-preserved : goal.loop-k-preserved
 loop-k-preserved g c =
@@ -46,34 +27,101 @@ loop-k-preserved g c =
     let old : List ℕ = g.V.Bytes.bytes c.args.base.now in
     let before : List ℕ = g.V.Bytes.bytes c.loop-k.base in
     let inv = c.loop-k.invariant in
-    let here : k < length now = omega arith in
-    let there : k < length bytes = omega arith in
+    let room : 8 * k + 8 ≤ length now = omega (arith, inv.long) in
     let end : first + length bytes ≤ length old = c.requires.end in
-    let so-far : length (take k bytes) ≡ k = length-take-le k bytes (omega (arith, there)) in
-    let item : get_or now k 0 ≡ get_or bytes k 0 = head-of k now bytes inv.left in
-    let put : g.V.Bytes.bytes c.put.new.self ≡ set before (first + k) (get_or now k 0) = c.put.ensures in
-    let byte : c.get-byte.result ≡ get_or old (first + k) 0 =
-    c.get-byte.ensures ∙ ap (λ (s : List ℕ). get_or s (first + k) 0) inv.storage
-    ∙ above old first (take k bytes) (first + k) (omega (arith, end)) (omega (arith, so-far)) in
+    let more : 8 * k + 8 ≡ 8 * (k + 1) = omega arith in
+    let item : List ℕ = take 8 (drop (8 * k) now) in
+    let count : length item ≡ 8 =
+    length-take-le 8 (drop (8 * k) now) (omega (arith, room, length-drop (8 * k) now)) in
+    let head : length (take (8 * k) bytes) ≡ 8 * k =
+    length-take-le (8 * k) bytes (omega (arith, room, inv.long)) in
+    let piece : List ℕ = range_at before (first + 8 * k) 8 in
+    let whole : length piece ≡ 8 =
+    length-take-le 8 (drop (first + 8 * k) before)
+    (omega (arith, room, inv.long, inv.size, c.requires.size, end, length-drop (first + 8 * k) before)) in
+    let there : piece ≡ range_at old (first + 8 * k) 8 =
+    ap (λ (s : List ℕ). range_at s (first + 8 * k) 8) inv.storage
+    ∙ range-above old first (take (8 * k) bytes) (8 * k) 8 (omega (arith, room, inv.long, end)) head in
+    let new : List ℕ = c.exchange_doubleword.new.bytes in
+    let put = put-rest (8 * k) now new in
     record {
-      storage = put ∙ ap (set before (first + k)) item
-          ∙ write_step old before bytes first k there end inv.storage;
-      taken = take_more_set now k c.get-byte.result here
-          ∙ ap (λ (bs : List ℕ). bs ++ c.get-byte.result ∷ []) inv.taken
-          ∙ ap (λ b. range_at old first k ++ b ∷ []) byte
-          ∙ range-more old first k (omega (arith, there, end));
-      left = drop-set-lt (k + 1) now k c.get-byte.result (omega arith) ∙ rest-of k now bytes inv.left;
-      size = ap length put ∙ length-set before (first + k) (get_or now k 0) ∙ inv.size;
+      storage = c.exchange_doubleword.ensures.storage
+          ∙ ap (λ (bs : List ℕ). written before (first + 8 * k) (take 8 bs)) (all-of (8 * k) now ∙ inv.left)
+          ∙ ap (λ (s : List ℕ). written s (first + 8 * k) (take 8 (drop (8 * k) bytes))) inv.storage
+          ∙ written-piece old first bytes (8 * k) 8 (omega (arith, end)) (omega (arith, room, inv.long))
+          ∙ ap (λ n. written old first (take n bytes)) more;
+      taken = ap (λ n. take n
+          (take (8 * k) now ++ (new ++ drop (length now - 8 * k) (drop (8 * k) now)))) (sym more)
+          ∙ ap (take (8 * k + 8)) put
+          ∙ ap (λ (bs : List ℕ). take (8 * k + 8) (take (8 * k) now ++ bs))
+          c.exchange_doubleword.ensures.bytes
+          ∙ piece-taken (8 * k) now piece _ whole (omega (arith, room))
+          ∙ (λ j. inv.taken j ++ there j)
+          ∙ range-joined old first (8 * k) 8
+          ∙ ap (range_at old first) more;
+      left = ap (λ n. drop n
+          (take (8 * k) now ++ (new ++ drop (length now - 8 * k) (drop (8 * k) now)))) (sym more)
+          ∙ ap (drop (8 * k + 8)) put
+          ∙ ap (λ (bs : List ℕ). drop (8 * k + 8) (take (8 * k) now ++ bs))
+          c.exchange_doubleword.ensures.bytes
+          ∙ piece-left (8 * k) now piece _ whole (omega (arith, room))
+          ∙ ap (drop 8) (all-of (8 * k) now ∙ inv.left)
+          ∙ drop-drop 8 (8 * k) bytes
+          ∙ ap (λ n. drop n bytes) more;
+      long = ap length put
+          ∙ ap (λ (bs : List ℕ). length (take (8 * k) now ++ bs)) c.exchange_doubleword.ensures.bytes
+          ∙ ap (λ (bs : List ℕ). length (take (8 * k) now ++ (piece ++ drop 8 bs))) (all-of (8 * k) now)
+          ∙ piece-size (8 * k) now piece whole room ∙ inv.long;
+      size = ap length c.exchange_doubleword.ensures.storage
+          ∙ ap (λ (bs : List ℕ). length (written before (first + 8 * k) (take 8 bs))) (all-of (8 * k) now)
+          ∙ length-written before (first + 8 * k) item
+          (omega (arith, count, room, inv.long, inv.size, c.requires.size, end))
+          ∙ inv.size;
     }
 
 pub returns-clause-bytes : goal.returns-clause-bytes
 returns-clause-bytes g c =
-    let all : length c.args.bytes.now ≡ c.loop-k.k = omega arith in
-    sym (take_all c.loop-k.k c.loop-k.bytes (omega arith)) ∙ c.loop-k.invariant.taken
-    ∙ ap (range_at (g.V.Bytes.bytes c.args.base.now) c.args.first) (sym all)
+    let whole = length c.args.bytes.now / 8 in
+    let first = c.args.first in
+    let bytes : List ℕ = c.args.bytes.now in
+    let now : List ℕ = c.loop-k.bytes in
+    let old : List ℕ = g.V.Bytes.bytes c.args.base.now in
+    let before : List ℕ = g.V.Bytes.bytes c.loop-k.base in
+    let inv = c.loop-k.invariant in
+    let end : c.loop-k.k ≡ whole = omega arith in
+    let within : 8 * whole ≤ length bytes = omega arith in
+    let head : length (take (8 * whole) bytes) ≡ 8 * whole = length-take-le (8 * whole) bytes within in
+    let rest : length (drop (8 * whole) now) + 8 * whole ≡ length bytes =
+    omega (arith, length-drop (8 * whole) now, inv.long, within) in
+    let laid : before ≡ written old first (take (8 * whole) bytes) =
+    inv.storage ∙ ap (λ n. written old first (take (8 * n) bytes)) end in
+    let there : range_at before (first + 8 * whole) (length (drop (8 * whole) now))
+    ≡ range_at old (first + 8 * whole) (length (drop (8 * whole) now)) =
+    ap (λ (s : List ℕ). range_at s (first + 8 * whole) (length (drop (8 * whole) now))) laid
+    ∙ range-above old first (take (8 * whole) bytes) (8 * whole) (length (drop (8 * whole) now))
+    (omega (arith, rest, c.requires.end)) head in
+    put-rest (8 * whole) now c.exchange_bytes.new.bytes
+    ∙ ap (λ (bs : List ℕ). take (8 * whole) now ++ bs) (c.exchange_bytes.ensures.bytes
+    ∙ ap (λ (bs : List ℕ). range_at before (first + 8 * whole) (length bs)) (all-of (8 * whole) now) ∙ there)
+    ∙ joined old first now (8 * whole) (length bytes)
+    (ap (λ k. take (8 * k) now) (sym end) ∙ inv.taken ∙ ap (λ k. range_at old first (8 * k)) end)
+    inv.long within
 
 pub returns-clause-storage : goal.returns-clause-storage
 returns-clause-storage g c =
-    c.loop-k.invariant.storage
-    ∙ ap (written (g.V.Bytes.bytes c.args.base.now) c.args.first)
-    (take_all c.loop-k.k c.args.bytes.now (omega arith))
+    let whole = length c.args.bytes.now / 8 in
+    let first = c.args.first in
+    let bytes : List ℕ = c.args.bytes.now in
+    let now : List ℕ = c.loop-k.bytes in
+    let old : List ℕ = g.V.Bytes.bytes c.args.base.now in
+    let before : List ℕ = g.V.Bytes.bytes c.loop-k.base in
+    let inv = c.loop-k.invariant in
+    let end : c.loop-k.k ≡ whole = omega arith in
+    let within : 8 * whole ≤ length bytes = omega arith in
+    let laid : before ≡ written old first (take (8 * whole) bytes) =
+    inv.storage ∙ ap (λ n. written old first (take (8 * n) bytes)) end in
+    let left : drop (8 * whole) now ≡ drop (8 * whole) bytes =
+    ap (λ n. drop (8 * n) now) (sym end) ∙ inv.left ∙ ap (λ n. drop (8 * n) bytes) end in
+    c.exchange_bytes.ensures.storage ∙ ap (written before (first + 8 * whole)) (all-of (8 * whole) now)
+    ∙ (λ j. written (laid j) (first + 8 * whole) (left j))
+    ∙ written-rest old first bytes (8 * whole) (omega (arith, c.requires.end)) within

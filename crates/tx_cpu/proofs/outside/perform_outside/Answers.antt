@@ -1,17 +1,12 @@
 -- A CPU without a prefix sees storage as it is.
-use Rattle.std.proofs.Common.{◌≡◌, ℕ, false, Option, None, Some, refl, sym, subst, ◌∙◌}
-use Rattle.std.specs.Prelude.{is_some}
-use Rattle.std.proofs.lemmas.Bool.{true≢false}
+use Rattle.std.proofs.Common.{refl, sym, subst, ◌∙◌}
 use Rattle.z_regs.specs.Cpu.{cpu_of}
 use Rattle.tx_cpu.specs.Performed.{StoresFirst}
+use Rattle.tx_cpu.proofs.Bare.{none-so}
 use Rattle.tx_cpu.proofs.Fetching.{all-inside}
 use Rattle.tx_cpu.proofs.Laying.{plain-left-outside}
 use Rattle.tx_cpu.proofs.Stored.{operands-first}
 use Rattle.tx_cpu.proofs.outside.perform_outside.Goals as goal
-
-none-so : (o : Option ℕ) → is_some o ≡ false → o ≡ None
-none-so None h = refl
-none-so (Some p) h = absurd (true≢false h)
 
 pub execute_plain-requires-clause-inside : goal.execute_plain-requires-clause-inside
 execute_plain-requires-clause-inside g c =

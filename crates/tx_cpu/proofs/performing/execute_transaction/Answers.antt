@@ -1,5 +1,5 @@
 -- What each transaction instruction leaves.
-use Rattle.std.proofs.Common.{◌≡◌, ap, ◌∙◌, take, List, ℕ}
+use Rattle.std.proofs.Common.{◌≡◌, ap, ◌∙◌, arith, take, List, ℕ}
 use Rattle.z_regs.specs.Cpu.{cpu_of}
 use Rattle.z_effect.specs.One.{length_of}
 use Rattle.z_effect.specs.Outcome.{Did}
@@ -15,6 +15,11 @@ pub returns-in-Abort-clause-value : goal.returns-in-Abort-clause-value
 returns-in-Abort-clause-value c =
     aborting-value c.args.kind (length_of c.args.instr.now) c.args.instr.now (cpu_of c.args.image.now)
     c.args.depth _ c.in-Abort.is c.first_address-abort_code.ensures
+
+pub write_u64-requires : goal.write_u64-requires
+write_u64-requires c =
+    let eight : lasting_size c.args.kind ≡ 8 = ap lasting_size c.in-StoreLasting.is in
+    omega (arith, eight, c.requires.room)
 
 pub returns-in-StoreLasting-clause-value : goal.returns-in-StoreLasting-clause-value
 returns-in-StoreLasting-clause-value c =

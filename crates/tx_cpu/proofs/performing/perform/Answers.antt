@@ -2,8 +2,13 @@
 use Rattle.std.proofs.Common.{ap, sym, ◌∙◌, length, []}
 use Rattle.z_regs.specs.Cpu.{cpu_of}
 use Rattle.tx_cpu.proofs.LastingStores.{lasting-doubleword}
-use Rattle.tx_cpu.proofs.Stored.{transaction-outcome}
+use Rattle.tx_cpu.proofs.Stored.{transaction-outcome, lasting-room}
 use Rattle.tx_cpu.proofs.performing.perform.Goals as goal
+
+pub execute_transaction-requires-clause-room : goal.execute_transaction-requires-clause-room
+execute_transaction-requires-clause-room g c =
+    lasting-room c.args.instr.now (cpu_of c.args.image.now) c.in-Some.kind c.args.need.now _ c.requires.need
+    (sym c.transaction_of.ensures ∙ c.in-Some.is) c.requires.room
 
 pub returns-in-Some-clause-value : goal.returns-in-Some-clause-value
 returns-in-Some-clause-value g c =
@@ -23,4 +28,4 @@ returns-in-Some-clause-lasting g c is d =
 pub returns-in-None-clause-lasting : goal.returns-in-None-clause-lasting
 returns-in-None-clause-lasting g c is d =
     lasting-doubleword c.args.instr.now (cpu_of c.args.image.now) _ (length c.args.attempt.now.nest) _
-    c.execute_lent.new.stored c.args.need.now c.execute_lent.result c.execute_lent.ensures.value is d
+    c.execute_seen.new.stored c.args.need.now c.execute_seen.result c.execute_seen.ensures.value is d

@@ -1,5 +1,7 @@
 -- What the outermost begin leaves and tells.
-use Rattle.std.proofs.Common.{◌≡◌, ap, ◌∙◌}
+use Rattle.std.proofs.Common.{◌≡◌, List, ap, ◌∙◌, arith, get_or}
+use Rattle.z_regs.specs.declared.ranges.Range.{Range}
+use Rattle.tx_cpu.specs.Performed.{no_range}
 use Rattle.std.specs.Prelude.{nat_lt, false, true, ◌||◌}
 use Rattle.std.proofs.lemmas.Bool.{or_left}
 use Rattle.z_instr.specs.Roles.{begins, is_end}
@@ -13,6 +15,14 @@ use Rattle.tx_cpu.specs.contracts.one.Cpu.{the_view}
 use Rattle.tx_cpu.proofs.Beginnings.{began-is}
 use Rattle.tx_cpu.proofs.Ends.{none_of}
 use Rattle.tx_cpu.proofs.one.Cpu.execute_begin.Goals as goal
+
+pub perform-requires-clause-room : goal.perform-requires-clause-room
+perform-requires-clause-room g c =
+    let none = c.requires.need
+    ∙ begin_bare c.args.instr.now (local_of c.args.self.now).attempt.cpu c.requires.begins in
+    let size : (get_or c.args.need.now 0 no_range).length ≡ 0 =
+    ap (λ (rs : List Range). (get_or rs 0 no_range).length) none in
+    omega (arith, size)
 
 pub returns-clause-value : goal.returns-clause-value
 returns-clause-value g c =

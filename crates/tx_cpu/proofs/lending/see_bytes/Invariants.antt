@@ -4,7 +4,7 @@ use Rattle.store_cache.specs.Entries.{stores_of}
 use Rattle.tx_serial.specs.Flat.{bytes_seen}
 use Rattle.tx_progress.specs.Progress.{seen_through}
 use Rattle.tx_cpu.specs.Parts.{storage_of}
-use Rattle.tx_cpu.proofs.lending.see.Given as goal
+use Rattle.tx_cpu.proofs.lending.see_bytes.Given as goal
 
 abbrev pub invariant-loop-k : goal.invariant-loop-k
 invariant-loop-k g l =

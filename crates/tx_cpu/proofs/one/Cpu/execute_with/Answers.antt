@@ -1,5 +1,5 @@
 -- What an instruction inside a transaction leaves and tells.
-use Rattle.std.proofs.Common.{◌≡◌, ◌+◌, ◌<◌, List, ℕ, true, refl, ap, sym, subst, ◌∙◌, length, take}
+use Rattle.std.proofs.Common.{◌≡◌, ◌+◌, ◌<◌, List, Option, ℕ, true, refl, ap, sym, subst, ◌∙◌, length, take}
 use Rattle.std.proofs.Common.{arith}
 use Rattle.std.specs.Prelude.{◌&&◌, nat_lt, nat_eq}
 use Rattle.std.proofs.lemmas.Bool.{and_parts}
@@ -10,19 +10,36 @@ use Rattle.z_instr.specs.Roles.{is_end}
 use Rattle.z_instr.specs.Table.{Entry, entry_at}
 use Rattle.z_effect.specs.After.{exception}
 use Rattle.tx_control.specs.Codes.{fixed_point_overflow_code, fixed_point_divide_code}
-use Rattle.tx_serial.specs.Fate.{cause_in}
+use Rattle.tx_serial.specs.Fate.{cause_in, operands}
 use Rattle.store_cache.specs.Entries.{stores_of}
 use Rattle.tx_progress.specs.Progress.{seen_through}
 use Rattle.tx_progress.specs.Trial.{outcome_by}
+use Rattle.tx_cpu.specs.Advancing.{MayAdvance}
 use Rattle.tx_cpu.specs.Going.{MayGo}
 use Rattle.tx_cpu.specs.Performed.{StoresFirst, first_size}
 use Rattle.tx_cpu.specs.Tracked.{progress}
 use Rattle.tx_cpu.specs.Parts.{Parts, storage_of}
 use Rattle.tx_cpu.specs.contracts.one.Cpu.{the_view}
 use Rattle.tx_cpu.proofs.Inside.{stepped-is, committed-is, exceeded-is, suppressed-is, aborting-is}
-use Rattle.tx_cpu.proofs.Inside.{exceeds-no-end, end-bare, equal-so}
+use Rattle.tx_cpu.proofs.Inside.{exceeds-no-end, end-bare, equal-so, next-known}
 use Rattle.tx_cpu.proofs.Stored.{operands-first}
-use Rattle.tx_cpu.proofs.one.Cpu.execute_inside.Goals as goal
+use Rattle.tx_cpu.proofs.one.Cpu.execute_with.Goals as goal
+
+pub advance-requires-clause-known : goal.advance-requires-clause-known
+advance-requires-clause-known g c = record {
+  cpu = cpu_of c.self.inside.image;
+  known = c.of-before.ensures;
+  operands_are = c.requires.goes.operands_are
+      ∙ ap (λ (q : Parts). operands c.args.instr.now q.image) (sym c.self.view_is);
+}
+
+pub advance-requires-in-Exceeded-clause-known : goal.advance-requires-in-Exceeded-clause-known
+advance-requires-in-Exceeded-clause-known g c = record {
+  cpu = cpu_of c.self.inside.image;
+  known = c.of-before.ensures;
+  operands_are = c.requires.goes.operands_are
+      ∙ ap (λ (q : Parts). operands c.args.instr.now q.image) (sym c.self.view_is);
+}
 
 pub advance-requires-in-Exceeded-clause-goes_on : goal.advance-requires-in-Exceeded-clause-goes_on
 advance-requires-in-Exceeded-clause-goes_on g c =
@@ -33,9 +50,11 @@ advance-requires-in-Exceeded-clause-goes_on g c =
     let live : nat_lt 0 p.attempt.count ≡ true =
     ap (λ (q : Parts). nat_lt 0 q.attempt.count) c.self.view_is ∙ c.requires.live in
     let some : 0 < p.attempt.count = grind (arith, nat_tests, live) in
-    goes.advances (c.is_sound.ensures.opens some)
+    subst (λ (prefix : Option ℕ). MayAdvance p.attempt i prefix c.args.need.now)
+    (sym c.of-before.ensures.prefix)
+    (goes.advances (c.is_sound.ensures.opens some)
     (exceeds-no-end i c.args.need.now (storage_of (g.V.Bytes.bytes c.args.base.now))
-    (progress p.attempt p.image) _ _ _ (is_end (entry_at i.op.number)) refl c.in-Exceeded.ensures.value)
+    (progress p.attempt p.image) _ _ _ (is_end (entry_at i.op.number)) refl c.in-Exceeded.ensures.value))
 
 pub returns-then-is_last-clause-value : goal.returns-then-is_last-clause-value
 returns-then-is_last-clause-value g c =
@@ -70,7 +89,9 @@ returns-else-is_last-clause-value g c =
     (outcome_by (storage_of (g.V.Bytes.bytes c.args.base.now)) i need (progress p.attempt p.image))
     (cpu_of c.perform-ended.new.image) c.perform-ended.new.stored c.advance.new.self _ live
     c.advance.ensures.live (c.is_sound-in-Completed.ensures.opens c.advance.ensures.live) first
-    c.in-Completed.ensures.value c.advance.ensures.value)
+    c.in-Completed.ensures.value
+    (next-known p i need c.perform-ended.new.stored c.advance.new.self c.of-before.result.prefix
+    c.of-before.ensures.prefix (λ x. c.advance.ensures.value p.image x c.of-before.ensures)))
 
 pub returns-in-Exceeded-clause-value : goal.returns-in-Exceeded-clause-value
 returns-in-Exceeded-clause-value g c =
@@ -81,14 +102,15 @@ returns-in-Exceeded-clause-value g c =
     ap (λ (q : Parts). nat_lt 0 q.attempt.count) c.self.view_is ∙ c.requires.live in
     let first : StoresFirst need =
     subst StoresFirst (sym c.requires.goes.operands_are) (operands-first i c.args.self.now.image) in
-    let length = c.length_in-length.ensures ∙ ap (λ (e : Entry). format_length e.format) c.line.ensures.row in
+    let length = c.length_in.ensures ∙ ap (λ (e : Entry). format_length e.format) c.line.ensures.row in
     let raised = c.exception-overflow.ensures ∙ ap (exception fixed_point_overflow_code) length in
     rw (← c.self.view_is, c.perform-ended.ensures.same)
     (exceeded-is p i need
     (outcome_by (storage_of (g.V.Bytes.bytes c.args.base.now)) i need (progress p.attempt p.image))
     (cpu_of c.perform-ended.new.image) c.perform-ended.new.stored c.advance-in-Exceeded.new.self _
     c.cause_in.result live c.advance-in-Exceeded.ensures.live first c.in-Exceeded.ensures.value
-    c.advance-in-Exceeded.ensures.value
+    (next-known p i need c.perform-ended.new.stored c.advance-in-Exceeded.new.self c.of-before.result.prefix
+    c.of-before.ensures.prefix (λ x. c.advance-in-Exceeded.ensures.value p.image x c.of-before.ensures))
     (c.cause_in.ensures ∙ (λ j. cause_in (c.nest.ensures j) (raised j))))
 
 pub returns-in-Suppressed-clause-value : goal.returns-in-Suppressed-clause-value
@@ -98,7 +120,9 @@ returns-in-Suppressed-clause-value g c =
     let need = c.args.need.now in
     let live : nat_lt 0 c.self.inside.attempt.count ≡ true =
     ap (λ (q : Parts). nat_lt 0 q.attempt.count) c.self.view_is ∙ c.requires.live in
-    let length = c.length_in-length.ensures ∙ ap (λ (e : Entry). format_length e.format) c.line.ensures.row in
+    let length =
+    c.length_in-in-Suppressed.ensures
+    ∙ ap (λ (e : Entry). format_length e.format) c.line-in-Suppressed.ensures.row in
     let raised = c.exception-divide.ensures ∙ ap (exception fixed_point_divide_code) length in
     rw (← c.self.view_is, c.perform-ended.ensures.same)
     (suppressed-is p i need
