@@ -1,6 +1,6 @@
 -- An instruction that is executed on storage as it is, where an attempt sees its operands so.
 use Rattle.std.proofs.Common.{◌≡◌, ℕ, ◌+◌, ◌<◌, ◌≤◌, false, List, [], ◌∷◌, Option, None, Some, refl, sym, ap}
-use Rattle.std.proofs.Common.{◌∙◌, arith, length, get_or, take}
+use Rattle.std.proofs.Common.{◌∙◌, length, get_or, take}
 use Rattle.std.specs.Prelude.{map, cond, unwrap_or, is_some, All}
 use Rattle.std.proofs.lemmas.Bool.{true≢false}
 use Rattle.z_regs.specs.Absolute.{IsAccessible}

@@ -1,7 +1,7 @@
 -- An instruction that is performed on the bytes that storage has lent.
-use Rattle.std.proofs.Common.{◌≡◌, ℕ, ◌≤◌, List, ◌++◌, Option, ap, subst, sym, ◌∙◌, arith, length, get_or, take}
+use Rattle.std.proofs.Common.{◌≡◌, ℕ, ◌≤◌, List, [], ◌++◌, Option, ap, subst, sym, ◌∙◌, arith, length, get_or, take}
 use Rattle.std.specs.Prelude.{map, All}
-use Rattle.std.proofs.lemmas.List.{length-map}
+use Rattle.std.proofs.lemmas.List.{length-map, get_or_past}
 use Rattle.z_regs.specs.Absolute.{IsAccessible}
 use Rattle.z_regs.specs.Cpu.{Cpu}
 use Rattle.z_regs.specs.Prefix.{storage_size, absolute_of}
@@ -30,6 +30,25 @@ at-most-two i c need e =
       length-map (ranges_of i c) range_of,
       count (entry_at i.op.number).operands i c.general c.condition,
     )
+
+-- ---- where there is no second operand, no bytes of it are seen or kept
+
+no-second : (need : List Range) → length need ≤ 1 → get_or need 1 no_range ≡ no_range
+no-second need h = get_or_past need 1 no_range h
+
+pub nothing-seen : (prefix : Option ℕ) (seen : Storage) (need : List Range) → length need ≤ 1
+    → [] ≡ bytes_seen prefix seen (get_or need 1 no_range).first (get_or need 1 no_range).length
+nothing-seen prefix seen need h =
+    sym (ap (λ (r : Range). bytes_seen prefix seen r.first r.length) (no-second need h))
+
+pub nothing-kept : (s : List ℕ) (need : List Range) → length need ≤ 1
+    → [] ≡ range_at s (get_or need 1 no_range).first (get_or need 1 no_range).length
+nothing-kept s need h = sym (ap (λ (r : Range). range_at s r.first r.length) (no-second need h))
+
+pub nothing-long : (need : List Range) → length need ≤ 1 → 0 ≡ (get_or need 1 no_range).length
+nothing-long need h = sym (ap (λ (r : Range). r.length) (no-second need h))
+
+-- ---- both operands
 
 module _ (prefix : Option ℕ) (seen : Storage) (need : List Range) (s mid now ys xs : List ℕ)
     (accessible : All (IsAccessible prefix) need) (few : length need ≤ 2) (size : length s ≡ storage_size)

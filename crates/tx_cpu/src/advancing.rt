@@ -57,11 +57,12 @@ fn opening(instr: &Instr, image: &CpuImage) -> Option<Begin>
     None
 }
 
-/// Opens one more begin, or closes the last one, where the instruction does.
+/// Opens one more begin, or closes the last one, where the instruction does. None closes the only one that is
+/// open.
 pub fn change_nest(nest: &mut Nest, instr: &Instr, opens: Option<Begin>)
     requires begins { is_some opens ≡ is_begun (entry_at instr.now.op.number) }
     requires depth { is_begun (entry_at instr.now.op.number) ≡ true → length nest.old < 16 }
-    requires open { ends (entry_at instr.now.op.number) ≡ true → 0 < length nest.old }
+    requires leaves { ends (entry_at instr.now.op.number) ≡ true → 1 < length nest.old }
     ensures { (general : List ℕ) → opens ≡ opened_by instr.now general
         → nest.new ≡ nest_after instr.now general nest.old }
 {
@@ -69,7 +70,7 @@ pub fn change_nest(nest: &mut Nest, instr: &Instr, opens: Option<Begin>)
         nest.enter(level);
         return;
     }
-    if is_end(instr.op) {
+    if nest.depth() > 1 && is_end(instr.op) {
         nest.leave();
     }
 }

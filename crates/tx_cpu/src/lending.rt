@@ -31,14 +31,17 @@ pub fn operand(need: &Touches, number: u8) -> Range
     }
 }
 
-/// Whether the CPU sees these operands, at most two, as they are in storage: it has no prefix, and its attempt
-/// has stored nothing in their blocks.
+/// Whether the CPU sees these operands, at most two, as they are in storage: there are none, or it has no prefix,
+/// and its attempt has stored nothing in their blocks.
 pub fn are_bare(attempt: &Attempt, need: &Touches, prefix: Option<u32>) -> bool
     requires few { length need.now ≤ 2 }
     requires accessible { All (IsAccessible prefix) need.now }
     ensures { result ≡ true → (s : List ℕ) → All (IsFetched prefix
         (seen_through (stores_of attempt.now.stores).overlay (storage_of s)) s) need.now }
 {
+    if need.count() == 0 {
+        return true;
+    }
     if prefix.is_some() {
         return false;
     }

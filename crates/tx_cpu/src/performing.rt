@@ -268,6 +268,39 @@ fn execute_lent<V: Bytes>(
     ended
 }
 
+/// The same of an instruction that has no second operand.
+fn execute_lent_one<V: Bytes>(
+    attempt: &Attempt,
+    instr: &Instr,
+    need: &Touches,
+    image: &mut CpuImage,
+    stored: &mut [u8],
+    base: &mut V,
+) -> Ended
+    requires plain { is_transaction (kind_at instr.now.op.number) ≡ false }
+    requires need { need.now ≡ operands instr.now (cpu_of image.old) }
+    requires one { length need.now ≤ 1 }
+    requires room { (get_or need.now 0 no_range).length ≤ length stored.old }
+    requires accessible { All (IsAccessible image.old.prefix) need.now }
+    requires size { length (V.bytes base.old) ≡ storage_size }
+    ensures value { outcome_from result (cpu_of image.new) (take (first_size need.now) stored.new) ≡
+        trimmed (first_size need.now) (outcome_by (storage_of (V.bytes base.old)) instr.now need.now
+        (progress attempt.now (cpu_of image.old))) }
+    ensures image { cpu_of image.new ≡ cpu_after (cpu_of image.old) (outcome_by
+        (storage_of (V.bytes base.old)) instr.now need.now (progress attempt.now (cpu_of image.old))) }
+    ensures same { V.bytes base.new ≡ V.bytes base.old }
+    ensures size { length stored.new ≡ length stored.old }
+{
+    let prefix = image.prefix;
+    let first = operand(need, 0);
+    let here = &mut stored[..first.length as usize];
+    see(attempt, here, first.first, prefix, base);
+    exchange(here, first.first, base);
+    let ended = execute_plain(instr, need, image, base);
+    exchange(here, first.first, base);
+    ended
+}
+
 /// The same. Where the attempt sees the operands as they are in storage, they are not lent.
 fn execute_seen<V: Bytes>(
     attempt: &Attempt,
@@ -292,6 +325,9 @@ fn execute_seen<V: Bytes>(
 {
     if are_bare(attempt, need, image.prefix) {
         return execute_there(instr, need, image, stored, base);
+    }
+    if need.count() < 2 {
+        return execute_lent_one(attempt, instr, need, image, stored, base);
     }
     execute_lent(attempt, instr, need, image, stored, base)
 }
