@@ -5,8 +5,12 @@ use Rattle.std.specs.Prelude.{◌==◌, if◌then◌else◌}
 use Rattle.std.specs.Str.{bytes_eq}
 use borrow.Author.Tests.{eqb-true, eqb-false}
 use Rattle.std.proofs.lemmas.List.Sums.{prefix_len_is}
-use Rattle.std.specs.List.{prefix_len}
-use Rattle.z_text.specs.Expected.{place_in as first_place, place_for, place_of}
+use Rattle.std.proofs.Common.{zero, suc, set, replicate, [], ◌∷◌}
+use Rattle.std.proofs.lemmas.List.{get_or-set_same, get_or-set_other, length-set}
+use Rattle.std.proofs.lemmas.Option.{slice_get-get_or}
+use Rattle.std.specs.List.{prefix_len, slice_get}
+use Rattle.z_text.specs.declared.value.LabelValue.{LabelValue}
+use Rattle.z_text.specs.Expected.{place_in as first_place, place_for, place_of, value_at}
 use Rattle.z_text.specs.Labels.{key_of, place_in}
 use Rattle.z_text.specs.Line.{is_name}
 use Rattle.z_text.specs.declared.expected.Expected.{Expected}
@@ -23,6 +27,58 @@ prefix_from_point p xs r d bound point =
 
 same_number : (a b : ℕ) → (a == b) ≡ true → a ≡ b
 same_number a b h = eqb-true a b h
+
+get_set_same : {X : Type 0} (xs : List X) (i : ℕ) (y : X) → i < length xs → slice_get (set xs i y) i ≡ Some y
+get_set_same xs i y h =
+    let n : length (set xs i y) ≡ length xs = length-set xs i y in
+    slice_get-get_or (set xs i y) i y (omega arith) ∙ ap Some (get_or-set_same xs i y y h)
+
+get_set_other : {X : Type 0} (xs : List X) (i j : ℕ) (y : X) → (j ≡ i → ⊥) →
+    slice_get (set xs i y) j ≡ slice_get xs j
+get_set_other [] i j y differ = refl
+get_set_other (x ∷ xs) zero zero y differ = absurd (differ refl)
+get_set_other (x ∷ xs) zero (suc j) y differ = refl
+get_set_other (x ∷ xs) (suc i) zero y differ = refl
+get_set_other (x ∷ xs) (suc i) (suc j) y differ = get_set_other xs i j y (λ e. differ (ap suc e))
+
+-- A place that is given a value has it, and the others stay.
+pub put_values : (e n : Expected) (place : ℕ) (v : LabelValue) → place < length e.values.items →
+    length e.given.items ≡ length e.values.items → n.given.items ≡ set e.given.items place true →
+    n.values.items ≡ set e.values.items place v →
+    (q : ℕ) → value_at n q ≡ (if q == place then Some v else value_at e q)
+unfolding value_at
+put_values e n place v h size given values q = by_place (q == place) refl
+  where
+    by_place : (b : Bool) → (q == place) ≡ b → (if get_or n.given.items q false then slice_get n.values.items q else None)
+        ≡ (if q == place then Some v else (if get_or e.given.items q false then slice_get e.values.items q else None))
+    by_place true t =
+        let same : q ≡ place = same_number q place t in
+        let inside : place < length e.given.items = omega arith in
+        let marked : get_or n.given.items q false ≡ true =
+        ap (λ l. get_or l q false) given ∙ (ap (λ k. get_or (set e.given.items place true) k false) same
+        ∙ get_or-set_same e.given.items place true false inside) in
+        let there : slice_get n.values.items q ≡ Some v =
+        ap (λ l. slice_get l q) values ∙ (ap (slice_get (set e.values.items place v)) same
+        ∙ get_set_same e.values.items place v h) in rw (marked, there, t) refl
+    by_place false t =
+        let differ : q ≡ place → ⊥ = eqb-false q place t in
+        let marks : get_or n.given.items q false ≡ get_or e.given.items q false =
+        ap (λ l. get_or l q false) given ∙ get_or-set_other e.given.items place q true false differ in
+        let there : slice_get n.values.items q ≡ slice_get e.values.items q =
+        ap (λ l. slice_get l q) values ∙ get_set_other e.values.items place q v differ in
+        rw (marks, there, t) refl
+
+-- Where nothing is given, there are no values.
+pub none_given : (e : Expected) (n : ℕ) → e.given.items ≡ replicate n false → (q : ℕ) → value_at e q ≡ None
+unfolding value_at
+none_given e n h q =
+    let free : get_or e.given.items q false ≡ false = ap (λ l. get_or l q false) h ∙ unmarked n q in
+    rw free refl
+  where
+    unmarked : (n q : ℕ) → get_or (replicate n false) q false ≡ false
+    unmarked zero q = refl
+    unmarked (suc n) zero = refl
+    unmarked (suc n) (suc q) = unmarked n q
 
 -- At the place of a number stands the number.
 number_there : (keys : List ℕ) (key place i : ℕ) → place_for keys key place ≡ Some i → get_or keys i 0 ≡ key
@@ -47,9 +103,11 @@ expected_is l q i e = by_name (is_name q) refl
         (is_name q ≡ true) × (get_or l.expected.keys.items i 0 ≡ key_of q)
     by_name true n =
         let there : place_of l.expected (key_of q) ≡ Some i =
-        ap (λ b. if b then place_of l.expected (key_of q) else None) (sym n) ∙ e in
-        (n, number_there l.expected.keys.items (key_of q)
-        (first_place l.expected.keys.items (key_of q)) i there)
+        ap (λ b. if b then place_of l.expected (key_of q) else None) (sym n) ∙ e in (
+          n,
+          number_there l.expected.keys.items (key_of q)
+              (first_place l.expected.keys.items (key_of q)) i there,
+        )
     by_name false n =
         let none : None ≡ Some i = ap (λ b. if b then place_of l.expected (key_of q) else None) (sym n) ∙ e in
         absurd cc

@@ -1,5 +1,5 @@
 //! Values of names that are expected: room for each is there before it comes.
-ghost use Rattle.std.specs.Prelude.{◌≡◌, length};
+ghost use Rattle.std.specs.Prelude.{◌≡◌, false, length, replicate, IfOk};
 ghost use Rattle.std.specs.List.Sorted.{IsNonDecreasing};
 ghost use Rattle.std.proofs.Props.{props};
 
@@ -19,11 +19,19 @@ pub(crate) struct Expected {
     ghost rooms: { length values.items ≡ length keys.items },
 }
 
+fn unmarked(alloc: Global, count: usize) -> Result<Vec<bool>, AllocError>
+    ensures is { IfOk result (λ v. v.items ≡ replicate count false) }
+    ensures len { IfOk result (λ v. length v.items ≡ count) }
+{
+    vec![in alloc; false; count]
+}
+
 impl Expected {
-    ghost use Rattle.std.specs.Prelude.{ℕ, ◌<◌, ◌≤◌, ◌==◌, if◌then◌else◌, None, Some, nat_lt, IfOk, IfSome};
+    ghost use Rattle.std.specs.Prelude.{ℕ, ◌<◌, ◌≤◌, ◌==◌, if◌then◌else◌, None, Some, nat_lt, IfSome};
     ghost use Rattle.z_text.specs.Expected.{place_in, place_of, value_at};
 
     /// No names.
+    #[tactic(auto, unfolding(crate::specs::Expected::place_of))]
     pub(crate) fn none(alloc: Global) -> Expected
         ensures { (key : ℕ) → place_of result key ≡ None }
     {
@@ -40,7 +48,7 @@ impl Expected {
     {
         let mut keys = keys;
         keys.sort_unstable();
-        let given = vec![in alloc; false; keys.len()]?;
+        let given = unmarked(alloc, keys.len())?;
         let values = vec![in alloc; LabelValue::new(0); keys.len()]?;
         Ok(Expected {
             keys,
@@ -62,6 +70,7 @@ impl Expected {
     }
 
     /// The place of a name, if it is expected.
+    #[tactic(auto, unfolding(crate::specs::Expected::place_of))]
     pub(crate) fn place_of(&self, key: u128) -> Option<usize>
         ensures value { result ≡ place_of self.now key }
         ensures within { IfSome result (λ place. place < length self.now.values.items) }
@@ -74,6 +83,7 @@ impl Expected {
     }
 
     /// The value at a place, if there is one.
+    #[tactic(auto, unfolding(crate::specs::Expected::value_at))]
     pub(crate) fn value_at(&self, place: usize) -> Option<LabelValue>
         requires { place < length self.now.values.items }
         ensures { result ≡ value_at self.now place }

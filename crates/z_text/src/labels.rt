@@ -26,7 +26,7 @@ impl Labels {
     ghost use Rattle.z_text.specs.Labels.{value_in, place_in};
 
     /// No labels. Memory for those that are added comes from the allocator.
-    #[tactic(auto, unfolding(crate::specs::Labels::value_in))]
+    #[tactic(auto, unfolding(crate::specs::Labels::value_in, crate::specs::Labels::place_in))]
     pub fn new(alloc: Global) -> Labels
         ensures { (name : List ℕ) → value_in result name ≡ None }
     {
@@ -50,6 +50,7 @@ impl Labels {
     }
 
     /// The place of a name among those that are expected.
+    #[tactic(auto, unfolding(crate::specs::Labels::place_in))]
     fn place_of(&self, name: &[u8]) -> Option<usize>
         ensures value { result ≡ place_in self.now name.now }
         ensures within { IfSome result (λ place. place < length self.now.expected.values.items) }
