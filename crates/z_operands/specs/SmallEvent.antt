@@ -1,9 +1,9 @@
 -- Events in one byte each.
-use Rattle.std.specs.Prelude.{nat_le, ◌%◌}
+use Rattle.std.specs.Prelude.{◌-◌, nat_lt, if◌then◌else◌}
 use Rattle.tx_journal.specs.declared.events.Event.{Event}
-use Rattle.z_operands.specs.Schedule.{event_of}
+use Rattle.tx_journal.specs.declared.events.Event.TheVariants.{Turn, External}
 use Rattle.z_operands.specs.declared.small_event.SmallEvent.{SmallEvent}
 
--- the event of a byte: that of the CPU below 16, external from 16 on
+-- the event of a byte: a turn of the CPU below 16, or from 16 on an external interruption
 unfoldable pub event_in : SmallEvent → Event
-event_in e = event_of (nat_le 16 e.code) (e.code % 16)
+event_in e = if nat_lt e.code 16 then Turn e.code else External (e.code - 16)

@@ -69,11 +69,7 @@ fn run_of(item: &[u8]) -> Option<Run>
     }
 }
 
-fn push_many(
-    events: &mut Vec<SmallEvent>,
-    count: u64,
-    event: SmallEvent,
-) -> Result<(), LineFault>
+fn push_many(events: &mut Vec<SmallEvent>, count: u64, event: SmallEvent) -> Result<(), LineFault>
     ensures { Gives result (Ok (map event_in events.old.items ++ replicate count (event_in event)))
         (map event_in events.new.items) }
 {

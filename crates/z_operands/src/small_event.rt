@@ -12,32 +12,43 @@ pub struct SmallEvent {
     code: u8,
 }
 
-fn event_of(external: bool, cpu: u32) -> Event
-    ensures { result ≡ event_of external cpu }
-{
-    if external {
-        Event::External(cpu)
-    } else {
-        Event::Turn(cpu)
-    }
-}
-
 impl SmallEvent {
+    fn turn(cpu: u32) -> SmallEvent
+        requires { cpu < 16 }
+        ensures { event_in result ≡ Event.Turn cpu }
+    {
+        SmallEvent { code: cpu as u8 }
+    }
+
+    fn external(cpu: u32) -> SmallEvent
+        requires { cpu < 16 }
+        ensures { event_in result ≡ Event.External cpu }
+    {
+        SmallEvent {
+            code: 16 + cpu as u8,
+        }
+    }
+
     /// A turn of a CPU, or an external interruption of it.
     pub(crate) fn new(external: bool, cpu: u32) -> SmallEvent
         requires { cpu < 16 }
         ensures { event_in result ≡ event_of external cpu }
     {
-        let first = if external { 16 } else { 0 };
-        SmallEvent {
-            code: first + cpu as u8,
+        if external {
+            SmallEvent::external(cpu)
+        } else {
+            SmallEvent::turn(cpu)
         }
     }
 
+    #[tactic(auto, unfolding(crate::specs::SmallEvent::event_in))]
     fn event(self) -> Event
         ensures { result ≡ event_in self }
     {
-        event_of(16 <= self.code, u32::from(self.code % 16))
+        if self.code < 16 {
+            return Event::Turn(u32::from(self.code));
+        }
+        Event::External(u32::from(self.code - 16))
     }
 }
 
