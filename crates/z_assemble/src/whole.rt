@@ -100,8 +100,10 @@ fn unmarked(alloc: Global, count: usize) -> Result<Vec<bool>, AllocError>
     vec![in alloc; false; count]
 }
 
-/// The numbers of the names that lines begin with.
-fn names_in(alloc: Global, text: &[u8]) -> Result<Vec<u128>, AllocError> {
+/// The numbers of the names that lines begin with: at most one a line.
+fn names_in(alloc: Global, text: &[u8]) -> Result<Vec<u128>, AllocError>
+    ensures { IfOk result (λ v. length v.items ≤ length (pieces_by 10 text.now)) }
+{
     let mut names = Vec::new(alloc);
     let mut rest = text;
     while 0 < rest.len() {
