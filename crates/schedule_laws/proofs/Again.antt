@@ -23,7 +23,7 @@ use Rattle.z_assemble.specs.Machine.{is_prefix_for, task_places_in, is_area, is_
 use Rattle.z_assemble.specs.Machine.{is_choice, change_at, with_prefix}
 use Rattle.z_assemble.specs.Whole.{Second}
 use Rattle.z_assemble.specs.declared.parameter.Parameter.{Parameter}
-use Rattle.z_assemble.proofs.Effects.{Effect, task_effect}
+use Rattle.statement_laws.proofs.Effects.{Effect, task_effect}
 use Rattle.schedule_laws.proofs.Moved.{later}
 
 -- each is a line of a schedule

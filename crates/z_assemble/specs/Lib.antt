@@ -5,6 +5,5 @@ pub mod Listing
 pub mod Machine
 pub mod Setup
 pub mod Whole
-pub mod Statements
 pub mod Steps
 pub mod Words

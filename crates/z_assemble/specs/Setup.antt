@@ -1,6 +1,7 @@
 -- What the code holds while it reads lines again, as plain data.
 use Rattle.std.specs.Prelude.{List, map}
 use Rattle.z_regs.specs.Cpu.{cpu_of}
+use Rattle.z_operands.specs.SmallEvent.{event_in}
 use Rattle.z_text.specs.Labels.{value_in}
 use Rattle.z_text.specs.declared.labels.Labels.{Labels}
 use Rattle.z_assemble.specs.Listing.{task_of}
@@ -14,7 +15,7 @@ machine_of s = record {
   cpus = map cpu_of s.cpus.items;
   entered = s.entered;
   shows = s.shows.items;
-  schedule = s.schedule.items;
+  schedule = map event_in s.schedule.items;
   scheduled = s.scheduled;
   parms = s.parms;
 }

@@ -14,7 +14,7 @@ pub struct Work<'a> {
     /// The number of the line, from 1 on.
     pub line: u32,
     /// The location where it stands.
-    pub here: usize,
+    pub here: u32,
     /// The line, in capitals and without its end.
     pub text: &'a [u8],
     /// The line's operation.

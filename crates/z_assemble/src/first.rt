@@ -265,7 +265,7 @@ fn instruction<'a>(
     start(draft, size_of_row(row))?;
     draft.works.push(Work {
         line: number,
-        here,
+        here: here as u32,
         text: line,
         operation: Operation::Instruction(row, mask),
     })?;
@@ -286,7 +286,7 @@ fn leave<'a>(
     let here = draft.here;
     draft.works.push(Work {
         line: number,
-        here,
+        here: here as u32,
         text: line,
         operation,
     })?;

@@ -16,12 +16,7 @@ mod whole;
 
 pub use draft::{Draft, SIZE, Work};
 pub use fault::{AssembleFault, ListingFault, fault_line};
-pub use laws::{
-    a_text_is_one_of_two, cpus_are_those_of_lines, each_byte_is_that_of_one_line,
-    events_are_those_of_lines, labels_are_those_of_lines, parameters_are_those_of_lines,
-    prefixes_are_those_of_lines, shows_are_those_of_lines, starts_are_those_of_instructions,
-    what_stands_is_an_image,
-};
+pub use laws::{a_text_is_one_of_two, what_stands_is_an_image};
 pub use parameter::Parameter;
 pub use reading::Reading;
 pub use setup::Setup;

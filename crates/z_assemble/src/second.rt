@@ -274,7 +274,7 @@ fn is_text_in(area: u32, works: &[Work]) -> bool
     ensures { result ≡ list_any (task_places_in area) (map task_of works.now) }
 {
     for work in works {
-        if places_in(area, work.here, work.operation) {
+        if places_in(area, work.here as usize, work.operation) {
             return true;
         }
     }
@@ -362,7 +362,15 @@ fn operands_for(
     ensures { Answers (λ _. room.new.operands.items) result (operands_on malformed work.entry.text.now
         (value_in labels.now) work.entry.here (drop first tokens.now)) }
 {
-    read_operands(room, malformed, work.text, tokens, first, labels, work.here)
+    read_operands(
+        room,
+        malformed,
+        work.text,
+        tokens,
+        first,
+        labels,
+        work.here as usize,
+    )
 }
 
 /// The end of the operation, 0 where there is none.
@@ -445,7 +453,7 @@ fn read_again(
     match work.operation {
         Operation::Instruction(row, mask) => {
             operands_for(room, Kind::WrongOperands, labels, work, tokens, heads)?;
-            write_code(setup, row, mask, work.here, &room.operands)
+            write_code(setup, row, mask, work.here as usize, &room.operands)
         }
         Operation::Sched => add_events(
             alloc,

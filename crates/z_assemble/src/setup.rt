@@ -1,8 +1,9 @@
 //! What the second reading of the lines makes.
 ghost use Rattle.std.specs.Prelude.{◌≡◌, ◌≤◌, length};
 
-use tx_journal::{Event, Show};
+use tx_journal::Show;
 use tx_ladder::Parms;
+use z_operands::SmallEvent;
 use z_regs::CpuImage;
 
 /// What the lines so far have made of the machine.
@@ -17,7 +18,7 @@ pub struct Setup {
     /// What is shown.
     pub shows: Vec<Show>,
     /// The events.
-    pub schedule: Vec<Event>,
+    pub schedule: Vec<SmallEvent>,
     /// Whether there was a SCHED line.
     pub scheduled: bool,
     /// The numbers of the retry ladder.

@@ -29,9 +29,9 @@ use std::alloc::{AllocError, Global};
 use tx_journal::Image;
 use tx_ladder::Parms;
 use z_decode::length_of;
-use z_operands::{Kind, LineFault, count_pieces, first_piece, without_end};
+use z_operands::{Kind, LineFault, all_events, count_pieces, first_piece, without_end};
 use z_regs::{CpuImage, Guard};
-use z_text::Labels;
+use z_text::{Labels, key_in_front};
 
 /// The most bytes of a listing.
 pub const MOST_BYTES: usize = 16_777_216;
@@ -100,22 +100,41 @@ fn unmarked(alloc: Global, count: usize) -> Result<Vec<bool>, AllocError>
     vec![in alloc; false; count]
 }
 
-fn no_labels(alloc: Global) -> Labels
-    ensures { value_in result ≡ no_label }
+/// The numbers of the names that lines begin with: at most one a line.
+fn names_in(alloc: Global, text: &[u8]) -> Result<Vec<u128>, AllocError>
+    ensures { IfOk result (λ v. length v.items ≤ length (pieces_by 10 text.now)) }
 {
-    Labels::new(alloc)
+    let mut names = Vec::new(alloc);
+    let mut rest = text;
+    while 0 < rest.len() {
+        let (line, behind) = first_piece(b'\n', rest);
+        if let Some(name) = key_in_front(line) {
+            names.push(name)?;
+        }
+        rest = behind;
+    }
+    Ok(names)
+}
+
+/// No labels, with room for those of a text.
+fn no_labels(alloc: Global, text: &[u8]) -> Result<Labels, AllocError>
+    ensures { IfOk result (λ labels. value_in labels ≡ no_label) }
+{
+    let names = names_in(alloc, text)?;
+    Labels::expecting(alloc, names)
 }
 
 #[tactic(auto, unfolding(crate::specs::Whole::blank))]
-fn blank<'a>(alloc: Global) -> Result<Draft<'a>, AllocError>
+fn blank<'a>(alloc: Global, text: &'a [u8]) -> Result<Draft<'a>, AllocError>
     ensures is { IfOk result (λ d. plan_of d ≡ blank) }
 {
+    let labels = no_labels(alloc, text)?;
     let storage = zeros(alloc, SIZE)?;
     let taken = unmarked(alloc, SIZE)?;
     let begins = unmarked(alloc, SIZE)?;
     Ok(Draft {
         here: 16384,
-        labels: no_labels(alloc),
+        labels,
         storage,
         taken,
         begins,
@@ -250,7 +269,7 @@ fn image(alloc: Global, begins: &[bool], setup: Setup) -> Result<Parts, AllocErr
         starts,
         cpus,
         shows,
-        schedule,
+        schedule: all_events(alloc, &schedule)?,
         scheduled,
         parms,
     })
@@ -270,7 +289,7 @@ fn over_lines(alloc: Global, text: &[u8]) -> Result<Parts, AssembleFault>
     requires { length (pieces_by 10 text.now) ≤ 262144 }
     ensures { IsOutcome result (over_lines (pieces_by 10 text.now)) }
 {
-    let mut draft = blank(alloc)?;
+    let mut draft = blank(alloc, text)?;
     first_over(alloc, &mut draft, text)?;
     let Draft {
         labels,

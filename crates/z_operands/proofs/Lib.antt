@@ -7,3 +7,4 @@ pub mod Bytes
 pub mod Forms
 pub mod Rows
 pub mod Spelled
+pub mod SmallEvents

@@ -8,5 +8,6 @@ pub mod Operands
 pub mod Values
 pub mod Data
 pub mod Schedule
+pub mod SmallEvent
 pub mod Code
 pub mod Steps

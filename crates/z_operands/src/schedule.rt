@@ -2,16 +2,16 @@
 ghost use Rattle.std.specs.Prelude.{◌≡◌, ◌≤◌, ◌<◌, ◌+◌, ◌++◌, ◌∷◌, [], length, replicate, map, IfOk, IfSome};
 ghost use Rattle.std.specs.Prelude.{Ok};
 ghost use Rattle.std.specs.List.{prefix_len};
-ghost use Rattle.tx_journal.specs.Image.{cpu_of_event};
-ghost use Rattle.z_operands.specs.Schedule.{make_run, turns_in, run_of, event_of, is_before_star, with_run};
+ghost use Rattle.z_operands.specs.Schedule.{make_run, turns_in, run_of, is_before_star, with_run};
+ghost use Rattle.z_operands.specs.SmallEvent.{event_in};
 ghost use Rattle.z_operands.specs.Schedule.{with_item, with_items, scheduled};
 ghost use Rattle.z_operands.specs.Steps.{Gives};
 
 use crate::fault::{Kind, LineFault};
 use crate::lines::{pieces_by, shortened};
 use crate::number::decimal;
+use crate::small_event::SmallEvent;
 use std::alloc::{AllocError, Global};
-use tx_journal::Event;
 
 /// The most events that a listing may give.
 pub const MOST_EVENTS: usize = 4_194_304;
@@ -69,18 +69,9 @@ fn run_of(item: &[u8]) -> Option<Run>
     }
 }
 
-fn event_of(external: bool, cpu: u32) -> Event
-    ensures { result ≡ event_of external cpu }
-{
-    if external {
-        Event::External(cpu)
-    } else {
-        Event::Turn(cpu)
-    }
-}
-
-fn push_many(events: &mut Vec<Event>, count: u64, event: Event) -> Result<(), LineFault>
-    ensures { Gives result (Ok (events.old.items ++ replicate count event)) events.new.items }
+fn push_many(events: &mut Vec<SmallEvent>, count: u64, event: SmallEvent) -> Result<(), LineFault>
+    ensures { Gives result (Ok (map event_in events.old.items ++ replicate count (event_in event)))
+        (map event_in events.new.items) }
 {
     for turn in 0..count {
         events.push(event)?;
@@ -88,9 +79,9 @@ fn push_many(events: &mut Vec<Event>, count: u64, event: Event) -> Result<(), Li
     Ok(())
 }
 
-fn with_run(cpus: usize, run: Option<Run>, events: &mut Vec<Event>) -> Result<(), LineFault>
+fn with_run(cpus: usize, run: Option<Run>, events: &mut Vec<SmallEvent>) -> Result<(), LineFault>
     requires { cpus ≤ 16 }
-    ensures { Gives result (with_run cpus run events.old.items) events.new.items }
+    ensures { Gives result (with_run cpus run (map event_in events.old.items)) (map event_in events.new.items) }
 {
     let Some(run) = run else {
         return Err(LineFault::Failed(Kind::BadSchedule));
@@ -101,19 +92,25 @@ fn with_run(cpus: usize, run: Option<Run>, events: &mut Vec<Event>) -> Result<()
     if events.len() > MOST_EVENTS || run.count > (MOST_EVENTS - events.len()) as u64 {
         return Err(LineFault::Failed(Kind::BadSchedule));
     }
-    push_many(events, run.count, event_of(run.external, run.cpu as u32))
+    push_many(
+        events,
+        run.count,
+        SmallEvent::new(run.external, run.cpu as u32),
+    )
 }
 
-fn with_item(cpus: usize, item: &[u8], events: &mut Vec<Event>) -> Result<(), LineFault>
+fn with_item(cpus: usize, item: &[u8], events: &mut Vec<SmallEvent>) -> Result<(), LineFault>
     requires { cpus ≤ 16 }
-    ensures { Gives result (with_item cpus item.now events.old.items) events.new.items }
+    ensures { Gives result (with_item cpus item.now (map event_in events.old.items))
+        (map event_in events.new.items) }
 {
     with_run(cpus, run_of(shortened(item)), events)
 }
 
-fn with_items(cpus: usize, items: &[&[u8]], events: &mut Vec<Event>) -> Result<(), LineFault>
+fn with_items(cpus: usize, items: &[&[u8]], events: &mut Vec<SmallEvent>) -> Result<(), LineFault>
     requires { cpus ≤ 16 }
-    ensures { Gives result (with_items cpus (map (λ l. l.now) items.now) events.old.items) events.new.items }
+    ensures { Gives result (with_items cpus (map (λ l. l.now) items.now) (map event_in events.old.items))
+        (map event_in events.new.items) }
 {
     for item in items {
         with_item(cpus, item, events)?;
@@ -135,10 +132,11 @@ pub fn push_events(
     alloc: Global,
     cpus: usize,
     field: &[u8],
-    events: &mut Vec<Event>,
+    events: &mut Vec<SmallEvent>,
 ) -> Result<(), LineFault>
     requires { cpus ≤ 16 }
-    ensures { Gives result (scheduled cpus field.now events.old.items) events.new.items }
+    ensures { Gives result (scheduled cpus field.now (map event_in events.old.items))
+        (map event_in events.new.items) }
 {
     let text = with_comma(alloc, field)?;
     let items = pieces_by(alloc, b',', &text)?;

@@ -15,7 +15,7 @@ use Rattle.std.specs.Char.{is_ascii_uppercase}
 use Rattle.std.specs.Int.{w64, from_be_bytes, to_be_bytes}
 use Rattle.std.proofs.lemmas.Grind.{common_steps}
 use Rattle.std.proofs.lemmas.Nat.{be_bytes_8}
-use Rattle.z_text.specs.Labels.{word_at, key_of, key_cmp}
+use Rattle.z_text.specs.Labels.{word_at, key_of}
 use Rattle.z_text.specs.Line.{is_name, is_letter_or_digit}
 use Rattle.z_text.proofs.Capitals.{both_hold}
 
@@ -126,54 +126,40 @@ by_place a b p q e f i false h false g =
     let from : 16 ≤ i = ltb-false i 16 g in
     behind_last a i (omega arith) ∙ sym (behind_last b i (omega arith))
 
+-- The number of eight bytes of a name is below 2 ^ 64.
+word_small : (name : List ℕ) (at : ℕ) → list_all is_letter_or_digit name ≡ true →
+    word_at name at < 18446744073709551616
+unfolding word_at
+word_small name at h =
+    let a = byte_bound name at h in
+    let b = byte_bound name (at + 1) h in
+    let c = byte_bound name (at + 2) h in
+    let d = byte_bound name (at + 3) h in
+    let e = byte_bound name (at + 4) h in
+    let f = byte_bound name (at + 5) h in
+    let g = byte_bound name (at + 6) h in
+    let i = byte_bound name (at + 7) h in
+    omega arith
+
 -- Names of the listing with the same key are the same.
 pub same_name : (a b : List ℕ) → is_name a ≡ true → is_name b ≡ true → key_of a ≡ key_of b → a ≡ b
 unfolding key_of
 same_name a b p q e =
     let at_a = name_is a p in
     let at_b = name_is b q in
-    let first : eight_at a 0 ≡ eight_at b 0 = same_eight a b 0 at_a.0 at_b.0 (ap (λ k. k.0) e) in
-    let last : eight_at a 8 ≡ eight_at b 8 = same_eight a b 8 at_a.0 at_b.0 (ap (λ k. k.1) e) in
+    let low_a = word_small a 8 at_a.0 in
+    let low_b = word_small b 8 at_b.0 in
+    let high : word_at a 0 ≡ word_at b 0 = omega arith in
+    let low : word_at a 8 ≡ word_at b 8 = omega arith in
+    let first : eight_at a 0 ≡ eight_at b 0 = same_eight a b 0 at_a.0 at_b.0 high in
+    let last : eight_at a 8 ≡ eight_at b 8 = same_eight a b 8 at_a.0 at_b.0 low in
     same_bytes a b at_a.0 at_b.0 (λ i. by_place a b at_a.1 at_b.1 first last i (nat_lt i 8) refl
     (nat_lt i 16) refl)
 
-key_at_itself : (k : ℕ × ℕ) → is_eq (key_cmp k k) ≡ true
-key_at_itself k =
-    let first : nat_cmp k.0 k.0 ≡ Equal = sym (nat_cmp_is k.0 k.0 Equal refl) in
-    let last : nat_cmp k.1 k.1 ≡ Equal = sym (nat_cmp_is k.1 k.1 Equal refl) in
-    rw (first, last) refl
-
-bytes_same : (a b : List ℕ) → bytes_eq a b ≡ true → a ≡ b
+-- Texts that are found to be the same are the same.
+pub bytes_same : (a b : List ℕ) → bytes_eq a b ≡ true → a ≡ b
 bytes_same a b h = exact_bytes a b (is_equal _ (is_eq-slice_cmp a b ∙ h))
 
-bytes_of_itself : (a : List ℕ) → bytes_eq a a ≡ true
+-- A text is found to be the same as itself.
+pub bytes_of_itself : (a : List ℕ) → bytes_eq a a ≡ true
 bytes_of_itself a = (bytes_eq-Decides a a).1 refl
-
--- The keys of two names are the same exactly where the names are.
-pub key_decides : (a b : List ℕ) → is_name a ≡ true → is_name b ≡ true →
-    is_eq (key_cmp (key_of a) (key_of b)) ≡ bytes_eq b a
-key_decides a b p q = by_names (bytes_eq b a) refl (is_eq (key_cmp (key_of a) (key_of b))) refl
-  where
-    by_names : (c : Bool) → bytes_eq b a ≡ c → (d : Bool) → is_eq (key_cmp (key_of a) (key_of b)) ≡ d →
-        is_eq (key_cmp (key_of a) (key_of b)) ≡ bytes_eq b a
-    by_names true same d e =
-        let is : b ≡ a = bytes_same b a same in
-        ap (λ x. is_eq (key_cmp (key_of a) (key_of x))) is ∙ (key_at_itself (key_of a) ∙ sym same)
-    by_names false other true e =
-        let keys : key_of a ≡ key_of b = exact_pairs nat_cmp nat_cmp exact_unsigned exact_unsigned (key_of a)
-        (key_of b) (is_equal _ e) in
-        let is : a ≡ b = same_name a b p q keys in
-        let same : bytes_eq b a ≡ true = ap (λ x. bytes_eq b x) is ∙ bytes_of_itself b in absurd cc
-    by_names false other false e = e ∙ sym other
-
--- A name of the listing is no other name.
-pub other_bytes : (a b : List ℕ) (c : Bool) → is_name a ≡ c → is_name b ≡ not c → bytes_eq a b ≡ false
-other_bytes a b c p q = by_bytes (bytes_eq a b) refl
-  where
-    apart : (c : Bool) → is_name a ≡ c → is_name b ≡ not c → a ≡ b → ⊥
-    apart true p q e = let r : is_name a ≡ is_name b = ap is_name e in cc
-    apart false p q e = let r : is_name a ≡ is_name b = ap is_name e in cc
-
-    by_bytes : (d : Bool) → bytes_eq a b ≡ d → bytes_eq a b ≡ false
-    by_bytes true e = absurd (apart c p q (bytes_same a b e))
-    by_bytes false e = e

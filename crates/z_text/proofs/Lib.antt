@@ -8,4 +8,5 @@ pub mod Filled
 pub mod Causes
 pub mod Capitals
 pub mod Keys
+pub mod Places
 pub mod Added

@@ -2,5 +2,6 @@ pub mod Line
 pub mod Numbers
 pub mod Tokens
 pub mod Splits
+pub mod Expected
 pub mod Labels
 pub mod Expressions

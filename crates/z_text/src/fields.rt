@@ -27,7 +27,8 @@ fn count_blanks(line: &[u8]) -> usize
     line.iter().take_while(|b| **b == b' ').count()
 }
 
-fn count_inked(line: &[u8]) -> usize
+/// How many bytes stand before the first blank.
+pub(crate) fn count_inked(line: &[u8]) -> usize
     ensures value { result ≡ prefix_len is_inked line.now }
     ensures within { result ≤ length line.now }
 {

@@ -1,57 +1,64 @@
 //! Labels with their values.
 ghost use Rattle.std.specs.Prelude.{◌≡◌, ◌^◌, ◌-◌, pos, negsuc, ◌≤ℤ◌};
 
+use crate::expected::Expected;
 use crate::fields::is_name;
 use crate::key::key_of;
 use crate::token::NoMemory;
-use std::alloc::Global;
+use crate::value::LabelValue;
+use std::alloc::{AllocError, Global};
 use std::collections::BTreeMap;
-
-/// A label's value: from -2^63 to 2^64 - 1.
-#[derive(Clone, Copy, Debug)]
-struct LabelValue {
-    value: i128,
-    ghost low: { negsuc (2 ^ 63 - 1) ≤ℤ value },
-    ghost high: { value ≤ℤ pos (2 ^ 64 - 1) },
-}
-
-impl LabelValue {
-    fn new(value: i128) -> LabelValue
-        requires low { negsuc (2 ^ 63 - 1) ≤ℤ value }
-        requires high { value ≤ℤ pos (2 ^ 64 - 1) }
-        ensures { result.value ≡ value }
-    {
-        LabelValue { value }
-    }
-}
 
 /// Labels and their values, from -2^63 to 2^64 - 1: a finite map from names to values.
 #[derive(Drop)]
 pub struct Labels {
     alloc: Global,
-    /// Those that are names of the listing, by their bytes as two numbers.
-    named: BTreeMap<(u64, u64), LabelValue>,
+    /// Those of names that are expected.
+    expected: Expected,
     /// Those of other names.
     others: BTreeMap<Vec<u8>, LabelValue>,
 }
 
 impl Labels {
-    ghost use Rattle.std.specs.Prelude.{ℕ, List, Option, Some, None, IfOk, IfSome, OnOk, OnErr, IsTrue, is_none};
-    ghost use Rattle.std.specs.Prelude.{true, false, if◌then◌else◌};
+    ghost use Rattle.std.specs.Prelude.{ℕ, List, Option, Some, None, IfOk, IfSome, OnOk, OnErr, is_none};
+    ghost use Rattle.std.specs.Prelude.{if◌then◌else◌, ◌<◌, length};
     ghost use Rattle.std.specs.Str.{bytes_eq};
-    ghost use Rattle.z_text.specs.Line.{is_name};
-    ghost use Rattle.z_text.specs.Labels.{value_in};
+    ghost use Rattle.z_text.specs.Labels.{value_in, place_in};
 
     /// No labels. Memory for those that are added comes from the allocator.
-    #[tactic(auto, unfolding(crate::specs::Labels::value_in))]
+    #[tactic(auto, unfolding(crate::specs::Labels::value_in, crate::specs::Labels::place_in))]
     pub fn new(alloc: Global) -> Labels
         ensures { (name : List ℕ) → value_in result name ≡ None }
     {
         Labels {
             alloc,
-            named: BTreeMap::new(alloc),
+            expected: Expected::none(alloc),
             others: BTreeMap::new(alloc),
         }
+    }
+
+    /// No labels, with room for those of the names with these numbers (`key_in_front`): 33 bytes for each number.
+    #[tactic(auto, unfolding(crate::specs::Labels::value_in))]
+    pub fn expecting(alloc: Global, keys: Vec<u128>) -> Result<Labels, AllocError>
+        ensures { IfOk result (λ labels. (name : List ℕ) → value_in labels name ≡ None) }
+    {
+        Ok(Labels {
+            alloc,
+            expected: Expected::of(alloc, keys)?,
+            others: BTreeMap::new(alloc),
+        })
+    }
+
+    /// The place of a name among those that are expected.
+    #[tactic(auto, unfolding(crate::specs::Labels::place_in))]
+    fn place_of(&self, name: &[u8]) -> Option<usize>
+        ensures value { result ≡ place_in self.now name.now }
+        ensures within { IfSome result (λ place. place < length self.now.expected.values.items) }
+    {
+        if is_name(name) {
+            return self.expected.place_of(key_of(name));
+        }
+        None
     }
 
     /// The value of the label of this name, if there is one.
@@ -61,8 +68,8 @@ impl Labels {
         ensures low { IfSome result (λ v. negsuc (2 ^ 63 - 1) ≤ℤ v) }
         ensures high { IfSome result (λ v. v ≤ℤ pos (2 ^ 64 - 1)) }
     {
-        if is_name(name) {
-            return match self.named.get(&key_of(name)) {
+        if let Some(place) = self.place_of(name) {
+            return match self.expected.value_at(place) {
                 Some(found) => Some(found.value),
                 None => None,
             };
@@ -73,18 +80,17 @@ impl Labels {
         }
     }
 
-    fn add_named(&mut self, name: &[u8], value: LabelValue) -> Result<(), NoMemory>
-        requires { IsTrue (is_name name.now) }
-        ensures ok { OnOk result ((other : List ℕ) → value_in self.new other ≡
-            (if bytes_eq other name.now then Some value.value else value_in self.old other)) }
-        ensures err { OnErr result ((other : List ℕ) → value_in self.new other ≡ value_in self.old other) }
+    fn add_expected(&mut self, name: &[u8], place: usize, value: LabelValue)
+        requires place { place_in self.old name.now ≡ Some place }
+        requires within { place < length self.old.expected.values.items }
+        ensures { (other : List ℕ) → value_in self.new other ≡
+            (if bytes_eq other name.now then Some value.value else value_in self.old other) }
     {
-        self.named.insert(key_of(name), value)?;
-        Ok(())
+        self.expected.put(place, value);
     }
 
     fn add_other(&mut self, name: &[u8], value: LabelValue) -> Result<(), NoMemory>
-        requires { is_name name.now ≡ false }
+        requires { place_in self.old name.now ≡ None }
         ensures ok { OnOk result ((other : List ℕ) → value_in self.new other ≡
             (if bytes_eq other name.now then Some value.value else value_in self.old other)) }
         ensures err { OnErr result ((other : List ℕ) → value_in self.new other ≡ value_in self.old other) }
@@ -104,8 +110,9 @@ impl Labels {
         ensures err { OnErr result ((other : List ℕ) → value_in self.new other ≡ value_in self.old other) }
     {
         let value = LabelValue::new(value);
-        if is_name(name) {
-            return self.add_named(name, value);
+        if let Some(place) = self.place_of(name) {
+            self.add_expected(name, place, value);
+            return Ok(());
         }
         self.add_other(name, value)
     }

@@ -1,6 +1,7 @@
 //! The text of the listing, line by line: tokens, labels and expressions.
 #![tactic(auto)]
 
+mod expected;
 mod expressions;
 mod fields;
 mod key;
@@ -11,8 +12,10 @@ mod running;
 mod scan;
 mod sum;
 mod token;
+mod value;
 
 pub use expressions::{expression, expression_end};
+pub use key::key_in_front;
 pub use labels::Labels;
 pub use line::{read_tokens, tokens};
 pub use token::{ExprFault, NoMemory, TextFault, Token, TokenKind};

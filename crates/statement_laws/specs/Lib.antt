@@ -1,0 +1,2 @@
+-- What the lines of a listing say.
+pub mod Statements
