@@ -1,16 +1,16 @@
 -- Marks of what was touched, and whether octowords of a line are shared.
 use Rattle.std.proofs.Common.{◌≡◌, ℕ, zero, suc, ◌+◌, ◌*◌, ◌<◌, ◌≤◌, Bool, true, false, List, [], ◌∷◌, ◌++◌}
 use Rattle.std.proofs.Common.{refl, sym, ap, ap₂, ◌∙◌, arith, replicate}
-use Rattle.std.specs.Prelude.{◌||◌, ◌&&◌, not, nat_le, nat_lt}
+use Rattle.std.specs.Prelude.{◌||◌, ◌&&◌, not}
 use Rattle.std.specs.List.{list_any, range_with_len}
-use Rattle.std.proofs.lemmas.Bool.{cases_lt, or_from, or_parts, and_cases, and_left, and_right, leb-false, ltb-false, lt-leb, le-ltb}
+use Rattle.std.proofs.lemmas.Bool.{cases_lt, or_from}
 use Rattle.std.proofs.lemmas.List.{get_or-replicate, get_or_past, length-replicate}
 use Rattle.std.proofs.lemmas.List.Folds.{list_any-append, list_any_at}
 use Rattle.std.proofs.lemmas.List.FromFn.{length-range_with_len, get_or-range_with_len}
 use borrow.Enum.Arm.{by_way}
 use Rattle.z_regs.specs.declared.ranges.Range.{Range}
 use Rattle.line_table.specs.Sizes.{storage_lines}
-use Rattle.tx_footprint.specs.Places.{stores, has_place, lies_in}
+use Rattle.tx_footprint.specs.Places.{stores, has_place}
 use Rattle.tx_heat.specs.Marks.{Marks, AreMarksOf, is_marked}
 use Rattle.tx_heat.specs.Octowords.{storage_octowords, asks, meets, are_apart}
 
@@ -38,31 +38,9 @@ none_marked marks one other = record {
 pub all_off : (set : List Bool) (n : ℕ) → set ≡ replicate n false → (o : ℕ) → is_marked set o ≡ false
 all_off set n is o = ap (λ marks. is_marked marks o) is ∙ no_mark n o
 
--- ---- spans of marks
+-- ---- more marks
 
--- what lies in no greater span lies in none that this has
-pub lies_in_none : (first end a b k : ℕ) → a ≤ first → end ≤ b → lies_in a b k ≡ false → lies_in first end k ≡ false
-lies_in_none first end a b k low high off =
-    by_way (and_cases (nat_le a k) (nat_lt k b) off)
-    (λ below. and_left (nat_le first k) (nat_lt k end)
-    (lt-leb first k (omega (arith, low, leb-false a k below))))
-    (λ past. and_right (nat_le first k) (nat_lt k end)
-    (le-ltb k end (omega (arith, high, ltb-false k b past))))
-
--- what meets nothing of all meets nothing that is stored into
-pub meets_less : (ranges : List Range) (o : ℕ) → meets true ranges o ≡ false → meets false ranges o ≡ false
-unfolding meets
-meets_less [] o off = refl
-meets_less (r ∷ rest) o off =
-    let parts = or_parts (has_place 32 r o) (list_any (λ r. (true || r.store) && has_place 32 r o) rest) off in
-    or_from ((false || r.store) && has_place 32 r o)
-    (list_any (λ r. (false || r.store) && has_place 32 r o) rest)
-    (and_right (false || r.store) (has_place 32 r o) parts.0) (meets_less rest o parts.1)
-
--- what is marked more lies in a span with it
-pub more_within : (old new more : Bool) → new ≡ (old || more) → old ≡ false → more ≡ false → new ≡ false
-more_within old new more is one other = is ∙ or_from old more one other
-
+-- more ranges meet what either of them meets
 meets_more : (all : Bool) (past more : List Range) (o : ℕ)
     → meets all (past ++ more) o ≡ (meets all past o || meets all more o)
 unfolding meets
