@@ -141,6 +141,27 @@ fn reject_in(reject: Option<Reject>) -> Option<(u32, u32)>
     Some((reject.by, reject.line))
 }
 
+/// Counts the conflicts of an event: the aborts that its entries tell of, and its reject.
+fn count_conflicts(
+    lines: &mut [LineHeat],
+    tracks: &[Track],
+    cpu: u32,
+    entries: &[Entry],
+    reject: Option<Reject>,
+)
+    requires cpu { cpu < length tracks.now }
+    requires room { HasRoom lines.old (1 + length entries.now) }
+    ensures { (m : Setting) (s : State) (e : Event) (found : List Conflict) → AreTracks m s tracks.now
+        → ((t : Tracked) → slice_get tracks.now cpu ≡ Some t → SpeaksFor m s (cpu_of_event e) t.asked)
+        → AreCounted lines.old found
+        → AreCounted lines.new ((found ++ flat_map (aborts_by m s e) entries.now)
+        ++ conflict_where m s e true (reject_of reject)) }
+{
+    let asked = tracks[cpu as usize].asked();
+    count_aborts(lines, tracks, asked, entries);
+    count_at(lines, tracks, asked, reject_in(reject), true);
+}
+
 /// The CPU that an event is of.
 fn cpu_of(e: Event) -> u32
     ensures { result ≡ cpu_of_event e }
@@ -377,9 +398,7 @@ fn act(machine: &mut Machine, tracks: &mut [Track], lines: &mut [LineHeat], e: E
     let _outcome = machine.event(e);
     let _tally = machine.tally(cpu);
     let entries = entries_behind(machine, before);
-    let asked = tracks[cpu as usize].asked();
-    count_aborts(lines, tracks, asked, entries);
-    count_at(lines, tracks, asked, reject_in(machine.last_reject()), true);
+    count_conflicts(lines, tracks, cpu, entries, machine.last_reject());
     track(machine, tracks, entries, cpu);
 }
 

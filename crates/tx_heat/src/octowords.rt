@@ -79,19 +79,6 @@ fn reaches(range: Range, size: u64, place: u32) -> bool
     span.first <= at && at < span.end
 }
 
-/// Whether one of the ranges has a byte of the octoword.
-fn is_asked(ranges: &Touches, octoword: u32) -> bool
-    requires { All (λ r. r.first + r.length ≤ storage_size) ranges.now }
-    ensures { result ≡ asks ranges.now octoword }
-{
-    for i in 0..ranges.count() {
-        if reaches(ranges.at(i), OCTOWORD, octoword) {
-            return true;
-        }
-    }
-    false
-}
-
 /// Whether the range is stored into, and has a byte of the line.
 fn stores_line(range: Range, line: u32) -> bool
     requires { range.first + range.length ≤ storage_size }
@@ -152,6 +139,26 @@ fn mark(touched: &mut BitSet, stored: &mut BitSet, ranges: &Touches)
     }
 }
 
+/// Whether an octoword of the line is both in the range and in the set.
+fn shares(range: Range, set: &BitSet, line: u32) -> bool
+    requires inside { range.first + range.length ≤ storage_size }
+    requires size { length set.now ≡ storage_octowords }
+    requires line { line < storage_lines }
+    ensures found { result ≡ true → (k : ℕ) × (k < 8) × (has_place octoword_size range (8 * line + k) ≡ true)
+        × (is_marked set.now (8 * line + k) ≡ true) }
+    ensures none { result ≡ false → (k : ℕ) → k < 8
+        → (has_place octoword_size range (8 * line + k) && is_marked set.now (8 * line + k)) ≡ false }
+{
+    if range.length == 0 {
+        return false;
+    }
+    let span = span_of(range, OCTOWORD);
+    let first = (IN_LINE * line) as usize;
+    let from = span.first.max(first);
+    let end = span.end.min(first + IN_LINE as usize);
+    set.next(from, end).is_some()
+}
+
 /// Whether an octoword of the line is both asked for and in the set.
 fn is_shared(asked: &Touches, set: &BitSet, line: u32) -> bool
     requires inside { All (λ r. r.first + r.length ≤ storage_size) asked.now }
@@ -162,9 +169,8 @@ fn is_shared(asked: &Touches, set: &BitSet, line: u32) -> bool
     ensures none { result ≡ false → (k : ℕ) → k < 8
         → (asks asked.now (8 * line + k) && is_marked set.now (8 * line + k)) ≡ false }
 {
-    for at in 0..IN_LINE {
-        let octoword = IN_LINE * line + at;
-        if set.has(octoword as usize) && is_asked(asked, octoword) {
+    for i in 0..asked.count() {
+        if shares(asked.at(i), set, line) {
             return true;
         }
     }
