@@ -101,7 +101,7 @@ module _ (m : Setting) (s after : State) (cpu j : ℕ) (asked : List Range) (pas
   }
 
 -- there is something at each place
-present : (tracks : List Tracked) (j : ℕ) → j < length tracks → (t : Tracked) × (slice_get tracks j ≡ Some t)
+pub present : (tracks : List Tracked) (j : ℕ) → j < length tracks → (t : Tracked) × (slice_get tracks j ≡ Some t)
 present [] j low = absurd (omega arith)
 present (x ∷ rest) j low =
     (get_or (x ∷ rest) j x, slice_get-get_or (x ∷ rest) j x low)
