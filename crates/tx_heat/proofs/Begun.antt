@@ -1,5 +1,5 @@
 -- The first instruction of a private run is a begin, and touches nothing.
-use Rattle.std.proofs.Common.{◌≡◌, ℕ, Bool, true, false, List, [], Option, Some, None, refl, sym, ap, ◌∙◌, map}
+use Rattle.std.proofs.Common.{◌≡◌, ℕ, Bool, true, false, List, [], refl, sym, ap, ◌∙◌, map}
 use Rattle.std.specs.Prelude.{◌||◌, not}
 use Rattle.std.proofs.lemmas.Bool.{true≢false}
 use Rattle.z_regs.specs.Absolute.{absolute_ranges}
@@ -13,7 +13,7 @@ use Rattle.z_instr.specs.Roles.{begins}
 use Rattle.z_instr.specs.Table.{Entry, entry_at}
 use Rattle.z_effect.specs.Outcome.{Outcome, Did, Divides, Aborts}
 use Rattle.z_effect.specs.Outcome as outcome
-use Rattle.tx_serial.specs.Attempt.{Run, Mark, Open, Missing, at_rest}
+use Rattle.tx_serial.specs.Attempt.{Run, at_rest}
 use Rattle.tx_serial.specs.Fate.{Fate, Goes, Ends, Stops, fate, operands}
 use Rattle.tx_serial.specs.Flat.{FlatState, Storage}
 use Rattle.tx_serial.specs.Run.{run, more, after, after_fate, after_where, outcome_of}

@@ -1,5 +1,5 @@
 -- Marks of what was touched, and whether octowords of a line are shared.
-use Rattle.std.proofs.Common.{◌≡◌, ℕ, zero, suc, ◌+◌, ◌*◌, ◌<◌, ◌≤◌, Bool, true, false, List, [], ◌∷◌, ◌++◌}
+use Rattle.std.proofs.Common.{◌≡◌, ℕ, zero, suc, ◌+◌, ◌*◌, ◌<◌, Bool, true, false, List, [], ◌++◌}
 use Rattle.std.proofs.Common.{refl, sym, ap, ap₂, ◌∙◌, subst, arith, replicate, ◌-◌, max, min, Option, Some, None}
 use Rattle.std.specs.Prelude.{◌||◌, ◌&&◌, not, nat_le, nat_lt, is_some, IfSome}
 use Rattle.std.specs.List.{list_any, range_with_len}
@@ -99,10 +99,12 @@ shared_next r set line first last from end o places from_is end_is found is =
     let same : 8 * line + (at - 8 * line) ≡ at = omega (arith, low, from_is) in
     let inside : lies_in first last at ≡ true =
     and_from (nat_le first at) (nat_lt at last) (le-leb first at (omega (arith, low, from_is)))
-    (lt-ltb at last (omega (arith, high, end_is))) in
-    (at - 8 * line, omega (arith, low, high, from_is, end_is),
-    subst (λ n. has_place 32 r n ≡ true) (sym same) (sym (places at) ∙ inside),
-    subst (λ n. is_marked set n ≡ true) (sym same) f.1.marked)
+    (lt-ltb at last (omega (arith, high, end_is))) in (
+      at - 8 * line,
+      omega (arith, low, high, from_is, end_is),
+      subst (λ n. has_place 32 r n ≡ true) (sym same) (sym (places at) ∙ inside),
+      subst (λ n. is_marked set n ≡ true) (sym same) f.1.marked,
+    )
 
 module _ (asked past : List Range) (line : ℕ) (low : line < storage_lines) (exclusive : Bool)
     (is : stores asked line ≡ exclusive) (set : List Bool)

@@ -1,5 +1,5 @@
 -- The aborts that the entries so far tell of are counted.
-use Rattle.std.proofs.Common.{◌≡◌, ℕ, ◌+◌, List, ◌++◌, take}
+use Rattle.std.proofs.Common.{ℕ, ◌+◌, List, ◌++◌, take}
 use Rattle.std.specs.List.{flat_map}
 use Rattle.tx_journal.specs.Image.{cpu_of_event}
 use Rattle.tx_journal.specs.declared.events.Event.{Event}

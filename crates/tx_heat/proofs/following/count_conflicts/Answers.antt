@@ -12,11 +12,9 @@ returns c = λ m s e found all speaks counted.
     let tracks = c.args.tracks.now in
     let k = c.args.cpu in
     let old : Tracked = c.index-tracks-cpu.result in
-    let is = c.index-tracks-cpu.is in
     let entries = c.args.entries.now in
     let said = subst (SpeaksFor m s (cpu_of_event e)) (sym c.asked-asked.ensures.value)
-    (subst (λ (x : Tracked). SpeaksFor m s (cpu_of_event e) x.asked) is
-    (speaks old (kept_at tracks k old c.requires.cpu (sym is)))) in
+    (speaks old (kept_at tracks k old c.requires.cpu (sym c.index-tracks-cpu.is))) in
     let one = c.count_aborts.ensures.counted m s e found all said counted in
     let two = c.count_at.ensures.counted m s e (found ++ flat_map (aborts_by m s e) entries) all said one in
     subst (λ at. AreCounted c.count_at.new.lines

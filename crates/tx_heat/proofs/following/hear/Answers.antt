@@ -1,6 +1,5 @@
 -- It is known what the CPU asks for, nobody needs it, or it is found out.
-use Rattle.std.proofs.Common.{◌≡◌, ◌<◌, Some, true, sym, ap, ◌∙◌, subst, arith, length, set}
-use Rattle.std.specs.Prelude.{slice_get}
+use Rattle.std.proofs.Common.{◌≡◌, ◌<◌, Some, true, sym, ap, ◌∙◌, subst, arith, length}
 use Rattle.std.proofs.lemmas.Option.{get_or_from_slice_get}
 use Rattle.tx_machine.specs.Machine.{setting_of, state_of}
 use Rattle.tx_heat.specs.Watched.{Tracked, IsTrack}

@@ -1,5 +1,5 @@
 -- Where an attempt was aborted, of all CPUs; else of the event's CPU.
-use Rattle.std.proofs.Common.{◌≡◌, ◌<◌, ◌∙◌, sym, ap, subst, arith, length, List, true}
+use Rattle.std.proofs.Common.{◌≡◌, ◌<◌, ◌∙◌, sym, subst, arith, length, List, true}
 use Rattle.z_regs.specs.declared.ranges.Range.{Range}
 use Rattle.tx_meaning.specs.State.{is_live}
 use Rattle.tx_machine.specs.Machine.{setting_of, state_of}

@@ -1,5 +1,4 @@
 -- Nothing is asked for, and no attempt completes more.
-use Rattle.std.proofs.Common.{ap, subst}
 use Rattle.tx_machine.specs.Machine.{setting_of, state_of}
 use Rattle.tx_heat.proofs.Followed.{waiting_tracks}
 use Rattle.tx_heat.proofs.Waiting.{no_conflict}

@@ -23,9 +23,13 @@ loop-i-preserved c = λ k lt.
 pub returns-then-shares-clause-found : goal.returns-then-shares-clause-found
 unfolding asks
 returns-then-shares-clause-found c = λ is.
-    let f = c.shares.ensures.found c.if-shares.true in
-    (f.0, f.1, any_at (λ (r : Range). has_place 32 r (8 * c.args.line + f.0)) c.args.asked.now c.loop-i.i c.at.result
-    c.at.ensures f.2, f.3)
+    let f = c.shares.ensures.found c.if-shares.true in (
+      f.0,
+      f.1,
+      any_at (λ (r : Range). has_place 32 r (8 * c.args.line + f.0)) c.args.asked.now c.loop-i.i c.at.result
+          c.at.ensures f.2,
+      f.3,
+    )
 
 pub returns-clause-none : goal.returns-clause-none
 unfolding asks

@@ -1,6 +1,6 @@
 -- A range without bytes has no octoword, and one in storage has none behind its end.
 use Rattle.std.proofs.Common.{sym, ap, ◌∙◌}
-use Rattle.std.specs.Prelude.{◌||◌, ◌&&◌}
+use Rattle.std.specs.Prelude.{◌||◌}
 use Rattle.std.proofs.lemmas.Bool.{and_right}
 use Rattle.tx_footprint.specs.Places.{has_place}
 use Rattle.tx_footprint.proofs.Marking.{or_false}
