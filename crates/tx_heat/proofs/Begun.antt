@@ -53,17 +53,20 @@ module _ (text : List ℕ) (storage : Storage) (c : Cpu) where
   abbrev p : Run
   p = at_rest storage c
 
+  -- what it has touched are its operands
   by_outcome : (i : Instr) (ranges : List Range) (o : Outcome) → ranges ≡ [] → (after i ranges p o).touched ≡ []
   by_outcome i ranges (Did cpu bytes) none = ap (absolute_ranges c.prefix) none
   by_outcome i ranges (outcome.Overflowed cpu bytes) none = ap (absolute_ranges c.prefix) none
   by_outcome i ranges Divides none = refl
   by_outcome i ranges (Aborts code) none = refl
 
+  -- only a begin may be the first
   by_begin : (b : Bool) (i : Instr) (ranges : List Range) → (b ≡ true → ranges ≡ [])
       → (after_where b i ranges p).touched ≡ []
   by_begin true i ranges none = by_outcome i ranges (outcome_of i ranges p) (none refl)
   by_begin false i ranges none = refl
 
+  -- one that does not go touches nothing
   by_fate : (f : Fate) → fate text p ≡ f → (after_fate f p).touched ≡ []
   by_fate (Goes i ranges) is =
       by_begin (begins (entry_at i.op.number)) i ranges
@@ -71,6 +74,7 @@ module _ (text : List ℕ) (storage : Storage) (c : Cpu) where
   by_fate (Ends why) is = refl
   by_fate (Stops e) is = refl
 
+  -- so nothing is touched
   first_adds : (more text p).touched ≡ []
   unfolding more
   first_adds = by_fate (fate text p) refl

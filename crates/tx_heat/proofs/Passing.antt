@@ -43,12 +43,15 @@ module _ (m : Setting) (s after : State) (cpu j : ℕ) (asked : List Range) (pas
     (old : Tracked) (track : IsTrack m s j old) where
   -- an attempt that has completed as many instructions has touched the same
   module _ (same : (after.numbers j).completed ≡ (s.numbers j).completed) where
+    -- it was live where it is
     was_live : is_live after j ≡ true → is_live s j ≡ true
     was_live live = ap (nat_lt 0) (sym same) ∙ live
 
+    -- and is where it was
     now_live : is_live s j ≡ true → is_live after j ≡ true
     now_live live = ap (nat_lt 0) same ∙ live
 
+    -- so it has touched what it had
     same_touched : (attempt_of m s j).touched ≡ (attempt_of m after j).touched
     same_touched =
         by_way (cases_Bool (is_live after j)) (λ live. sym (passes.stays live same))
@@ -63,6 +66,7 @@ module _ (m : Setting) (s after : State) (cpu j : ℕ) (asked : List Range) (pas
       asked = λ known. track.asked known ∙ sym (passes.wants (track.live known) same);
     }
 
+    -- of the event's CPU this is known, where its attempt is live
     pub stay_track : (new : Tracked) → new ≡ record old { known = nat_lt 0 old.completed }
         → (is_live s j ≡ true → old.asked ≡ wanted m s j) → IsTrack m after j new
     stay_track new is speaks =

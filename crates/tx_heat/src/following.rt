@@ -12,7 +12,7 @@ ghost use Rattle.tx_meaning.specs.State.{State, beginning, is_live, attempt_of};
 ghost use Rattle.tx_machine.specs.Machine.{setting_of, state_of, event_of, after};
 ghost use Rattle.tx_machine.specs.Wanted.{wanted};
 ghost use Rattle.tx_heat.specs.Conflicts.{Conflict, line_of_cause, abort_of, reject_of};
-ghost use Rattle.tx_heat.specs.Conflicts.{conflict_where, aborts_by, conflicts_in};
+ghost use Rattle.tx_heat.specs.Conflicts.{conflict, conflict_where, aborts_by, conflicts_in};
 ghost use Rattle.tx_heat.specs.Octowords.{are_apart};
 ghost use Rattle.tx_heat.specs.Watched.{Tracked, AreInside, AreTracks, IsTrack, SpeaksFor, AreCounted, HasRoom};
 ghost use Rattle.tx_heat.specs.Watched.{Passes, IsReached, StaysBeside, Waits, aborts, is_abort};
@@ -74,6 +74,31 @@ fn are_apart(tracks: &[Track], asked: &Touches, holder: u32, line: u32) -> bool
     true
 }
 
+/// Counts a conflict with this holder and line.
+fn count_one(
+    lines: &mut [LineHeat],
+    tracks: &[Track],
+    asked: &Touches,
+    at: (u32, u32),
+    rejected: bool,
+)
+    requires inside { AreInside asked.now }
+    requires room { HasRoom lines.old 1 }
+    ensures counted { (m : Setting) (s : State) (e : Event) (found : List Conflict) → AreTracks m s tracks.now
+        → SpeaksFor m s (cpu_of_event e) asked.now → AreCounted lines.old found
+        → AreCounted lines.new (found ++ conflict m s e at.0 at.1 rejected ∷ []) }
+    ensures room { (n : ℕ) → HasRoom lines.old (n + 1) → HasRoom lines.new n }
+{
+    if at.1 < LINES {
+        let clash = Clash {
+            line: at.1,
+            rejected,
+            apart: are_apart(tracks, asked, at.0, at.1),
+        };
+        count(lines, clash);
+    }
+}
+
 /// Counts a conflict with this holder and line, where there is one.
 fn count_at(
     lines: &mut [LineHeat],
@@ -89,17 +114,8 @@ fn count_at(
         → AreCounted lines.new (found ++ conflict_where m s e rejected at) }
     ensures room { (n : ℕ) → HasRoom lines.old (n + 1) → HasRoom lines.new n }
 {
-    let Some((holder, line)) = at else {
-        return;
-    };
-    if line < LINES {
-        let apart = are_apart(tracks, asked, holder, line);
-        let clash = Clash {
-            line,
-            rejected,
-            apart,
-        };
-        count(lines, clash);
+    if let Some(at) = at {
+        count_one(lines, tracks, asked, at, rejected);
     }
 }
 
