@@ -12,15 +12,22 @@ use Rattle.tx_meaning.specs.State.{State, is_live, attempt_of, cpus_of}
 use Rattle.tx_meaning.specs.Turn.{happen}
 use Rattle.tx_meaning.specs.Views.{GoesOnWith}
 use Rattle.tx_works.specs.Wanted.{wanted}
-use Rattle.std.proofs.Common.{ap₂, append_assoc, Option, drop, ◌^◌, [], refl}
+use Rattle.std.proofs.Common.{ap₂, append_assoc, Option, drop, ◌^◌, false, refl}
+use Rattle.std.specs.Prelude.{nat_lt}
+use Rattle.std.proofs.lemmas.Bool.{cases_eq, cases_Bool}
+use borrow.Enum.Arm.{by_way}
+use Rattle.tx_progress.proofs.Parts.{not_live}
 use Rattle.std.specs.List.{flat_map}
 use Rattle.std.proofs.lemmas.List.{length-drop}
 use Rattle.tx_heat.specs.Conflicts.{Conflict, aborts_by, conflict_where, conflicts_in, entries_in, reject_of}
 use Rattle.tx_heat.specs.declared.counting.LineHeat.{LineHeat}
 use Rattle.tx_heat.proofs.Counted.{room_less}
-use Rattle.tx_heat.specs.Watched.{IsReached, Passes, AreCounted, HasRoom, StaysBeside, Waits, aborts}
+use Rattle.tx_heat.specs.Watched.{Tracked, AreTracks, IsReached, Passes, AreCounted, HasRoom, StaysBeside, Waits}
+use Rattle.tx_heat.specs.Watched.{aborts}
 use Rattle.tx_heat.proofs.Quiet.{stays_beside}
+use Rattle.tx_heat.proofs.Passing.{beside_track}
 use Rattle.tx_heat.proofs.Tracked.{touches_nothing, touches_the_same, others_stay, touches_more, wants_the_same}
+use Rattle.tx_heat.proofs.Tracked.{begins_with_nothing}
 use Rattle.tx_heat.proofs.Waiting.{waiting_rests}
 
 -- a history that goes on is not shorter
@@ -29,60 +36,66 @@ not_shorter before after goes =
     let same = sym (length-append before goes.more) ∙ ap length goes.is in omega (arith, same)
 
 -- what an event makes of what attempts have touched
-pub passes : (m : Setting) (s : State) (e : Event) → IsSetting m → IsReached m s → cpu_of_event e < cpus_of m
-    → (j : ℕ) → Passes m s (happen m e s).state (cpu_of_event e) (wanted m s (cpu_of_event e)) j
-passes m s e setting reached within j =
-    subst (λ (t : State). Passes m t (happen m e t).state (cpu_of_event e) (wanted m t (cpu_of_event e)) j)
+pub passes : (m : Setting) (s : State) (e : Event) (asked : List Range) → IsSetting m → IsReached m s
+    → cpu_of_event e < cpus_of m → (is_live s (cpu_of_event e) ≡ true → asked ≡ wanted m s (cpu_of_event e))
+    → (j : ℕ) → Passes m s (happen m e s).state (cpu_of_event e) asked j
+passes m s e asked setting reached within speaks j =
+    let events = reached.events in
+    let known = reached.known in
+    let old = meaning m events in
+    let c = cpu_of_event e in
+    let told = subst (λ (t : State). is_live t c ≡ true → asked ≡ wanted m t c) reached.is speaks in
+    subst (λ (t : State). Passes m t (happen m e t).state c asked j)
     (sym reached.is) record {
-      over = λ off. touches_nothing m (happen m e (meaning m reached.events)).state j off;
-      stays = λ live same. touches_the_same m setting reached.events reached.known e within j live same;
-      others = λ ne live. others_stay m setting reached.events reached.known e within j ne live;
-      more = λ own. subst (λ i. is_live (happen m e (meaning m reached.events)).state i ≡ true
-          → ((happen m e (meaning m reached.events)).state.numbers i).completed
-          ≢ ((meaning m reached.events).numbers i).completed
-          → (attempt_of m (happen m e (meaning m reached.events)).state i).touched
-          ≡ (attempt_of m (meaning m reached.events) i).touched
-          ++ wanted m (meaning m reached.events) (cpu_of_event e)) (sym own)
-          (touches_more m setting reached.events reached.known e within);
-      wants = λ live same. wants_the_same m setting reached.events reached.known e within j live same;
+      over = λ off. touches_nothing m (happen m e old).state j off;
+      begins = λ off. begins_with_nothing m setting events known e within j off;
+      stays = λ live same. touches_the_same m setting events known e within j live same;
+      others = λ ne live. others_stay m setting events known e within j ne live;
+      more = λ own. subst (λ i. is_live old i ≡ true → is_live (happen m e old).state i ≡ true
+          → ((happen m e old).state.numbers i).completed ≢ (old.numbers i).completed
+          → (attempt_of m (happen m e old).state i).touched ≡ (attempt_of m old i).touched ++ asked) (sym own)
+          (λ was live other. touches_more m setting events known e within live other
+          ∙ ap (λ x. (attempt_of m old c).touched ++ x) (sym (told was)));
+      wants = λ live same. wants_the_same m setting events known e within j live same;
     }
 
 -- the same of values that are equal to these
 pub passes_as : (m n : Setting) (s t : State) (e : Event) (cpu : ℕ) (asked : List Range) → n ≡ m
-    → t ≡ (happen m e s).state → cpu ≡ cpu_of_event e → asked ≡ wanted m s cpu → IsSetting m → IsReached m s
-    → cpu_of_event e < cpus_of m → (j : ℕ) → Passes n s t cpu asked j
-passes_as m n s t e cpu asked same state own wants setting reached within j =
+    → t ≡ (happen m e s).state → cpu ≡ cpu_of_event e → (is_live s cpu ≡ true → asked ≡ wanted m s cpu)
+    → IsSetting m → IsReached m s → cpu_of_event e < cpus_of m → (j : ℕ) → Passes n s t cpu asked j
+passes_as m n s t e cpu asked same state own speaks setting reached within j =
     subst (λ x. Passes x s t cpu asked j) (sym same)
     (subst (λ x. Passes m s x cpu asked j) (sym state)
     (subst (λ x. Passes m s (happen m e s).state x asked j) (sym own)
-    (subst (λ x. Passes m s (happen m e s).state (cpu_of_event e) x j) (sym (wants ∙ ap (wanted m s) own))
-    (passes m s e setting reached within j))))
+    (passes m s e asked setting reached within
+    (subst (λ i. is_live s i ≡ true → asked ≡ wanted m s i) own speaks) j)))
 
--- in a turn of waiting the CPU asks for nothing
-pub passes_waiting : (m n : Setting) (s t : State) (e : Event) (cpu : ℕ) → n ≡ m → t ≡ (happen m e s).state
-    → cpu ≡ cpu_of_event e → IsSetting m → IsReached m s → cpu_of_event e < cpus_of m → Waits s e → (j : ℕ)
-    → Passes n s t cpu [] j
-passes_waiting m n s t e cpu same state own setting reached within waits j =
-    let p = passes_as m n s t e cpu (wanted m s cpu) same state own refl setting reached within j in
-    record {
-      over = p.over;
-      stays = p.stays;
-      others = p.others;
-      wants = p.wants;
-      more = λ is live other. absurd (other
-          (subst (λ (u : State). is_live u j ≡ true → (u.numbers j).completed ≡ (s.numbers j).completed) (sym state)
-          (subst (λ i. is_live (happen m e s).state i ≡ true
-          → ((happen m e s).state.numbers i).completed ≡ (s.numbers i).completed) (sym (is ∙ own))
-          (waiting_rests m e s waits).own) live));
+-- in a turn of waiting of a CPU without a live attempt no attempt completes more
+waits_on : (m : Setting) (s : State) (e : Event) → Waits s e → is_live s (cpu_of_event e) ≡ false → (j : ℕ)
+    → ((happen m e s).state.numbers j).completed ≡ (s.numbers j).completed
+waits_on m s e waits off j =
+    let c = cpu_of_event e in
+    let rests = waiting_rests m e s waits in
+    by_way (cases_eq j c)
+    (λ own. subst (λ i. ((happen m e s).state.numbers i).completed ≡ (s.numbers i).completed) (sym own)
+    (by_way (cases_Bool (is_live (happen m e s).state c)) rests.own
+    (λ over. not_live ((happen m e s).state.numbers c).completed over ∙ sym (not_live (s.numbers c).completed off))))
+    (rests.others j)
+
+-- and what is kept of all CPUs stays
+pub waiting_tracks : (m : Setting) (s t : State) (e : Event) (tracks : List Tracked) → t ≡ (happen m e s).state
+    → IsSetting m → IsReached m s → cpu_of_event e < cpus_of m → is_live s (cpu_of_event e) ≡ false → Waits s e
+    → AreTracks m s tracks → AreTracks m t tracks
+waiting_tracks m s t e tracks state setting reached within off waits all =
+    let c = cpu_of_event e in
+    let asked = wanted m s c in
+    subst (λ u. AreTracks m u tracks) (sym state) record {
+      each = λ j old at.
+          beside_track m s (happen m e s).state c j asked
+          (passes m s e asked setting reached within (λ live. refl) j) old (all.each j old at)
+          (waits_on m s e waits off j);
+      beyond = λ j le. ap (nat_lt 0) (waits_on m s e waits off j) ∙ all.beyond j le;
     }
-
--- and no attempt of another CPU is over
-pub waiting_beside : (m : Setting) (s t : State) (e : Event) (cpu : ℕ) → t ≡ (happen m e s).state
-    → cpu ≡ cpu_of_event e → Waits s e → StaysBeside s t cpu
-waiting_beside m s t e cpu state own waits =
-    subst (λ u. StaysBeside s u cpu) (sym state)
-    (subst (λ i. StaysBeside s (happen m e s).state i) (sym own)
-    record { same = (waiting_rests m e s waits).others })
 
 -- where the new entries tell of no abort
 pub quiet_beside : (m : Setting) (s t : State) (e : Event) (cpu : ℕ) (entries : List Entry)

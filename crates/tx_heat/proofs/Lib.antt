@@ -1,4 +1,5 @@
 -- What events make of what attempts have touched, and marks, counts and texts of it.
+pub mod Begun
 pub mod Went
 pub mod Quiet
 pub mod Waiting

@@ -1,15 +1,16 @@
 -- Marks of what was touched, and whether octowords of a line are shared.
-use Rattle.std.proofs.Common.{◌≡◌, ℕ, zero, suc, ◌+◌, ◌*◌, ◌<◌, ◌≤◌, Bool, true, false, List, [], ◌∷◌, ◌++◌}
-use Rattle.std.proofs.Common.{refl, sym, ap, ap₂, ◌∙◌, arith, replicate}
-use Rattle.std.specs.Prelude.{◌||◌, ◌&&◌, not, nat_le, nat_lt}
+use Rattle.std.proofs.Common.{◌≡◌, ℕ, zero, suc, ◌+◌, ◌*◌, ◌<◌, Bool, true, false, List, [], ◌++◌}
+use Rattle.std.proofs.Common.{refl, sym, ap, ap₂, ◌∙◌, subst, arith, replicate, ◌-◌, max, min, Option, Some, None}
+use Rattle.std.specs.Prelude.{◌||◌, ◌&&◌, not, nat_le, nat_lt, is_some, IfSome}
 use Rattle.std.specs.List.{list_any, range_with_len}
-use Rattle.std.proofs.lemmas.Bool.{cases_lt, or_from, or_parts, and_cases, and_left, and_right, leb-false, ltb-false, lt-leb, le-ltb}
+use Rattle.std.proofs.lemmas.Bool.{cases_lt, or_from, and_from, le-leb, lt-ltb}
 use Rattle.std.proofs.lemmas.List.{get_or-replicate, get_or_past, length-replicate}
 use Rattle.std.proofs.lemmas.List.Folds.{list_any-append, list_any_at}
 use Rattle.std.proofs.lemmas.List.FromFn.{length-range_with_len, get_or-range_with_len}
 use borrow.Enum.Arm.{by_way}
 use Rattle.z_regs.specs.declared.ranges.Range.{Range}
 use Rattle.line_table.specs.Sizes.{storage_lines}
+use Rattle.bit_set.specs.Bits.{IsNext}
 use Rattle.tx_footprint.specs.Places.{stores, has_place, lies_in}
 use Rattle.tx_heat.specs.Marks.{Marks, AreMarksOf, is_marked}
 use Rattle.tx_heat.specs.Octowords.{storage_octowords, asks, meets, are_apart}
@@ -38,31 +39,9 @@ none_marked marks one other = record {
 pub all_off : (set : List Bool) (n : ℕ) → set ≡ replicate n false → (o : ℕ) → is_marked set o ≡ false
 all_off set n is o = ap (λ marks. is_marked marks o) is ∙ no_mark n o
 
--- ---- spans of marks
+-- ---- more marks
 
--- what lies in no greater span lies in none that this has
-pub lies_in_none : (first end a b k : ℕ) → a ≤ first → end ≤ b → lies_in a b k ≡ false → lies_in first end k ≡ false
-lies_in_none first end a b k low high off =
-    by_way (and_cases (nat_le a k) (nat_lt k b) off)
-    (λ below. and_left (nat_le first k) (nat_lt k end)
-    (lt-leb first k (omega (arith, low, leb-false a k below))))
-    (λ past. and_right (nat_le first k) (nat_lt k end)
-    (le-ltb k end (omega (arith, high, ltb-false k b past))))
-
--- what meets nothing of all meets nothing that is stored into
-pub meets_less : (ranges : List Range) (o : ℕ) → meets true ranges o ≡ false → meets false ranges o ≡ false
-unfolding meets
-meets_less [] o off = refl
-meets_less (r ∷ rest) o off =
-    let parts = or_parts (has_place 32 r o) (list_any (λ r. (true || r.store) && has_place 32 r o) rest) off in
-    or_from ((false || r.store) && has_place 32 r o)
-    (list_any (λ r. (false || r.store) && has_place 32 r o) rest)
-    (and_right (false || r.store) (has_place 32 r o) parts.0) (meets_less rest o parts.1)
-
--- what is marked more lies in a span with it
-pub more_within : (old new more : Bool) → new ≡ (old || more) → old ≡ false → more ≡ false → new ≡ false
-more_within old new more is one other = is ∙ or_from old more one other
-
+-- more ranges meet what either of them meets
 meets_more : (all : Bool) (past more : List Range) (o : ℕ)
     → meets all (past ++ more) o ≡ (meets all past o || meets all more o)
 unfolding meets
@@ -96,6 +75,36 @@ some_in : (test : ℕ → Bool) (a n k : ℕ) → k < n → test (a + k) ≡ tru
 some_in test a n k lt is =
     list_any_at test (range_with_len a n) k 0 (omega (arith, lt, length-range_with_len a n))
     (ap test (get_or-range_with_len a n k 0 lt) ∙ is)
+
+-- what neither of two has is not shared by both
+pub neither_shared : (a b c : Bool) → (a && c) ≡ false → (b && c) ≡ false → ((a || b) && c) ≡ false
+neither_shared true b c one other = one
+neither_shared false b c one other = other
+
+-- what a test has passed is there
+found_at : (P : ℕ → Type 0) (o : Option ℕ) → is_some o ≡ true → IfSome o P → (at : ℕ) × P at
+found_at P (Some at) is found = (at, found)
+found_at P None is found = absurd (let x : false ≡ true = is in cc)
+
+-- the next mark in a span and a line is one of both
+pub shared_next : (r : Range) (set : List Bool) (line first last from end : ℕ) (o : Option ℕ)
+    → ((k : ℕ) → lies_in first last k ≡ has_place 32 r k) → from ≡ max first (8 * line)
+    → end ≡ min last (8 * line + 8) → IfSome o (λ at. IsNext set from end at) → is_some o ≡ true
+    → (k : ℕ) × (k < 8) × (has_place 32 r (8 * line + k) ≡ true) × (is_marked set (8 * line + k) ≡ true)
+shared_next r set line first last from end o places from_is end_is found is =
+    let f = found_at (λ at. IsNext set from end at) o is found in
+    let at = f.0 in
+    let low = f.1.from_on in
+    let high = f.1.below in
+    let same : 8 * line + (at - 8 * line) ≡ at = omega (arith, low, from_is) in
+    let inside : lies_in first last at ≡ true =
+    and_from (nat_le first at) (nat_lt at last) (le-leb first at (omega (arith, low, from_is)))
+    (lt-ltb at last (omega (arith, high, end_is))) in (
+      at - 8 * line,
+      omega (arith, low, high, from_is, end_is),
+      subst (λ n. has_place 32 r n ≡ true) (sym same) (sym (places at) ∙ inside),
+      subst (λ n. is_marked set n ≡ true) (sym same) f.1.marked,
+    )
 
 module _ (asked past : List Range) (line : ℕ) (low : line < storage_lines) (exclusive : Bool)
     (is : stores asked line ≡ exclusive) (set : List Bool)

@@ -1,8 +1,9 @@
 -- What the attempts have touched behind an event, by what they had touched before it.
 use Rattle.std.proofs.Common.{◌≡◌, ◌≢◌, ℕ, suc, ◌+◌, ◌<◌, Bool, true, false, List, [], ◌++◌, Option, Some}
 use Rattle.std.proofs.Common.{None}
-use Rattle.std.proofs.Common.{refl, sym, ap, ap₂, ◌∙◌, add-one}
+use Rattle.std.proofs.Common.{refl, sym, ap, ap₂, ◌∙◌, subst, add-one}
 use Rattle.std.specs.Prelude.{nat_lt}
+use Rattle.std.proofs.lemmas.Bool.{cases_eq}
 use borrow.Enum.Arm.{by_way}
 use Rattle.z_regs.specs.Absolute.{absolute_ranges}
 use Rattle.z_regs.specs.declared.ranges.Range.{Range}
@@ -38,6 +39,7 @@ use Rattle.tx_keeping.proofs.Truth.{Truth, flat_is, attempt_is}
 use Rattle.tx_keeping.proofs.Turning.{own_stays, own_fate, happen_ok}
 use Rattle.tx_opacity.proofs.Others.{Left, others_turn, others_interruption}
 use Rattle.tx_works.specs.Wanted.{wanted, wanted_by, real_ranges, operands_of}
+use Rattle.tx_heat.proofs.Begun.{first_touches_nothing}
 use Rattle.tx_heat.proofs.Went.{More, Went, Over, Same, Further, own_turn, own_interruption, completed}
 
 -- ---- a run with one instruction more
@@ -265,3 +267,39 @@ module _ (m : Setting) (s : IsSetting m) (events : List Event) (known : AreKnown
       (λ same. other (ap (λ (t : State). (t.numbers c).completed) is_next ∙ same
       ∙ sym (ap (λ (t : State). (t.numbers c).completed) is_now)))
       ∙ sym (ap (λ (t : State). (attempt_of m t c).touched ++ wanted m t c) is_now)
+
+  -- an attempt that is begun has touched nothing
+  one_more : Went m now next c → is_live next.state c ≡ true → completed now c ≡ 0
+      → (attempt_of m next.state c).touched ≡ []
+  one_more (Over over) live none = absurd (let x : true ≡ false = sym live ∙ over in cc)
+  one_more (Same same) live none = none_live (completed next c) live (same ∙ none)
+  one_more (Further x) live none =
+      let good = keeping_good m s events known in
+      let after = (happen_ok m s e now good within).good.truth in
+      let begun : (now.locals c).attempt.count + 1 ≡ 1 =
+      ap (λ n. n + 1) (sym (good.truth.each c).count ∙ none) in
+      ap (λ (p : Run). p.touched) (same_run m s now next c good.truth after x)
+      ∙ ap (λ n. (run (kept_flat m x.saw.mid) c n).touched) begun
+      ∙ first_touches_nothing (kept_flat m x.saw.mid) c
+
+  begun_by : (live : Bool) → is_live new c ≡ live → is_live old c ≡ false → (attempt_of m new c).touched ≡ []
+  begun_by false over off = touches_nothing m new c over
+  begun_by true live off =
+      ap (λ (t : State). (attempt_of m t c).touched) is_next
+      ∙ one_more (went e within) (ap (λ (t : State). is_live t c) (sym is_next) ∙ live)
+      (ap (λ (t : State). (t.numbers c).completed) (sym is_now) ∙ not_live (old.numbers c).completed off)
+
+  -- and one of another CPU is not begun
+  beside_by : (j : ℕ) (live : Bool) → j ≢ c → is_live new j ≡ live → is_live old j ≡ false
+      → (attempt_of m new j).touched ≡ []
+  beside_by j false ne over off = touches_nothing m new j over
+  beside_by j true ne live off =
+      none_live (new.numbers j).completed live
+      (others_stay j ne live ∙ not_live (old.numbers j).completed off)
+
+  pub begins_with_nothing : (j : ℕ) → is_live old j ≡ false → (attempt_of m new j).touched ≡ []
+  begins_with_nothing j off =
+      by_way (cases_eq j c)
+      (λ own. subst (λ i. is_live old i ≡ false → (attempt_of m new i).touched ≡ []) (sym own)
+      (λ h. begun_by (is_live new c) refl h) off)
+      (λ ne. beside_by j (is_live new j) ne refl off)

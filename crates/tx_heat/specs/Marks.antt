@@ -1,8 +1,7 @@
 -- What is kept of an attempt: a mark for each octoword of storage.
-use Rattle.std.specs.Prelude.{◌≡◌, ℕ, ◌<◌, ◌≤◌, true, false, Bool, List, length}
+use Rattle.std.specs.Prelude.{◌≡◌, ℕ, ◌<◌, true, false, Bool, List, length}
 use Rattle.std.specs.List.{slice_index_or}
 use Rattle.z_regs.specs.declared.ranges.Range.{Range}
-use Rattle.tx_footprint.specs.Places.{lies_in}
 use Rattle.tx_heat.specs.Octowords.{storage_octowords, meets}
 
 -- the octowords that were touched, and those that were stored into
@@ -19,11 +18,7 @@ pub record AreMarksOf (marks : Marks) (ranges : List Range) : Type 0 where
   pub touched : (o : ℕ) → o < storage_octowords → is_marked marks.touched o ≡ meets true ranges o
   pub stored : (o : ℕ) → o < storage_octowords → is_marked marks.stored o ≡ meets false ranges o
 
--- a mark for each octoword of storage, and none but those in a span is set
-pub record AreWithin (marks : Marks) (first end : ℕ) : Type 0 where
-  pub touched_size : length marks.touched ≡ storage_octowords
-  pub stored_size : length marks.stored ≡ storage_octowords
-  pub order : first ≤ end
-  pub within : end ≤ storage_octowords
-  pub touched : (o : ℕ) → lies_in first end o ≡ false → is_marked marks.touched o ≡ false
-  pub stored : (o : ℕ) → lies_in first end o ≡ false → is_marked marks.stored o ≡ false
+-- a mark for each octoword of storage
+pub record AreWhole (marks : Marks) : Type 0 where
+  pub touched : length marks.touched ≡ storage_octowords
+  pub stored : length marks.stored ≡ storage_octowords

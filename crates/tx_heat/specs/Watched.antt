@@ -1,7 +1,7 @@
 -- What is kept while a run is watched: the octowords of live attempts, and the lines with what was counted
 -- so far.
 use Rattle.std.specs.Prelude.{◌≡◌, ◌≢◌, ℕ, ◌+◌, ◌^◌, ◌<◌, ◌≤◌, ◌++◌, Bool, true, false, List, [], length}
-use Rattle.std.specs.Prelude.{Option, Some, None, count_by, nat_lt, slice_get, All, IfSome}
+use Rattle.std.specs.Prelude.{Some, count_by, nat_lt, slice_get, All}
 use Rattle.z_regs.specs.declared.ranges.Range.{Range}
 use Rattle.z_regs.specs.Prefix.{storage_size}
 use Rattle.line_table.specs.Sizes.{storage_lines}
@@ -18,6 +18,7 @@ use Rattle.tx_works.specs.Wanted.{wanted}
 use Rattle.tx_heat.specs.Conflicts.{Conflict, conflicts}
 use Rattle.tx_heat.specs.Heats.{line_heat}
 use Rattle.tx_heat.specs.Marks.{Marks, AreMarksOf}
+use Rattle.tx_heat.specs.Octowords.{are_apart}
 use Rattle.tx_heat.specs.declared.counting.LineHeat.{LineHeat}
 
 -- known events lead to the state
@@ -26,28 +27,38 @@ pub record IsReached (m : Setting) (s : State) : Type 0 where
   pub known : AreKnown m events
   pub is : s ≡ meaning m events
 
--- what is kept of a CPU: the marks of its attempt, and what it asks for next, where that is known
+-- what is kept of a CPU: the marks of its attempt, how many instructions that has completed, and ranges that the CPU
+-- asks for; whether these are known to be what it asks for next
 pub record Tracked : Type 0 where
   pub marks : Marks
-  pub asked : Option (List Range)
+  pub completed : ℕ
+  pub asked : List Range
+  pub known : Bool
 
 -- nothing is marked, and nothing known
 pub record IsUnused (t : Tracked) : Type 0 where
   pub marks : AreMarksOf t.marks []
-  pub asked : t.asked ≡ None
+  pub completed : t.completed ≡ 0
+  pub known : t.known ≡ false
 
 -- all ranges lie in storage
 abbrev pub AreInside : List Range → Type 0
 AreInside ranges = All (λ r. r.first + r.length ≤ storage_size) ranges
 
-abbrev pub IsInside : Tracked → Type 0
-IsInside t = IfSome t.asked AreInside
-
--- the marks are those of the CPU's attempt; what it asks for next is known of a live one alone
+-- the marks are those of the CPU's attempt, which has completed so many instructions; what the CPU asks for next is
+-- known of a live one alone
 pub record IsTrack (m : Setting) (s : State) (j : ℕ) (t : Tracked) : Type 0 where
   pub marks : AreMarksOf t.marks (attempt_of m s j).touched
-  pub live : (asked : List Range) → t.asked ≡ Some asked → is_live s j ≡ true
-  pub asked : (asked : List Range) → t.asked ≡ Some asked → asked ≡ wanted m s j
+  pub completed : t.completed ≡ (s.numbers j).completed
+  pub live : t.known ≡ true → is_live s j ≡ true
+  pub asked : t.known ≡ true → t.asked ≡ wanted m s j
+
+-- for what lies apart from any attempt's octowords these ranges are as good as what the CPU asks for, and a live
+-- attempt's CPU asks for them
+pub record SpeaksFor (m : Setting) (s : State) (cpu : ℕ) (asked : List Range) : Type 0 where
+  pub apart : (holder line : ℕ) → are_apart asked (attempt_of m s holder).touched line
+      ≡ are_apart (wanted m s cpu) (attempt_of m s holder).touched line
+  pub own : is_live s cpu ≡ true → asked ≡ wanted m s cpu
 
 -- of each CPU; one that is not there has no attempt
 pub record AreTracks (m : Setting) (s : State) (tracks : List Tracked) : Type 0 where
@@ -79,13 +90,15 @@ pub record HasRoom (lines : List LineHeat) (more : ℕ) : Type 0 where
   pub each : (k : ℕ) (h : LineHeat) → slice_get lines k ≡ Some h → IsBelow h more
 
 -- what a CPU's attempt has touched behind an event, by what it had touched before it and what the event's
--- CPU asked for; and what an attempt that has completed no more asks for next
+-- CPU asked for, where that had a live attempt; and what an attempt that has completed no more asks for next
 pub record Passes (m : Setting) (before after : State) (cpu : ℕ) (asked : List Range) (j : ℕ) : Type 0 where
   pub over : is_live after j ≡ false → (attempt_of m after j).touched ≡ []
+  pub begins : is_live before j ≡ false → (attempt_of m after j).touched ≡ []
   pub stays : is_live after j ≡ true → (after.numbers j).completed ≡ (before.numbers j).completed
       → (attempt_of m after j).touched ≡ (attempt_of m before j).touched
   pub others : j ≢ cpu → is_live after j ≡ true → (after.numbers j).completed ≡ (before.numbers j).completed
-  pub more : j ≡ cpu → is_live after j ≡ true → (after.numbers j).completed ≢ (before.numbers j).completed
+  pub more : j ≡ cpu → is_live before j ≡ true → is_live after j ≡ true
+      → (after.numbers j).completed ≢ (before.numbers j).completed
       → (attempt_of m after j).touched ≡ (attempt_of m before j).touched ++ asked
   pub wants : is_live before j ≡ true → (after.numbers j).completed ≡ (before.numbers j).completed
       → wanted m after j ≡ wanted m before j

@@ -1,20 +1,21 @@
 //! An event more of a run whose conflicts are counted.
-ghost use Rattle.std.specs.Prelude.{◌≡◌, ◌≢◌, ℕ, ◌+◌, ◌^◌, ◌<◌, ◌≤◌, ◌++◌, ◌∷◌, [], List, Option, true, false, IfOk, length, drop};
-ghost use Rattle.std.specs.Prelude.{count_by};
+ghost use Rattle.std.specs.Prelude.{◌≡◌, ◌≢◌, ℕ, ◌+◌, ◌^◌, ◌<◌, ◌≤◌, ◌++◌, ◌∷◌, [], List, Option, Some, true, false};
+ghost use Rattle.std.specs.Prelude.{IfOk, length, drop, count_by, slice_get};
 ghost use Rattle.std.specs.List.{flat_map};
+ghost use Rattle.z_regs.specs.declared.ranges.Range.{Range};
 ghost use Rattle.tx_journal.specs.Image.{cpu_of_event};
 ghost use Rattle.tx_journal.specs.declared.events.Event.{Event};
 ghost use Rattle.tx_meaning.specs.Limits.{Setting};
 ghost use Rattle.tx_meaning.specs.Meaning.{IsSetting, is_external};
 ghost use Rattle.tx_meaning.specs.Views.{GoesOnWith};
-ghost use Rattle.tx_meaning.specs.State.{State, beginning, attempt_of};
+ghost use Rattle.tx_meaning.specs.State.{State, beginning, is_live, attempt_of};
 ghost use Rattle.tx_machine.specs.Machine.{setting_of, state_of, event_of, after};
 ghost use Rattle.tx_works.specs.Wanted.{wanted};
 ghost use Rattle.tx_heat.specs.Conflicts.{Conflict, line_of_cause, abort_of, reject_of};
-ghost use Rattle.tx_heat.specs.Conflicts.{conflict_where, aborts_by, conflicts_in};
+ghost use Rattle.tx_heat.specs.Conflicts.{conflict, conflict_where, aborts_by, conflicts_in};
 ghost use Rattle.tx_heat.specs.Octowords.{are_apart};
-ghost use Rattle.tx_heat.specs.Watched.{AreInside, AreTracks, IsTrack, AreCounted, HasRoom, Passes, IsReached};
-ghost use Rattle.tx_heat.specs.Watched.{StaysBeside, Waits, aborts, is_abort};
+ghost use Rattle.tx_heat.specs.Watched.{Tracked, AreInside, AreTracks, IsTrack, SpeaksFor, AreCounted, HasRoom};
+ghost use Rattle.tx_heat.specs.Watched.{Passes, IsReached, StaysBeside, Waits, aborts, is_abort};
 
 use crate::counting::{Clash, LineHeat, count};
 use crate::track::Track;
@@ -73,6 +74,31 @@ fn are_apart(tracks: &[Track], asked: &Touches, holder: u32, line: u32) -> bool
     true
 }
 
+/// Counts a conflict with this holder and line.
+fn count_one(
+    lines: &mut [LineHeat],
+    tracks: &[Track],
+    asked: &Touches,
+    at: (u32, u32),
+    rejected: bool,
+)
+    requires inside { AreInside asked.now }
+    requires room { HasRoom lines.old 1 }
+    ensures counted { (m : Setting) (s : State) (e : Event) (found : List Conflict) → AreTracks m s tracks.now
+        → SpeaksFor m s (cpu_of_event e) asked.now → AreCounted lines.old found
+        → AreCounted lines.new (found ++ conflict m s e at.0 at.1 rejected ∷ []) }
+    ensures room { (n : ℕ) → HasRoom lines.old (n + 1) → HasRoom lines.new n }
+{
+    if at.1 < LINES {
+        let clash = Clash {
+            line: at.1,
+            rejected,
+            apart: are_apart(tracks, asked, at.0, at.1),
+        };
+        count(lines, clash);
+    }
+}
+
 /// Counts a conflict with this holder and line, where there is one.
 fn count_at(
     lines: &mut [LineHeat],
@@ -84,21 +110,12 @@ fn count_at(
     requires inside { AreInside asked.now }
     requires room { HasRoom lines.old 1 }
     ensures counted { (m : Setting) (s : State) (e : Event) (found : List Conflict) → AreTracks m s tracks.now
-        → asked.now ≡ wanted m s (cpu_of_event e) → AreCounted lines.old found
+        → SpeaksFor m s (cpu_of_event e) asked.now → AreCounted lines.old found
         → AreCounted lines.new (found ++ conflict_where m s e rejected at) }
     ensures room { (n : ℕ) → HasRoom lines.old (n + 1) → HasRoom lines.new n }
 {
-    let Some((holder, line)) = at else {
-        return;
-    };
-    if line < LINES {
-        let apart = are_apart(tracks, asked, holder, line);
-        let clash = Clash {
-            line,
-            rejected,
-            apart,
-        };
-        count(lines, clash);
+    if let Some(at) = at {
+        count_one(lines, tracks, asked, at, rejected);
     }
 }
 
@@ -123,7 +140,7 @@ fn count_aborts(lines: &mut [LineHeat], tracks: &[Track], asked: &Touches, entri
     requires inside { AreInside asked.now }
     requires room { HasRoom lines.old (length entries.now) }
     ensures counted { (m : Setting) (s : State) (e : Event) (found : List Conflict) → AreTracks m s tracks.now
-        → asked.now ≡ wanted m s (cpu_of_event e) → AreCounted lines.old found
+        → SpeaksFor m s (cpu_of_event e) asked.now → AreCounted lines.old found
         → AreCounted lines.new (found ++ flat_map (aborts_by m s e) entries.now) }
     ensures room { (n : ℕ) → HasRoom lines.old (n + length entries.now) → HasRoom lines.new n }
 {
@@ -138,6 +155,27 @@ fn reject_in(reject: Option<Reject>) -> Option<(u32, u32)>
 {
     let reject = reject?;
     Some((reject.by, reject.line))
+}
+
+/// Counts the conflicts of an event: the aborts that its entries tell of, and its reject.
+fn count_conflicts(
+    lines: &mut [LineHeat],
+    tracks: &[Track],
+    cpu: u32,
+    entries: &[Entry],
+    reject: Option<Reject>,
+)
+    requires cpu { cpu < length tracks.now }
+    requires room { HasRoom lines.old (1 + length entries.now) }
+    ensures { (m : Setting) (s : State) (e : Event) (found : List Conflict) → AreTracks m s tracks.now
+        → ((t : Tracked) → slice_get tracks.now cpu ≡ Some t → SpeaksFor m s (cpu_of_event e) t.asked)
+        → AreCounted lines.old found
+        → AreCounted lines.new ((found ++ flat_map (aborts_by m s e) entries.now)
+        ++ conflict_where m s e true (reject_of reject)) }
+{
+    let asked = tracks[cpu as usize].asked();
+    count_aborts(lines, tracks, asked, entries);
+    count_at(lines, tracks, asked, reject_in(reject), true);
 }
 
 /// The CPU that an event is of.
@@ -161,61 +199,70 @@ fn completed(machine: &Machine, cpu: u32) -> u32
     }
 }
 
-/// An event's CPU, how many instructions its live attempt had completed before the event, and what it asked for in
-/// it.
-#[derive(Drop)]
-struct Asker {
-    cpu: u32,
-    completed: u32,
-    asked: Touches,
-}
-
-/// What is kept of a CPU, behind an event.
-fn track_one(machine: &Machine, track: &mut Track, cpu: u32, asker: &Asker)
-    requires known { cpu < length machine.now.image.cpus }
-    requires inside { AreInside asker.now.asked }
-    ensures { (s : State) → asker.now.completed ≡ (s.numbers asker.now.cpu).completed
-        → Passes (setting_of machine.now) s (state_of machine.now) asker.now.cpu asker.now.asked cpu
+/// What is kept of an event's CPU, behind the event.
+fn track_own(machine: &Machine, track: &mut Track, cpu: u32)
+    requires { cpu < length machine.now.image.cpus }
+    ensures { (s : State) → (is_live s cpu ≡ true → track.old.asked ≡ wanted (setting_of machine.now) s cpu)
+        → Passes (setting_of machine.now) s (state_of machine.now) cpu track.old.asked cpu
         → IsTrack (setting_of machine.now) s cpu track.old
         → IsTrack (setting_of machine.now) (state_of machine.now) cpu track.new }
 {
     let now = completed(machine, cpu);
-    if now == 0 {
+    if now == track.completed() {
+        track.stay();
+    } else if now == 0 {
         track.clear();
-        return;
-    }
-    if cpu == asker.cpu && now != asker.completed {
-        track.add(&asker.asked);
+    } else if track.completed() == 0 {
+        track.begin(now);
+    } else {
+        track.go_on(now);
     }
 }
 
-/// What is kept of all CPUs, behind an event.
-fn track_all(machine: &Machine, tracks: &mut [Track], asker: &Asker)
+/// What is kept of a CPU behind an event of another one.
+fn track_other(machine: &Machine, track: &mut Track, cpu: u32)
+    requires { cpu < length machine.now.image.cpus }
+    ensures { (s : State) (asker : ℕ) (asked : List Range) → cpu ≢ asker
+        → Passes (setting_of machine.now) s (state_of machine.now) asker asked cpu
+        → IsTrack (setting_of machine.now) s cpu track.old
+        → IsTrack (setting_of machine.now) (state_of machine.now) cpu track.new }
+{
+    if completed(machine, cpu) == 0 {
+        track.clear();
+    }
+}
+
+/// What is kept of a CPU behind an event of a CPU, of this one or of another one.
+fn track_one(machine: &Machine, track: &mut Track, cpu: u32, asker: u32)
+    requires { cpu < length machine.now.image.cpus }
+    ensures { (s : State) (asked : List Range)
+        → (cpu ≡ asker → track.old.asked ≡ asked)
+        → (is_live s asker ≡ true → asked ≡ wanted (setting_of machine.now) s asker)
+        → Passes (setting_of machine.now) s (state_of machine.now) asker asked cpu
+        → IsTrack (setting_of machine.now) s cpu track.old
+        → IsTrack (setting_of machine.now) (state_of machine.now) cpu track.new }
+{
+    if cpu == asker {
+        track_own(machine, track, cpu);
+    } else {
+        track_other(machine, track, cpu);
+    }
+}
+
+/// What is kept of all CPUs, behind an event of one of them.
+fn track_all(machine: &Machine, tracks: &mut [Track], asker: u32)
     requires known { length tracks.old ≡ length machine.now.image.cpus }
-    requires asker { asker.now.cpu < length machine.now.image.cpus }
-    requires inside { AreInside asker.now.asked }
-    ensures { (s : State) → asker.now.completed ≡ (s.numbers asker.now.cpu).completed
-        → ((j : ℕ) → Passes (setting_of machine.now) s (state_of machine.now) asker.now.cpu asker.now.asked j)
+    requires asker { asker < length machine.now.image.cpus }
+    ensures { (s : State) (asked : List Range)
+        → ((t : Tracked) → slice_get tracks.old asker ≡ Some t → t.asked ≡ asked)
+        → (is_live s asker ≡ true → asked ≡ wanted (setting_of machine.now) s asker)
+        → ((j : ℕ) → Passes (setting_of machine.now) s (state_of machine.now) asker asked j)
         → AreTracks (setting_of machine.now) s tracks.old
         → AreTracks (setting_of machine.now) (state_of machine.now) tracks.new }
 {
     for cpu in 0..machine.image().cpu_count() {
         track_one(machine, &mut tracks[cpu as usize], cpu, asker);
     }
-}
-
-/// What is kept of all CPUs, behind an event that ends no attempt of another CPU.
-fn track_own(machine: &Machine, tracks: &mut [Track], asker: &Asker)
-    requires known { length tracks.old ≡ length machine.now.image.cpus }
-    requires asker { asker.now.cpu < length machine.now.image.cpus }
-    requires inside { AreInside asker.now.asked }
-    ensures { (s : State) → asker.now.completed ≡ (s.numbers asker.now.cpu).completed
-        → ((j : ℕ) → Passes (setting_of machine.now) s (state_of machine.now) asker.now.cpu asker.now.asked j)
-        → StaysBeside s (state_of machine.now) asker.now.cpu
-        → AreTracks (setting_of machine.now) s tracks.old
-        → AreTracks (setting_of machine.now) (state_of machine.now) tracks.new }
-{
-    track_one(machine, &mut tracks[asker.cpu as usize], asker.cpu, asker);
 }
 
 /// Whether an entry tells of an abort.
@@ -237,14 +284,16 @@ fn has_abort(entries: &[Entry]) -> bool
     false
 }
 
-/// What is kept of all CPUs, behind an event that adds these entries to the history.
-fn track(machine: &Machine, tracks: &mut [Track], entries: &[Entry], asker: &Asker)
+/// What is kept of all CPUs, behind an event that adds these entries to the history. Where they tell of no abort, it is
+/// the same of all others.
+fn track(machine: &Machine, tracks: &mut [Track], entries: &[Entry], asker: u32)
     requires known { length tracks.old ≡ length machine.now.image.cpus }
-    requires asker { asker.now.cpu < length machine.now.image.cpus }
-    requires inside { AreInside asker.now.asked }
-    ensures { (s : State) → asker.now.completed ≡ (s.numbers asker.now.cpu).completed
-        → ((j : ℕ) → Passes (setting_of machine.now) s (state_of machine.now) asker.now.cpu asker.now.asked j)
-        → (aborts entries.now ≡ 0 → StaysBeside s (state_of machine.now) asker.now.cpu)
+    requires asker { asker < length machine.now.image.cpus }
+    ensures { (s : State) (asked : List Range)
+        → ((t : Tracked) → slice_get tracks.old asker ≡ Some t → t.asked ≡ asked)
+        → (is_live s asker ≡ true → asked ≡ wanted (setting_of machine.now) s asker)
+        → ((j : ℕ) → Passes (setting_of machine.now) s (state_of machine.now) asker asked j)
+        → (aborts entries.now ≡ 0 → StaysBeside s (state_of machine.now) asker)
         → AreTracks (setting_of machine.now) s tracks.old
         → AreTracks (setting_of machine.now) (state_of machine.now) tracks.new }
 {
@@ -252,7 +301,7 @@ fn track(machine: &Machine, tracks: &mut [Track], entries: &[Entry], asker: &Ask
         track_all(machine, tracks, asker);
         return;
     }
-    track_own(machine, tracks, asker);
+    track_own(machine, &mut tracks[asker as usize], asker);
 }
 
 /// How many entries the history has.
@@ -270,40 +319,36 @@ fn entries_behind(machine: &Machine, before: usize) -> &[Entry]
     &machine.journal()[before..]
 }
 
-/// What the CPU of an event asks for in it.
-fn asker_of(machine: &Machine, tracks: &mut [Track], cpu: u32) -> Asker
+/// Whether no CPU has a live attempt.
+fn are_none_live(tracks: &[Track]) -> bool
+    ensures { result ≡ true → (j : ℕ) (t : Tracked) → slice_get tracks.now j ≡ Some t → t.completed ≡ 0 }
+{
+    for track in tracks {
+        if track.completed() > 0 {
+            return false;
+        }
+    }
+    true
+}
+
+/// Finds out what a CPU asks for next, unless that is known. Where no CPU has a live attempt, nobody needs it: what is
+/// asked for lies apart from all that was touched.
+fn hear(machine: &Machine, tracks: &mut [Track], cpu: u32)
     requires cpus { length tracks.old ≡ length machine.now.image.cpus }
     requires cpu { cpu < length machine.now.image.cpus }
     requires tracks { AreTracks (setting_of machine.now) (state_of machine.now) tracks.old }
-    ensures cpu { result.cpu ≡ cpu }
-    ensures completed { result.completed ≡ ((state_of machine.now).numbers cpu).completed }
-    ensures asked { result.asked ≡ wanted (setting_of machine.now) (state_of machine.now) cpu }
-    ensures inside { AreInside result.asked }
     ensures tracks { AreTracks (setting_of machine.now) (state_of machine.now) tracks.new }
+    ensures speaks { (t : Tracked) → slice_get tracks.new cpu ≡ Some t
+        → SpeaksFor (setting_of machine.now) (state_of machine.now) cpu t.asked }
 {
-    Asker {
-        cpu,
-        completed: completed(machine, cpu),
-        asked: tracks[cpu as usize].take_asked(machine, cpu),
+    let own = &tracks[cpu as usize];
+    if own.is_known() {
+        return;
     }
-}
-
-/// What the CPU of an event asked for in it is what it asks for next, where its attempt goes on and has completed no
-/// more.
-fn keep_asked(machine: &Machine, tracks: &mut [Track], asker: Asker)
-    requires known { length tracks.old ≡ length machine.now.image.cpus }
-    requires asker { asker.cpu < length machine.now.image.cpus }
-    requires inside { AreInside asker.asked }
-    ensures { (s : State) → asker.completed ≡ (s.numbers asker.cpu).completed
-        → asker.asked ≡ wanted (setting_of machine.now) s asker.cpu
-        → Passes (setting_of machine.now) s (state_of machine.now) asker.cpu asker.asked asker.cpu
-        → AreTracks (setting_of machine.now) (state_of machine.now) tracks.old
-        → AreTracks (setting_of machine.now) (state_of machine.now) tracks.new }
-{
-    let now = completed(machine, asker.cpu);
-    if now != 0 && now == asker.completed {
-        tracks[asker.cpu as usize].keep_asked(asker.asked);
+    if own.completed() == 0 && are_none_live(tracks) {
+        return;
     }
+    tracks[cpu as usize].ask(machine, cpu);
 }
 
 /// Whether an event is a turn in which the CPU does nothing but wait, unless it is idle or interrupted from outside.
@@ -317,33 +362,35 @@ fn waits(machine: &Machine, e: Event) -> bool
     }
 }
 
-/// One event more, in which nothing is asked for.
-fn wait(machine: &mut Machine, tracks: &mut [Track], e: Event)
+/// Whether an event is such a turn, and its CPU has no live attempt.
+fn rests(machine: &Machine, track: &Track, e: Event) -> bool
+    requires { cpu_of_event e < length machine.now.image.cpus }
+    ensures over { result ≡ true → track.now.completed ≡ 0 }
+    ensures waits { result ≡ true → Waits (state_of machine.now) e }
+{
+    track.completed() == 0 && waits(machine, e)
+}
+
+/// One event more, in which nothing is asked for, and nothing that is kept changes.
+fn wait(machine: &mut Machine, tracks: &[Track], e: Event)
     requires setting { IsSetting (setting_of machine.old) }
     requires reached { IsReached (setting_of machine.old) (state_of machine.old) }
     requires known { cpu_of_event e < length machine.old.image.cpus }
     requires external { is_external e ≡ true
         → count_by is_external machine.old.events < machine.old.limits.externals }
-    requires cpus { length tracks.old ≡ length machine.old.image.cpus }
-    requires tracks { AreTracks (setting_of machine.old) (state_of machine.old) tracks.old }
+    requires tracks { AreTracks (setting_of machine.old) (state_of machine.old) tracks.now }
+    requires over { is_live (state_of machine.old) (cpu_of_event e) ≡ false }
     requires waits { Waits (state_of machine.old) e }
     ensures machine { machine.new ≡ after machine.old e }
     ensures state { state_of machine.new ≡ (event_of machine.old e).state }
     ensures grows { GoesOnWith (state_of machine.old).history (state_of machine.new).history }
-    ensures tracks { AreTracks (setting_of machine.old) (state_of machine.new) tracks.new }
+    ensures tracks { AreTracks (setting_of machine.old) (state_of machine.new) tracks.now }
     ensures none { conflicts_in (setting_of machine.old) (state_of machine.old) e ≡ [] }
 {
-    let cpu = cpu_of(e);
-    let asker = Asker {
-        cpu,
-        completed: completed(machine, cpu),
-        asked: Touches::none(),
-    };
     let _outcome = machine.event(e);
-    track_own(machine, tracks, &asker);
 }
 
-/// One event more, in which the CPU asks for what its turn needs.
+/// One event more, in front of which it was found out what its CPU asks for.
 fn act(machine: &mut Machine, tracks: &mut [Track], lines: &mut [LineHeat], e: Event)
     requires setting { IsSetting (setting_of machine.old) }
     requires reached { IsReached (setting_of machine.old) (state_of machine.old) }
@@ -352,6 +399,8 @@ fn act(machine: &mut Machine, tracks: &mut [Track], lines: &mut [LineHeat], e: E
         → count_by is_external machine.old.events < machine.old.limits.externals }
     requires cpus { length tracks.old ≡ length machine.old.image.cpus }
     requires tracks { AreTracks (setting_of machine.old) (state_of machine.old) tracks.old }
+    requires speaks { (t : Tracked) → slice_get tracks.old (cpu_of_event e) ≡ Some t
+        → SpeaksFor (setting_of machine.old) (state_of machine.old) (cpu_of_event e) t.asked }
     requires room { HasRoom lines.old (2 ^ 33) }
     ensures machine { machine.new ≡ after machine.old e }
     ensures state { state_of machine.new ≡ (event_of machine.old e).state }
@@ -360,16 +409,13 @@ fn act(machine: &mut Machine, tracks: &mut [Track], lines: &mut [LineHeat], e: E
     ensures counted { (found : List Conflict) → AreCounted lines.old found → AreCounted lines.new
         (found ++ conflicts_in (setting_of machine.old) (state_of machine.old) e) }
 {
+    let cpu = cpu_of(e);
     let before = entry_count(machine);
-    let asker = asker_of(machine, tracks, cpu_of(e));
     let _outcome = machine.event(e);
-    let _tally = machine.tally(asker.cpu);
+    let _tally = machine.tally(cpu);
     let entries = entries_behind(machine, before);
-    count_aborts(lines, tracks, &asker.asked, entries);
-    let reject = reject_in(machine.last_reject());
-    count_at(lines, tracks, &asker.asked, reject, true);
-    track(machine, tracks, entries, &asker);
-    keep_asked(machine, tracks, asker);
+    count_conflicts(lines, tracks, cpu, entries, machine.last_reject());
+    track(machine, tracks, entries, cpu);
 }
 
 /// One event more.
@@ -389,9 +435,11 @@ pub fn follow(machine: &mut Machine, tracks: &mut [Track], lines: &mut [LineHeat
     ensures counted { (found : List Conflict) → AreCounted lines.old found → AreCounted lines.new
         (found ++ conflicts_in (setting_of machine.old) (state_of machine.old) e) }
 {
-    if waits(machine, e) {
+    let cpu = cpu_of(e);
+    if rests(machine, &tracks[cpu as usize], e) {
         wait(machine, tracks, e);
-    } else {
-        act(machine, tracks, lines, e);
+        return;
     }
+    hear(machine, tracks, cpu);
+    act(machine, tracks, lines, e);
 }

@@ -24,26 +24,22 @@ const IN_LINE: u32 = 8;
 /// The words of a set of all octowords of storage.
 const WORDS: usize = 512;
 
-/// The most octowords that are taken away one by one.
-const FEW: usize = 32;
-
 /// The octowords that an attempt has touched, and those of them that it has stored into: a bit for each octoword of
 /// storage. Contracts see marks.
 #[derive(Drop)]
 pub struct Octowords {
     touched: BitSet,
     stored: BitSet,
-    span: Span,
 }
 
 impl Model for Octowords {
-    ghost use Rattle.tx_heat.specs.Marks.{Marks, AreWithin};
+    ghost use Rattle.tx_heat.specs.Marks.{Marks, AreWhole};
 
     ghost Value = { Marks };
 
     ghost view = { λ o. record { touched = o.touched; stored = o.stored } };
 
-    ghost invariant = { λ o. AreWithin (record { touched = o.touched; stored = o.stored }) o.span.first o.span.end };
+    ghost invariant = { λ o. AreWhole record { touched = o.touched; stored = o.stored } };
 }
 
 /// The numbers from `first` on and below `end`.
@@ -83,19 +79,6 @@ fn reaches(range: Range, size: u64, place: u32) -> bool
     span.first <= at && at < span.end
 }
 
-/// Whether one of the ranges has a byte of the octoword.
-fn is_asked(ranges: &Touches, octoword: u32) -> bool
-    requires { All (λ r. r.first + r.length ≤ storage_size) ranges.now }
-    ensures { result ≡ asks ranges.now octoword }
-{
-    for i in 0..ranges.count() {
-        if reaches(ranges.at(i), OCTOWORD, octoword) {
-            return true;
-        }
-    }
-    false
-}
-
 /// Whether the range is stored into, and has a byte of the line.
 fn stores_line(range: Range, line: u32) -> bool
     requires { range.first + range.length ≤ storage_size }
@@ -117,103 +100,63 @@ fn is_stored(ranges: &Touches, line: u32) -> bool
     false
 }
 
-/// Adds the numbers of a span to the set.
-fn mark_span(set: &mut BitSet, span: Span)
-    requires order { span.first ≤ span.end }
-    requires within { span.end ≤ length set.old }
-    ensures size { length set.new ≡ length set.old }
-    ensures marks { (k : ℕ) → is_marked set.new k ≡ (is_marked set.old k || lies_in span.first span.end k) }
-{
-    for at in span.first..span.end {
-        set.insert(at);
-    }
-}
-
-/// Adds the octowords of a range to the set, where all are meant or it is stored into.
-fn mark_range(set: &mut BitSet, range: Range, all: bool)
-    requires size { length set.old ≡ storage_octowords }
+/// Adds the octowords of a range to those that were touched, and where it is stored into, to those that were stored
+/// into.
+fn mark_range(touched: &mut BitSet, stored: &mut BitSet, range: Range)
+    requires touched { length touched.old ≡ storage_octowords }
+    requires stored { length stored.old ≡ storage_octowords }
     requires inside { range.first + range.length ≤ storage_size }
-    ensures size { length set.new ≡ storage_octowords }
-    ensures marks { (k : ℕ) → is_marked set.new k
-        ≡ (is_marked set.old k || ((all || range.store) && has_place octoword_size range k)) }
+    ensures touched_size { length touched.new ≡ storage_octowords }
+    ensures stored_size { length stored.new ≡ storage_octowords }
+    ensures touched { (k : ℕ) → is_marked touched.new k
+        ≡ (is_marked touched.old k || has_place octoword_size range k) }
+    ensures stored { (k : ℕ) → is_marked stored.new k
+        ≡ (is_marked stored.old k || (range.store && has_place octoword_size range k)) }
 {
     if range.length == 0 {
         return;
     }
-    if !all && !range.store {
-        return;
+    let span = span_of(range, OCTOWORD);
+    touched.insert_run(span.first, span.end);
+    if range.store {
+        stored.insert_run(span.first, span.end);
     }
-    mark_span(set, span_of(range, OCTOWORD));
 }
 
-/// Adds the octowords of ranges to the set, all of them or those that are stored into.
-fn mark(set: &mut BitSet, ranges: &Touches, all: bool)
-    requires size { length set.old ≡ storage_octowords }
+/// Adds the octowords of ranges to those that were touched, and of ranges that are stored into to those that were
+/// stored into.
+fn mark(touched: &mut BitSet, stored: &mut BitSet, ranges: &Touches)
+    requires touched { length touched.old ≡ storage_octowords }
+    requires stored { length stored.old ≡ storage_octowords }
     requires inside { All (λ r. r.first + r.length ≤ storage_size) ranges.now }
-    ensures size { length set.new ≡ storage_octowords }
-    ensures marks { (k : ℕ) → is_marked set.new k ≡ (is_marked set.old k || meets all ranges.now k) }
+    ensures touched_size { length touched.new ≡ storage_octowords }
+    ensures stored_size { length stored.new ≡ storage_octowords }
+    ensures touched { (k : ℕ) → is_marked touched.new k ≡ (is_marked touched.old k || meets true ranges.now k) }
+    ensures stored { (k : ℕ) → is_marked stored.new k ≡ (is_marked stored.old k || meets false ranges.now k) }
 {
     for i in 0..ranges.count() {
-        mark_range(set, ranges.at(i), all);
+        mark_range(touched, stored, ranges.at(i));
     }
 }
 
-/// A span of all octowords of another one and of a range.
-fn span_with(span: Span, range: Range) -> Span
-    requires order { span.first ≤ span.end }
-    requires end { span.end ≤ storage_octowords }
+/// Whether an octoword of the line is both in the range and in the set.
+fn shares(range: Range, set: &BitSet, line: u32) -> bool
     requires inside { range.first + range.length ≤ storage_size }
-    ensures order { result.first ≤ result.end }
-    ensures end { result.end ≤ storage_octowords }
-    ensures span { (k : ℕ) → lies_in result.first result.end k ≡ false → lies_in span.first span.end k ≡ false }
-    ensures range { (k : ℕ) → lies_in result.first result.end k ≡ false
-        → has_place octoword_size range k ≡ false }
+    requires size { length set.now ≡ storage_octowords }
+    requires line { line < storage_lines }
+    ensures found { result ≡ true → (k : ℕ) × (k < 8) × (has_place octoword_size range (8 * line + k) ≡ true)
+        × (is_marked set.now (8 * line + k) ≡ true) }
+    ensures none { result ≡ false → (k : ℕ) → k < 8
+        → (has_place octoword_size range (8 * line + k) && is_marked set.now (8 * line + k)) ≡ false }
 {
     if range.length == 0 {
-        return span;
+        return false;
     }
-    let more = span_of(range, OCTOWORD);
-    if span.first == span.end {
-        return more;
-    }
-    Span {
-        first: span.first.min(more.first),
-        end: span.end.max(more.end),
-    }
-}
-
-/// A span of all octowords of another one and of ranges.
-fn span_with_all(span: Span, ranges: &Touches) -> Span
-    requires order { span.first ≤ span.end }
-    requires end { span.end ≤ storage_octowords }
-    requires inside { All (λ r. r.first + r.length ≤ storage_size) ranges.now }
-    ensures order { result.first ≤ result.end }
-    ensures end { result.end ≤ storage_octowords }
-    ensures span { (k : ℕ) → lies_in result.first result.end k ≡ false → lies_in span.first span.end k ≡ false }
-    ensures ranges { (k : ℕ) → lies_in result.first result.end k ≡ false → meets true ranges.now k ≡ false }
-{
-    let mut whole = span;
-    for i in 0..ranges.count() {
-        whole = span_with(whole, ranges.at(i));
-    }
-    whole
-}
-
-/// Takes all numbers away from a set that has none but those of a span.
-fn clear_span(set: &mut BitSet, span: Span)
-    requires order { span.first ≤ span.end }
-    requires within { span.end ≤ length set.old }
-    requires others { (k : ℕ) → lies_in span.first span.end k ≡ false → is_marked set.old k ≡ false }
-    ensures size { length set.new ≡ length set.old }
-    ensures none { (k : ℕ) → is_marked set.new k ≡ false }
-{
-    if span.end - span.first > FEW {
-        set.clear();
-        return;
-    }
-    for at in span.first..span.end {
-        set.remove(at);
-    }
+    let span = span_of(range, OCTOWORD);
+    let first = (IN_LINE * line) as usize;
+    let from = span.first.max(first);
+    let end = span.end.min(first + IN_LINE as usize);
+    set.next(from, end).is_some()
 }
 
 /// Whether an octoword of the line is both asked for and in the set.
@@ -226,9 +169,8 @@ fn is_shared(asked: &Touches, set: &BitSet, line: u32) -> bool
     ensures none { result ≡ false → (k : ℕ) → k < 8
         → (asks asked.now (8 * line + k) && is_marked set.now (8 * line + k)) ≡ false }
 {
-    for at in 0..IN_LINE {
-        let octoword = IN_LINE * line + at;
-        if set.has(octoword as usize) && is_asked(asked, octoword) {
+    for i in 0..asked.count() {
+        if shares(asked.at(i), set, line) {
             return true;
         }
     }
@@ -242,20 +184,15 @@ impl Octowords {
     {
         let touched = BitSet::open(alloc, WORDS)?;
         let stored = BitSet::open(alloc, WORDS)?;
-        Ok(Octowords {
-            touched,
-            stored,
-            span: Span { first: 0, end: 0 },
-        })
+        Ok(Octowords { touched, stored })
     }
 
     /// Takes all away.
     pub fn clear(&mut self)
         ensures { AreMarksOf self.new [] }
     {
-        clear_span(&mut self.touched, self.span);
-        clear_span(&mut self.stored, self.span);
-        self.span = Span { first: 0, end: 0 };
+        self.touched.clear();
+        self.stored.clear();
     }
 
     /// Adds those of ranges.
@@ -263,11 +200,7 @@ impl Octowords {
         requires { All (λ r. r.first + r.length ≤ storage_size) ranges.now }
         ensures { (past : List Range) → AreMarksOf self.old past → AreMarksOf self.new (past ++ ranges.now) }
     {
-        if ranges.count() > 0 {
-            mark(&mut self.touched, ranges, true);
-            mark(&mut self.stored, ranges, false);
-            self.span = span_with_all(self.span, ranges);
-        }
+        mark(&mut self.touched, &mut self.stored, ranges);
     }
 
     /// Whether what is asked for lies apart, in the line, from what stands against it: all of these octowords where

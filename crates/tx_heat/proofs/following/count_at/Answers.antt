@@ -1,17 +1,10 @@
--- The conflict is counted.
-use Rattle.std.proofs.Common.{◌++◌, refl, sym, ap, subst, ◌∙◌}
-use Rattle.tx_meaning.specs.State.{attempt_of}
-use Rattle.tx_heat.specs.Conflicts.{conflict, conflict_where}
-use Rattle.tx_heat.specs.Octowords.{are_apart}
+-- The conflict that there is is counted.
+use Rattle.std.proofs.Common.{◌++◌, sym, subst}
+use Rattle.tx_heat.specs.Conflicts.{conflict_where}
 use Rattle.tx_heat.specs.Watched.{AreCounted}
 use Rattle.tx_heat.proofs.following.count_at.Goals as goal
 
-pub returns-then-line-lt-LINES-clause-counted : goal.returns-then-line-lt-LINES-clause-counted
-returns-then-line-lt-LINES-clause-counted c = λ m s e found tracks asked counted.
-    let holder = c.in-Some.holder in
-    let line = c.in-Some.line in
-    subst (λ at. AreCounted c.count.new.lines (found ++ conflict_where m s e c.args.rejected at)) (sym c.in-Some.is)
-    (c.count.ensures.counted found (conflict m s e holder line c.args.rejected) refl refl
-    (ap (λ a. are_apart a (attempt_of m s holder).touched line) (sym asked)
-    ∙ sym (c.are_apart-apart.ensures m s tracks))
-    counted)
+pub returns-in-Some-clause-counted : goal.returns-in-Some-clause-counted
+returns-in-Some-clause-counted c = λ m s e found tracks speaks counted.
+    subst (λ at. AreCounted c.count_one.new.lines (found ++ conflict_where m s e c.args.rejected at)) (sym c.in-Some.is)
+    (c.count_one.ensures.counted m s e found tracks speaks counted)

@@ -3,14 +3,12 @@ use Rattle.std.proofs.Common.{◌∷◌, [], ◌∙◌, List, refl, sym, ap, ari
 use Rattle.std.specs.Prelude.{slice_get}
 use Rattle.tx_meaning.specs.State.{beginning}
 use Rattle.tx_heat.specs.Watched.{Tracked, IsUnused}
-use Rattle.tx_heat.proofs.Passing.{over_track, pushed}
+use Rattle.tx_heat.proofs.Passing.{unused_track, pushed}
 use Rattle.tx_heat.proofs.following.no_tracks.Goals as goal
 
 pub returns-clause-tracks : goal.returns-clause-tracks
 returns-clause-tracks c = λ m. record {
-  each = λ j t e.
-      let unused = c.loop-cpu.invariant.none j t e in
-      over_track m beginning beginning j t unused.marks unused.asked refl;
+  each = λ j t e. unused_track m beginning j t (c.loop-cpu.invariant.none j t e) refl;
   beyond = λ j lt. refl;
 }
 

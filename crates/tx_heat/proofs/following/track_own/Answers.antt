@@ -1,19 +1,24 @@
--- What is kept of the event's CPU is replaced.
-use Rattle.std.proofs.Common.{◌<◌, sym, subst, arith, length}
+-- The attempt has completed as much, or is begun.
+use Rattle.std.proofs.Common.{sym, ◌∙◌}
 use Rattle.tx_machine.specs.Machine.{setting_of, state_of}
-use Rattle.tx_heat.specs.Watched.{IsTrack}
-use Rattle.tx_heat.proofs.Passing.{kept_at, own_track}
+use Rattle.tx_heat.proofs.Passing.{stay_track, begin_track}
 use Rattle.tx_heat.proofs.following.track_own.Goals as goal
 
-pub returns : goal.returns
-returns c = λ s same passes beside all.
+pub returns-then-now-completed : goal.returns-then-now-completed
+returns-then-now-completed c = λ s speaks passes track.
     let m = setting_of c.args.machine.now in
-    let tracks = c.args.tracks.now in
-    let asker = c.args.asker.now in
-    let k = asker.cpu in
-    let old = c.index-tracks-asker.result in
-    let lt : k < length tracks = omega arith in
-    own_track m s tracks k c.track_one.new.track lt (state_of c.args.machine.now) asker.asked passes beside all
-    (c.track_one.ensures s same (passes k)
-    (subst (IsTrack m s k) c.index-tracks-asker.is
-    (all.each k old (kept_at tracks k old lt (sym c.index-tracks-asker.is)))))
+    let t = state_of c.args.machine.now in
+    let k = c.args.cpu in
+    let old = c.args.track.now in
+    stay_track m s t k k old.asked passes old track
+    (sym c.completed-now.ensures ∙ c.if-now-completed.true ∙ c.completed.ensures ∙ track.completed) c.stay.new.self
+    c.stay.ensures speaks
+
+pub returns-then-completed-eq0 : goal.returns-then-completed-eq0
+returns-then-completed-eq0 c = λ s speaks passes track.
+    let m = setting_of c.args.machine.now in
+    let t = state_of c.args.machine.now in
+    let k = c.args.cpu in
+    let old = c.args.track.now in
+    begin_track m s t k k old.asked passes old track c.begin.new.self c.completed-now.result c.begin.ensures
+    c.completed-now.ensures (sym c.completed-else-now-eq0.ensures ∙ c.if-completed-eq0.true)

@@ -1,5 +1,5 @@
 -- One range more is marked.
-use Rattle.std.proofs.Common.{sym, ap, ◌∙◌, take}
+use Rattle.std.proofs.Common.{true, false, sym, ap, ◌∙◌, take}
 use Rattle.std.specs.Prelude.{◌||◌, ◌&&◌}
 use Rattle.z_regs.specs.declared.ranges.Range.{Range}
 use Rattle.tx_footprint.specs.Places.{has_place}
@@ -12,20 +12,31 @@ use Rattle.tx_heat.proofs.octowords.mark.Goals as goal
 pub loop-i-init : goal.loop-i-init
 unfolding meets
 loop-i-init c = record {
-  size = c.requires.size;
-  marks = λ k. sym (or_false (is_marked c.args.set.now k));
+  touched_size = c.requires.touched;
+  stored_size = c.requires.stored;
+  touched = λ k. sym (or_false (is_marked c.args.touched.now k));
+  stored = λ k. sym (or_false (is_marked c.args.stored.now k));
 }
 
 pub loop-i-preserved : goal.loop-i-preserved
 unfolding meets
-loop-i-preserved c = record {
-  size = c.mark_range.ensures.size;
-  marks = λ k.
-      let test = λ (r : Range). (c.args.all || r.store) && has_place 32 r k in
-      c.mark_range.ensures.marks k
-      ∙ ap (λ b. b || test c.at.result) (c.loop-i.invariant.marks k)
-      ∙ or_assoc (is_marked c.args.set.now k) (meets c.args.all (take c.loop-i.i c.args.ranges.now) k)
-      (test c.at.result)
-      ∙ ap (λ b. is_marked c.args.set.now k || b)
-      (sym (any_more test c.args.ranges.now c.loop-i.i c.at.result c.at.ensures));
-}
+loop-i-preserved c =
+    let made = c.mark_range.ensures in
+    let ranges = c.args.ranges.now in
+    let i = c.loop-i.i in
+    record {
+      touched_size = made.touched_size;
+      stored_size = made.stored_size;
+      touched = λ k.
+          let test = λ (r : Range). (true || r.store) && has_place 32 r k in
+          made.touched k
+          ∙ ap (λ b. b || test c.at.result) (c.loop-i.invariant.touched k)
+          ∙ or_assoc (is_marked c.args.touched.now k) (meets true (take i ranges) k) (test c.at.result)
+          ∙ ap (λ b. is_marked c.args.touched.now k || b) (sym (any_more test ranges i c.at.result c.at.ensures));
+      stored = λ k.
+          let test = λ (r : Range). (false || r.store) && has_place 32 r k in
+          made.stored k
+          ∙ ap (λ b. b || test c.at.result) (c.loop-i.invariant.stored k)
+          ∙ or_assoc (is_marked c.args.stored.now k) (meets false (take i ranges) k) (test c.at.result)
+          ∙ ap (λ b. is_marked c.args.stored.now k || b) (sym (any_more test ranges i c.at.result c.at.ensures));
+    }

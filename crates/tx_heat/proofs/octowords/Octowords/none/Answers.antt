@@ -1,5 +1,5 @@
 -- Nothing is marked.
-use Rattle.std.proofs.Common.{ap, ◌∙◌, false, Bool, length, arith}
+use Rattle.std.proofs.Common.{ap, ◌∙◌, false, Bool, length}
 use Rattle.std.proofs.lemmas.List.{length-replicate}
 use Rattle.tx_heat.specs.Marks.{Marks}
 use Rattle.tx_heat.proofs.Marked.{none_marked, all_off}
@@ -7,12 +7,8 @@ use Rattle.tx_heat.proofs.octowords.Octowords.none.Goals as goal
 
 pub invariant_of-result : goal.invariant_of-result
 invariant_of-result c = record {
-  touched_size = ap length c.in_ok-touched.ensures ∙ length-replicate {A = Bool} 32768 false;
-  stored_size = ap length c.in_ok-stored.ensures ∙ length-replicate {A = Bool} 32768 false;
-  order = omega arith;
-  within = omega arith;
-  touched = λ o _. all_off c.in_ok-touched.touched 32768 c.in_ok-touched.ensures o;
-  stored = λ o _. all_off c.in_ok-stored.stored 32768 c.in_ok-stored.ensures o;
+  touched = ap length c.in_ok-touched.ensures ∙ length-replicate {A = Bool} 32768 false;
+  stored = ap length c.in_ok-stored.ensures ∙ length-replicate {A = Bool} 32768 false;
 }
 
 pub returns : goal.returns
