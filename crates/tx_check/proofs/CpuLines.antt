@@ -114,9 +114,13 @@ behind_of lines place =
     ap (map (λ (l : Bor (List ℕ)). l.now)) (take_all (length lines - place) (drop place lines) (omega (arith, all)))
     ∙ sym (drop-map (λ (l : Bor (List ℕ)). l.now) place lines)
 
+-- lines up to a place
+pub before_of : (lines : List (Bor (List ℕ))) (place : ℕ)
+    → map (λ (l : Bor (List ℕ)). l.now) (take place lines) ≡ take place (map (λ (l : Bor (List ℕ)). l.now) lines)
+before_of lines place = sym (take-map (λ (l : Bor (List ℕ)). l.now) place lines)
+
 -- the text, by what it is written of
-pub written_as : (text : List ℕ) (cs cpus : List Seen) (shows : List Show) (st bytes : List ℕ) (ls rest : List (List ℕ))
-    → text ≡ state_part (map shown_seen cs) shows st ++ joined ls → cs ≡ cpus → st ≡ bytes → ls ≡ rest
-    → text ≡ state_part (map shown_seen cpus) shows bytes ++ joined rest
-written_as text cs cpus shows st bytes ls rest is a b d =
-    is ∙ (λ k. state_part (map shown_seen (a k)) shows (b k) ++ joined (d k))
+pub written_as : (text : List ℕ) (cs cpus : List Seen) (shows : List Show) (st bytes : List ℕ)
+    → text ≡ state_part (map shown_seen cs) shows st → cs ≡ cpus → st ≡ bytes
+    → text ≡ state_part (map shown_seen cpus) shows bytes
+written_as text cs cpus shows st bytes is a b = is ∙ (λ k. state_part (map shown_seen (a k)) shows (b k))
