@@ -4,9 +4,7 @@ use Rattle.tx_control.specs.declared.causes.Why.{Why}
 use Rattle.tx_journal.specs.declared.entries.Entry.{Entry}
 use Rattle.tx_journal.specs.declared.entries.Entry.TheVariants as entry
 use Rattle.tx_journal.specs.declared.entries.EntryText.{EntryText}
-use Rattle.tx_journal.specs.Lines.{Spells, entry_text, line_text, fields_of}
-use Rattle.tx_journal.specs.declared.lines.Line.{Line}
-use Rattle.tx_journal.specs.declared.lines.Line.TheVariants.{Step, Commit, Abort, Tdb, Interrupt}
+use Rattle.tx_journal.specs.Lines.{Spells, entry_text}
 use Rattle.tx_journal.specs.Sound.{IsSound, IsCause}
 use Rattle.tx_journal.proofs.ToldEntries.{read_exactly}
 use Rattle.tx_serial.specs.Apply.{apply}
@@ -23,51 +21,6 @@ pub numbers_told : (e : Entry) (text : List ℕ) (t : EntryText) → IsSound e �
     → entry_text e ≡ text → TellsEntry e t
 numbers_told e text t sound spells is =
     sym (read_exactly e t sound (subst (λ x. Spells x t) (sym is) spells))
-
--- ---- lines by their numbers
-
--- a line with the letter of a step is that of a step, and so on
-pub step_line : (text : List ℕ) (t : EntryText) → Spells text t → t.kind ≡ 83 → entry_text (entry.Step t.cpu) ≡ text
-step_line text t h kind = by h.line h.text_is h.fields
-  where
-    by : (l : Line) → text ≡ line_text l → t ≡ fields_of l → entry_text (entry.Step t.cpu) ≡ text
-    by (Step i) is fields = ap (λ (u : EntryText). entry_text (entry.Step u.cpu)) fields ∙ sym is
-    by (Commit i n) is fields = absurd (omega (arith, kinds fields, kind))
-    by (Abort i n r) is fields = absurd (omega (arith, kinds fields, kind))
-    by (Tdb i) is fields = absurd (omega (arith, kinds fields, kind))
-    by (Interrupt i) is fields = absurd (omega (arith, kinds fields, kind))
-
-pub commit_line : (text : List ℕ) (t : EntryText) → Spells text t → t.kind ≡ 67
-    → entry_text (entry.Commit t.cpu t.count) ≡ text
-commit_line text t h kind = by h.line h.text_is h.fields
-  where
-    by : (l : Line) → text ≡ line_text l → t ≡ fields_of l → entry_text (entry.Commit t.cpu t.count) ≡ text
-    by (Step i) is fields = absurd (omega (arith, kinds fields, kind))
-    by (Commit i n) is fields = ap (λ (u : EntryText). entry_text (entry.Commit u.cpu u.count)) fields ∙ sym is
-    by (Abort i n r) is fields = absurd (omega (arith, kinds fields, kind))
-    by (Tdb i) is fields = absurd (omega (arith, kinds fields, kind))
-    by (Interrupt i) is fields = absurd (omega (arith, kinds fields, kind))
-
-pub block_line : (text : List ℕ) (t : EntryText) → Spells text t → t.kind ≡ 84 → entry_text (entry.Tdb t.cpu) ≡ text
-block_line text t h kind = by h.line h.text_is h.fields
-  where
-    by : (l : Line) → text ≡ line_text l → t ≡ fields_of l → entry_text (entry.Tdb t.cpu) ≡ text
-    by (Step i) is fields = absurd (omega (arith, kinds fields, kind))
-    by (Commit i n) is fields = absurd (omega (arith, kinds fields, kind))
-    by (Abort i n r) is fields = absurd (omega (arith, kinds fields, kind))
-    by (Tdb i) is fields = ap (λ (u : EntryText). entry_text (entry.Tdb u.cpu)) fields ∙ sym is
-    by (Interrupt i) is fields = absurd (omega (arith, kinds fields, kind))
-
-pub interruption_line : (text : List ℕ) (t : EntryText) → Spells text t → t.kind ≡ 73
-    → entry_text (entry.Interrupt t.cpu) ≡ text
-interruption_line text t h kind = by h.line h.text_is h.fields
-  where
-    by : (l : Line) → text ≡ line_text l → t ≡ fields_of l → entry_text (entry.Interrupt t.cpu) ≡ text
-    by (Step i) is fields = absurd (omega (arith, kinds fields, kind))
-    by (Commit i n) is fields = absurd (omega (arith, kinds fields, kind))
-    by (Abort i n r) is fields = absurd (omega (arith, kinds fields, kind))
-    by (Tdb i) is fields = absurd (omega (arith, kinds fields, kind))
-    by (Interrupt i) is fields = ap (λ (u : EntryText). entry_text (entry.Interrupt u.cpu)) fields ∙ sym is
 
 -- ---- entries by their numbers
 

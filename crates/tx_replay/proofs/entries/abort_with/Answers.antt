@@ -10,10 +10,10 @@ returns-in-None-clause-only c = λ e sound is fits.
     ∙ by_reading (state_of c.args.flat.now) c.args.line.now c.args.text c.abort_of.result
     c.requires.spells c.abort_of.ensures.only e sound is fits
 
-pub returns-in_ok-found-in-Some-abort_of-clause-only : goal.returns-in_ok-found-in-Some-abort_of-clause-only
-returns-in_ok-found-in-Some-abort_of-clause-only c = λ e sound is fits.
-    let there : Some c.in-Some-abort_of.entry ≡ Some e =
-    sym c.in-Some-abort_of.is
+pub returns-in_ok-found-in-Some-clause-only : goal.returns-in_ok-found-in-Some-clause-only
+returns-in_ok-found-in-Some-clause-only c = λ e sound is fits.
+    let there : Some c.in-Some.entry ≡ Some e =
+    sym c.in-Some.is
     ∙ by_reading (state_of c.args.flat.now) c.args.line.now c.args.text c.abort_of.result
     c.requires.spells c.abort_of.ensures.only e sound is fits in
-    c.in_ok-found-in-Some-abort_of.ensures.only (ap entry_text (some_same there) ∙ is) ∙ there
+    c.in_ok-found-in-Some.ensures.only (ap entry_text (some_same there) ∙ is) ∙ there
