@@ -23,7 +23,7 @@ use Rattle.report_form.specs.Rows.{IsRow}
 use Rattle.tx_check.specs.declared.writing.Seen.{Seen}
 use Rattle.tx_check.specs.Told.{IsLive}
 use denote.Ref.{Bor}
-use Rattle.tx_check.specs.Sound.{cpu_place, joined}
+use Rattle.tx_check.specs.Sound.{cpu_place}
 use Rattle.tx_check.proofs.FormLines.{HasRow, cpu_line}
 
 none_of : (b : Option Pending) → is_none (address_of b) ≡ is_none b
