@@ -11,6 +11,7 @@ ghost use Rattle.tx_replay.specs.Replay.{NoneFits};
 ghost use Rattle.tx_replay.specs.Told.{TellsEntry};
 
 use crate::causes::cause_of;
+use report_form::step_cpu;
 use std::alloc::Global;
 use tx_flat::Flat;
 use tx_flat::slot::ApplyFault;
@@ -95,6 +96,9 @@ fn entry_with(flat: &mut Flat, alloc: Global, line: &[u8]) -> Result<Option<Entr
         → Fits (state_of flat.old) e → o ≡ Some e) }
     ensures unchanged { flat.new ≡ flat.old }
 {
+    if let Some(cpu) = step_cpu(line) {
+        return Ok(Some(Entry::Step(cpu)));
+    }
     let Some(text) = read_entry(line) else {
         return Ok(None);
     };
