@@ -6,3 +6,4 @@ pub mod Walks
 pub mod Counted
 pub mod Forms
 pub mod OneFault
+pub mod StepLines

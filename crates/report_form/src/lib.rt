@@ -7,10 +7,12 @@ mod lines;
 mod rows;
 mod sheet;
 mod spelling;
+mod steps;
 mod words;
 
 pub use laws::lines_have_a_form_or_one_fault;
 pub use lines::Part;
 pub use rows::{Row, fits};
 pub use sheet::{FormFault, Sheet, read};
+pub use steps::step_cpu;
 pub use words::{Name, Word};

@@ -4,6 +4,7 @@ ghost use Rattle.report_form.specs.Rows.{IsRow, IsEntryLine, Either, events_word
 ghost use Rattle.report_form.specs.Spelling.{Spelled};
 
 use crate::spelling::is_spelled;
+use crate::steps::step_cpu;
 use crate::words::{Name, Word};
 use tx_journal::read_entry;
 
@@ -47,6 +48,9 @@ const MOST_COMPLETED: u64 = 200_000;
 fn is_entry(last: u32, line: &[u8]) -> bool
     ensures { IsTrue result ↔ IsEntryLine last line.now }
 {
+    if let Some(cpu) = step_cpu(line) {
+        return cpu <= last;
+    }
     let Some(entry) = read_entry(line) else {
         return false;
     };

@@ -23,7 +23,7 @@ use Rattle.report_form.specs.Rows.{IsRow}
 use Rattle.tx_check.specs.declared.writing.Seen.{Seen}
 use Rattle.tx_check.specs.Told.{IsLive}
 use denote.Ref.{Bor}
-use Rattle.tx_check.specs.Sound.{cpu_place, joined}
+use Rattle.tx_check.specs.Sound.{cpu_place}
 use Rattle.tx_check.proofs.FormLines.{HasRow, cpu_line}
 
 none_of : (b : Option Pending) → is_none (address_of b) ≡ is_none b
@@ -114,9 +114,13 @@ behind_of lines place =
     ap (map (λ (l : Bor (List ℕ)). l.now)) (take_all (length lines - place) (drop place lines) (omega (arith, all)))
     ∙ sym (drop-map (λ (l : Bor (List ℕ)). l.now) place lines)
 
+-- lines up to a place
+pub before_of : (lines : List (Bor (List ℕ))) (place : ℕ)
+    → map (λ (l : Bor (List ℕ)). l.now) (take place lines) ≡ take place (map (λ (l : Bor (List ℕ)). l.now) lines)
+before_of lines place = sym (take-map (λ (l : Bor (List ℕ)). l.now) place lines)
+
 -- the text, by what it is written of
-pub written_as : (text : List ℕ) (cs cpus : List Seen) (shows : List Show) (st bytes : List ℕ) (ls rest : List (List ℕ))
-    → text ≡ state_part (map shown_seen cs) shows st ++ joined ls → cs ≡ cpus → st ≡ bytes → ls ≡ rest
-    → text ≡ state_part (map shown_seen cpus) shows bytes ++ joined rest
-written_as text cs cpus shows st bytes ls rest is a b d =
-    is ∙ (λ k. state_part (map shown_seen (a k)) shows (b k) ++ joined (d k))
+pub written_as : (text : List ℕ) (cs cpus : List Seen) (shows : List Show) (st bytes : List ℕ)
+    → text ≡ state_part (map shown_seen cs) shows st → cs ≡ cpus → st ≡ bytes
+    → text ≡ state_part (map shown_seen cpus) shows bytes
+written_as text cs cpus shows st bytes is a b = is ∙ (λ k. state_part (map shown_seen (a k)) shows (b k))

@@ -3,7 +3,8 @@ use Rattle.std.proofs.Common.{◌≡◌, ◌≢◌, ◌∙◌, ap, sym, refl, �
 use Rattle.std.proofs.Common.{List, [], ◌∷◌, ◌++◌, length, take, drop, append_assoc, Bool, true, false}
 use Rattle.std.proofs.Common.{ap₂, get_or, append-nil, length-append, Some, None}
 use Rattle.std.specs.Prelude.{◌==◌, if◌then◌else◌}
-use Rattle.std.proofs.lemmas.List.{take_all, take_more, drop_all, length-take-le, get_or-append_right}
+use Rattle.std.proofs.lemmas.Grind.{flat_map-append}
+use Rattle.std.proofs.lemmas.List.{take_all, take_more, drop_all, length-take-le, get_or-append_right, take-append-drop}
 use Rattle.std.proofs.lemmas.Option.{slice_get-get_or, slice_get_past}
 use Rattle.std.proofs.Math.Seq.{drop-append_seam, take-append_seam, drop-length}
 use Rattle.tx_journal.specs.Numbers.{Lacks}
@@ -29,6 +30,16 @@ joined_lines (byte ∷ rest) = more_joined byte (lines_of rest) rest (joined_lin
 -- texts with the same lines are the same
 pub same_lines : (some others : List ℕ) → lines_of some ≡ lines_of others → some ≡ others
 same_lines some others is = sym (joined_lines some) ∙ ap joined is ∙ joined_lines others
+
+-- lines of which the first are a text, and the others behind it, are those of the whole
+pub state_whole : (lines : List (List ℕ)) (report state : List ℕ) (before : ℕ) → lines ≡ lines_of report
+    → state ≡ joined (take before lines) → lines ≡ lines_of (state ++ joined (drop before lines))
+state_whole lines report state before are is =
+    let whole : state ++ joined (drop before lines) ≡ report =
+    ap (λ t. t ++ joined (drop before lines)) is
+    ∙ sym (flat_map-append (λ (l : List ℕ). l) (take before lines) (drop before lines))
+    ∙ ap joined (take-append-drop before lines) ∙ ap joined are ∙ joined_lines report in
+    are ∙ ap lines_of (sym whole)
 
 other_byte : (b : ℕ) → b ≢ 10 → (b == 10) ≡ false
 other_byte b other = grind (arith, other)

@@ -12,7 +12,7 @@ ghost use Rattle.tx_check.specs.Lines.{lines_of};
 ghost use Rattle.tx_check.specs.Sound.{IsSound};
 ghost use Rattle.tx_check.specs.Answers.{IsRefused, IsAccepted, IsDueText, HasNoForm, HasNoHistory};
 
-use crate::lines::{add_lines, cut_lines, first_difference};
+use crate::lines::{cut_lines, first_unexpected};
 use crate::telling::seen_cpus;
 use crate::writing::{Seen, add_state};
 use report_form::{FormFault, Sheet, read};
@@ -70,27 +70,26 @@ fn history_of(
     }
 }
 
-/// The state, and lines behind it.
+/// The state.
 fn written(
     alloc: Global,
     image: &Image,
     cpus: &[Seen],
     storage: &Storage,
-    behind: &[&[u8]],
 ) -> Result<Vec<u8>, AllocError>
     requires { length storage.now ≡ storage_size }
-    ensures { IfOk result (λ text. text.items ≡ state_part (map shown_seen cpus.now) image.now.shows storage.now
-        ++ joined (map (λ l. l.now) behind.now)) }
+    ensures { IfOk result (λ text. text.items
+        ≡ state_part (map shown_seen cpus.now) image.now.shows storage.now) }
 {
     let _count = image.cpu_count();
     let mut text = Vec::new(alloc);
     add_state(&mut text, cpus, image.shows.as_slice(), storage)?;
-    add_lines(&mut text, behind)?;
     Ok(text)
 }
 
-/// The report that is expected in place of one with these lines.
-fn expected(
+/// The state that is expected in front of the history of a report with these lines. The report's own history and
+/// events stand behind it in the report that is expected.
+fn expected_state(
     alloc: Global,
     image: &Image,
     lines: &[&[u8]],
@@ -102,17 +101,12 @@ fn expected(
         (take sheet.entries (drop (history_at image.now + 1) (map (λ l. l.now) lines.now)))
         replayed.now.entries.items (state_of replayed.now.flat) }
     requires cpus { length replayed.now.flat.slots ≡ length image.now.cpus }
-    ensures { IfOk result (λ text. IsDueText image.now (map (λ l. l.now) lines.now) sheet.entries text.items) }
+    ensures { IfOk result (λ state. IsDueText image.now (map (λ l. l.now) lines.now) sheet.entries
+        (state.items ++ joined (drop (sheet.history - 1) (map (λ l. l.now) lines.now)))) }
 {
     let cpus = seen_cpus(alloc, image, lines, sheet, replayed)?;
     let storage = replayed.flat.storage();
-    let Ok(text) = written(
-        alloc,
-        image,
-        cpus.as_slice(),
-        storage,
-        &lines[sheet.history - 1..],
-    ) else {
+    let Ok(text) = written(alloc, image, cpus.as_slice(), storage) else {
         return Err(NoMemory);
     };
     Ok(text)
@@ -133,10 +127,13 @@ pub fn check(alloc: Global, image: &Image, report: &[u8]) -> Result<u32, CheckFa
     };
     let sheet = sheet_of(alloc, image, &lines)?;
     let replayed = history_of(alloc, image, &lines, sheet)?;
-    let Ok(text) = expected(alloc, image, &lines, sheet, &replayed) else {
+    let Ok(state) = expected_state(alloc, image, &lines, sheet, &replayed) else {
         return Err(CheckFault::Memory);
     };
-    match first_difference(&lines, &text) {
+    let Ok(place) = first_unexpected(alloc, &lines, sheet.history - 1, state) else {
+        return Err(CheckFault::Memory);
+    };
+    match place {
         Some(place) => Err(CheckFault::State(place as u32 + 1)),
         None => Ok(sheet.entries as u32),
     }

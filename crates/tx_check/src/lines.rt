@@ -1,6 +1,6 @@
 //! Texts as lines, and where two texts first differ.
 ghost use Rattle.std.specs.Prelude.{◌≡◌, ◌<◌, ◌≤◌, ◌+◌, ◌∷◌, ◌++◌, OnOk, IfOk, IfSome, IfNone, length, map, take};
-ghost use Rattle.std.specs.Prelude.{drop, get_or, IsTrue, ◌↔◌, []};
+ghost use Rattle.std.specs.Prelude.{drop, get_or, IsTrue, ◌↔◌, [], ℕ, List, true};
 ghost use Rattle.tx_check.specs.Lines.{lines_of, FirstDifference};
 ghost use Rattle.tx_check.specs.Sound.{joined};
 
@@ -36,7 +36,7 @@ pub(crate) fn cut_lines(alloc: Global, text: &[u8]) -> Result<Vec<&[u8]>, AllocE
 }
 
 /// Adds lines to a text, one after the other.
-pub(crate) fn add_lines(text: &mut Vec<u8>, lines: &[&[u8]]) -> Result<(), AllocError>
+fn add_lines(text: &mut Vec<u8>, lines: &[&[u8]]) -> Result<(), AllocError>
     ensures { OnOk result (text.new.items ≡ text.old.items ++ joined (map (λ l. l.now) lines.now)) }
 {
     for line in lines {
@@ -62,7 +62,7 @@ fn same_at(lines: &[&[u8]], place: usize, line: &[u8]) -> bool
 
 /// The number, counted from 0, of the first line at which a text differs from these lines; None exactly where they
 /// are its lines.
-pub(crate) fn first_difference(lines: &[&[u8]], text: &[u8]) -> Option<usize>
+fn first_difference(lines: &[&[u8]], text: &[u8]) -> Option<usize>
     ensures some { IfSome result (λ k. FirstDifference (map (λ l. l.now) lines.now) (lines_of text.now) (k + 1)) }
     ensures within { IfSome result (λ k. k ≤ length lines.now) }
     ensures none { IfNone result (map (λ l. l.now) lines.now ≡ lines_of text.now) }
@@ -82,4 +82,39 @@ pub(crate) fn first_difference(lines: &[&[u8]], text: &[u8]) -> Option<usize>
         return Some(lines.len());
     }
     None
+}
+
+/// Whether a text is these lines, one after the other.
+fn are_text(alloc: Global, lines: &[&[u8]], text: &[u8]) -> Result<bool, AllocError>
+    ensures { IfOk result (λ same. same ≡ true → text.now ≡ joined (map (λ l. l.now) lines.now)) }
+{
+    let mut whole = Vec::new(alloc);
+    add_lines(&mut whole, lines)?;
+    Ok(is_same(text, &whole))
+}
+
+/// The number, counted from 0, of the first line at which these lines of a text differ from another text: that has the
+/// same lines from a place on, and before them those of `state`. None exactly where they are its lines; then what
+/// stands behind `state` is not gone over.
+pub(crate) fn first_unexpected(
+    alloc: Global,
+    lines: &[&[u8]],
+    place: usize,
+    state: Vec<u8>,
+) -> Result<Option<usize>, AllocError>
+    requires within { place ≤ length lines.now }
+    requires whole { (text : List ℕ) × (map (λ l. l.now) lines.now ≡ lines_of text) }
+    ensures some { IfOk result (λ o. IfSome o (λ k. FirstDifference (map (λ l. l.now) lines.now)
+        (lines_of (state.items ++ joined (drop place (map (λ l. l.now) lines.now)))) (k + 1))) }
+    ensures within { IfOk result (λ o. IfSome o (λ k. k ≤ length lines.now)) }
+    ensures none { IfOk result (λ o. IfNone o (map (λ l. l.now) lines.now
+        ≡ lines_of (state.items ++ joined (drop place (map (λ l. l.now) lines.now))))) }
+{
+    let same = are_text(alloc, &lines[..place], &state)?;
+    if same {
+        return Ok(None);
+    }
+    let mut text = state;
+    add_lines(&mut text, &lines[place..])?;
+    Ok(first_difference(lines, &text))
 }

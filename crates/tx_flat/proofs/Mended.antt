@@ -1,19 +1,21 @@
 -- Copies of storage that become the same, line by line.
-use Rattle.std.proofs.Common.{◌≡◌, ◌≢◌, ◌∙◌, ap, sym, subst, refl, ℕ, suc, ◌+◌, ◌-◌, ◌*◌, ◌/◌, ◌<◌, ◌≤◌, ◌⊎◌, inl, inr, arith}
-use Rattle.std.proofs.Common.{List, length, get_or, set, true, false, Option, None, Some}
+use Rattle.std.proofs.Common.{◌≡◌, ◌∙◌, ap, sym, refl, ℕ, ◌+◌, ◌-◌, ◌*◌, ◌/◌, ◌<◌, ◌≤◌, ◌⊎◌, inl, inr, arith}
+use Rattle.std.proofs.Common.{List, length, get_or, drop, true, Option, None, Some, length-drop}
 use Rattle.std.proofs.lemmas.Bool.{cases_lt}
-use Rattle.std.proofs.lemmas.List.{ext_get_or, get_or-set_same, get_or-set_other, length-set}
+use Rattle.std.proofs.lemmas.List.{ext_get_or, get_or-take, get_or-drop, length-take-le}
 use Rattle.z_regs.specs.Prefix.{storage_size, is_prefix, absolute_of}
 use Rattle.z_regs.specs.Seen.{seen_by}
+use Rattle.z_regs.specs.Written.{range_at, written}
 use Rattle.z_regs.proofs.Exchange.{area, moves, absolute_within, seen_at, length-seen}
 use Rattle.z_regs.proofs.MovedBytes.{along}
+use Rattle.z_regs.proofs.Writes.{below, above, inside, length-written}
 use Rattle.tx_flat.specs.Bytes.{function_of}
 use Rattle.tx_flat.specs.declared.attempt.Attempt.{Attempt}
 use Rattle.tx_flat.specs.Ready.{IsReady, IsTurned}
 use Rattle.tx_flat.proofs.Laid.{listed}
 use Rattle.tx_serial.specs.Flat.{bytes_of}
 
--- ---- byte by byte
+-- ---- item by item
 
 -- so many bytes are copied from one place to another, and no others change
 pub record Copied (from old to : List ℕ) (first from_first k : ℕ) : Type 0 where
@@ -21,35 +23,53 @@ pub record Copied (from old to : List ℕ) (first from_first k : ℕ) : Type 0 w
   pub others : (j : ℕ) → (j < first) ⊎ (first + k ≤ j) → get_or to j 0 ≡ get_or old j 0
   pub size : length to ≡ storage_size
 
-pub copy_more : (from old to new : List ℕ) (first from_first k b : ℕ) → Copied from old to first from_first k
-    → first + k < storage_size → new ≡ set to (first + k) b → b ≡ get_or from (from_first + k) 0
-    → Copied from old new first from_first (k + 1)
-copy_more from old to new first from_first k b h within is same = record {
-  copied = λ j below. by_copied j below (cases_lt j k);
-  others = λ j apart.
-      ap (λ xs. get_or xs j 0) is ∙ get_or-set_other to (first + k) j b 0 (apart_from j apart)
-      ∙ h.others j (wider j apart);
-  size = ap (λ (xs : List ℕ). length xs) is ∙ length-set to (first + k) b ∙ h.size;
+-- and eight more
+pub copy_more : (from old to new : List ℕ) (first from_first k : ℕ) → Copied from old to first from_first k
+    → first + k + 8 ≤ storage_size → from_first + k + 8 ≤ storage_size → length from ≡ storage_size
+    → new ≡ written to (first + k) (range_at from (from_first + k) 8)
+    → Copied from old new first from_first (k + 8)
+copy_more from old to new first from_first k h within from_within from_size is = record {
+  copied = λ j low. by_copied j low (cases_lt j k);
+  others = λ j apart. ap (λ xs. get_or xs j 0) is ∙ apart_from j apart ∙ h.others j (wider j apart);
+  size = ap (λ (xs : List ℕ). length xs) is ∙ length-written to (first + k) item (room (h.size)) ∙ h.size;
 }
   where
-    apart_from : (j : ℕ) → (j < first) ⊎ (first + (k + 1) ≤ j) → j ≢ first + k
-    apart_from j (inl low) e = omega (arith, low, e)
-    apart_from j (inr high) e = omega (arith, high, e)
+    item : List ℕ
+    item = range_at from (from_first + k) 8
 
-    wider : (j : ℕ) → (j < first) ⊎ (first + (k + 1) ≤ j) → (j < first) ⊎ (first + k ≤ j)
+    eight : length (range_at from (from_first + k) 8) ≡ 8
+    eight = length-take-le 8 (drop (from_first + k) from) (omega (arith, length-drop (from_first + k) from, from_size, from_within))
+
+    room : length to ≡ storage_size → first + k + length (range_at from (from_first + k) 8) ≤ length to
+    room s = omega (arith, s, eight, within)
+
+    start : first + k ≤ length to
+    start = let s = h.size in omega (arith, s, within)
+
+    apart_from : (j : ℕ) → (j < first) ⊎ (first + (k + 8) ≤ j)
+        → get_or (written to (first + k) (range_at from (from_first + k) 8)) j 0 ≡ get_or to j 0
+    apart_from j (inl low) = below to (first + k) (range_at from (from_first + k) 8) j start (omega (arith, low))
+    apart_from j (inr high) =
+        above to (first + k) (range_at from (from_first + k) 8) j start (omega (arith, high, eight))
+
+    wider : (j : ℕ) → (j < first) ⊎ (first + (k + 8) ≤ j) → (j < first) ⊎ (first + k ≤ j)
     wider j (inl low) = inl low
     wider j (inr high) = inr (omega (arith, high))
 
-    by_copied : (j : ℕ) → j < k + 1 → (j < k) ⊎ (k ≤ j) → get_or new (first + j) 0 ≡ get_or from (from_first + j) 0
-    by_copied j below (inl low) =
+    by_copied : (j : ℕ) → j < k + 8 → (j < k) ⊎ (k ≤ j) → get_or new (first + j) 0 ≡ get_or from (from_first + j) 0
+    by_copied j low (inl before) =
         ap (λ xs. get_or xs (first + j) 0) is
-        ∙ get_or-set_other to (first + k) (first + j) b 0 (λ e. omega (arith, low, e))
-        ∙ h.copied j low
-    by_copied j below (inr high) =
-        let here : j ≡ k = omega (arith, below, high) in
-        let room : first + k < length to = let s = h.size in omega (arith, s, within) in
-        ap (λ xs. get_or xs (first + j) 0) is ∙ ap (λ i. get_or (set to (first + k) b) (first + i) 0) here
-        ∙ get_or-set_same to (first + k) b 0 room ∙ same ∙ ap (λ i. get_or from (from_first + i) 0) (sym here)
+        ∙ below to (first + k) (range_at from (from_first + k) 8) (first + j) start (omega (arith, before))
+        ∙ h.copied j before
+    by_copied j low (inr behind) =
+        let there : first + j ≡ first + k + (j - k) = omega (arith, behind) in
+        let from_there : from_first + k + (j - k) ≡ from_first + j = omega (arith, behind) in
+        ap (λ xs. get_or xs (first + j) 0) is
+        ∙ ap (λ i. get_or (written to (first + k) (range_at from (from_first + k) 8)) i 0) there
+        ∙ inside to (first + k) (range_at from (from_first + k) 8) (j - k) start (omega (arith, low, behind, eight))
+        ∙ get_or-take 8 (drop (from_first + k) from) (j - k) 0 (omega (arith, low, behind))
+        ∙ get_or-drop (from_first + k) from (j - k) 0
+        ∙ ap (λ i. get_or from i 0) from_there
 
 -- ---- the lines that a CPU sees
 

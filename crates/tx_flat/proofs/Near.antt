@@ -1,8 +1,8 @@
 -- What a run leaves differs from storage in the lines alone that it has stored into.
-use Rattle.std.proofs.Common.{◌≡◌, ◌≢◌, ◌∙◌, ap, sym, refl, subst, ℕ, ◌/◌, ◌<◌, ◌≤◌, Bool, true, false, List, [], ◌∷◌}
-use Rattle.std.proofs.Common.{length, get_or, Option, None, eqb, arith}
-use Rattle.std.specs.Prelude.{◌==◌, ◌||◌, ◌&&◌, if◌then◌else◌}
-use Rattle.std.specs.List.{list_any, All}
+use Rattle.std.proofs.Common.{◌≡◌, ◌≢◌, ◌∙◌, ap, sym, refl, subst, ℕ, ◌/◌, ◌≤◌, Bool, true, false, List, [], ◌∷◌}
+use Rattle.std.proofs.Common.{length, get_or, Option, eqb}
+use Rattle.std.specs.Prelude.{◌==◌, if◌then◌else◌}
+use Rattle.std.specs.List.{All}
 use Rattle.std.proofs.lemmas.Bool.{or_parts, eq-eqb, eqb-true}
 use Rattle.z_regs.specs.Cpu.{Cpu, cpu_of}
 use Rattle.z_regs.specs.Prefix.{storage_size, is_prefix, absolute_of}
@@ -17,7 +17,7 @@ use Rattle.z_effect.specs.Outcome as outcome
 use Rattle.store_cache.specs.Overlay.{Store}
 use Rattle.tx_footprint.specs.Places.{has_place, stores, IsInStorage}
 use Rattle.tx_footprint.specs.Sizes.{line_size}
-use Rattle.tx_footprint.specs.Touched.{Touched, sets_of, touching}
+use Rattle.tx_footprint.specs.Touched.{sets_of}
 use Rattle.tx_serial.specs.Attempt.{Run, at_rest, footprint}
 use Rattle.tx_serial.specs.Attempt as run
 use Rattle.tx_serial.specs.Fate.{Passes, operands}
@@ -27,7 +27,7 @@ use Rattle.tx_serial.specs.Stored.{has_store_in}
 use Rattle.tx_serial.proofs.Copies.{run_copy, run_lasting, run_prefix}
 use Rattle.tx_serial.proofs.Listed.{bytes_below_at}
 use Rattle.tx_serial.proofs.StoredBytes.{stored_size, Fills}
-use Rattle.tx_serial.proofs.StoredPlaces.{stored_places, goes_there, has_there, operands_there, small_operands, filled}
+use Rattle.tx_serial.proofs.StoredPlaces.{stored_places, operands_there, small_operands, filled}
 use Rattle.tx_flat.specs.Bytes.{function_of}
 use Rattle.tx_flat.specs.Done.{IsExecuted, outcome_at}
 use Rattle.tx_flat.specs.declared.attempt.Attempt.{Attempt}

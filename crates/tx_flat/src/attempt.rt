@@ -1,5 +1,6 @@
 //! What a CPU has done alone since its outermost begin.
 
+use crate::known::Readings;
 use tx_constraint::Constraint;
 use tx_control::Nest;
 use tx_footprint::Footprint;
@@ -24,7 +25,7 @@ pub struct Told {
 
 /// A private run: the CPU, its own copy of storage and a copy with the stores of NTSTG alone, both in
 /// the order of its real addresses, and the prefix that tells this order; storage of any bytes, on which an
-/// instruction is tried; the open begins; the lines and blocks that it has touched; what is kept for the
+/// instruction is tried; instructions that were read before; the open begins; the lines and blocks that it has touched; what is kept for the
 /// constraints; the begin and the last instruction; and the mark.
 #[derive(Drop)]
 pub struct Attempt {
@@ -33,6 +34,7 @@ pub struct Attempt {
     pub lasting: Storage,
     pub turned: Option<u32>,
     pub trial: Storage,
+    pub readings: Readings,
     pub nest: Nest,
     pub footprint: Footprint,
     pub constraint: Constraint,

@@ -58,7 +58,7 @@ pub fn coming(a: &Attempt, guard: &Guard) -> Next
     requires { Shown a.now }
     ensures { (base : Bytes) (p : Run) → Shows base a.now p → Comes (items guard.now) p result }
 {
-    match read(&a.seen, &a.image, guard) {
+    match read(&a.readings, &a.seen, &a.image, guard) {
         Err(exception) => after(&a.nest, Refused::Excepts(exception)),
         Ok(instr) => match tested(a, guard, &instr) {
             Ok(admitted) => Next::Goes(instr, admitted),

@@ -16,6 +16,7 @@ use crate::attempt::Attempt;
 use crate::causes::own_cause;
 use crate::dispatch::apply_to;
 use crate::interruption::code_of;
+use crate::known::Readings;
 use crate::mending::is_whole;
 use crate::running::fresh;
 use crate::showing::{OpenRun, open_run};
@@ -150,7 +151,8 @@ impl Flat {
         let guard = same_pages(&image.guard);
         let slots = fresh_slots(alloc, image.cpus.as_slice())?;
         is_whole(&storage);
-        let work = fresh(alloc, &storage)?;
+        let readings = Readings::open(alloc, image)?;
+        let work = fresh(alloc, &storage, readings)?;
         Ok(Flat {
             storage,
             guard,

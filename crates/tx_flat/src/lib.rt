@@ -13,6 +13,7 @@ pub mod entries;
 mod execution;
 mod flat;
 pub mod interruption;
+mod known;
 mod mending;
 pub mod outside;
 mod reading;

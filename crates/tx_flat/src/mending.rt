@@ -8,6 +8,7 @@ ghost use Rattle.tx_footprint.specs.Touched.{sets_of};
 ghost use Rattle.tx_flat.specs.Bytes.{function_of};
 ghost use Rattle.z_regs.specs.Prefix.{is_prefix, storage_size, absolute_of};
 ghost use Rattle.z_regs.specs.Seen.{seen_by};
+ghost use Rattle.z_regs.specs.Written.{range_at, written};
 ghost use Rattle.tx_flat.specs.Ready.{IsReady, IsTurned, Near, AreKept};
 ghost use Rattle.bit_set.specs.Counts.{but_at};
 
@@ -19,8 +20,22 @@ use z_regs::{Bytes, Range, Storage, Touches, place_of};
 /// The bytes of a line of storage.
 const LINE_SIZE: u64 = 256;
 
+/// The doublewords of a line.
+const LINE_ITEMS: u64 = 32;
+
 /// The lines of the area that a prefix moves.
 const AREA_LINES: u32 = 32;
+
+/// Copies eight bytes.
+fn copy_item(to: &mut Storage, place: u64, from: &Storage, from_place: u64)
+    requires inside { place + 8 ≤ storage_size }
+    requires from_inside { from_place + 8 ≤ storage_size }
+    requires size { length to.old ≡ storage_size }
+    requires from_size { length from.now ≡ storage_size }
+    ensures { to.new ≡ written to.old place (range_at from.now from_place 8) }
+{
+    to.put_word(place, 8, from.word(from_place, 8));
+}
 
 /// Copies a line.
 fn copy_line(to: &mut Storage, line: u32, from: &Storage, from_line: u32)
@@ -36,8 +51,8 @@ fn copy_line(to: &mut Storage, line: u32, from: &Storage, from_line: u32)
 {
     let first = LINE_SIZE * u64::from(line);
     let from_first = LINE_SIZE * u64::from(from_line);
-    for k in 0..LINE_SIZE {
-        to.put(first + k, from.get(from_first + k));
+    for item in 0..LINE_ITEMS {
+        copy_item(to, first + 8 * item, from, from_first + 8 * item);
     }
 }
 

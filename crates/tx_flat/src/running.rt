@@ -1,5 +1,5 @@
 //! Private runs of so many instructions.
-ghost use Rattle.std.specs.Prelude.{◌≡◌, ◌≤◌, ℕ, List, Option, IfOk, length};
+ghost use Rattle.std.specs.Prelude.{◌≡◌, ◌≤◌, ℕ, List, [], Option, IfOk, length};
 ghost use Rattle.std.specs.FinSet.{items};
 ghost use Rattle.z_regs.specs.Cpu.{cpu_of};
 ghost use Rattle.z_regs.specs.Prefix.{storage_size};
@@ -13,6 +13,7 @@ ghost use Rattle.tx_flat.specs.Shows.{Shows, IsRun, IsRunOf};
 
 use crate::advance::advance;
 use crate::attempt::{Attempt, Mark, Told};
+use crate::known::Readings;
 use crate::mending::turn;
 use std::alloc::Global;
 use tx_constraint::Constraint;
@@ -24,7 +25,7 @@ use z_regs::{CpuImage, Guard, NoMemory, Storage};
 const NOWHERE: Told = Told { at: 0, length: 0 };
 
 /// Copies of storage to run on, and no instruction yet.
-pub fn fresh(alloc: Global, storage: &Storage) -> Result<Attempt, NoMemory>
+pub fn fresh(alloc: Global, storage: &Storage, readings: Readings) -> Result<Attempt, NoMemory>
     requires { length storage.now ≡ storage_size }
     ensures { IfOk result (λ a. IsReady storage.now a) }
 {
@@ -40,6 +41,7 @@ pub fn fresh(alloc: Global, storage: &Storage) -> Result<Attempt, NoMemory>
         lasting,
         turned: None,
         trial,
+        readings,
         nest: Nest::none(),
         footprint,
         constraint: Constraint::begin(0),
@@ -47,6 +49,15 @@ pub fn fresh(alloc: Global, storage: &Storage) -> Result<Attempt, NoMemory>
         last: NOWHERE,
         mark: Mark::Open,
     })
+}
+
+/// No begin is open.
+fn close_all(nest: &mut Nest)
+    ensures { nest.new ≡ [] }
+{
+    if nest.depth() > 0 {
+        *nest = Nest::none();
+    }
 }
 
 /// No instruction of this CPU yet.
@@ -57,7 +68,7 @@ fn restart(a: &mut Attempt, image: &CpuImage)
         → IsTurned prefix bytes a.new }
 {
     a.image = *image;
-    a.nest = Nest::none();
+    close_all(&mut a.nest);
     a.footprint.clear();
     a.constraint = Constraint::begin(0);
     a.begin = NOWHERE;
@@ -102,7 +113,7 @@ pub fn run_apart(
     requires { length storage.now ≡ storage_size }
     ensures { IfOk result (λ a. IsRunOf storage.now (items guard.now) (cpu_of image.now) n a) }
 {
-    let mut a = fresh(alloc, storage)?;
+    let mut a = fresh(alloc, storage, Readings::none(alloc))?;
     run(&mut a, storage, image, guard, n);
     Ok(a)
 }

@@ -1,12 +1,12 @@
 -- Entries and the numbers of their lines.
-use Rattle.std.proofs.Common.{◌≡◌, ℕ, List, Option, Some, None, sym, ap, ap₂, ◌∙◌, arith, subst}
+use Rattle.std.proofs.Common.{◌≡◌, ◌<◌, ◌^◌, refl, ℕ, List, Option, Some, None, sym, ap, ap₂, ◌∙◌, arith, subst}
 use Rattle.tx_control.specs.declared.causes.Why.{Why}
 use Rattle.tx_journal.specs.declared.entries.Entry.{Entry}
 use Rattle.tx_journal.specs.declared.entries.Entry.TheVariants as entry
 use Rattle.tx_journal.specs.declared.entries.EntryText.{EntryText}
-use Rattle.tx_journal.specs.Lines.{Spells, entry_text}
+use Rattle.tx_journal.specs.Lines.{Spells, entry_text, fields_of, line_of}
 use Rattle.tx_journal.specs.Sound.{IsSound, IsCause}
-use Rattle.tx_journal.proofs.ToldEntries.{read_exactly}
+use Rattle.tx_journal.proofs.ToldEntries.{read_exactly, spelled}
 use Rattle.tx_serial.specs.Apply.{apply}
 use Rattle.tx_serial.specs.Flat.{FlatState}
 use Rattle.history_laws.specs.Fitting.{Fits}
@@ -30,6 +30,14 @@ the_step (entry.Commit i n) t is kind = absurd (omega (arith, kinds is, kind))
 the_step (entry.Abort i n why) t is kind = absurd (omega (arith, kinds is, kind))
 the_step (entry.Tdb i) t is kind = absurd (omega (arith, kinds is, kind))
 the_step (entry.Interrupt i) t is kind = absurd (omega (arith, kinds is, kind))
+
+-- an entry with the line of a step is that step
+pub step_only : (line : List ℕ) (cpu : ℕ) → cpu < 20 → line ≡ entry_text (entry.Step cpu) → (e : Entry) → IsSound e
+    → entry_text e ≡ line → Some (entry.Step cpu) ≡ Some e
+step_only line cpu few is e sound same =
+    let small : cpu < 2 ^ 32 = omega (arith, few) in
+    let spells = subst (λ t. Spells t (fields_of (line_of (entry.Step cpu)))) (sym is) (spelled (entry.Step cpu) small) in
+    ap Some (sym (the_step e (fields_of (line_of (entry.Step cpu))) (numbers_told e line _ sound spells same) refl))
 
 pub the_commit : (e : Entry) (t : EntryText) → TellsEntry e t → t.kind ≡ 67 → e ≡ entry.Commit t.cpu t.count
 the_commit (entry.Step i) t is kind = absurd (omega (arith, kinds is, kind))

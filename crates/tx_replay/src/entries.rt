@@ -1,7 +1,7 @@
 //! The entry that a line means, on a machine behind the entries before it.
-ghost use Rattle.std.specs.Prelude.{◌≡◌, IfSome, IfOk, IfErr, Some, Err, length};
+ghost use Rattle.std.specs.Prelude.{◌≡◌, ◌≢◌, ℕ, List, IfSome, IfOk, IfErr, Some, Err, length};
 ghost use Rattle.tx_journal.specs.declared.entries.Entry.{Entry};
-ghost use Rattle.tx_journal.specs.Lines.{entry_text};
+ghost use Rattle.tx_journal.specs.Lines.{Spells, entry_text};
 ghost use Rattle.tx_journal.specs.Sound.{IsSound};
 ghost use Rattle.tx_serial.specs.Apply.{apply};
 ghost use Rattle.tx_flat.specs.Machine.{state_of};
@@ -11,6 +11,7 @@ ghost use Rattle.tx_replay.specs.Replay.{NoneFits};
 ghost use Rattle.tx_replay.specs.Told.{TellsEntry};
 
 use crate::causes::cause_of;
+use report_form::step_cpu;
 use std::alloc::Global;
 use tx_flat::Flat;
 use tx_flat::slot::ApplyFault;
@@ -30,19 +31,18 @@ fn abort_of(flat: &mut Flat, text: EntryText) -> Option<Entry>
     }
 }
 
-/// The entry that the numbers of a line mean. No other entry fits that has such a line. The machine stays as it
-/// is.
-fn entry_of(flat: &mut Flat, text: EntryText) -> Option<Entry>
+/// The entry that the numbers of a line mean, which is none of an abort. No other entry has such a line.
+fn plain_entry(text: EntryText) -> Option<Entry>
+    requires { text.kind ≢ 65 }
     ensures sound { IfSome result IsSound }
-    ensures only { (e : Entry) → IsSound e → TellsEntry e text → Fits (state_of flat.old) e → result ≡ Some e }
-    ensures unchanged { flat.new ≡ flat.old }
+    ensures text { (line : List ℕ) → Spells line text → IfSome result (λ e. entry_text e ≡ line) }
+    ensures only { (e : Entry) → IsSound e → TellsEntry e text → result ≡ Some e }
 {
     match text.kind {
         b'S' => Some(Entry::Step(text.cpu)),
         b'C' => Some(Entry::Commit(text.cpu, text.count)),
         b'T' => Some(Entry::Tdb(text.cpu)),
         b'I' => Some(Entry::Interrupt(text.cpu)),
-        b'A' => abort_of(flat, text),
         _ => None,
     }
 }
@@ -62,6 +62,31 @@ fn with_line(alloc: Global, entry: Entry, line: &[u8]) -> Result<Option<Entry>, 
     Ok(Some(entry))
 }
 
+/// The abort that has this line and these numbers, where one fits; it may be one that does not. None where no abort
+/// has the line. The machine stays as it is.
+fn abort_with(
+    flat: &mut Flat,
+    alloc: Global,
+    text: EntryText,
+    line: &[u8],
+) -> Result<Option<Entry>, NoMemory>
+    requires kind { text.kind ≡ 65 }
+    requires spells { Spells line.now text }
+    ensures sound { IfOk result (λ o. IfSome o IsSound) }
+    ensures text { IfOk result (λ o. IfSome o (λ e. entry_text e ≡ line.now)) }
+    ensures only { IfOk result (λ o. (e : Entry) → IsSound e → entry_text e ≡ line.now
+        → Fits (state_of flat.old) e → o ≡ Some e) }
+    ensures unchanged { flat.new ≡ flat.old }
+{
+    match abort_of(flat, text) {
+        None => Ok(None),
+        Some(entry) => {
+            let found = with_line(alloc, entry, line)?;
+            Ok(found)
+        }
+    }
+}
+
 /// The entry that has this line, where one fits; it may be one that does not. None where no entry has the
 /// line. The machine stays as it is.
 fn entry_with(flat: &mut Flat, alloc: Global, line: &[u8]) -> Result<Option<Entry>, NoMemory>
@@ -71,16 +96,16 @@ fn entry_with(flat: &mut Flat, alloc: Global, line: &[u8]) -> Result<Option<Entr
         → Fits (state_of flat.old) e → o ≡ Some e) }
     ensures unchanged { flat.new ≡ flat.old }
 {
+    if let Some(cpu) = step_cpu(line) {
+        return Ok(Some(Entry::Step(cpu)));
+    }
     let Some(text) = read_entry(line) else {
         return Ok(None);
     };
-    match entry_of(flat, text) {
-        None => Ok(None),
-        Some(entry) => {
-            let found = with_line(alloc, entry, line)?;
-            Ok(found)
-        }
+    if text.kind == b'A' {
+        return abort_with(flat, alloc, text, line);
     }
+    Ok(plain_entry(text))
 }
 
 /// Applies the entry that has this line, with its line feed, where one fits. `Misfit` comes exactly where

@@ -1,20 +1,18 @@
 -- What the layouts of rows have, and what instructions have by their rows.
-use Rattle.std.proofs.Common.{◌≡◌, ℕ, zero, suc, ◌+◌, ◌*◌, ◌/◌, ◌%◌, ◌^◌, ◌<◌, ◌≤◌, true, false, Bool, ◌&&◌, ◌||◌, nat_eq, nat_lt, nat_le}
-use Rattle.std.proofs.Common.{List, [], ◌∷◌, length, take, drop, get_or, refl, sym, ap, ap₂, subst, ◌∙◌, arith, lit<, eq-eqb}
-use Rattle.std.proofs.Common.{FitsSigned, w32, w64, to_z, of_z, lt-ltb}
-use Rattle.std.proofs.Math.Facts.{to_z-of_z}
+use Rattle.std.proofs.Common.{◌≡◌, ℕ, zero, suc, ◌+◌, ◌*◌, ◌/◌, ◌%◌, ◌^◌, ◌<◌, ◌≤◌, true, Bool, ◌&&◌, ◌||◌, nat_eq, nat_le}
+use Rattle.std.proofs.Common.{List, [], ◌∷◌, length, take, drop, get_or, refl, sym, ap, ap₂, subst, ◌∙◌, arith}
+use Rattle.std.proofs.Common.{FitsSigned, w64}
 use Rattle.std.specs.List.{list_all}
-use Rattle.std.specs.Prelude.{ℤ, pos, negsuc, if◌then◌else◌, ◌-◌}
+use Rattle.std.specs.Prelude.{ℤ, pos, negsuc, ◌-◌}
 use Rattle.std.proofs.Math.Seq.{drop-cons}
 use Rattle.std.proofs.lemmas.Bool.{leb-true}
 use Rattle.std.proofs.lemmas.Nat.{pow-add}
-use Rattle.std.proofs.Math.Nat.{pow-suc, pow-le-pow_right, mod-eq_of_lt, lt_of_le_of_lt}
+use Rattle.std.proofs.Math.Nat.{pow-suc, mod-eq_of_lt}
 use Rattle.z_instr.specs.declared.instr.Instr.{Instr}
 use Rattle.z_instr.specs.declared.layout.Digit.{Digit}
 use Rattle.z_instr.specs.declared.table.TheConstants.{ROWS}
 use Rattle.z_instr.specs.Table.{Entry, entry_at}
-use Rattle.z_instr.specs.Layouts.{layout_of, width, rank, is_of, digit, spelled, digits_from, number_in, taken}
-use Rattle.z_instr.specs.Computing.{number}
+use Rattle.z_instr.specs.Layouts.{layout_of, width, digit, spelled, digits_from, number_in, taken}
 use Rattle.z_instr.proofs.Wholes.{whole, taken_below}
 use Rattle.z_instr.specs.Ranges.{is_within, bounds, limits_of}
 use Rattle.z_instr.proofs.Passing.{and_left, and_right}
@@ -50,17 +48,6 @@ sixteen (suc k) =
   where
     later : (k : ℕ) → 4 * k + 4 ≡ 4 * suc k
     later k = omega arith
-
-pub power_is : (k : ℕ) → k ≤ 32 → 1 * 2 ^ k % 18446744073709551616 ≡ 2 ^ k
-power_is k h =
-    let few : 2 ^ k ≤ 2 ^ 32 = pow-le-pow_right (lit< tt) h in
-    ap (λ n. n % 18446744073709551616) (one_times (2 ^ k)) ∙ mod-eq_of_lt (lt_of_le_of_lt few (lit< tt))
-  where
-    one_times : (n : ℕ) → 1 * n ≡ n
-    one_times n = omega arith
-
-pub power_small : (k : ℕ) → k ≤ 32 → 2 ^ k ≤ 2 ^ 32
-power_small k h = pow-le-pow_right (lit< tt) h
 
 -- a half of a byte in the place of a digit
 pub half_small : (h k : ℕ) → h < 16 → k < 8 → h * 16 ^ k < 4294967296
@@ -115,13 +102,6 @@ pub digit_is : (xs : List ℕ) (r q k : ℕ) → q ≡ r → get_or xs q 0 / 2 ^
 digit_is xs r q k e =
     ap (λ n. get_or xs n 0 / 2 ^ (4 * k) % 16) e ∙ ap (λ m. get_or xs r 0 / m % 16) (sym (sixteen k))
 
-pub part_there : (d : Digit) (h q r x : ℕ) → q ≡ rank d.field → q ≡ r → x ≡ h → h < 16 → d.index < 8 →
-    x * 2 ^ (4 * d.index) % 18446744073709551616 ≡ part d h r
-part_there d h q r x e f g a b =
-    let same : is_of r d ≡ true = eq-eqb _ _ (sym e ∙ f) in
-    ap (λ n. n * 2 ^ (4 * d.index) % 18446744073709551616) g ∙ half_is h d.index a b
-    ∙ ap (λ t. if t then h * 16 ^ d.index else 0) (sym same)
-
 -- a byte in its place, and none behind the last one
 pub byte_there : (ds : List Digit) (v : ℕ → ℕ) (k : ℕ) (d : Digit) → 2 * k + 1 < length ds →
     digit v (get_or ds (2 * k) d) * 16 + digit v (get_or ds (2 * k + 1) d) ≡ get_or (spelled ds v) k 0
@@ -172,41 +152,6 @@ one_place ds bytes k n r whole d h l e =
     grouped : (n a b c : ℕ) → n + (a + b) + c ≡ n + (a + (b + c))
     grouped n a b c = omega arith
 
-pub begun : (ds : List Digit) (bytes : List ℕ) (r : ℕ) → length ds ≡ 2 * length bytes →
-    0 + number_in ds (digits_from (length bytes) 0 bytes) r ≡ taken ds bytes r
-begun ds bytes r h =
-    let n : length bytes ≡ length ds / 2 = omega arith in
-    none (number_in ds (digits_from (length bytes) 0 bytes) r) ∙ ap (λ m. number_in ds (digits_from m 0 bytes) r) n
-  where
-    none : (n : ℕ) → 0 + n ≡ n
-    none n = omega arith
-
-pub over : (ds : List Digit) (bytes : List ℕ) (n r k whole : ℕ) → length bytes ≤ k →
-    n + number_in (drop (2 * k) ds) (digits_from (length bytes - k) k bytes) r ≡ whole → n ≡ whole
-over ds bytes n r k whole h e =
-    let none : length bytes - k ≡ 0 = omega arith in
-    let f : n + 0 ≡ whole =
-    ap (λ m. n + m) (sym (nothing (drop (2 * k) ds) r)) ∙ ap (λ j. n + number_in (drop (2 * k) ds) (digits_from j k bytes) r) (sym none) ∙ e in
-    omega (arith, f)
-  where
-    nothing : (ds : List Digit) (r : ℕ) → number_in ds [] r ≡ 0
-    nothing [] r = refl
-    nothing (d ∷ ds) r = refl
-
--- how many digits a field has, one by one
-pub one_width : (ds : List Digit) (i n r whole : ℕ) (d : Digit) → i < length ds → n + width (drop i ds) r ≡ whole →
-    (if is_of r (get_or ds i d) then n + 1 else n) + width (drop (i + 1) ds) r ≡ whole
-one_width ds i n r whole d h e =
-    counted (is_of r (get_or ds i d)) n (width (drop (i + 1) ds) r)
-    ∙ ap (λ l. n + width l r) (sym (drop-cons ds i d h ∙ ap (λ j. get_or ds i d ∷ drop j ds) (next i))) ∙ e
-  where
-    next : (i : ℕ) → suc i ≡ i + 1
-    next i = omega arith
-
-    counted : (b : Bool) (n w : ℕ) → (if b then n + 1 else n) + w ≡ n + (if b then suc w else w)
-    counted true n w = omega arith
-    counted false n w = refl
-
 pub wide_fits : (z : ℤ) → is_within (bounds 2147483648 4294967296) z ≡ true → FitsSigned w64 z
 wide_fits (pos n) h = grind arith
 wide_fits (negsuc n) h = grind arith
@@ -216,40 +161,3 @@ wide_fits (negsuc n) h = grind arith
 pub row_below : (n : ℕ) (bytes : List ℕ) (r : ℕ) → n < ROWS → ((k : ℕ) → get_or bytes k 0 < 256) →
     taken (layout_of (entry_at n)) bytes r < 16 ^ width (layout_of (entry_at n)) r
 row_below n bytes r h b = taken_below (layout_of (entry_at n)) bytes r (whole n h) b
-
-pub below_power : (t w x q : ℕ) → x ≡ t → q ≡ w → t < 16 ^ w → x < 2 ^ (4 * q)
-below_power t w x q e f h =
-    subst (λ y. y < 2 ^ (4 * q)) (sym e) (subst (λ j. t < 2 ^ (4 * j)) (sym f) (subst (λ m. t < m) (sixteen w) h))
-
--- a number of at most 20 bits
-number_low : (s : Bool) (k n : ℕ) → k ≤ 20 → n < 2 ^ k → is_within (bounds 1048576 1048576) (number s k n) ≡ true
-number_low true k n h l =
-    let most : 2 ^ k ≤ 2 ^ 20 = pow-le-pow_right (lit< tt) h in
-    elim (nat_lt n (2 ^ (k - 1))) as (λ b. is_within (bounds 1048576 1048576) (if b then pos n else negsuc (2 ^ k - 1 - n)) ≡ true) [
-      | true ↦ lt-ltb _ _ (omega (arith, most, l))
-      | false ↦ lt-ltb _ _ (omega (arith, most, l))
-    ]
-number_low false k n h l =
-    let most : 2 ^ k ≤ 2 ^ 20 = pow-le-pow_right (lit< tt) h in
-    lt-ltb _ _ (omega (arith, most, l))
-
-narrow_fits : (z : ℤ) → is_within (bounds 1048576 1048576) z ≡ true → FitsSigned w32 z
-narrow_fits (pos n) h = grind arith
-narrow_fits (negsuc n) h = grind arith
-
-long_fits : (z : ℤ) → is_within (bounds 1048576 1048576) z ≡ true → FitsSigned w64 z
-long_fits (pos n) h = grind arith
-long_fits (negsuc n) h = grind arith
-
-pub low_number : (s : Bool) (w n x q : ℕ) (z : ℤ) → w ≤ 5 → n < 16 ^ w → x ≡ n → q ≡ w → z ≡ number s (4 * q) x →
-    is_within (bounds 1048576 1048576) z ≡ true
-low_number s w n x q z h l e f g =
-    subst (λ y. is_within (bounds 1048576 1048576) y ≡ true) (sym g)
-    (number_low s (4 * q) x (omega (arith, f, h)) (below_power n w x q e f l))
-
-pub cast_fits : (z : ℤ) → is_within (bounds 1048576 1048576) z ≡ true → FitsSigned w32 (to_z w64 (of_z w64 z))
-cast_fits z h = subst (λ y. FitsSigned w32 y) (sym (to_z-of_z (long_fits z h))) (narrow_fits z h)
-
-pub cast_is : (z : ℤ) → is_within (bounds 1048576 1048576) z ≡ true →
-    to_z w32 (of_z w32 (to_z w64 (of_z w64 z))) ≡ z
-cast_is z h = ap (λ y. to_z w32 (of_z w32 y)) (to_z-of_z (long_fits z h)) ∙ to_z-of_z (narrow_fits z h)

@@ -1,16 +1,13 @@
 //! Instructions from bytes.
-ghost use Rattle.std.specs.Prelude.{◌≡◌, ℕ, ◌<◌, ◌≤◌, length, slice_index, IfOk, IfErr, true, ◌↔◌};
-ghost use Rattle.z_instr.specs.Table.{entry_at};
-ghost use Rattle.z_instr.specs.Lines.{entry_of};
-ghost use Rattle.z_instr.specs.Layout.{length_by, format_length};
-ghost use Rattle.z_instr.specs.Places.{HasOpcode, is_spare_zero};
+ghost use Rattle.std.specs.Prelude.{◌≡◌, length, slice_index, IfOk, IfErr};
+ghost use Rattle.z_instr.specs.Layout.{length_by};
 ghost use Rattle.z_instr.specs.Reading.{Reads};
 ghost use Rattle.z_instr.specs.declared.instr.Instr.{Instr};
 
-use crate::encoding::encode;
 use crate::finding::find_row;
-use crate::read::fields_from;
+use crate::read::{fields_from, numbers_in};
 use z_instr::instr::Instr;
+use z_instr::layout::digits_of;
 use z_instr::lookup::line;
 
 /// The bytes read as no instruction: no row has their opcode, or bits that no field uses are not zero.
@@ -30,14 +27,8 @@ pub fn length_of(first: u8) -> u8
     }
 }
 
-/// Whether these are the bytes of the instruction.
-fn are_bytes_of(bytes: &[u8], instr: &Instr) -> bool
-    ensures { result ≡ true ↔ Reads bytes.now instr.now }
-{
-    let code = encode(instr);
-    let own = &code.bytes[..usize::from(code.length)];
-    own == bytes
-}
+/// The number of bits that no field uses, among the numbers of the fields.
+const SPARE: usize = 11;
 
 /// The instruction that the bytes read as, by a search of nine steps and no memory; NoReading exactly where
 /// they have no reading.
@@ -49,12 +40,12 @@ pub fn decode(bytes: &[u8]) -> Result<Instr, NoReading>
     let Some(op) = find_row(bytes) else {
         return Err(NoReading);
     };
-    let Some(instr) = Instr::new(op, fields_from(op, &line(op), bytes)) else {
+    let numbers = numbers_in(digits_of(&line(op)), bytes);
+    if numbers[SPARE] != 0 {
         return Err(NoReading);
-    };
-    if are_bytes_of(bytes, &instr) {
-        Ok(instr)
-    } else {
-        Err(NoReading)
+    }
+    match Instr::new(op, fields_from(op, numbers)) {
+        Some(instr) => Ok(instr),
+        None => Err(NoReading),
     }
 }

@@ -1,9 +1,7 @@
-use Rattle.std.proofs.Common.{refl, sym, ap, ◌∙◌, ◌≡◌, ◌≢◌, get_or, subst, false, true, None}
+use Rattle.std.proofs.Common.{refl, sym, ap, ◌∙◌, subst, false, true}
 use Rattle.z_regs.specs.Seen.{seen_by}
-use Rattle.tx_serial.specs.Attempt as run
 use Rattle.tx_flat.specs.declared.attempt.Attempt.{Attempt}
 use Rattle.tx_flat.specs.Ready.{Near}
-use Rattle.tx_flat.specs.Shows.{mark_of}
 use Rattle.tx_flat.proofs.Near.{near_seen, near_lasting}
 use Rattle.tx_footprint.specs.Touched.{sets_of}
 use Rattle.z_regs.specs.Prefix.{is_prefix}

@@ -1,4 +1,4 @@
-use Rattle.std.proofs.Common.{ap, sym, subst, refl, ◌∙◌}
+use Rattle.std.proofs.Common.{ap, sym, subst, ◌∙◌}
 use Rattle.std.specs.FinSet.{items}
 use Rattle.z_regs.specs.Cpu.{cpu_of}
 use Rattle.z_regs.specs.Prefix.{is_prefix}

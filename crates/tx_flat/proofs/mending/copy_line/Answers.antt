@@ -1,21 +1,29 @@
-use Rattle.std.proofs.Common.{refl, arith, ap, ◌+◌, ◌*◌, ◌≡◌, ◌∙◌, get_or, set}
-use Rattle.std.specs.List.{slice_index}
-use Rattle.tx_flat.proofs.Mended.{copy_more}
+use Rattle.std.proofs.Common.{refl, arith, subst, ◌+◌, ◌*◌, ◌≡◌, ◌∙◌, ap₂, ℕ}
+use Rattle.z_regs.specs.Written.{range_at, written}
+use Rattle.tx_flat.proofs.Mended.{Copied, copy_more}
 use Rattle.tx_flat.proofs.mending.copy_line.Goals as goal
 
-pub loop-k-init : goal.loop-k-init
-loop-k-init c = record {
-  copied = λ j below. absurd (omega (arith, below));
+pub loop-item-init : goal.loop-item-init
+loop-item-init c = record {
+  copied = λ j low. absurd (omega (arith, low));
   others = λ j apart. refl;
   size = c.requires.size;
 }
 
-pub loop-k-preserved : goal.loop-k-preserved
-loop-k-preserved c =
-    copy_more c.args.from.now c.args.to.now c.loop-k.to c.put.new.self (256 * c.args.line) (256 * c.args.from_line)
-    c.loop-k.k c.get.result c.loop-k.invariant (omega arith)
-    (c.put.ensures ∙ ap (λ x. set c.loop-k.to (256 * x + c.loop-k.k) c.get.result) c.from-first.ensures)
-    (c.get.ensures ∙ ap (λ x. get_or c.args.from.now (256 * x + c.loop-k.k) 0) c.from-from_first.ensures)
+next : (k : ℕ) → 8 * k + 8 ≡ 8 * (k + 1)
+next k = omega arith
+
+pub loop-item-preserved : goal.loop-item-preserved
+loop-item-preserved c =
+    let k = c.loop-item.item in
+    subst (λ n. Copied c.args.from.now c.args.to.now c.copy_item.new.to (256 * c.args.line) (256 * c.args.from_line) n) (next k)
+    (copy_more c.args.from.now c.args.to.now c.loop-item.to c.copy_item.new.to (256 * c.args.line)
+    (256 * c.args.from_line) (8 * k) c.loop-item.invariant
+    (omega (arith, c.loop-item-test.true, c.requires.line)) (omega (arith, c.loop-item-test.true, c.requires.from_line))
+    c.requires.from_size
+    (c.copy_item.ensures
+    ∙ ap₂ (λ x y. written c.loop-item.to (256 * x + 8 * k) (range_at c.args.from.now (256 * y + 8 * k) 8))
+    c.from-first.ensures c.from-from_first.ensures))
 
 pub returns-clause-copied : goal.returns-clause-copied
-returns-clause-copied c = λ k below. c.loop-k.invariant.copied k (omega (arith, below, c.loop-k-test.false))
+returns-clause-copied c = λ k low. c.loop-item.invariant.copied k (omega (arith, low, c.loop-item-test.false))

@@ -1,4 +1,4 @@
-use Rattle.tx_flat.proofs.Mended.{Refreshed, exchanged}
+use Rattle.tx_flat.proofs.Mended.{exchanged}
 use Rattle.tx_flat.proofs.mending.exchange.Goals as goal
 
 pub returns : goal.returns

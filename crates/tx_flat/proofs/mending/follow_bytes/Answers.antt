@@ -1,5 +1,4 @@
 use Rattle.std.proofs.Common.{refl, sym, ap, ◌∙◌, None}
-use Rattle.z_regs.specs.Seen.{seen_by}
 use Rattle.z_regs.specs.Prefix.{is_prefix}
 use Rattle.tx_serial.specs.Flat.{with_bytes_at}
 use Rattle.tx_flat.specs.Bytes.{function_of}

@@ -1,4 +1,4 @@
-use Rattle.std.proofs.Common.{refl, sym, ap, ◌∙◌, ◌+◌, ◌≡◌, drop, arith}
+use Rattle.std.proofs.Common.{refl, ap, ◌∙◌, ◌+◌, drop, arith}
 use Rattle.tx_footprint.specs.Places.{stores}
 use Rattle.tx_footprint.proofs.Marking.{storage_at}
 use Rattle.tx_flat.specs.declared.attempt.Attempt.{Attempt}

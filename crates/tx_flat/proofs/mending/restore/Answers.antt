@@ -1,4 +1,4 @@
-use Rattle.std.proofs.Common.{refl, sym, ap, ◌∙◌, ◌+◌, ◌≡◌, false, true, arith, subst}
+use Rattle.std.proofs.Common.{refl, sym, ap, ◌∙◌, ◌+◌, ◌≡◌, false, subst}
 use Rattle.bit_set.specs.Counts.{but_at}
 use Rattle.bit_set.specs.Bits.{IsNext, NoneMarked}
 use Rattle.z_regs.specs.Prefix.{is_prefix}

@@ -1,6 +1,5 @@
-use Rattle.std.proofs.Common.{ℕ, List, ◌≡◌, ◌+◌, ◌-◌, ◌∙◌, ap, sym, take, drop, arith}
+use Rattle.std.proofs.Common.{ℕ, List, ◌≡◌, ◌+◌, ◌-◌, ◌∙◌, ap, take, drop, arith}
 use Rattle.z_instr.specs.Computing.{reading_of}
-use Rattle.z_instr.proofs.ComputedReading.{computes, none}
 use Rattle.tx_flat.proofs.reading.decode_at.Goals as goal
 
 -- the slice from a place to so many further on
@@ -9,14 +8,8 @@ part a m n all s e same =
     ap (λ j. take j (drop a all)) (let f : a + m - a ≡ n = omega (arith, e) in f)
     ∙ ap (λ l. take n (drop a l)) same
 
-pub returns-in-Ok : goal.returns-in-Ok
-returns-in-Ok c =
-    sym (computes _ c.in-Ok.instr (c.in-Ok.ensures).found)
-    ∙ ap reading_of (part c.args.address c.from.result c.args.n c.as_slice-all.result.now c.args.seen.now
-    c.from.ensures c.as_slice-all.ensures.bytes)
-
-pub returns-in-Err : goal.returns-in-Err
-returns-in-Err c =
-    sym ((none _).1 (c.in-Err.ensures).none)
+pub returns : goal.returns
+returns c =
+    c.instruction_of.ensures
     ∙ ap reading_of (part c.args.address c.from.result c.args.n c.as_slice-all.result.now c.args.seen.now
     c.from.ensures c.as_slice-all.ensures.bytes)

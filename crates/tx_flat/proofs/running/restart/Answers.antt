@@ -5,7 +5,7 @@ use Rattle.tx_flat.proofs.running.restart.Goals as goal
 
 pub returns-clause-rests : goal.returns-clause-rests
 returns-clause-rests c = λ bytes size turned.
-    rests bytes (cpu_of c.args.image.now) _ size refl turned.seen turned.lasting c.none-a.ensures c.clear.ensures refl
+    rests bytes (cpu_of c.args.image.now) _ size refl turned.seen turned.lasting c.close_all.ensures c.clear.ensures refl
     refl refl
 
 pub returns-clause-turned : goal.returns-clause-turned

@@ -1,19 +1,12 @@
-use Rattle.std.proofs.Common.{◌≡◌, Some, sym, ap, ◌∙◌}
-use Rattle.tx_journal.specs.Lines.{entry_text}
 use Rattle.tx_flat.specs.Machine.{state_of}
-use Rattle.tx_replay.proofs.EntryNumbers.{by_reading, some_same}
+use Rattle.tx_replay.proofs.EntryNumbers.{by_reading, step_only}
 use Rattle.tx_replay.proofs.entries.entry_with.Goals as goal
 
-pub returns-in-None-clause-only : goal.returns-in-None-clause-only
-returns-in-None-clause-only c = λ e sound is fits.
-    sym c.in-None.is
-    ∙ by_reading (state_of c.args.flat.now) c.args.line.now c.in-Some.text c.entry_of.result
-    c.in-Some.ensures.some c.entry_of.ensures.only e sound is fits
+pub returns-in-Some-clause-only : goal.returns-in-Some-clause-only
+returns-in-Some-clause-only c = λ e sound is fits.
+    step_only c.args.line.now c.in-Some.cpu c.in-Some.ensures.few c.in-Some.ensures.text e sound is
 
-pub returns-in_ok-found-in-Some-entry_of-clause-only : goal.returns-in_ok-found-in-Some-entry_of-clause-only
-returns-in_ok-found-in-Some-entry_of-clause-only c = λ e sound is fits.
-    let there : Some c.in-Some-entry_of.entry ≡ Some e =
-    sym c.in-Some-entry_of.is
-    ∙ by_reading (state_of c.args.flat.now) c.args.line.now c.in-Some.text c.entry_of.result
-    c.in-Some.ensures.some c.entry_of.ensures.only e sound is fits in
-    c.in_ok-found-in-Some-entry_of.ensures.only (ap entry_text (some_same there) ∙ is) ∙ there
+pub returns-clause-only : goal.returns-clause-only
+returns-clause-only c =
+    by_reading (state_of c.args.flat.now) c.args.line.now c.in-Some-read_entry.text c.plain_entry.result
+    c.in-Some-read_entry.ensures.some (λ e sound tells fits. c.plain_entry.ensures.only e sound tells)
