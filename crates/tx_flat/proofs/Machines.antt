@@ -1,11 +1,11 @@
 -- The flat state of what is kept of all CPUs, an entry of one of them, and the start.
 use Rattle.std.proofs.Common.{◌≡◌, ◌≢◌, ℕ, zero, suc, ◌+◌, ◌<◌, ◌≤◌, Bool, true, false, List, [], ◌∷◌, Option}
 use Rattle.std.proofs.Common.{Some, None, refl, sym, ap, subst, ◌∙◌, arith, lit<, length, set, get_or, inl, inr}
-use Rattle.std.specs.Prelude.{map, nat_lt, nat_le, is_none, ◌&&◌, ◌||◌, ◌==◌, if◌then◌else◌, Err}
+use Rattle.std.specs.Prelude.{map, nat_lt, nat_le, is_none, ◌&&◌, ◌||◌, ◌==◌, if◌then◌else◌, Result, Ok, Err}
 use Rattle.std.specs.FinSet.{FinSet, items, contains, empty, insert, contains-empty, contains-insert}
 use Rattle.std.specs.Cmp.{nat_cmp_total, unsigned_tied}
 use Rattle.std.specs.Ordering.{nat_cmp}
-use Rattle.std.proofs.lemmas.List.{length-map, length-set, get_or-map, map-set, get_or-set_same, get_or-set_other}
+use Rattle.std.proofs.lemmas.List.{length-map, length-set, get_or-map, map-set, get_or-set_same, get_or-set_other, set-get_or}
 use Rattle.std.proofs.lemmas.Bool.{ltb-true, cases_lt, and_parts}
 use Rattle.std.proofs.Math.ListN.{get_or-eq_default}
 use Rattle.z_regs.specs.Cpu.{Cpu}
@@ -236,6 +236,26 @@ refused_there s t g xs i x y e Misfit inside is at h =
     )
 refused_there s t g xs i x y e Memory inside is at h = ap (λ bytes. parts_of bytes g xs) h.0
 
+-- the slots then are the same, and storage
+pub unchanged_there : (s t : List ℕ) (g : FinSet nat_cmp) (xs : List Slot) (i : ℕ) (x y : Slot) (e : Entry)
+    (fault : ApplyFault) → x ≡ get_or xs i x → IsApplied (λ f k. apply f (of_cpu e k)) (items g) s t x y (Err fault)
+    → parts_of t g (set xs i y) ≡ parts_of s g xs
+unchanged_there s t g xs i x y e Misfit is h =
+    (λ k. parts_of (h.1 k) g (set xs i (h.2 k))) ∙ ap (λ z. parts_of s g (set xs i z)) is
+    ∙ ap (parts_of s g) (set-get_or xs i x)
+unchanged_there s t g xs i x y e Memory is h =
+    (λ k. parts_of (h.0 k) g (set xs i (h.1 k))) ∙ ap (λ z. parts_of s g (set xs i z)) is
+    ∙ ap (parts_of s g) (set-get_or xs i x)
+
+-- and where it does not fit in place
+pub refused_in_place : (s t : List ℕ) (g : FinSet nat_cmp) (xs : List Slot) (i : ℕ) (x y : Slot) (e : Entry)
+    (fault : ApplyFault) → i < length xs → x ≡ get_or xs i x → i ≡ cpu_of_entry e
+    → IsApplied (λ f k. apply f (of_cpu e k)) (items g) s t x y (Err fault)
+    → Applies e (parts_of s g xs) (parts_of t g (set xs i y)) (Err fault)
+refused_in_place s t g xs i x y e Misfit inside is at h =
+    ((refused_there s t g xs i x y e Misfit inside is at h).0, unchanged_there s t g xs i x y e Misfit is h)
+refused_in_place s t g xs i x y e Memory inside is at h = unchanged_there s t g xs i x y e Memory is h
+
 -- then it still holds what has to
 pub sound_after : (s t : List ℕ) (g : FinSet nat_cmp) (xs : List Slot) (i : ℕ) (y : Slot) (e : Entry)
     → IsSound (parts_of s g xs)
@@ -251,6 +271,24 @@ sound_after s t g xs i y e sound applied =
           applied;
       few = omega (arith, few, old, new, same);
     }
+
+-- an entry is applied in place, whether it fits or not
+pub done_there : (s t : List ℕ) (g : FinSet nat_cmp) (xs : List Slot) (i : ℕ) (x y : Slot) (e : Entry)
+    (r : Result (Unit {0}) ApplyFault) → i < length xs → x ≡ get_or xs i x → i ≡ cpu_of_entry e
+    → IsApplied (λ f k. apply f (of_cpu e k)) (items g) s t x y r
+    → Applies e (parts_of s g xs) (parts_of t g (set xs i y)) r
+done_there s t g xs i x y e (Ok u) inside is at all = applied_there s t g xs i x y e inside is at all
+done_there s t g xs i x y e (Err fault) inside is at h = refused_in_place s t g xs i x y e fault inside is at h
+
+-- and what has to hold still does
+pub sound_there : (s t : List ℕ) (g : FinSet nat_cmp) (xs : List Slot) (i : ℕ) (x y : Slot) (e : Entry)
+    (r : Result (Unit {0}) ApplyFault) → i < length xs → x ≡ get_or xs i x → i ≡ cpu_of_entry e
+    → IsApplied (λ f k. apply f (of_cpu e k)) (items g) s t x y r → IsSound (parts_of s g xs)
+    → IsSound (parts_of t g (set xs i y))
+sound_there s t g xs i x y e (Ok u) inside is at all sound =
+    sound_after s t g xs i y e sound (applied_there s t g xs i x y e inside is at all)
+sound_there s t g xs i x y e (Err fault) inside is at h sound =
+    subst IsSound (sym (unchanged_there s t g xs i x y e fault is h)) sound
 
 pub sound_still : (s t : List ℕ) (g : FinSet nat_cmp) (xs : List Slot) → parts_of t g xs ≡ parts_of s g xs
     → IsSound (parts_of s g xs) → IsSound (parts_of t g xs)

@@ -25,8 +25,8 @@ pub struct Told {
 
 /// A private run: the CPU, its own copy of storage and a copy with the stores of NTSTG alone, both in
 /// the order of its real addresses, and the prefix that tells this order; storage of any bytes, on which an
-/// instruction is tried; instructions that were read before; the open begins; the lines and blocks that it has touched; what is kept for the
-/// constraints; the begin and the last instruction; and the mark.
+/// instruction is tried; instructions that were read before; the open begins; the lines and blocks that it has
+/// touched; what is kept for the constraints; the begin and the last instruction; and the mark.
 #[derive(Drop)]
 pub struct Attempt {
     pub image: CpuImage,

@@ -171,20 +171,8 @@ impl Flat {
             return Err(ApplyFault::Misfit);
         }
         is_whole(&self.storage);
-        let mut slot = self.slots[cpu];
-        match apply_to(
-            &mut self.work,
-            &mut self.storage,
-            &self.guard,
-            &mut slot,
-            entry,
-        ) {
-            Err(fault) => Err(fault),
-            Ok(()) => {
-                self.slots[cpu] = slot;
-                Ok(())
-            }
-        }
+        let slot = &mut self.slots[cpu];
+        apply_to(&mut self.work, &mut self.storage, &self.guard, slot, entry)
     }
 
     /// The cause by which the attempt of so many instructions of a CPU that is there ends by itself, None exactly

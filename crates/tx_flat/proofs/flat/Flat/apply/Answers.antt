@@ -1,8 +1,7 @@
-use Rattle.std.proofs.Common.{◌≡◌, ◌<◌, ◌≤◌, arith, length, set, subst, refl, Some, None}
-use Rattle.std.specs.Prelude.{Err}
+use Rattle.std.proofs.Common.{◌≡◌, ◌<◌, ◌≤◌, arith, length, set, subst, refl, None}
 use Rattle.tx_serial.specs.Apply.{apply}
 use Rattle.tx_flat.specs.Machine.{state_of, parts_of, Applies}
-use Rattle.tx_flat.proofs.Machines.{absent, placed_there, applied_there, refused_there, sound_after}
+use Rattle.tx_flat.proofs.Machines.{absent, placed_there, done_there, sound_there}
 use Rattle.tx_flat.proofs.flat.Flat.apply.Goals as goal
 
 pub returns-then-cpu-len-clause-applied : goal.returns-then-cpu-len-clause-applied
@@ -30,11 +29,11 @@ apply_to-requires-clause-placed c =
       c.len.ensures,
       c.if-cpu-len.false,
     ) in
-    placed_there old.storage old.guard old.slots.items c.cpu_of_entry-cpu.result c.index.result.now inside
-    c.index.ensures c.self.invariant.0
+    placed_there old.storage old.guard old.slots.items c.cpu_of_entry-cpu.result c.index_mut-slot.result.now inside
+    c.index_mut-slot.ensures.value c.self.invariant.0
 
-pub returns-in-Err-clause-applied : goal.returns-in-Err-clause-applied
-returns-in-Err-clause-applied c =
+pub returns-clause-applied : goal.returns-clause-applied
+returns-clause-applied c =
     let old = c.self.inside in
     let inside : c.cpu_of_entry-cpu.result < length old.slots.items = omega (
       arith,
@@ -42,42 +41,27 @@ returns-in-Err-clause-applied c =
       c.if-cpu-len.false,
     ) in
     let t = c.apply_to.new.storage in
-    subst (λ m. Applies c.args.entry m (parts_of t old.guard old.slots.items) (Err c.in-Err.fault))
+    subst
+    (λ m. Applies c.args.entry m
+    (parts_of t old.guard (set old.slots.items c.cpu_of_entry-cpu.result c.apply_to.new.slot)) c.apply_to.result)
     c.self.view_is
-    (refused_there old.storage t old.guard old.slots.items c.cpu_of_entry-cpu.result c.index.result.now
-    c.apply_to.new.slot c.args.entry c.in-Err.fault inside c.index.ensures c.cpu_of_entry-cpu.ensures
-    c.in-Err.ensures.applied)
+    (done_there old.storage t old.guard old.slots.items c.cpu_of_entry-cpu.result c.index_mut-slot.result.now
+    c.apply_to.new.slot c.args.entry c.apply_to.result inside c.index_mut-slot.ensures.value
+    c.cpu_of_entry-cpu.ensures c.apply_to.ensures.applied)
 
-pub invariant_of-self-in-Ok : goal.invariant_of-self-in-Ok
-invariant_of-self-in-Ok c =
+pub invariant_of-self : goal.invariant_of-self
+invariant_of-self c =
     let old = c.self.inside in
     let inside : c.cpu_of_entry-cpu.result < length old.slots.items = omega (
       arith,
       c.len.ensures,
       c.if-cpu-len.false,
     ) in (
-      sound_after old.storage c.apply_to.new.storage old.guard old.slots.items c.cpu_of_entry-cpu.result
-          c.apply_to.new.slot c.args.entry c.self.invariant.0
-          (applied_there old.storage c.apply_to.new.storage old.guard old.slots.items c.cpu_of_entry-cpu.result
-          c.index.result.now c.apply_to.new.slot c.args.entry inside c.index.ensures c.cpu_of_entry-cpu.ensures
-          c.in-Ok.ensures.applied),
+      sound_there old.storage c.apply_to.new.storage old.guard old.slots.items c.cpu_of_entry-cpu.result
+          c.index_mut-slot.result.now c.apply_to.new.slot c.args.entry c.apply_to.result inside
+          c.index_mut-slot.ensures.value c.cpu_of_entry-cpu.ensures c.apply_to.ensures.applied c.self.invariant.0,
       c.apply_to.ensures.ready,
     )
-
-pub returns-in-Ok-clause-applied : goal.returns-in-Ok-clause-applied
-returns-in-Ok-clause-applied c =
-    let old = c.self.inside in
-    let inside : c.cpu_of_entry-cpu.result < length old.slots.items = omega (
-      arith,
-      c.len.ensures,
-      c.if-cpu-len.false,
-    ) in
-    let new = parts_of c.apply_to.new.storage old.guard
-    (set old.slots.items c.cpu_of_entry-cpu.result c.apply_to.new.slot) in
-    subst (λ m. apply (state_of m) c.args.entry ≡ Some (state_of new)) c.self.view_is
-    (applied_there old.storage c.apply_to.new.storage old.guard old.slots.items c.cpu_of_entry-cpu.result
-    c.index.result.now c.apply_to.new.slot c.args.entry inside c.index.ensures c.cpu_of_entry-cpu.ensures
-    c.in-Ok.ensures.applied)
 
 pub apply_to-requires-clause-ready : goal.apply_to-requires-clause-ready
 apply_to-requires-clause-ready c = c.self.invariant.1
