@@ -159,23 +159,27 @@ fn attempts_that_are_the_same(rt: HostRuntime) -> Result<(), Fail> {
     Ok(())
 }
 
-/// Programs, and which of their first eight instructions are plain ones. Those are not: a begin, an end inside, a
-/// store over two lines, one into the program, and a load that breaks a constraint. Behind the last two the program
-/// does not go on.
-static PLAIN: [(&str, [bool; 8]); 3] = [
+/// Programs, and which of their first eight instructions are plain ones. Those are not: a store over two lines, one
+/// into the program, a load that breaks a constraint, a begin that names a block, one inside another, and one with a
+/// filtering that there is not. Behind the second, the third and the last the program does not go on.
+static PLAIN: [(&str, [bool; 8]); 4] = [
     (
         " CPU X'4000'\n LGHI 3,1\n TBEGIN 0,0\n LG 1,X'9000'\n NTSTG 1,X'90F8'\n STG 1,X'90FC'\n AGR 1,3\n TEND\n \
         TEND\n END\n",
-        [true, false, true, true, false, true, false, true],
+        [true, true, true, true, false, true, true, true],
     ),
     (
         " CPU X'4000'\n LGHI 3,1\n TBEGIN 0,0\n STG 1,X'4800'\n TEND\n END\n",
-        [true, false, false, false, false, false, false, false],
+        [true, true, false, false, false, false, false, false],
     ),
     (
         " CPU X'4000'\n LGHI 3,1\n TBEGINC 0,0\n LG 1,X'9000'\n STG 1,X'9008'\n AGR 1,3\n LG 1,X'9004'\n TEND\n \
         END\n",
-        [true, false, true, true, true, false, false, false],
+        [true, true, true, true, true, false, false, false],
+    ),
+    (
+        " CPU X'4000'\n LGHI 5,X'7000'\n TBEGIN 0(5),0\n TBEGIN 0,0\n TEND\n TEND\n TBEGIN 0,3\n END\n",
+        [true, false, false, true, true, false, false, false],
     ),
 ];
 

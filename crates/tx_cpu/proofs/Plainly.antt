@@ -1,7 +1,7 @@
 -- An instruction goes whose operand lies where a plain one may touch it, and which the attempt admits.
 use Rattle.std.proofs.Common.{◌≡◌, ℕ, ◌+◌, ◌-◌, ◌*◌, ◌/◌, ◌%◌, ◌<◌, ◌≤◌, Bool, true, false, List, [], ◌∷◌}
 use Rattle.std.proofs.Common.{Some, None, Ok, refl, sym, ap, subst, ◌∙◌, arith, length}
-use Rattle.std.specs.Prelude.{◌&&◌, ◌||◌, not, map, All, nat_eq, nat_lt, nat_le}
+use Rattle.std.specs.Prelude.{◌&&◌, ◌||◌, not, cond, map, All, nat_eq, nat_lt, nat_le}
 use Rattle.std.specs.List.{list_any, list_all}
 use Rattle.std.proofs.lemmas.Bool.{true≢false, and_parts}
 use Rattle.std.proofs.lemmas.Bool.Decides.{nat_tests}
@@ -24,8 +24,8 @@ use Rattle.z_instr.specs.Operands.{registers_between, where_wrong, specification
 use Rattle.z_instr.specs.Operands.{operation, unspecified_in, unspecified, is_inside, is_stored_into, tested_spans}
 use Rattle.z_instr.specs.Operands.{is_refused_service, inaccessible_in, inaccessible}
 use Rattle.z_instr.specs.Access.{accessible_pages, text_pages, unfetched}
-use Rattle.z_instr.specs.Facts.{is_begin}
-use Rattle.z_instr.specs.Roles.{begins, is_end, sets_access_register}
+use Rattle.z_instr.specs.Reading.{modulo}
+use Rattle.z_instr.specs.Roles.{begins, sets_access_register}
 use Rattle.z_instr.specs.Table.{Entry, entry_at}
 use Rattle.z_instr.proofs.SmallOperands.{sizes}
 use Rattle.z_touch.specs.Refusals.{range_of}
@@ -50,9 +50,33 @@ use Rattle.tx_cpu.specs.Parts.{storage_of}
 use Rattle.tx_cpu.specs.Plain.{IsPlain}
 use Rattle.tx_cpu.specs.Tracked.{Tracked, progress}
 use Rattle.tx_cpu.specs.Shapes.{shape_in, boundary_size, shape_by, is_other, IsReady, touched_by, is_in_line, is_open}
-use Rattle.tx_cpu.specs.Shapes.{is_reached, is_admitted}
+use Rattle.tx_cpu.specs.Shapes.{is_reached, is_admitted, is_bare_begin, no_shape}
 use Rattle.tx_cpu.proofs.Programs.{plain_length, plain_reading}
 use Rattle.tx_cpu.proofs.Tests.{heads, tails, planned-read, tried-goes}
+
+not-so : (b : Bool) → not b ≡ true → b ≡ false
+not-so true h = sym h
+not-so false h = refl
+
+and-no : (b : Bool) → (b && false) ≡ false
+and-no true = refl
+and-no false = refl
+
+-- ---- begins whose shape is known
+
+-- a shape is known where the test holds that it is asked for
+where-known : (b : Bool) (s : Shape) → is_other (cond b s no_shape).touch ≡ false → b ≡ true
+where-known true s h = refl
+where-known false s h = absurd (true≢false h)
+
+-- and it is the one that was asked for
+known-there : (b : Bool) (s : Shape) → is_other (cond b s no_shape).touch ≡ false → cond b s no_shape ≡ s
+known-there true s h = refl
+known-there false s h = absurd (true≢false h)
+
+bare-begin : (i : Instr) (s : Shape) → is_other (cond (is_bare_begin i) s no_shape).touch ≡ false
+    → (nat_eq i.b 0 ≡ true) × (not (nat_eq (modulo 16 i.imm % 4) 3) ≡ true)
+bare-begin i s known = and_parts (nat_eq i.b 0) _ (where-known (is_bare_begin i) s known)
 
 -- ---- no more is demanded than a boundary
 
@@ -78,20 +102,14 @@ well-specified demand.Nothing o i general depth known h = refl
 well-specified demand.Boundary o i general depth known h = bounded o i general known h
 well-specified demand.EvenPair o i general depth known h = absurd (true≢false known)
 well-specified demand.AbortCode o i general depth known h = absurd (true≢false known)
-well-specified demand.Begin o i general depth known h = absurd (true≢false known)
-well-specified demand.BeginConstrained o i general depth known h = absurd (true≢false known)
+well-specified demand.Begin o i general depth known h =
+    let p = bare-begin i (shape_in o Byte i) known in
+    let filtered = not-so (nat_eq (modulo 16 i.imm % 4) 3) p.1 in
+    λ k. where_wrong (filtered k || (not (p.0 k) && not (nat_eq (first_address i general % 8) 0))) specification None
+well-specified demand.BeginConstrained o i general depth known h =
+    let bare = where-known (nat_eq i.b 0) (shape_in o Byte i) known in
+    λ k. where_wrong (not (bare k)) specification None
 well-specified demand.ServiceZero o i general depth known h = absurd (true≢false known)
-
--- it begins no transaction
-begins-none : (d : Demand) (o : Operands) (i : Instr) → is_other (shape_by d o i).touch ≡ false
-    → is_begin d ≡ false
-begins-none demand.Nothing o i known = refl
-begins-none demand.Boundary o i known = refl
-begins-none demand.EvenPair o i known = refl
-begins-none demand.AbortCode o i known = refl
-begins-none demand.Begin o i known = absurd (true≢false known)
-begins-none demand.BeginConstrained o i known = absurd (true≢false known)
-begins-none demand.ServiceZero o i known = refl
 
 -- ---- the operand is the one of the row
 
@@ -110,6 +128,13 @@ ranges-in StoredSelected b i general code known = absurd (true≢false known)
 ranges-in StoredAndFetched b i general code known = absurd (true≢false known)
 ranges-in BothFetched b i general code known = absurd (true≢false known)
 
+ranges-where : (b : Bool) (o : Operands) (i : Instr) (general : List ℕ) (code : ℕ)
+    → is_other (cond b (shape_in o Byte i) no_shape).touch ≡ false
+    → touched_by (cond b (shape_in o Byte i) no_shape).touch (first_address i general)
+    (cond b (shape_in o Byte i) no_shape).size ≡ map range_of (spans_in o i general code)
+ranges-where true o i general code known = ranges-in o Byte i general code known
+ranges-where false o i general code known = absurd (true≢false known)
+
 ranges-by : (d : Demand) (o : Operands) (i : Instr) (general : List ℕ) (code : ℕ)
     → is_other (shape_by d o i).touch ≡ false
     → touched_by (shape_by d o i).touch (first_address i general) (shape_by d o i).size
@@ -118,8 +143,10 @@ ranges-by demand.Nothing o i general code known = ranges-in o Byte i general cod
 ranges-by demand.Boundary o i general code known = ranges-in o (boundary_size o) i general code known
 ranges-by demand.EvenPair o i general code known = absurd (true≢false known)
 ranges-by demand.AbortCode o i general code known = absurd (true≢false known)
-ranges-by demand.Begin o i general code known = absurd (true≢false known)
-ranges-by demand.BeginConstrained o i general code known = absurd (true≢false known)
+ranges-by demand.Begin o i general code known =
+    ranges-where (is_bare_begin i) o i general code known
+ranges-by demand.BeginConstrained o i general code known =
+    ranges-where (nat_eq i.b 0) o i general code known
 ranges-by demand.ServiceZero o i general code known = absurd (true≢false known)
 
 -- ---- bytes in one line
@@ -149,10 +176,6 @@ inside-line first n store small l = (inside_without (span first n store) small).
 one-page : (first n : ℕ) → 0 < n → first % 256 + n ≤ 256 → (first + n - 1) / 4096 + 1 - first / 4096 ≡ 1
 one-page first n some h = omega (arith, some, h)
 
-and-no : (b : Bool) → (b && false) ≡ false
-and-no true = refl
-and-no false = refl
-
 open-page : (text : List ℕ) (page : ℕ) → list_any (nat_eq page) text ≡ false
     → list_any (nat_eq page) (text_pages None text) ≡ false
 open-page text page h =
@@ -179,10 +202,6 @@ fetch-passed text first n small h = record {
   inside = ap (λ b. b && true) (inside-line first n false small (in-line first n h));
   apart = refl;
 }
-
-not-so : (b : Bool) → not b ≡ true → b ≡ false
-not-so true h = sym h
-not-so false h = refl
 
 store-passed : (text : List ℕ) (first n : ℕ) → IsSmall (span first n true)
     → (is_in_line first n && not (list_any (nat_eq (first / 4096)) text)) ≡ true
@@ -219,6 +238,19 @@ passed-in BothFetched b i general code text small h = absurd (true≢false (sym 
 
 -- ---- operands that are reached
 
+-- of what may be touched the shape is known
+open-known : (t : Touch) (first n : ℕ) (text : List ℕ) → is_open t first n text ≡ true → is_other t ≡ false
+open-known touch.Nothing first n text h = refl
+open-known touch.Fetch first n text h = refl
+open-known touch.Store first n text h = refl
+open-known touch.Other first n text h = sym h
+
+open-where : (b : Bool) (s : Shape) (first : ℕ) (text : List ℕ)
+    → is_open (cond b s no_shape).touch first (cond b s no_shape).size text ≡ true
+    → is_open s.touch first s.size text ≡ true
+open-where true s first text h = h
+open-where false s first text h = absurd (true≢false (sym h))
+
 tests-pass : (text : List ℕ) (ss : List Span) → ArePassed text ss
     → where_wrong (not (list_all (is_inside (accessible_pages None)) ss)) addressing
     (where_wrong (list_any (is_stored_into (text_pages None text)) ss) protection
@@ -226,6 +258,15 @@ tests-pass : (text : List ℕ) (ss : List Span) → ArePassed text ss
 tests-pass text ss p =
     λ k. where_wrong (not (p.inside k)) addressing
     (where_wrong (p.apart k) protection (where_wrong false operation None))
+
+-- so does what is tested of a begin that names no block: its operands
+tested-begin : (o : Operands) (i : Instr) (general : List ℕ) (code depth : ℕ) → nat_eq i.b 0 ≡ true
+    → tested_spans demand.Begin (spans_in o i general code) i general depth ≡ spans_in o i general code
+tested-begin o i general code depth none =
+    let ss = spans_in o i general code in
+    let block = span (first_address i general) 256 true in
+    ap (λ b. cond (nat_eq depth 0 && not b) (block ∷ []) ss) none
+    ∙ ap (λ b. cond b (block ∷ []) ss) (and-no (nat_eq depth 0))
 
 tested : (d : Demand) (o : Operands) (i : Instr) (general : List ℕ) (code depth : ℕ) (text : List ℕ)
     → All IsSmall (spans_in o i general code)
@@ -241,8 +282,18 @@ tested demand.Boundary o i general code depth text small h =
     tests-pass text (spans_in o i general code) (passed-in o (boundary_size o) i general code text small h)
 tested demand.EvenPair o i general code depth text small h = absurd (true≢false (sym h))
 tested demand.AbortCode o i general code depth text small h = absurd (true≢false (sym h))
-tested demand.Begin o i general code depth text small h = absurd (true≢false (sym h))
-tested demand.BeginConstrained o i general code depth text small h = absurd (true≢false (sym h))
+tested demand.Begin o i general code depth text small h =
+    let s = shape_by demand.Begin o i in
+    let p = bare-begin i (shape_in o Byte i) (open-known s.touch (first_address i general) s.size text h) in
+    let ss = spans_in o i general code in
+    let in-place = open-where (is_bare_begin i) (shape_in o Byte i) (first_address i general) text h in
+    ap (λ (xs : List Span). where_wrong (not (list_all (is_inside (accessible_pages None)) xs)) addressing
+    (where_wrong (list_any (is_stored_into (text_pages None text)) xs) protection
+    (where_wrong false operation None))) (tested-begin o i general code depth p.0)
+    ∙ tests-pass text ss (passed-in o Byte i general code text small in-place)
+tested demand.BeginConstrained o i general code depth text small h =
+    tests-pass text (spans_in o i general code) (passed-in o Byte i general code text small
+    (open-where (nat_eq i.b 0) (shape_in o Byte i) (first_address i general) text h))
 tested demand.ServiceZero o i general code depth text small h = absurd (true≢false (sym h))
 
 reached : (e : Entry) (i : Instr) (general : List ℕ) (code depth : ℕ) (text : List ℕ)
@@ -254,13 +305,6 @@ unfolding inaccessible_in
 reached e i general code depth text small h = tested e.demand e.operands i general code depth text small h
 
 -- ---- it goes
-
--- of what may be touched the shape is known
-open-known : (t : Touch) (first n : ℕ) (text : List ℕ) → is_open t first n text ≡ true → is_other t ≡ false
-open-known touch.Nothing first n text h = refl
-open-known touch.Fetch first n text h = refl
-open-known touch.Store first n text h = refl
-open-known touch.Other first n text h = sym h
 
 -- an attempt goes on by it that admits it
 module _ (text bytes : List ℕ) (q : Progress) (r : Ready) (bare : q.cpu.prefix ≡ None)
@@ -316,14 +360,11 @@ module _ (text bytes : List ℕ) (q : Progress) (r : Ready) (bare : q.cpu.prefix
       well-specified row.demand row.operands r.instr c.general (length q.nest) known-row
       (subst (λ (s : Shape). nat_eq (first_address r.instr c.general % bytes_of s.boundary) 0 ≡ true) shaped parts.0)
 
-  shallow : (begins row && nat_le 16 (length q.nest)) ≡ false
-  shallow = ap (λ b. b && nat_le 16 (length q.nest)) (begins-none row.demand row.operands r.instr known-row)
-
   no-heads : None ≡ first_refusal (heads (storage_of bytes) q r.instr)
   no-heads =
       let passed : first_refusal (heads (storage_of bytes) q r.instr) ≡ None =
       λ k. first_refusal (lets.text k ∷ aborts_where (lets.allowed k) Restricted
-      ∷ excepted r.instr (specified k) ∷ aborts_where (shallow k) Depth ∷ []) in
+      ∷ excepted r.instr (specified k) ∷ aborts_where (lets.shallow k) Depth ∷ []) in
       sym passed
 
   there : inaccessible r.instr c.general c.condition (length q.nest) (accessible_pages c.prefix)
@@ -382,6 +423,7 @@ resting-admits c i ranges = record {
   bare = λ k lt. refl;
   text = refl;
   allowed = refl;
+  shallow = and-no (begins (entry_at i.op.number));
   place = refl;
   fits = refl;
 }
@@ -390,12 +432,23 @@ resting-admits c i ranges = record {
 unrestricted : (nest : List Begin) (e : Entry) → is_admitted e ≡ true → is_restricted nest e ≡ false
 unrestricted [] e h = refl
 unrestricted (outermost ∷ inner) e h =
-    neither e.restricted (sets_access_register e) (is_end e) (not (effective_a (outermost ∷ inner))) h
+    neither e.restricted (sets_access_register e) (begins e) (not (effective_a (outermost ∷ inner))) h
   where
-    neither : (r s e a : Bool) → not (r || (s || e)) ≡ true → (r || (s && a)) ≡ false
-    neither true s e a h = sym h
-    neither false true e a h = absurd (true≢false (sym h))
-    neither false false e a h = refl
+    neither : (r s b a : Bool) → not (r || (s || b)) ≡ true → (r || (s && a)) ≡ false
+    neither true s b a h = sym h
+    neither false true b a h = absurd (true≢false (sym h))
+    neither false false b a h = refl
+
+-- and it is no begin
+begins-none : (nest : List Begin) (e : Entry) → is_admitted e ≡ true
+    → (begins e && nat_le 16 (length nest)) ≡ false
+begins-none nest e h =
+    ap (λ b. b && nat_le 16 (length nest)) (no-begin e.restricted (sets_access_register e) (begins e) h)
+  where
+    no-begin : (r s b : Bool) → not (r || (s || b)) ≡ true → b ≡ false
+    no-begin true s b h = absurd (true≢false (sym h))
+    no-begin false true b h = absurd (true≢false (sym h))
+    no-begin false false b h = not-so b h
 
 -- sets within the limits do not overflow
 no-overflow : (nest : List Begin) (sets : Sets) → fit_of sets ≡ Ok tt → overflow_in nest sets ≡ None
@@ -418,6 +471,7 @@ attempt-admits q i need none bare allowed text place fits = record {
   bare = bare;
   text = text;
   allowed = unrestricted q.nest (entry_at i.op.number) allowed;
+  shallow = begins-none q.nest (entry_at i.op.number) allowed;
   place = place;
   fits = no-overflow q.nest (touching q.footprint (absolute_ranges q.cpu.prefix need))
       (ap (λ (rs : List Range). fit_of (touching q.footprint rs))

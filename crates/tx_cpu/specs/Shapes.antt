@@ -1,11 +1,12 @@
 -- The shape of an instruction's operand, and when it lies where a plain instruction may touch it.
-use Rattle.std.specs.Prelude.{◌≡◌, ℕ, ◌+◌, ◌*◌, ◌≤◌, length, ◌/◌, ◌%◌, Bool, true, false, ◌&&◌, ◌||◌, not, nat_eq, nat_lt, nat_le}
+use Rattle.std.specs.Prelude.{◌≡◌, ℕ, ◌+◌, ◌*◌, ◌≤◌, length, ◌/◌, ◌%◌, Bool, true, false, ◌&&◌, ◌||◌, not, cond, nat_eq, nat_lt, nat_le}
 use Rattle.std.specs.Prelude.{List, [], ◌∷◌, Some, None}
 use Rattle.std.specs.List.{list_any}
 use Rattle.z_regs.specs.Prefix.{storage_size}
 use Rattle.z_regs.specs.declared.ranges.Range.{Range}
 use Rattle.z_instr.specs.Operands.{bytes_of, registers_between}
-use Rattle.z_instr.specs.Roles.{sets_access_register, is_end}
+use Rattle.z_instr.specs.Reading.{modulo}
+use Rattle.z_instr.specs.Roles.{sets_access_register, begins}
 use Rattle.z_instr.specs.Table.{Entry, entry_at}
 use Rattle.z_instr.specs.Access.{accessible_pages, text_pages, unfetched}
 use Rattle.z_instr.specs.declared.instr.Instr.{Instr}
@@ -40,19 +41,25 @@ boundary_size (Stored size) = size
 boundary_size (Fetched size) = size
 boundary_size _ = Byte
 
--- of an instruction that demands nothing but a boundary
+-- a begin names no block, and a filtering of program interruptions that there is
+abbrev pub is_bare_begin : Instr → Bool
+is_bare_begin i = nat_eq i.b 0 && not (nat_eq (modulo 16 i.imm % 4) 3)
+
+-- of an instruction that demands nothing but a boundary, and of begins without a block
 abbrev pub shape_by : Demand → Operands → Instr → Shape
 shape_by demand.Nothing o i = shape_in o Byte i
 shape_by demand.Boundary o i = shape_in o (boundary_size o) i
+shape_by demand.Begin o i = cond (is_bare_begin i) (shape_in o Byte i) no_shape
+shape_by demand.BeginConstrained o i = cond (nat_eq i.b 0) (shape_in o Byte i) no_shape
 shape_by _ o i = no_shape
 
 abbrev pub is_other : Touch → Bool
 is_other touch.Other = true
 is_other _ = false
 
--- a transaction may have it whatever its begins allow, and goes on behind it
+-- a transaction may have it whatever its begins allow and however many they are
 abbrev pub is_admitted : Entry → Bool
-is_admitted e = not (e.restricted || (sets_access_register e || is_end e))
+is_admitted e = not (e.restricted || (sets_access_register e || begins e))
 
 -- where its shape is known, it can be fetched, and has the operand that its row says
 pub record IsShaped (fetched : Bool) (r : Ready) : Type 0 where

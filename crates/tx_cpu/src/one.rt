@@ -157,7 +157,7 @@ impl Cpu {
 
     /// The next instruction, where nothing unusual is the case: nothing is left to do before it, the CPU has no
     /// prefix, and the instruction has been read before, goes, and fetches or stores no more than some bytes in one
-    /// line. Inside a transaction it is neither a begin nor an end.
+    /// line. Inside a transaction it is no begin, and no begin names a block.
     pub fn plain<'a>(&self, program: &'a Program) -> Option<Plain<'a>>
         ensures quiet { IfSome result (λ p. IsQuiet (local_of self.now)) }
         ensures goes { IfSome result (λ p. fate_by_progress (items program.now.guard)

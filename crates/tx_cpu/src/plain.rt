@@ -14,7 +14,7 @@ ghost use Rattle.tx_cpu.specs.Admits.{Admits};
 ghost use Rattle.tx_cpu.specs.Tracked.{progress};
 ghost use Rattle.tx_cpu.specs.Parts.{storage_of};
 ghost use Rattle.tx_cpu.specs.Shapes.{is_in_line as lies_in_line, is_open as lies_open, is_reached as lies_reached};
-ghost use Rattle.tx_cpu.specs.Shapes.{touched_by, is_placed, is_admitted as goes_on_inside};
+ghost use Rattle.tx_cpu.specs.Shapes.{touched_by, is_placed, is_admitted as goes_inside};
 
 use crate::attempt::Attempt;
 use crate::program::Program;
@@ -166,7 +166,7 @@ fn fits(attempt: &Attempt, shape: Shape, first: u64) -> bool
 fn admits_inside(attempt: &Attempt, image: &CpuImage, ready: &Ready, first: u64) -> bool
     requires prefix { image.now.prefix ≡ None }
     requires ends { image.now.address + 6 ≤ storage_size }
-    requires admitted { ready.now.admitted ≡ goes_on_inside (entry_at ready.now.instr.op.number) }
+    requires admitted { ready.now.admitted ≡ goes_inside (entry_at ready.now.instr.op.number) }
     requires placed { is_placed ready.now.shape first ≡ true }
     ensures { result ≡ true → Admits (progress attempt.now (cpu_of image.now)) ready.now.instr
         (touched_by ready.now.shape.touch first ready.now.shape.size) }
@@ -187,7 +187,7 @@ fn admits_inside(attempt: &Attempt, image: &CpuImage, ready: &Ready, first: u64)
 fn admits(attempt: &Attempt, image: &CpuImage, ready: &Ready, first: u64) -> bool
     requires prefix { image.now.prefix ≡ None }
     requires ends { image.now.address + 6 ≤ storage_size }
-    requires admitted { ready.now.admitted ≡ goes_on_inside (entry_at ready.now.instr.op.number) }
+    requires admitted { ready.now.admitted ≡ goes_inside (entry_at ready.now.instr.op.number) }
     requires placed { is_placed ready.now.shape first ≡ true }
     ensures { result ≡ true → Admits (progress attempt.now (cpu_of image.now)) ready.now.instr
         (touched_by ready.now.shape.touch first ready.now.shape.size) }

@@ -1,17 +1,20 @@
 //! What is known of an instruction once it is read.
 ghost use Rattle.std.specs.Prelude.{◌≡◌, ◌<◌, true, None};
+ghost use Rattle.z_instr.specs.Facts.{is_begin};
+ghost use Rattle.z_instr.specs.Ranges.{is_within, bounds};
 ghost use Rattle.std.specs.FinSet.{items};
 ghost use Rattle.z_instr.specs.Access.{accessible_pages, text_pages, unfetched};
 ghost use Rattle.z_instr.specs.Table.{entry_at};
 ghost use Rattle.tx_cpu.specs.Shapes.{no_shape, shape_in, boundary_size, shape_by, IsShaped};
-ghost use Rattle.tx_cpu.specs.Shapes.{is_admitted as goes_on_inside};
+ghost use Rattle.tx_cpu.specs.Shapes.{is_admitted as goes_inside, is_bare_begin as begins_bare};
 
 use z_instr::addresses::registers_named;
 use z_instr::instr::Instr;
+use z_instr::laws::immediates_are_plain;
 use z_instr::lookup::line;
 use z_instr::op::Op;
 use z_instr::operand::{Demand, Operands, Size};
-use z_instr::roles::{is_end, sets_access_register};
+use z_instr::roles::{begins, sets_access_register};
 use z_regs::{CpuImage, Guard};
 use z_touch::fetchable;
 
@@ -24,7 +27,8 @@ pub enum Touch {
     Fetch,
     /// It stores bytes from its first address on.
     Store,
-    /// In some other way, or it demands more than a boundary, or it cannot be fetched without a prefix.
+    /// In some other way, or it demands more than a boundary, or it begins a transaction and names a block, or it
+    /// cannot be fetched without a prefix.
     Other,
 }
 
@@ -46,7 +50,7 @@ pub struct Ready {
     pub instr: Instr,
     /// The shape of its operand.
     pub shape: Shape,
-    /// Whether every transaction may have it, and goes on behind it.
+    /// Whether every transaction may have it, however deep: no begin is so.
     pub admitted: bool,
 }
 
@@ -101,22 +105,33 @@ fn item_of(operands: Operands) -> Size
     }
 }
 
+/// Whether a begin names no block, and a filtering of program interruptions that there is.
+fn is_bare_begin(instr: &Instr) -> bool
+    requires { is_within (bounds 0 65536) instr.now.imm ≡ true }
+    ensures { result ≡ begins_bare instr.now }
+{
+    instr.b == 0 && instr.imm as u64 % 4 != 3
+}
+
 /// The shape of an instruction with this demand and such operands.
 fn shape_with(demand: Demand, operands: Operands, instr: &Instr) -> Shape
+    requires { is_begin demand ≡ true → is_within (bounds 0 65536) instr.now.imm ≡ true }
     ensures { result ≡ shape_by demand operands instr.now }
 {
     match demand {
         Demand::Nothing => shape_of(operands, Size::Byte, instr),
         Demand::Boundary => shape_of(operands, item_of(operands), instr),
+        Demand::Begin if is_bare_begin(instr) => shape_of(operands, Size::Byte, instr),
+        Demand::BeginConstrained if instr.b == 0 => shape_of(operands, Size::Byte, instr),
         _ => unknown(),
     }
 }
 
-/// Whether a transaction may have an operation whatever its begins allow, and goes on behind it.
+/// Whether a transaction may have an operation whatever its begins allow, and however many they are.
 fn is_admitted(op: Op) -> bool
-    ensures { result ≡ goes_on_inside (entry_at op.number) }
+    ensures { result ≡ goes_inside (entry_at op.number) }
 {
-    !(line(op).restricted || sets_access_register(op) || is_end(op))
+    !(line(op).restricted || sets_access_register(op) || begins(op))
 }
 
 /// Whether a CPU without a prefix can fetch so many bytes from an address on.
@@ -136,6 +151,7 @@ pub fn make_ready(instr: Instr, fetched: bool) -> Ready
     ensures instr { result.instr ≡ instr }
     ensures shaped { IsShaped fetched result }
 {
+    immediates_are_plain();
     let admitted = is_admitted(instr.op);
     if fetched {
         let kind = line(instr.op).kind;

@@ -1,10 +1,9 @@
 -- The instruction is tried where it is fetched.
-use Rattle.std.proofs.Common.{List, false, ap, sym, ◌∙◌}
+use Rattle.std.proofs.Common.{List, ap, ◌∙◌}
 use Rattle.std.specs.FinSet.{FinSet, items}
 use Rattle.std.specs.Ordering.{nat_cmp}
 use Rattle.z_regs.specs.Cpu.{cpu_of}
 use Rattle.z_instr.specs.Access.{accessible_pages, text_pages, unfetched}
-use Rattle.z_instr.specs.Operands.{operation}
 use Rattle.z_touch.specs.Refusals.{fetch_answer}
 use Rattle.tx_control.specs.declared.begins.Begin.{Begin}
 use Rattle.tx_serial.specs.Flat.{Storage}

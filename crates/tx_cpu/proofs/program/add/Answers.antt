@@ -1,5 +1,5 @@
 -- The new number is that of the new instruction.
-use Rattle.std.proofs.Common.{◌≡◌, ℕ, ◌*◌, ◌/◌, ◌+◌, ◌++◌, ◌∷◌, [], List, length, set, ap, sym, subst, ◌∙◌, arith}
+use Rattle.std.proofs.Common.{◌≡◌, ℕ, ◌*◌, ◌/◌, ◌+◌, ◌++◌, ◌∷◌, [], List, length, set, sym, subst, arith}
 use Rattle.std.specs.FinSet.{items}
 use Rattle.tx_cpu.specs.declared.ready.Ready.{Ready}
 use Rattle.tx_cpu.specs.Shapes.{IsReady}

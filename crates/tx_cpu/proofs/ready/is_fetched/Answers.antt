@@ -1,5 +1,5 @@
 -- A CPU without a prefix fetches from its own address.
-use Rattle.std.proofs.Common.{◌≡◌, true, sym, ap, ◌∙◌}
+use Rattle.std.proofs.Common.{sym, ap, ◌∙◌}
 use Rattle.std.proofs.lemmas.Bool.{true≢false}
 use Rattle.std.specs.FinSet.{items}
 use Rattle.z_regs.specs.Cpu.{Cpu}
