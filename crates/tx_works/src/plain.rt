@@ -50,6 +50,7 @@ impl Works {
     }
 
     /// The next instruction of the CPU where nothing unusual is the case.
+    #[inline(always)]
     #[tactic(auto, unfolding(tx_serial::specs::History::start_of))]
     pub(crate) fn plain<'a>(&self, cpu: u32, program: &'a Program) -> Option<Plain<'a>>
         requires { cpu < length self.now.slots }
