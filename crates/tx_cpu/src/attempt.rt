@@ -97,6 +97,20 @@ fn are_same_constraints(one: &Option<Constraint>, other: &Option<Constraint>) ->
     }
 }
 
+/// Makes what constraints ask equal to what others ask.
+fn copy_constraint(to: &mut Option<Constraint>, from: &Option<Constraint>)
+    ensures { to.new ≡ from.now }
+{
+    match from {
+        None => *to = None,
+        Some(constraint) => {
+            let mut copy = Constraint::begin(0);
+            copy.copy_from(constraint);
+            *to = Some(copy);
+        }
+    }
+}
+
 impl Attempt {
     /// No attempt, with room for all that later calls need.
     pub fn open(alloc: Global) -> Result<Attempt, NoMemory>
@@ -291,6 +305,23 @@ impl Attempt {
         }
     }
 
+    /// Whether constraints let the attempt have the instruction at an address next, with these operands.
+    pub fn keeps_constraints(&self, instr: &Instr, at: u64, need: &Touches) -> bool
+        ensures text { result ≡ true →
+            constraint_refusal (λ kept. next_text_breach kept instr.now at) instr.now self.now.constraint ≡ None }
+        ensures place { result ≡ true →
+            constraint_refusal (λ kept. next_operand_breach kept instr.now need.now) instr.now
+            self.now.constraint ≡ None }
+    {
+        let Some(constraint) = &self.constraint else {
+            return true;
+        };
+        if constraint.admit_text(instr, at).is_err() {
+            return false;
+        }
+        constraint.admit_operands(instr, need).is_ok()
+    }
+
     /// Whether the attempt may touch these operands too, which are accessible.
     pub fn admit_touches(&self, need: &Touches, prefix: Option<u32>) -> Result<(), Refusal>
         requires prefix_in { IsTrue (is_prefix prefix) }
@@ -332,6 +363,20 @@ impl Attempt {
             return false;
         }
         are_same_constraints(&self.constraint, &other.constraint)
+    }
+
+    /// Makes this equal to the other.
+    pub fn copy_from(&mut self, other: &Attempt)
+        ensures progress { (c : Cpu) → progress self.new c ≡ progress other.now c }
+        ensures count { self.new.count ≡ other.now.count }
+    {
+        other.is_sound();
+        self.nest.copy_from(&other.nest);
+        self.footprint.copy_from(&other.footprint);
+        copy_constraint(&mut self.constraint, &other.constraint);
+        self.stores.copy_from(&other.stores);
+        self.count = other.count;
+        self.resumes_at = other.resumes_at;
     }
 
     /// Begins an attempt by the outermost begin, which has no operands; before it the CPU was so.

@@ -193,6 +193,17 @@ impl Cpu {
         self.attempt.same(&other.attempt)
     }
 
+    /// Makes this CPU equal to the other, with its attempt and what is left to do.
+    pub fn copy_from(&mut self, other: &Cpu)
+        ensures { local_of self.new ≡ local_of other.now }
+    {
+        self.image = other.image;
+        self.saved = other.saved;
+        self.attempt.copy_from(&other.attempt);
+        self.pending = other.pending;
+        self.waiting = other.waiting;
+    }
+
     /// Outside transactions, an exception stops the program before anything has changed.
     pub fn stop(&mut self, e: Exception)
         requires { is_live (local_of self.old).attempt ≡ false }
@@ -330,6 +341,7 @@ impl Cpu {
     /// Executes an instruction that `prepare` has found to go, with its operands, and tells what came of it.
     /// Where it ends its transaction by a cause, nothing is aborted yet, and a program exception among these
     /// leaves room for the bit that an abort adds to its code.
+    #[inline(always)]
     pub fn execute<V: Bytes>(&mut self, instr: &Instr, need: &Touches, base: &mut V) -> Done
         requires prepared { IsPrepared (local_of self.old).attempt instr.now need.now }
         requires count { (local_of self.old).attempt.count + 1 < 2 ^ 32 }

@@ -335,6 +335,7 @@ fn execute_seen<V: Bytes>(
 /// Performs an instruction on the bytes that the attempt sees of its operands, so that only the CPU is
 /// changed, and keeps apart what is stored in its first operand; no other is ever stored into. There must be
 /// room for all of the first operand.
+#[inline(always)]
 pub fn perform<V: Bytes>(
     attempt: &Attempt,
     instr: &Instr,

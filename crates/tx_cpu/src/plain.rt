@@ -118,11 +118,8 @@ fn admits_constrained(attempt: &Attempt, ready: &Ready, at: u64, first: u64) -> 
         (touched_by ready.now.shape.touch first ready.now.shape.size)) ready.now.instr attempt.now.constraint
         ≡ None }
 {
-    if attempt.admit_text(&ready.instr, at).is_err() {
-        return false;
-    }
     let need = operands_at(ready.shape, first);
-    attempt.admit_operands(&ready.instr, &need).is_ok()
+    attempt.keeps_constraints(&ready.instr, at, &need)
 }
 
 /// Whether its constraints admit it, where the attempt has any.

@@ -203,6 +203,7 @@ impl Lines {
 
     /// Executes an instruction that the CPU has found to go, with its operands, and tells what came of it. Where
     /// it ends its transaction by a cause, nothing is aborted yet.
+    #[inline(always)]
     pub fn execute(&mut self, cpu: &mut Cpu, instr: &Instr, need: &Touches) -> Done
         requires prepared { IsPrepared (local_of cpu.old).attempt instr.now need.now }
         requires count { (local_of cpu.old).attempt.count + 1 < 2 ^ 32 }

@@ -30,6 +30,7 @@ impl Works {
     }
 
     /// The CPU executes an instruction that is prepared. Nothing is written down yet.
+    #[inline(always)]
     fn run(&mut self, cpu: u32, instr: &Instr, need: &Touches) -> Done
         requires cpu { cpu < length self.old.slots }
         requires prepared { (rest : Seat) →
@@ -143,6 +144,7 @@ impl Works {
     }
 
     /// The CPU executes an instruction that is prepared, and whose lines are there.
+    #[inline(always)]
     pub(crate) fn execute(&mut self, cpu: u32, instr: &Instr, need: &Touches) -> Turned
         requires cpu { cpu < length self.old.slots }
         requires prepared { (rest : Seat) →
