@@ -1,0 +1,2 @@
+-- One instruction on two storages.
+mod Touching

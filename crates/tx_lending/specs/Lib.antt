@@ -1,0 +1,3 @@
+-- Turns made away from the machine.
+pub mod Places
+pub mod Away

@@ -1,0 +1,24 @@
+//! Laws of turns that are made away from the machine. Each law is the contract of a function that does nothing.
+ghost use Rattle.std.specs.Prelude.{◌≡◌, ℕ, List};
+ghost use Rattle.z_regs.specs.declared.ranges.Range.{Range};
+ghost use Rattle.z_instr.specs.declared.instr.Instr.{Instr};
+ghost use Rattle.tx_serial.specs.Flat.{Storage};
+ghost use Rattle.tx_progress.specs.Doing.{executed};
+ghost use Rattle.tx_progress.specs.Local.{Local};
+ghost use Rattle.tx_progress.specs.Progress.{Progress};
+ghost use Rattle.tx_progress.specs.Trial.{fate_by_progress};
+ghost use Rattle.tx_lending.specs.Away.{AreDoneAlike};
+ghost use Rattle.tx_lending.specs.Places.{is_among, text_places, operand_places, LookAlike};
+
+/// One instruction depends on what it touches. Over two storages in which a CPU sees the same bytes of its next
+/// instruction, that has the same fate. Over two in which it sees the same bytes of the operands, the instruction
+/// leaves the same CPU, tells the same, and lays the same stores over each storage.
+pub fn one_instruction_depends_on_what_it_touches()
+    ensures fate { (text : List ℕ) (s t : Storage) (q : Progress)
+        → LookAlike (is_among (text_places s q)) q.overlay s t
+        → fate_by_progress text t q ≡ fate_by_progress text s q }
+    ensures done { (instr : Instr) (ranges : List Range) (local : Local) (s t : Storage)
+        → LookAlike (is_among (operand_places ranges local.attempt)) local.attempt.overlay s t
+        → AreDoneAlike s t (executed instr ranges record { local = local; storage = s })
+        (executed instr ranges record { local = local; storage = t }) }
+{}
