@@ -30,7 +30,7 @@ use Rattle.tx_lending.specs.Away.{AreDoneAlike}
 use Rattle.tx_lending.specs.Places.{places_from, text_places, operand_places, is_among, LookAlike}
 use Rattle.tx_lending.specs.Places.{AreStoredAlike}
 
-abbrev on : Local → Storage → Beside
+abbrev pub on : Local → Storage → Beside
 on local storage = record { local = local; storage = storage }
 
 here : (a : ℕ) → nat_eq a a ≡ true

@@ -1,5 +1,6 @@
 //! Laws of turns that are made away from the machine. Each law is the contract of a function that does nothing.
-ghost use Rattle.std.specs.Prelude.{◌≡◌, ℕ, List};
+ghost use Rattle.std.specs.Prelude.{◌≡◌, ℕ, List, Option};
+ghost use Rattle.line_table.specs.declared.table.Mode.{Mode};
 ghost use Rattle.z_regs.specs.declared.ranges.Range.{Range};
 ghost use Rattle.z_instr.specs.declared.instr.Instr.{Instr};
 ghost use Rattle.tx_serial.specs.Flat.{Storage};
@@ -7,8 +8,8 @@ ghost use Rattle.tx_progress.specs.Doing.{executed};
 ghost use Rattle.tx_progress.specs.Local.{Local};
 ghost use Rattle.tx_progress.specs.Progress.{Progress};
 ghost use Rattle.tx_progress.specs.Trial.{fate_by_progress};
-ghost use Rattle.tx_lending.specs.Away.{AreDoneAlike};
-ghost use Rattle.tx_lending.specs.Places.{is_among, text_places, operand_places, LookAlike};
+ghost use Rattle.tx_lending.specs.Away.{AreDoneAlike, IsClear, GoAway, ran, touched, stored};
+ghost use Rattle.tx_lending.specs.Places.{is_among, text_places, operand_places, LookAlike, over};
 
 /// One instruction depends on what it touches. Over two storages in which a CPU sees the same bytes of its next
 /// instruction, that has the same fate. Over two in which it sees the same bytes of the operands, the instruction
@@ -21,4 +22,22 @@ pub fn one_instruction_depends_on_what_it_touches()
         → LookAlike (is_among (operand_places ranges local.attempt)) local.attempt.overlay s t
         → AreDoneAlike s t (executed instr ranges record { local = local; storage = s })
         (executed instr ranges record { local = local; storage = t }) }
+{}
+
+/// So many turns that a CPU makes away depend on what they touch. Over another storage in which it sees, before the
+/// first of them, the same bytes of all their instructions and operands, as many turns go away as well; they leave
+/// the same CPU, and what they have stored is laid over that storage.
+pub fn lent_turns_depend_on_what_they_touch()
+    ensures makes { (text : List ℕ) (held : ℕ → Option Mode) (k : ℕ) (local : Local) (s t : Storage)
+        → IsClear local.attempt → GoAway text held k record { local = local; storage = s }
+        → LookAlike (touched text k record { local = local; storage = s }) local.attempt.overlay s t
+        → ran text k record { local = local; storage = t } ≡ record {
+          local = (ran text k record { local = local; storage = s }).local;
+          storage = over (stored text k record { local = local; storage = s })
+              (ran text k record { local = local; storage = s }).storage t;
+        } }
+    ensures away { (text : List ℕ) (held : ℕ → Option Mode) (k : ℕ) (local : Local) (s t : Storage)
+        → IsClear local.attempt → GoAway text held k record { local = local; storage = s }
+        → LookAlike (touched text k record { local = local; storage = s }) local.attempt.overlay s t
+        → GoAway text held k record { local = local; storage = t } }
 {}
