@@ -32,7 +32,7 @@ pub record Along (overlay : Overlay) (marks : ℕ → Bool) (s t : Storage) (b c
   pub laid : (a : ℕ) → c.storage a ≡ over marks b.storage t a
   pub clear : IsClear b.local.attempt
 
-not_true : (b : Bool) → not b ≡ true → b ≡ false
+pub not_true : (b : Bool) → not b ≡ true → b ≡ false
 not_true true h = absurd (true≢false (sym h))
 not_true false h = refl
 

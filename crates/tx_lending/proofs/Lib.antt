@@ -1,5 +1,6 @@
--- One instruction on two storages, one more that is made away, and so many.
+-- One instruction on two storages, one more that is made away, so many, and what they leave.
 mod Touching
 mod Stores
 mod OneMore
 mod Along
+mod Leaving

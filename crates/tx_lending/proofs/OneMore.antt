@@ -49,7 +49,7 @@ bare s t o a none h =
 
 -- ---- inside transactions
 
-more_live : (n : ℕ) → nat_lt 0 (n + 1) ≡ true
+pub more_live : (n : ℕ) → nat_lt 0 (n + 1) ≡ true
 more_live n = grind (arith)
 
 seen_more : (s t : Storage) (o : Overlay) (stores : List Store) (a : ℕ)

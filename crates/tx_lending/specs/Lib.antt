@@ -1,3 +1,4 @@
 -- Turns made away from the machine.
 pub mod Places
 pub mod Away
+pub mod Turns
