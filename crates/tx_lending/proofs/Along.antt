@@ -1,5 +1,5 @@
 -- So many turns that are made away, on two storages in which their CPU sees the same where they look.
-use Rattle.std.proofs.Common.{◌≡◌, ℕ, zero, suc, ◌<◌, Bool, true, false, List, [], ◌∷◌, ◌++◌, Option, Some, None}
+use Rattle.std.proofs.Common.{◌≡◌, ℕ, zero, suc, ◌<◌, Bool, true, false, List, Option}
 use Rattle.std.proofs.Common.{refl, sym, ap, subst, ◌∙◌, arith}
 use Rattle.std.specs.Prelude.{◌||◌, ◌==◌, not, if◌then◌else◌}
 use Rattle.std.proofs.lemmas.Bool.{or_left, or_right, true≢false}
@@ -18,7 +18,7 @@ use Rattle.tx_progress.specs.Progress.{Progress, seen_through, is_live}
 use Rattle.tx_progress.specs.Trial.{fate_by_progress}
 use Rattle.tx_lending.specs.Away.{is_plain, lent_by, lent_turn, ran, GoesAway, GoAway, fate_places, turn_places}
 use Rattle.tx_lending.specs.Away.{touched, fate_stores, turn_stores, stored, IsClear}
-use Rattle.tx_lending.specs.Places.{text_places, operand_places, stored_places, is_among, LookAlike, over}
+use Rattle.tx_lending.specs.Places.{text_places, operand_places, is_among, LookAlike, over}
 use Rattle.tx_lending.proofs.Stores.{or_first, stored_among}
 use Rattle.tx_lending.proofs.Touching.{on, fate_alike, done_alike}
 use Rattle.tx_lending.proofs.OneMore.{OneMore, stores_in, one_more}
@@ -158,11 +158,11 @@ further text held overlay marks s t b c along away agree =
 
 -- ---- so many turns
 
-fewer : (text : List ℕ) (held : ℕ → Option Mode) (k : ℕ) (b : Beside) → GoAway text held (suc k) b
+pub fewer : (text : List ℕ) (held : ℕ → Option Mode) (k : ℕ) (b : Beside) → GoAway text held (suc k) b
     → GoAway text held k b
 fewer text held k b away j below = away j (omega (arith, below))
 
-last_one : (text : List ℕ) (held : ℕ → Option Mode) (k : ℕ) (b : Beside) → GoAway text held (suc k) b
+pub last_one : (text : List ℕ) (held : ℕ → Option Mode) (k : ℕ) (b : Beside) → GoAway text held (suc k) b
     → GoesAway text held (ran text k b)
 last_one text held k b away = away k (omega (arith))
 

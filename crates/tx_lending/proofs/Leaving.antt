@@ -9,8 +9,7 @@ use Rattle.z_instr.specs.declared.kind.Kind.TheVariants as kind
 use Rattle.z_instr.specs.declared.kind.Branch.{Branch}
 use Rattle.z_instr.specs.declared.kind.Branch.TheVariants as branch
 use Rattle.z_instr.specs.Roles.{begins, is_end, stores_lastingly, asks_for_time}
-use Rattle.z_instr.specs.Table.{Entry, entry_at, kind_at}
-use Rattle.z_effect.specs.After.{cpu_after}
+use Rattle.z_instr.specs.Table.{entry_at, kind_at}
 use Rattle.z_effect.specs.Outcome.{Outcome, Did, Divides, Aborts}
 use Rattle.z_effect.specs.Outcome as outcome
 use Rattle.tx_control.specs.declared.begins.Begin.{Begin}
@@ -18,7 +17,7 @@ use Rattle.tx_serial.specs.Apply.{is_running}
 use Rattle.tx_serial.specs.Flat.{Storage, operand_bytes}
 use Rattle.tx_progress.specs.Doing.{executed, executed_where, closed_by, stores_of}
 use Rattle.tx_progress.specs.Local.{Local}
-use Rattle.tx_progress.specs.Progress.{Progress, is_live, advanced, seen_through}
+use Rattle.tx_progress.specs.Progress.{is_live, advanced, seen_through}
 use Rattle.tx_progress.specs.Trial.{outcome_by}
 use Rattle.tx_progress.specs.declared.done.Done.TheVariants.{Stepped}
 use Rattle.tx_progress.proofs.Parts.{not_live}
@@ -52,7 +51,7 @@ no_service i h =
 
 -- ---- what is left
 
-abbrev count_after : Bool → ℕ → ℕ
+abbrev pub count_after : Bool → ℕ → ℕ
 count_after live n = if live then n + 1 else n
 
 pub record IsLeft (live : Bool) (local left : Local) : Type 0 where
@@ -97,7 +96,7 @@ left_by i ranges local s plain told =
     let live = is_live q in
     let o = outcome_by s i ranges q in
     let keeps = keeps_running i q.cpu _ (operand_bytes q.cpu.prefix (seen_through q.overlay s) ranges)
-        (no_service i plain) in
+    (no_service i plain) in
     subst (λ (b : Bool). (executed_where live b i ranges (on local s) o).told ≡ Stepped
     → IsLeft live local (executed_where live b i ranges (on local s) o).after.local) (sym (no_begin i plain))
     (left_where live i ranges local s o refl keeps) told

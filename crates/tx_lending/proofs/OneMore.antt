@@ -1,5 +1,5 @@
 -- One instruction that is made away, on two storages in which its CPU sees the same operands.
-use Rattle.std.proofs.Common.{◌≡◌, ℕ, ◌+◌, Bool, true, false, List, [], ◌∷◌, Option, Some, None}
+use Rattle.std.proofs.Common.{◌≡◌, ℕ, ◌+◌, Bool, true, false, List, [], ◌∷◌, None}
 use Rattle.std.proofs.Common.{refl, sym, ap, subst, ◌∙◌, arith}
 use Rattle.std.specs.Prelude.{nat_lt, if◌then◌else◌, unwrap_or}
 use Rattle.std.proofs.lemmas.Bool.{true≢false}
@@ -18,7 +18,7 @@ use Rattle.tx_progress.specs.Doing.{executed, executed_where, closed_by, stores_
 use Rattle.tx_progress.specs.Local.{Local, Beside}
 use Rattle.tx_progress.specs.Progress.{Progress, seen_through, is_live, advanced, laying}
 use Rattle.tx_progress.specs.Trial.{outcome_by}
-use Rattle.tx_progress.specs.declared.done.Done.TheVariants.{Stepped, Committed}
+use Rattle.tx_progress.specs.declared.done.Done.TheVariants.{Stepped}
 use Rattle.tx_progress.proofs.SeenStores.{laid_through}
 use Rattle.tx_lending.specs.Away.{IsClear}
 use Rattle.tx_lending.specs.Places.{operand_places, stored_places, is_among, LookAlike}

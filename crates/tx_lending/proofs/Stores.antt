@@ -1,13 +1,12 @@
 -- Stores change bytes at the places of stored operands alone.
 use Rattle.std.proofs.Common.{◌≡◌, ℕ, zero, suc, Bool, true, false, List, [], ◌∷◌, ◌++◌, Option}
 use Rattle.std.proofs.Common.{refl, sym, ap, ◌∙◌, arith, take, drop}
-use Rattle.std.specs.Prelude.{◌||◌, ◌==◌, map, nat_eq, cond, if◌then◌else◌}
-use Rattle.std.specs.List.{list_any, filter, flat_map}
-use Rattle.std.proofs.lemmas.Bool.{or_left, or_right, true≢false}
+use Rattle.std.specs.Prelude.{◌||◌, nat_eq, cond}
+use Rattle.std.specs.List.{filter}
+use Rattle.std.proofs.lemmas.Bool.{true≢false}
 use Rattle.std.proofs.lemmas.List.Folds.{list_any-append}
 use Rattle.z_regs.specs.Prefix.{absolute_of}
 use Rattle.z_regs.specs.declared.ranges.Range.{Range}
-use Rattle.z_instr.specs.Operands.{from_up}
 use Rattle.tx_serial.specs.Flat.{Storage, at_put, stores_at, operand_stores, laid_over}
 use Rattle.tx_serial.proofs.Copies.{laid_twice}
 use Rattle.tx_serial.proofs.Frame.{in_first, in_second}

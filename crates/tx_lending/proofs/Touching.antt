@@ -1,7 +1,7 @@
 -- One instruction on two storages in which a CPU sees the same where it looks.
-use Rattle.std.proofs.Common.{◌≡◌, ℕ, zero, suc, Bool, true, false, List, [], ◌∷◌, ◌++◌, Option, Some, None}
+use Rattle.std.proofs.Common.{◌≡◌, ℕ, suc, Bool, true, false, List, [], ◌∷◌, ◌++◌, Option, Some, None}
 use Rattle.std.proofs.Common.{refl, sym, ap, subst, ◌∙◌, arith, length}
-use Rattle.std.specs.Prelude.{map, nat_eq, nat_lt, if◌then◌else◌}
+use Rattle.std.specs.Prelude.{map, nat_eq, nat_lt}
 use Rattle.std.specs.List.{list_any}
 use Rattle.std.proofs.lemmas.Bool.{or_left, or_right}
 use Rattle.z_regs.specs.Prefix.{absolute_of}
@@ -18,7 +18,7 @@ use Rattle.z_effect.specs.Outcome.{Outcome, Did, Divides, Aborts}
 use Rattle.z_effect.specs.Outcome as outcome
 use Rattle.tx_control.specs.declared.begins.Begin.{Begin}
 use Rattle.store_cache.specs.Overlay.{Store, overlay_of, nothing}
-use Rattle.tx_serial.specs.Fate.{Excepts, fate_after, length_at, instruction_at}
+use Rattle.tx_serial.specs.Fate.{Excepts, fate_after, length_at}
 use Rattle.tx_serial.specs.Flat.{Storage, bytes_seen, operand_bytes, laid_over}
 use Rattle.tx_serial.proofs.Frame.{in_first, in_second, length_some}
 use Rattle.tx_progress.specs.Doing.{executed, executed_where, closed_by, stores_of}

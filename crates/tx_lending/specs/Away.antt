@@ -13,7 +13,7 @@ use Rattle.tx_serial.specs.Fate.{Fate, Goes, Ends, Stops}
 use Rattle.tx_serial.specs.Flat.{Storage}
 use Rattle.tx_progress.specs.Progress.{Progress, is_live}
 use Rattle.tx_progress.specs.Trial.{fate_by_progress}
-use Rattle.tx_progress.specs.Local.{Local, Beside}
+use Rattle.tx_progress.specs.Local.{Beside}
 use Rattle.tx_progress.specs.Doing.{Executed, executed}
 use Rattle.tx_progress.specs.declared.done.Done.TheVariants.{Stepped}
 use Rattle.line_table.specs.declared.table.Mode.{Mode}

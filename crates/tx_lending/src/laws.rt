@@ -1,13 +1,20 @@
 //! Laws of turns that are made away from the machine. Each law is the contract of a function that does nothing.
-ghost use Rattle.std.specs.Prelude.{◌≡◌, ℕ, List, Option};
+ghost use Rattle.std.specs.Prelude.{◌≡◌, ℕ, suc, ◌<◌, List, Option, replicate};
 ghost use Rattle.line_table.specs.declared.table.Mode.{Mode};
 ghost use Rattle.z_regs.specs.declared.ranges.Range.{Range};
 ghost use Rattle.z_instr.specs.declared.instr.Instr.{Instr};
+ghost use Rattle.tx_journal.specs.declared.events.Event.TheVariants.{Turn};
 ghost use Rattle.tx_serial.specs.Flat.{Storage};
 ghost use Rattle.tx_progress.specs.Doing.{executed};
 ghost use Rattle.tx_progress.specs.Local.{Local};
 ghost use Rattle.tx_progress.specs.Progress.{Progress};
 ghost use Rattle.tx_progress.specs.Trial.{fate_by_progress};
+ghost use Rattle.tx_meaning.specs.Limits.{Setting};
+ghost use Rattle.tx_meaning.specs.declared.outcome.Outcome.TheVariants.{Executed};
+ghost use Rattle.tx_keeping.specs.Keeping.{keeping_from};
+ghost use Rattle.tx_keeping.specs.Kept.{Kept, text_of, beside};
+ghost use Rattle.tx_keeping.specs.Turn.{k_happen, k_turned};
+ghost use Rattle.tx_lending.specs.Turns.{MayMake, with_turns};
 ghost use Rattle.tx_lending.specs.Away.{AreDoneAlike, IsClear, GoAway, ran, touched, stored};
 ghost use Rattle.tx_lending.specs.Places.{is_among, text_places, operand_places, LookAlike, over};
 
@@ -40,4 +47,18 @@ pub fn lent_turns_depend_on_what_they_touch()
         → IsClear local.attempt → GoAway text held k record { local = local; storage = s }
         → LookAlike (touched text k record { local = local; storage = s }) local.attempt.overlay s t
         → GoAway text held k record { local = local; storage = t } }
+{}
+
+/// Turns that could be made away are turns of the machine. Where a CPU of the machine that keeps may have so many
+/// turns, and as many go away from what it has of the CPU and of storage, then so many turns of it are recorded, and
+/// leave the CPU and storage as those turns do, with an entry for each where no transaction is open. Each of them is
+/// executed, with no reject.
+pub fn lent_turns_are_turns()
+    ensures kept { (m : Setting) (i k : ℕ) (needed : ℕ → Option Mode) (t : Kept) → MayMake m i k needed t
+        → GoAway (text_of m) needed k (beside t i)
+        → keeping_from m (replicate k (Turn i)) t ≡ with_turns i k (ran (text_of m) k (beside t i)) t }
+    ensures each { (m : Setting) (i k : ℕ) (needed : ℕ → Option Mode) (t : Kept) → MayMake m i k needed t
+        → GoAway (text_of m) needed k (beside t i) → (j : ℕ) → j < k
+        → k_happen m (Turn i) (keeping_from m (replicate j (Turn i)) t)
+        ≡ k_turned (keeping_from m (replicate (suc j) (Turn i)) t) Executed }
 {}
