@@ -6,3 +6,5 @@ mod Along
 mod Leaving
 mod OneTurn
 mod Turning
+mod Examples
+mod Homing

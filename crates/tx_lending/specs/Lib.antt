@@ -2,3 +2,4 @@
 pub mod Places
 pub mod Away
 pub mod Turns
+pub mod Home
