@@ -197,7 +197,7 @@ makes text held k local s t clear away h =
 -- ---- they go away from the other storage too
 
 -- so many turns, and the one behind them
-go_by : (text : List ℕ) (held : ℕ → Option Mode) (k : ℕ) (c : Beside) → GoAway text held k c
+pub go_by : (text : List ℕ) (held : ℕ → Option Mode) (k : ℕ) (c : Beside) → GoAway text held k c
     → GoesAway text held (ran text k c) → GoAway text held (suc k) c
 go_by text held k c before last j below = by (j == k) refl
   where

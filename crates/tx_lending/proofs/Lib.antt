@@ -8,3 +8,4 @@ mod OneTurn
 mod Turning
 mod Examples
 mod Homing
+mod Strangers

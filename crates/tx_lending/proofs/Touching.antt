@@ -39,7 +39,7 @@ here a = grind (arith)
 -- ---- bytes
 
 -- storages that are the same at places have the same bytes there
-seen_alike : (prefix : Option ℕ) (s t : Storage) (xs : List ℕ)
+pub seen_alike : (prefix : Option ℕ) (s t : Storage) (xs : List ℕ)
     → ((a : ℕ) → is_among (map (absolute_of prefix) xs) a ≡ true → t a ≡ s a)
     → map (λ a. t (absolute_of prefix a)) xs ≡ map (λ a. s (absolute_of prefix a)) xs
 seen_alike prefix s t [] h = refl
@@ -52,7 +52,7 @@ seen_alike prefix s t (x ∷ xs) h =
     (seen_alike prefix s t xs (λ a e. h a (or_right (nat_eq a p) (list_any (nat_eq a) others) e)))
 
 -- they have the same bytes of operands
-operands_alike : (s t : Storage) (ranges : List Range) (q : Progress)
+pub operands_alike : (s t : Storage) (ranges : List Range) (q : Progress)
     → ((a : ℕ) → is_among (operand_places ranges q) a ≡ true → t a ≡ s a)
     → operand_bytes q.cpu.prefix t ranges ≡ operand_bytes q.cpu.prefix s ranges
 operands_alike s t [] q h = refl
@@ -67,7 +67,7 @@ operands_alike s t (r ∷ rs) q h =
 -- ---- the fate
 
 -- of so many bytes the first is there
-first_there : (prefix : Option ℕ) (a n m : ℕ) → n ≡ suc m
+pub first_there : (prefix : Option ℕ) (a n m : ℕ) → n ≡ suc m
     → is_among (places_from prefix a n) (absolute_of prefix a) ≡ true
 first_there prefix a n m e =
     let p = absolute_of prefix a in

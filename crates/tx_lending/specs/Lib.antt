@@ -3,3 +3,4 @@ pub mod Places
 pub mod Away
 pub mod Turns
 pub mod Home
+pub mod Stranger

@@ -1,5 +1,5 @@
 //! Laws of turns that are made away from the machine. Each law is the contract of a function that does nothing.
-ghost use Rattle.std.specs.Prelude.{◌≡◌, ℕ, suc, ◌<◌, ◌++◌, List, Option, replicate};
+ghost use Rattle.std.specs.Prelude.{◌≡◌, ℕ, suc, ◌<◌, true, ◌++◌, List, Option, replicate};
 ghost use Rattle.line_table.specs.declared.table.Mode.{Mode};
 ghost use Rattle.z_regs.specs.declared.ranges.Range.{Range};
 ghost use Rattle.z_instr.specs.declared.instr.Instr.{Instr};
@@ -8,7 +8,7 @@ ghost use Rattle.tx_journal.specs.declared.events.Event.TheVariants.{Turn};
 ghost use Rattle.tx_serial.specs.Flat.{Storage};
 ghost use Rattle.tx_progress.specs.Doing.{executed};
 ghost use Rattle.tx_progress.specs.Local.{Local};
-ghost use Rattle.tx_progress.specs.Progress.{Progress};
+ghost use Rattle.tx_progress.specs.Progress.{Progress, is_live};
 ghost use Rattle.tx_progress.specs.Trial.{fate_by_progress};
 ghost use Rattle.tx_meaning.specs.Limits.{Setting};
 ghost use Rattle.tx_meaning.specs.Meaning.{IsSetting, meaning};
@@ -20,6 +20,7 @@ ghost use Rattle.tx_keeping.specs.Keeping.{keeping, keeping_from};
 ghost use Rattle.tx_keeping.specs.Kept.{Kept, text_of, beside};
 ghost use Rattle.tx_keeping.specs.Turn.{k_happen, k_turned};
 ghost use Rattle.tx_lending.specs.Home.{MayComeHome, brought_home};
+ghost use Rattle.tx_lending.specs.Stranger.{GoesOnLike, SeeAlike, gone_on, upon, waiting};
 ghost use Rattle.tx_lending.specs.Turns.{MayMake, with_turns};
 ghost use Rattle.tx_lending.specs.Away.{AreDoneAlike, IsClear, GoAway, ran, touched, stored};
 ghost use Rattle.tx_lending.specs.Places.{is_among, text_places, operand_places, LookAlike, over};
@@ -53,6 +54,29 @@ pub fn lent_turns_depend_on_what_they_touch()
         → IsClear local.attempt → GoAway text held k record { local = local; storage = s }
         → LookAlike (touched text k record { local = local; storage = s }) local.attempt.overlay s t
         → GoAway text held k record { local = local; storage = t } }
+{}
+
+/// Inside a transaction another CPU that goes on like the first makes the same turns, whatever its attempt has stored
+/// before: where both see, before the first turn, the same bytes of all instructions and operands, as many of its turns
+/// go away; they leave its program as they leave the other's, with what they have stored over its own stores that wait,
+/// and storage as it was.
+pub fn a_cpu_that_goes_on_alike_makes_the_same_turns()
+    ensures makes { (text : List ℕ) (held : ℕ → Option Mode) (k : ℕ) (local own : Local) (s t : Storage)
+        → GoesOnLike local.attempt own.attempt → is_live local.attempt ≡ true
+        → GoAway text held k record { local = local; storage = s }
+        → SeeAlike (touched text k record { local = local; storage = s }) local.attempt.overlay s
+        own.attempt.overlay t
+        → ran text k record { local = own; storage = t } ≡ record {
+          local = gone_on (ran text k record { local = local; storage = s }).local
+              (upon (waiting text k record { local = local; storage = s }) own.attempt.overlay) own;
+          storage = t;
+        } }
+    ensures away { (text : List ℕ) (held : ℕ → Option Mode) (k : ℕ) (local own : Local) (s t : Storage)
+        → GoesOnLike local.attempt own.attempt → is_live local.attempt ≡ true
+        → GoAway text held k record { local = local; storage = s }
+        → SeeAlike (touched text k record { local = local; storage = s }) local.attempt.overlay s
+        own.attempt.overlay t
+        → GoAway text held k record { local = own; storage = t } }
 {}
 
 /// Turns that could be made away are turns of the machine. Where a CPU of the machine that keeps may have so many
