@@ -1,0 +1,78 @@
+-- Turns that were made away from a machine are turns of it, where it has the same bytes where they have looked.
+use Rattle.std.proofs.Common.{◌≡◌, ℕ, suc, ◌<◌, List, [], ◌∷◌, ◌++◌, refl, sym, ap, ◌∙◌}
+use Rattle.std.proofs.Common.{replicate}
+use Rattle.std.proofs.lemmas.List.Elements.{All-append, All-replicate}
+use Rattle.tx_journal.specs.Image.{cpu_of_event}
+use Rattle.tx_journal.specs.declared.events.Event.{Event}
+use Rattle.tx_journal.specs.declared.events.Event.TheVariants.{Turn}
+use Rattle.tx_serial.specs.Flat.{Storage}
+use Rattle.tx_progress.specs.Progress.{Progress}
+use Rattle.tx_progress.proofs.Parts.{rests}
+use Rattle.tx_meaning.specs.declared.outcome.Outcome.TheVariants as outcome
+use Rattle.tx_meaning.specs.Limits.{Setting}
+use Rattle.tx_meaning.specs.Meaning.{IsSetting, meaning}
+use Rattle.tx_meaning.specs.State.{cpus_of}
+use Rattle.tx_meaning.specs.Turn.{happen, turned}
+use Rattle.tx_meaning.specs.Views.{AreKnown}
+use Rattle.tx_keeping.specs.Keeping.{keeping, keeping_from}
+use Rattle.tx_keeping.specs.Kept.{Kept, kept_beginning, kept_flat, text_of, beside}
+use Rattle.tx_keeping.specs.Told.{turned_of}
+use Rattle.tx_keeping.specs.Turn.{k_happen}
+use Rattle.tx_keeping.proofs.Events.{keeping_is, happens_alike, keeping_good}
+use Rattle.tx_keeping.proofs.Truth.{true_to}
+use Rattle.tx_lending.specs.Away.{IsClear, GoAway}
+use Rattle.tx_lending.specs.Home.{MayComeHome, brought_home}
+use Rattle.tx_lending.specs.Turns.{with_turns}
+use Rattle.tx_lending.proofs.Along.{makes, go_too}
+use Rattle.tx_lending.proofs.Turning.{turns_kept, turns_each}
+
+-- events in two parts
+more_events : (m : Setting) (events more : List Event) (t : Kept)
+    → keeping_from m (events ++ more) t ≡ keeping_from m more (keeping_from m events t)
+unfolding keeping_from
+more_events m [] more t = refl
+more_events m (e ∷ rest) more t = more_events m rest more (k_happen m e t).kept
+
+module _ (m : Setting) (setting : IsSetting m) (events : List Event) (known : AreKnown m events) (i k : ℕ)
+    (within : i < cpus_of m) (own : Storage) (home : MayComeHome m i k own (keeping m events))
+  where
+    abbrev t : Kept
+    t = keeping m events
+
+    -- outside transactions no store of a CPU waits
+    clear : IsClear (t.locals i).attempt
+    clear none a =
+        let is = true_to m t (keeping_good m setting events known).truth in
+        ap (λ (q : Progress). q.overlay a) (rests (kept_flat m t) i (t.locals i) (is.followed i) none)
+
+    there : GoAway (text_of m) home.needed k (beside t i)
+    there = go_too (text_of m) home.needed k (t.locals i) own t.storage clear home.away home.alike
+
+    more : (j : ℕ) → keeping m (events ++ replicate j (Turn i)) ≡ keeping_from m (replicate j (Turn i)) t
+    more j = more_events m events (replicate j (Turn i)) (kept_beginning m)
+
+    pub home_kept : keeping m (events ++ replicate k (Turn i)) ≡ brought_home m i k own t
+    home_kept =
+        more k
+        ∙ turns_kept m i k home.needed t home.may there
+        ∙ ap (λ b. with_turns i k b t)
+        (makes (text_of m) home.needed k (t.locals i) own t.storage clear home.away home.alike)
+
+    all_known : (j : ℕ) → AreKnown m (events ++ replicate j (Turn i))
+    all_known j =
+        All-append (λ e. cpu_of_event e < cpus_of m) events (replicate j (Turn i)) known
+        (All-replicate (λ e. cpu_of_event e < cpus_of m) j (Turn i) within)
+
+    pub home_meant : meaning m (events ++ replicate k (Turn i)) ≡ (brought_home m i k own t).state
+    home_meant =
+        keeping_is m setting (events ++ replicate k (Turn i)) (all_known k) ∙ ap (λ (x : Kept). x.state) home_kept
+
+    pub home_each : (j : ℕ) → j < k → happen m (Turn i) (meaning m (events ++ replicate j (Turn i)))
+        ≡ turned (meaning m (events ++ replicate (suc j) (Turn i))) outcome.Executed
+    home_each j less =
+        happens_alike m setting (events ++ replicate j (Turn i)) (Turn i) (all_known j) within
+        ∙ ap (λ x. turned_of (k_happen m (Turn i) x)) (more j)
+        ∙ ap turned_of (turns_each m i k home.needed t home.may there j less)
+        ∙ ap (λ (x : Kept). turned x.state outcome.Executed) (sym (more (suc j)))
+        ∙ ap (λ s. turned s outcome.Executed)
+        (sym (keeping_is m setting (events ++ replicate (suc j) (Turn i)) (all_known (suc j))))
