@@ -1,9 +1,7 @@
-//! Cases of one CPU with its attempt, of the lines that CPUs hold, and of flat storage.
+//! Cases of one CPU with its attempt, and of the lines that CPUs hold.
 #![tactic(auto)]
 
 #[cfg(test)]
 mod attempts;
-#[cfg(test)]
-mod flat;
 #[cfg(test)]
 mod holders;

@@ -1,0 +1,5 @@
+//! Cases of flat storage.
+#![tactic(auto)]
+
+#[cfg(test)]
+mod flat;
