@@ -7,7 +7,7 @@ ghost use Rattle.z_regs.specs.Cpu.{cpu_of};
 ghost use Rattle.z_regs.specs.Prefix.{is_prefix};
 ghost use Rattle.z_text.specs.Labels.{value_in};
 ghost use Rattle.z_text.specs.Tokens.{AreTokensIn, LiesIn};
-ghost use Rattle.z_assemble.specs.Listing.{task_of, heads_in, operands_in, operation_in, is_below};
+ghost use Rattle.z_assemble.specs.Listing.{task_of, tasks_of, heads_in, operands_in, operation_in, is_below};
 ghost use Rattle.z_assemble.specs.Listing.{is_doubleword, field_behind};
 ghost use Rattle.z_assemble.specs.Machine.{change_at, with_address, with_general, entry_line};
 ghost use Rattle.z_assemble.specs.Machine.{is_register_value, register_line, size_of_show, is_accessible};
@@ -21,12 +21,14 @@ ghost use Rattle.z_assemble.specs.Sizes.{IsPlaced};
 ghost use Rattle.z_operands.specs.Steps.{Gives, Answers};
 ghost use Rattle.z_operands.specs.Values.{operands_on};
 
-use crate::draft::{SIZE, Work};
+use crate::draft::SIZE;
 use crate::first::{behind, field_behind, heads_in, is_doubleword, operation_in};
+use crate::kept::Work;
 use crate::parameter::{Parameter, is_choice, parameter_named, set_parameter};
 use crate::place::write_bytes;
 use crate::reading::Reading;
 use crate::setup::Setup;
+use crate::works::Works;
 use std::alloc::Global;
 use tx_journal::Show;
 use z_operands::{
@@ -270,11 +272,11 @@ fn places_in(area: u32, here: usize, operation: Operation) -> bool
 }
 
 #[tactic(auto, using(crate::proofs::Lists::any_steps))]
-fn is_text_in(area: u32, works: &[Work]) -> bool
-    ensures { result ≡ list_any (task_places_in area) (map task_of works.now) }
+fn is_text_in(area: u32, works: &Works) -> bool
+    ensures { result ≡ list_any (task_places_in area) (tasks_of works.now) }
 {
-    for work in works {
-        if places_in(area, work.here as usize, work.operation) {
+    for kept in &works.kept {
+        if places_in(area, kept.here as usize, kept.operation) {
             return true;
         }
     }
@@ -282,8 +284,8 @@ fn is_text_in(area: u32, works: &[Work]) -> bool
 }
 
 #[tactic(auto, unfolding(crate::specs::Machine::prefix_line))]
-fn give_prefix(setup: &mut Setup, works: &[Work], operands: &[Operand]) -> Result<(), LineFault>
-    ensures gives { Gives result (prefix_line (map task_of works.now) operands.now (machine_of setup.old))
+fn give_prefix(setup: &mut Setup, works: &Works, operands: &[Operand]) -> Result<(), LineFault>
+    ensures gives { Gives result (prefix_line (tasks_of works.now) operands.now (machine_of setup.old))
         (machine_of setup.new) }
     ensures entered { setup.new.entered ≡ setup.old.entered }
 {
@@ -389,7 +391,7 @@ fn choose_named(
     room: &mut Room,
     setup: &mut Setup,
     labels: &Labels,
-    works: &[Work],
+    works: &Works,
     work: Work,
     tokens: &[Token],
 ) -> Result<(), LineFault>
@@ -412,7 +414,7 @@ fn choose_named(
 fn directive(
     setup: &mut Setup,
     labels: &Labels,
-    works: &[Work],
+    works: &Works,
     operation: Operation,
     operands: &[Operand],
 ) -> Result<(), LineFault>
@@ -439,7 +441,7 @@ fn read_again(
     room: &mut Room,
     setup: &mut Setup,
     labels: &Labels,
-    works: &[Work],
+    works: &Works,
     work: Work,
     tokens: &[Token],
 ) -> Result<(), LineFault>
@@ -475,7 +477,7 @@ pub(crate) fn read_second(
     reading: &mut Reading,
     setup: &mut Setup,
     labels: &Labels,
-    works: &[Work],
+    works: &Works,
     work: Work,
 ) -> Result<(), LineFault>
     requires { setup.old.entered < 2 ^ 64 - 1 }
