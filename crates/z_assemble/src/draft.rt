@@ -7,6 +7,15 @@ use z_text::Labels;
 /// The bytes of storage.
 pub const SIZE: usize = 1_048_576;
 
+/// The first byte that may be placed or shown.
+pub const FIRST_BYTE: usize = 8_192;
+
+/// Where the location begins.
+pub const FIRST_LOCATION: usize = 16_384;
+
+/// The most CPUs.
+pub const MOST_CPUS: u32 = 16;
+
 /// What the lines so far have made.
 #[derive(Drop)]
 pub struct Draft<'a> {

@@ -16,7 +16,7 @@ ghost use Rattle.z_assemble.specs.Kept.{IsThere};
 ghost use Rattle.z_assemble.specs.Sizes.{IsPlaced};
 ghost use Rattle.z_operands.specs.Steps.{Gives, Answers};
 
-use crate::draft::Draft;
+use crate::draft::{Draft, MOST_CPUS, SIZE};
 use crate::kept::TextLine;
 use crate::place::{place, start, write};
 use crate::reading::Reading;
@@ -184,7 +184,7 @@ fn org(room: &mut Room, draft: &mut Draft, line: &[u8], tokens: &[Token]) -> Res
     ensures text { draft.new.works.text ≡ draft.old.works.text }
 {
     let value = value_on(room, draft, line, tokens)?;
-    if value < 0 || 1_048_576 < value {
+    if value < 0 || (SIZE as i128) < value {
         return Err(LineFault::Failed(Kind::OutOfRange));
     }
     draft.here = value as usize;
@@ -234,7 +234,7 @@ fn ds(
     ensures text { draft.new.works.text ≡ draft.old.works.text }
 {
     let value = value_on(room, draft, line, tokens)?;
-    if value < 0 || 1_048_576 < value {
+    if value < 0 || (SIZE as i128) < value {
         return Err(LineFault::Failed(Kind::OutOfRange));
     }
     define_here(draft, label)?;
@@ -301,7 +301,7 @@ fn cpu(draft: &mut Draft, line: TextLine) -> Result<(), LineFault>
     ensures gives { Gives result (cpu_line line.entry.number line.entry.bytes.now (plan_of draft.old)) (plan_of draft.new) }
     ensures text { draft.new.works.text ≡ draft.old.works.text }
 {
-    if draft.cpus >= 16 {
+    if draft.cpus >= MOST_CPUS {
         return Err(LineFault::Failed(Kind::OutOfRange));
     }
     draft.cpus += 1;

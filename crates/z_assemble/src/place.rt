@@ -5,7 +5,7 @@ ghost use Rattle.z_assemble.specs.Listing.{plan_of, placed, written, started};
 ghost use Rattle.z_operands.specs.Steps.{Gives};
 ghost use Rattle.z_assemble.specs.Text.{write_at, copies};
 
-use crate::draft::{Draft, SIZE};
+use crate::draft::{Draft, FIRST_BYTE, SIZE};
 use z_operands::{Kind, LineFault};
 
 fn is_any(marks: &[bool]) -> bool
@@ -41,7 +41,7 @@ pub(crate) fn place(draft: &mut Draft, count: usize) -> Result<(), LineFault>
     ensures text { draft.new.works.text ≡ draft.old.works.text }
 {
     let first = draft.here;
-    if 0 < count && (first < 8192 || SIZE - first < count) {
+    if 0 < count && (first < FIRST_BYTE || SIZE - first < count) {
         return Err(LineFault::Failed(Kind::OutOfRange));
     }
     let end = first + count;

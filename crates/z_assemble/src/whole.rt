@@ -18,7 +18,7 @@ ghost use Rattle.z_assemble.specs.Whole.{with_page, with_pages, pages_with};
 ghost use Rattle.z_assemble.specs.Whole.{image_of, finished, after_first, over_lines, assembled, Stands};
 ghost use Rattle.z_assemble.specs.Whole.{HasFault, IsOutcome, fault_at, ready_for};
 
-use crate::draft::{Draft, SIZE};
+use crate::draft::{Draft, FIRST_LOCATION, SIZE};
 use crate::fault::{AssembleFault, ListingFault};
 use crate::first::read_first;
 use crate::kept::{TextLine, Work};
@@ -148,7 +148,7 @@ fn blank<'a>(alloc: Global, text: &'a [u8]) -> Result<Draft<'a>, AllocError>
     let taken = unmarked(alloc, SIZE)?;
     let begins = unmarked(alloc, SIZE)?;
     Ok(Draft {
-        here: 16384,
+        here: FIRST_LOCATION,
         labels,
         storage,
         taken,
