@@ -1,5 +1,6 @@
 -- Lemmas on readings of lines and on images.
 pub mod Loops
+pub mod Standing
 pub mod Says
 pub mod Lists
 pub mod MarkedPlaces

@@ -4,11 +4,11 @@ use Rattle.std.proofs.Common.{Err, refl, ap, sym, ◌∙◌, subst}
 use Rattle.z_operands.specs.Pieces.{pieces_by}
 use Rattle.z_operands.proofs.Loops.{goes_on, fails_here, is_over}
 use Rattle.z_operands.proofs.Pieces.{pieces_none}
-use Rattle.z_assemble.specs.Listing.{Plan, task_of}
+use Rattle.z_assemble.specs.Listing.{Plan, task_in}
 use Rattle.z_assemble.specs.Machine.{Machine, Known}
 use Rattle.z_assemble.specs.Steps.{Passes}
 use Rattle.z_assemble.specs.Whole.{first_on, first_over, second_on, second_over, ◌>>=◌}
-use Rattle.z_assemble.specs.declared.draft.Work.{Work}
+use Rattle.z_assemble.specs.declared.kept.Kept.{Kept}
 use Rattle.z_assemble.specs.declared.fault.AssembleFault.{AssembleFault}
 use Rattle.z_assemble.specs.declared.fault.AssembleFault.TheVariants as ends
 use Rattle.z_assemble.specs.declared.fault.ListingFault.{ListingFault}
@@ -40,41 +40,41 @@ lines_end rest n p whole none inv = sym inv ∙ ap (λ ls. first_over n ls p) (p
 
 -- ---- the second reading
 
-module _ (k : Known) where
-  abbrev pub work_step : ℕ → Work → Machine → Result Machine ListingFault
-  work_step n t m = second_on k (task_of t) m
+module _ (k : Known) (text : List ℕ) where
+  abbrev pub work_step : ℕ → Kept → Machine → Result Machine ListingFault
+  work_step n t m = second_on k (task_in text t) m
 
-  abbrev pub work_run : ℕ → List Work → Machine → Result Machine ListingFault
-  work_run n ts m = second_over k (map task_of ts) m
+  abbrev pub work_run : ℕ → List Kept → Machine → Result Machine ListingFault
+  work_run n ts m = second_over k (map (task_in text) ts) m
 
   work_end : (n : ℕ) (m : Machine) → work_run n [] m ≡ Ok m
   unfolding second_over
   work_end n m = refl
 
-  work_ok : (n : ℕ) (x : Work) (xs : List Work) (p q : Machine) → work_step n x p ≡ Ok q →
+  work_ok : (n : ℕ) (x : Kept) (xs : List Kept) (p q : Machine) → work_step n x p ≡ Ok q →
       work_run n (x ∷ xs) p ≡ work_run (n + 1) xs q
   unfolding second_over
-  work_ok n x xs p q e = ap (λ r. r >>= second_over k (map task_of xs)) e
+  work_ok n x xs p q e = ap (λ r. r >>= second_over k (map (task_in text) xs)) e
 
-  work_err : (n : ℕ) (x : Work) (xs : List Work) (p : Machine) (f : ListingFault) → work_step n x p ≡ Err f →
+  work_err : (n : ℕ) (x : Kept) (xs : List Kept) (p : Machine) (f : ListingFault) → work_step n x p ≡ Err f →
       work_run n (x ∷ xs) p ≡ Err f
   unfolding second_over
-  work_err n x xs p f e = ap (λ r. r >>= second_over k (map task_of xs)) e
+  work_err n x xs p f e = ap (λ r. r >>= second_over k (map (task_in text) xs)) e
 
-  pub works_go : (xs : List Work) (i : ℕ) (p new : Machine) (whole : Result Machine ListingFault) (w : Work) →
+  pub works_go : (xs : List Kept) (i : ℕ) (p new : Machine) (whole : Result Machine ListingFault) (w : Kept) →
       i < length xs → w ≡ get_or xs i w → work_run 0 (drop i xs) p ≡ whole →
-      second_on k (task_of w) p ≡ Ok new → work_run 0 (drop (i + 1) xs) new ≡ whole
+      second_on k (task_in text w) p ≡ Ok new → work_run 0 (drop (i + 1) xs) new ≡ whole
   works_go xs i p new whole w h is e s = goes_on work_step work_run work_end work_ok work_err xs i 0 p whole w
-      new h e (subst (λ v. second_on k (task_of v) p ≡ Ok new) is s)
+      new h e (subst (λ v. second_on k (task_in text v) p ≡ Ok new) is s)
 
-  pub works_fail : (xs : List Work) (i : ℕ) (p new : Machine) (whole : Result Machine ListingFault) (w : Work)
+  pub works_fail : (xs : List Kept) (i : ℕ) (p new : Machine) (whole : Result Machine ListingFault) (w : Kept)
       (a : AssembleFault) → i < length xs → w ≡ get_or xs i w → work_run 0 (drop i xs) p ≡ whole →
-      Passes (Err a) (second_on k (task_of w) p) new → Passes (Err a) whole new
+      Passes (Err a) (second_on k (task_in text w) p) new → Passes (Err a) whole new
   works_fail xs i p new whole w ends.Memory h is e s = tt
   works_fail xs i p new whole w (ends.Listing f) h is e s =
       fails_here work_step work_run work_end work_ok work_err xs i 0 p whole w f h e
-      (subst (λ v. second_on k (task_of v) p ≡ Err f) is s)
+      (subst (λ v. second_on k (task_in text v) p ≡ Err f) is s)
 
-  pub works_over : (xs : List Work) (i : ℕ) (p : Machine) (whole : Result Machine ListingFault) →
+  pub works_over : (xs : List Kept) (i : ℕ) (p : Machine) (whole : Result Machine ListingFault) →
       length xs ≤ i → work_run 0 (drop i xs) p ≡ whole → whole ≡ Ok p
   works_over xs i p whole h e = is_over work_step work_run work_end work_ok work_err xs i 0 p whole h e

@@ -17,7 +17,9 @@ use Rattle.z_operands.specs.Chain.{◌>>=◌}
 use Rattle.z_assemble.specs.Text.{write_at, cut, copies}
 use Rattle.z_operands.specs.Values.{Table, operands_on, one_in}
 use Rattle.z_assemble.specs.declared.draft.Draft.{Draft}
-use Rattle.z_assemble.specs.declared.draft.Work.{Work}
+use Rattle.z_assemble.specs.declared.kept.Kept.{Kept}
+use Rattle.z_assemble.specs.declared.kept.Work.{Work}
+use Rattle.z_assemble.specs.declared.works.Works.{Works}
 use Rattle.z_operands.specs.declared.fault.Kind.{Kind}
 use Rattle.z_operands.specs.declared.fault.Kind.TheVariants.{BadToken, BadNumber, LineTooLong}
 use Rattle.z_operands.specs.declared.fault.Kind.TheVariants.{UnknownMnemonic, OutOfRange, DoubleLabel}
@@ -48,6 +50,18 @@ pub record Plan : Type 0 where
 abbrev pub task_of : Work → Task
 task_of w = record { line = w.line; here = w.here; text = w.text.now; operation = w.operation }
 
+-- the line that is kept of a text
+abbrev pub task_in : List ℕ → Kept → Task
+task_in text k = record {
+  line = k.line;
+  here = k.here;
+  text = span k.first (k.first + k.count) text;
+  operation = k.operation;
+}
+
+abbrev pub tasks_of : Works → List Task
+tasks_of ws = map (task_in ws.text.now) ws.kept.items
+
 abbrev pub plan_of : Draft → Plan
 plan_of d = record {
   here = d.here;
@@ -57,7 +71,7 @@ plan_of d = record {
   begins = d.begins.items;
   ended = d.ended;
   cpus = d.cpus;
-  tasks = map task_of d.works.items;
+  tasks = tasks_of d.works;
 }
 
 -- ---- the parts of a line

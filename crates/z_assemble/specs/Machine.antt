@@ -33,6 +33,8 @@ use Rattle.z_operands.specs.declared.operand.Operand.{Operand}
 use Rattle.z_operands.specs.declared.operation.Operation.{Operation}
 use Rattle.z_operands.specs.declared.operation.Operation.TheVariants as operations
 use Rattle.z_assemble.specs.declared.parameter.Parameter.{Parameter}
+use Rattle.z_assemble.specs.declared.showing.Showing.{Showing}
+use Rattle.z_assemble.specs.declared.showing.Showing.TheVariants.{Bytes, Block}
 use Rattle.z_assemble.specs.declared.parameter.Parameter.TheVariants.{Reject, Firm, Late, Starve, Stop, Delay}
 
 -- what the lines so far have made of the machine: storage, the CPUs and how many of them have their entries,
@@ -96,6 +98,11 @@ has_room_for n shows = nat_lt (length shows) 64 && nat_le (sum_by size_of_show s
 
 abbrev pub show : ℕ → ℕ → Bool → Show
 show first length fields = record { first = first; length = length; fields = fields }
+
+-- a block is shown with its fields
+abbrev pub has_fields : Showing → Bool
+has_fields Bytes = false
+has_fields Block = true
 
 unfoldable pub shown : ℤ → ℤ → Bool → Machine → Result Machine Kind
 shown e n fields m =

@@ -1,12 +1,12 @@
 -- What the code holds while it reads lines again, as plain data.
-use Rattle.std.specs.Prelude.{List, map}
+use Rattle.std.specs.Prelude.{map}
 use Rattle.z_regs.specs.Cpu.{cpu_of}
 use Rattle.z_operands.specs.SmallEvent.{event_in}
 use Rattle.z_text.specs.Labels.{value_in}
 use Rattle.z_text.specs.declared.labels.Labels.{Labels}
-use Rattle.z_assemble.specs.Listing.{task_of}
+use Rattle.z_assemble.specs.Listing.{tasks_of}
 use Rattle.z_assemble.specs.Machine.{Machine, Known}
-use Rattle.z_assemble.specs.declared.draft.Work.{Work}
+use Rattle.z_assemble.specs.declared.works.Works.{Works}
 use Rattle.z_assemble.specs.declared.setup.Setup.{Setup}
 
 abbrev pub machine_of : Setup → Machine
@@ -20,5 +20,5 @@ machine_of s = record {
   parms = s.parms;
 }
 
-abbrev pub known_of : Labels → List Work → Known
-known_of labels works = record { labels = value_in labels; tasks = map task_of works }
+abbrev pub known_of : Labels → Works → Known
+known_of labels works = record { labels = value_in labels; tasks = tasks_of works }

@@ -1,27 +1,20 @@
 //! What the first reading of the lines leaves.
 ghost use Rattle.std.specs.Prelude.{◌≡◌, ◌≤◌, length};
-ghost use Rattle.z_assemble.specs.Sizes.{IsPlaced, placed_prop};
 
-use z_operands::Operation;
+use crate::works::Works;
 use z_text::Labels;
 
 /// The bytes of storage.
 pub const SIZE: usize = 1_048_576;
 
-/// A line that is read again when all labels are known.
-#[derive(Clone, Copy, Debug)]
-pub struct Work<'a> {
-    /// The number of the line, from 1 on.
-    pub line: u32,
-    /// The location where it stands.
-    pub here: u32,
-    /// The line, in capitals and without its end.
-    pub text: &'a [u8],
-    /// The line's operation.
-    pub operation: Operation,
-    ghost within: { here ≤ 1048576 },
-    ghost room: { IsPlaced here operation } by { placed_prop here operation },
-}
+/// The first byte that may be placed or shown.
+pub const FIRST_BYTE: usize = 8_192;
+
+/// Where the location begins.
+pub const FIRST_LOCATION: usize = 16_384;
+
+/// The most CPUs.
+pub const MOST_CPUS: u32 = 16;
 
 /// What the lines so far have made.
 #[derive(Drop)]
@@ -41,7 +34,7 @@ pub struct Draft<'a> {
     /// How many CPU lines there are.
     pub cpus: u32,
     /// The lines that are read again.
-    pub works: Vec<Work<'a>>,
+    pub works: Works<'a>,
     ghost within: { here ≤ 1048576 },
     ghost bytes: { length storage.items ≡ 1048576 },
     ghost marks: { length taken.items ≡ 1048576 },

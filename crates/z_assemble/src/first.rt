@@ -12,10 +12,12 @@ ghost use Rattle.z_assemble.specs.Listing.{org_line, equ_line, ds_line, dc_line,
 ghost use Rattle.z_assemble.specs.Listing.{end_line, operation_line, line_gives, tasked, labelled};
 ghost use Rattle.z_assemble.specs.Listing.{first_token, is_nil, is_doubleword, is_below};
 ghost use Rattle.z_operands.specs.Sizes.{IsKnown, IsMask};
+ghost use Rattle.z_assemble.specs.Kept.{IsThere};
 ghost use Rattle.z_assemble.specs.Sizes.{IsPlaced};
 ghost use Rattle.z_operands.specs.Steps.{Gives, Answers};
 
-use crate::draft::{Draft, Work};
+use crate::draft::{Draft, MOST_CPUS, SIZE};
+use crate::kept::TextLine;
 use crate::place::{place, start, write};
 use crate::reading::Reading;
 use std::alloc::Global;
@@ -142,8 +144,9 @@ fn define(labels: &mut Labels, label: &[u8], value: i128) -> Result<(), LineFaul
 /// Gives the label, where there is one, the location as its value.
 fn define_here(draft: &mut Draft, label: &[u8]) -> Result<(), LineFault>
     requires fresh { is_defined label.now (value_in draft.old.labels) ≡ false }
-    ensures { Gives result (Ok (labelled label.now (pos draft.old.here) (plan_of draft.old)))
+    ensures gives { Gives result (Ok (labelled label.now (pos draft.old.here) (plan_of draft.old)))
         (plan_of draft.new) }
+    ensures text { draft.new.works.text ≡ draft.old.works.text }
 {
     define(&mut draft.labels, label, draft.here as i128)
 }
@@ -176,11 +179,12 @@ fn value_on(
 #[tactic(auto, unfolding(crate::specs::Listing::org_line))]
 fn org(room: &mut Room, draft: &mut Draft, line: &[u8], tokens: &[Token]) -> Result<(), LineFault>
     requires tokens { AreTokensIn line.now tokens.now }
-    ensures { Gives result (org_line line.now (operands_in tokens.now) (plan_of draft.old))
+    ensures gives { Gives result (org_line line.now (operands_in tokens.now) (plan_of draft.old))
         (plan_of draft.new) }
+    ensures text { draft.new.works.text ≡ draft.old.works.text }
 {
     let value = value_on(room, draft, line, tokens)?;
-    if value < 0 || 1_048_576 < value {
+    if value < 0 || (SIZE as i128) < value {
         return Err(LineFault::Failed(Kind::OutOfRange));
     }
     draft.here = value as usize;
@@ -197,8 +201,9 @@ fn equ(
 ) -> Result<(), LineFault>
     requires tokens { AreTokensIn line.now tokens.now }
     requires fresh { is_defined label.now (value_in draft.old.labels) ≡ false }
-    ensures { Gives result (equ_line label.now line.now (operands_in tokens.now) (plan_of draft.old))
+    ensures gives { Gives result (equ_line label.now line.now (operands_in tokens.now) (plan_of draft.old))
         (plan_of draft.new) }
+    ensures text { draft.new.works.text ≡ draft.old.works.text }
 {
     let value = value_on(room, draft, line, tokens)?;
     if !is_doubleword(value) {
@@ -224,11 +229,12 @@ fn ds(
 ) -> Result<(), LineFault>
     requires tokens { AreTokensIn line.now tokens.now }
     requires fresh { is_defined label.now (value_in draft.old.labels) ≡ false }
-    ensures { Gives result (ds_line label.now line.now (operands_in tokens.now) (plan_of draft.old))
+    ensures gives { Gives result (ds_line label.now line.now (operands_in tokens.now) (plan_of draft.old))
         (plan_of draft.new) }
+    ensures text { draft.new.works.text ≡ draft.old.works.text }
 {
     let value = value_on(room, draft, line, tokens)?;
-    if value < 0 || 1_048_576 < value {
+    if value < 0 || (SIZE as i128) < value {
         return Err(LineFault::Failed(Kind::OutOfRange));
     }
     define_here(draft, label)?;
@@ -238,7 +244,8 @@ fn ds(
 #[tactic(auto, unfolding(crate::specs::Listing::dc_line))]
 fn dc(alloc: Global, draft: &mut Draft, label: &[u8], field: &[u8]) -> Result<(), LineFault>
     requires fresh { is_defined label.now (value_in draft.old.labels) ≡ false }
-    ensures { Gives result (dc_line label.now field.now (plan_of draft.old)) (plan_of draft.new) }
+    ensures gives { Gives result (dc_line label.now field.now (plan_of draft.old)) (plan_of draft.new) }
+    ensures text { draft.new.works.text ≡ draft.old.works.text }
 {
     let bytes = data_of(alloc, field)?;
     define_here(draft, label)?;
@@ -246,62 +253,59 @@ fn dc(alloc: Global, draft: &mut Draft, label: &[u8], field: &[u8]) -> Result<()
 }
 
 #[tactic(auto, unfolding(crate::specs::Listing::instruction_line))]
-fn instruction<'a>(
-    draft: &mut Draft<'a>,
-    number: u32,
+fn instruction(
+    draft: &mut Draft,
     label: &[u8],
-    line: &'a [u8],
+    line: TextLine,
     row: u16,
     mask: Option<u8>,
 ) -> Result<(), LineFault>
+    requires there { IsThere draft.old.works.text.now line.first line.bytes.now }
+    requires short { length line.bytes.now ≤ 120 }
     requires fresh { is_defined label.now (value_in draft.old.labels) ≡ false }
     requires row { row < ROWS }
     requires mask { IsMask mask }
-    ensures { Gives result (instruction_line number label.now line.now row mask (plan_of draft.old))
+    ensures gives { Gives result (instruction_line line.entry.number label.now line.entry.bytes.now row mask
+        (plan_of draft.old))
         (plan_of draft.new) }
+    ensures text { draft.new.works.text ≡ draft.old.works.text }
 {
     let here = draft.here;
     define_here(draft, label)?;
     start(draft, size_of_row(row))?;
-    draft.works.push(Work {
-        line: number,
-        here: here as u32,
-        text: line,
-        operation: Operation::Instruction(row, mask),
-    })?;
+    draft
+        .works
+        .keep(line, here as u32, Operation::Instruction(row, mask))?;
     Ok(())
 }
 
 /// Leaves a line to the second reading.
-fn leave<'a>(
-    draft: &mut Draft<'a>,
-    number: u32,
-    line: &'a [u8],
-    operation: Operation,
-) -> Result<(), LineFault>
-    requires { IsPlaced draft.old.here operation }
-    ensures { Gives result (Ok (tasked number draft.old.here line.now operation (plan_of draft.old)))
+fn leave(draft: &mut Draft, line: TextLine, operation: Operation) -> Result<(), LineFault>
+    requires there { IsThere draft.old.works.text.now line.first line.bytes.now }
+    requires short { length line.bytes.now ≤ 120 }
+    requires placed { IsPlaced draft.old.here operation }
+    ensures gives { Gives result (Ok (tasked line.entry.number draft.old.here line.entry.bytes.now operation
+        (plan_of draft.old)))
         (plan_of draft.new) }
+    ensures text { draft.new.works.text ≡ draft.old.works.text }
 {
     let here = draft.here;
-    draft.works.push(Work {
-        line: number,
-        here: here as u32,
-        text: line,
-        operation,
-    })?;
+    draft.works.keep(line, here as u32, operation)?;
     Ok(())
 }
 
 #[tactic(auto, unfolding(crate::specs::Listing::cpu_line))]
-fn cpu<'a>(draft: &mut Draft<'a>, number: u32, line: &'a [u8]) -> Result<(), LineFault>
-    ensures { Gives result (cpu_line number line.now (plan_of draft.old)) (plan_of draft.new) }
+fn cpu(draft: &mut Draft, line: TextLine) -> Result<(), LineFault>
+    requires there { IsThere draft.old.works.text.now line.first line.bytes.now }
+    requires short { length line.bytes.now ≤ 120 }
+    ensures gives { Gives result (cpu_line line.entry.number line.entry.bytes.now (plan_of draft.old)) (plan_of draft.new) }
+    ensures text { draft.new.works.text ≡ draft.old.works.text }
 {
-    if draft.cpus >= 16 {
+    if draft.cpus >= MOST_CPUS {
         return Err(LineFault::Failed(Kind::OutOfRange));
     }
     draft.cpus += 1;
-    leave(draft, number, line, Operation::Cpu)
+    leave(draft, line, Operation::Cpu)
 }
 
 /// The tokens without so many at the front.
@@ -323,7 +327,8 @@ fn is_nil(tokens: &[Token]) -> bool
 
 #[tactic(auto, unfolding(crate::specs::Listing::end_line))]
 fn end(draft: &mut Draft, tokens: &[Token]) -> Result<(), LineFault>
-    ensures { Gives result (end_line (operands_in tokens.now) (plan_of draft.old)) (plan_of draft.new) }
+    ensures gives { Gives result (end_line (operands_in tokens.now) (plan_of draft.old)) (plan_of draft.new) }
+    ensures text { draft.new.works.text ≡ draft.old.works.text }
 {
     if !is_nil(behind(tokens, heads_in(tokens))) {
         return Err(LineFault::Failed(Kind::BadDirective));
@@ -335,53 +340,57 @@ fn end(draft: &mut Draft, tokens: &[Token]) -> Result<(), LineFault>
 /// Does what a line of this operation does. The tokens are those of the line; `behind` is the place after the
 /// operation.
 #[tactic(auto, unfolding(crate::specs::Listing::operation_line))]
-fn run<'a>(
+fn run(
     alloc: Global,
     room: &mut Room,
-    draft: &mut Draft<'a>,
+    draft: &mut Draft,
     operation: Operation,
-    number: u32,
     label: &[u8],
-    line: &'a [u8],
+    line: TextLine,
     behind: usize,
     tokens: &[Token],
 ) -> Result<(), LineFault>
-    requires tokens { AreTokensIn line.now tokens.now }
+    requires there { IsThere draft.old.works.text.now line.first line.bytes.now }
+    requires short { length line.bytes.now ≤ 120 }
+    requires tokens { AreTokensIn line.bytes.now tokens.now }
     requires fresh { is_defined label.now (value_in draft.old.labels) ≡ false }
     requires known { IsKnown operation }
-    requires behind { behind ≤ length line.now }
-    ensures { Gives result (operation_line operation number label.now line.now behind (operands_in tokens.now)
-        (plan_of draft.old)) (plan_of draft.new) }
+    requires behind { behind ≤ length line.bytes.now }
+    ensures gives { Gives result (operation_line operation line.entry.number label.now line.entry.bytes.now behind
+        (operands_in tokens.now) (plan_of draft.old)) (plan_of draft.new) }
+    ensures text { draft.new.works.text ≡ draft.old.works.text }
 {
     match operation {
-        Operation::Instruction(row, mask) => instruction(draft, number, label, line, row, mask),
-        Operation::Org => org(room, draft, line, tokens),
-        Operation::Equ => equ(room, draft, label, line, tokens),
-        Operation::Ds => ds(room, draft, label, line, tokens),
-        Operation::Dc => dc(alloc, draft, label, field_behind(behind, line)),
-        Operation::Cpu => cpu(draft, number, line),
-        Operation::Reg => leave(draft, number, line, Operation::Reg),
-        Operation::Show => leave(draft, number, line, Operation::Show),
-        Operation::Tdb => leave(draft, number, line, Operation::Tdb),
-        Operation::Sched => leave(draft, number, line, Operation::Sched),
-        Operation::Parm => leave(draft, number, line, Operation::Parm),
-        Operation::Prefix => leave(draft, number, line, Operation::Prefix),
+        Operation::Instruction(row, mask) => instruction(draft, label, line, row, mask),
+        Operation::Org => org(room, draft, line.bytes, tokens),
+        Operation::Equ => equ(room, draft, label, line.bytes, tokens),
+        Operation::Ds => ds(room, draft, label, line.bytes, tokens),
+        Operation::Dc => dc(alloc, draft, label, field_behind(behind, line.bytes)),
+        Operation::Cpu => cpu(draft, line),
+        Operation::Reg => leave(draft, line, Operation::Reg),
+        Operation::Show => leave(draft, line, Operation::Show),
+        Operation::Tdb => leave(draft, line, Operation::Tdb),
+        Operation::Sched => leave(draft, line, Operation::Sched),
+        Operation::Parm => leave(draft, line, Operation::Parm),
+        Operation::Prefix => leave(draft, line, Operation::Prefix),
         Operation::End => end(draft, tokens),
     }
 }
 
-/// Reads a line for the first time, by its number, its text in capitals and without its end.
+/// Reads a line for the first time.
 #[tactic(auto, unfolding(crate::specs::Listing::line_gives))]
-pub(crate) fn read_first<'a>(
+pub(crate) fn read_first(
     alloc: Global,
     reading: &mut Reading,
-    draft: &mut Draft<'a>,
-    number: u32,
-    line: &'a [u8],
+    draft: &mut Draft,
+    line: TextLine,
 ) -> Result<(), LineFault>
-    ensures { Gives result (line_gives number line.now (plan_of draft.old)) (plan_of draft.new) }
+    requires { IsThere draft.old.works.text.now line.first line.bytes.now }
+    ensures gives { Gives result (line_gives line.entry.number line.entry.bytes.now (plan_of draft.old))
+        (plan_of draft.new) }
+    ensures text { draft.new.works.text ≡ draft.old.works.text }
 {
-    read_tokens(line, &mut reading.tokens)?;
+    read_tokens(line.bytes, &mut reading.tokens)?;
     let tokens = &reading.tokens;
     let Some(name) = operation_in(tokens) else {
         return Ok(());
@@ -389,10 +398,10 @@ pub(crate) fn read_first<'a>(
     if draft.ended {
         return Err(LineFault::Failed(Kind::BadDirective));
     }
-    let Some(operation) = operation_named(&line[name.first..name.end]) else {
+    let Some(operation) = operation_named(&line.bytes[name.first..name.end]) else {
         return Err(LineFault::Failed(Kind::UnknownMnemonic));
     };
-    let label = label_in(line, tokens);
+    let label = label_in(line.bytes, tokens);
     if is_bad_label(operation, label) {
         return Err(LineFault::Failed(Kind::BadDirective));
     }
@@ -404,7 +413,6 @@ pub(crate) fn read_first<'a>(
         &mut reading.room,
         draft,
         operation,
-        number,
         label,
         line,
         name.end,

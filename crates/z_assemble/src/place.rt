@@ -5,7 +5,7 @@ ghost use Rattle.z_assemble.specs.Listing.{plan_of, placed, written, started};
 ghost use Rattle.z_operands.specs.Steps.{Gives};
 ghost use Rattle.z_assemble.specs.Text.{write_at, copies};
 
-use crate::draft::{Draft, SIZE};
+use crate::draft::{Draft, FIRST_BYTE, SIZE};
 use z_operands::{Kind, LineFault};
 
 fn is_any(marks: &[bool]) -> bool
@@ -38,9 +38,10 @@ fn mark(taken: &mut Vec<bool>, at: usize, count: usize)
 pub(crate) fn place(draft: &mut Draft, count: usize) -> Result<(), LineFault>
     ensures gives { Gives result (placed count (plan_of draft.old)) (plan_of draft.new) }
     ensures room { OnOk result (draft.old.here + count ≤ 1048576) }
+    ensures text { draft.new.works.text ≡ draft.old.works.text }
 {
     let first = draft.here;
-    if 0 < count && (first < 8192 || SIZE - first < count) {
+    if 0 < count && (first < FIRST_BYTE || SIZE - first < count) {
         return Err(LineFault::Failed(Kind::OutOfRange));
     }
     let end = first + count;
@@ -55,7 +56,8 @@ pub(crate) fn place(draft: &mut Draft, count: usize) -> Result<(), LineFault>
 /// Places bytes at the location, and writes them.
 #[tactic(auto, unfolding(crate::specs::Listing::written))]
 pub(crate) fn write(draft: &mut Draft, bytes: &[u8]) -> Result<(), LineFault>
-    ensures { Gives result (written bytes.now (plan_of draft.old)) (plan_of draft.new) }
+    ensures gives { Gives result (written bytes.now (plan_of draft.old)) (plan_of draft.new) }
+    ensures text { draft.new.works.text ≡ draft.old.works.text }
 {
     let first = draft.here;
     place(draft, bytes.len())?;
@@ -70,6 +72,7 @@ pub(crate) fn start(draft: &mut Draft, count: usize) -> Result<(), LineFault>
     requires few { count ≤ 6 }
     ensures gives { Gives result (started count (plan_of draft.old)) (plan_of draft.new) }
     ensures room { OnOk result (draft.old.here + count ≤ 1048576) }
+    ensures text { draft.new.works.text ≡ draft.old.works.text }
 {
     let first = draft.here;
     if first % 2 == 1 {

@@ -7,11 +7,11 @@ ghost use Rattle.z_regs.specs.Cpu.{cpu_of};
 ghost use Rattle.z_regs.specs.Prefix.{is_prefix};
 ghost use Rattle.z_text.specs.Labels.{value_in};
 ghost use Rattle.z_text.specs.Tokens.{AreTokensIn, LiesIn};
-ghost use Rattle.z_assemble.specs.Listing.{task_of, heads_in, operands_in, operation_in, is_below};
+ghost use Rattle.z_assemble.specs.Listing.{task_of, tasks_of, heads_in, operands_in, operation_in, is_below};
 ghost use Rattle.z_assemble.specs.Listing.{is_doubleword, field_behind};
 ghost use Rattle.z_assemble.specs.Machine.{change_at, with_address, with_general, entry_line};
 ghost use Rattle.z_assemble.specs.Machine.{is_register_value, register_line, size_of_show, is_accessible};
-ghost use Rattle.z_assemble.specs.Machine.{has_room_for, shown, show_line, block_line, is_comma};
+ghost use Rattle.z_assemble.specs.Machine.{has_room_for, shown, has_fields, show_line, block_line, is_comma};
 ghost use Rattle.z_assemble.specs.Machine.{parameter_in, parameter_line, named_parameter, is_area};
 ghost use Rattle.z_assemble.specs.Machine.{is_same_prefix, has_prefix, is_free, places_in, task_places_in};
 ghost use Rattle.z_assemble.specs.Machine.{is_prefix_for, with_prefix, prefix_line, schedule_line, code_line};
@@ -21,12 +21,15 @@ ghost use Rattle.z_assemble.specs.Sizes.{IsPlaced};
 ghost use Rattle.z_operands.specs.Steps.{Gives, Answers};
 ghost use Rattle.z_operands.specs.Values.{operands_on};
 
-use crate::draft::{SIZE, Work};
+use crate::draft::{FIRST_BYTE, SIZE};
 use crate::first::{behind, field_behind, heads_in, is_doubleword, operation_in};
+use crate::kept::Work;
 use crate::parameter::{Parameter, is_choice, parameter_named, set_parameter};
 use crate::place::write_bytes;
 use crate::reading::Reading;
 use crate::setup::Setup;
+use crate::showing::{Showing, has_fields};
+use crate::works::Works;
 use std::alloc::Global;
 use tx_journal::Show;
 use z_operands::{
@@ -35,6 +38,18 @@ use z_operands::{
 };
 use z_regs::CpuImage;
 use z_text::{Labels, TextFault, Token, TokenKind, read_tokens};
+
+/// The bytes of the area of a prefix.
+const AREA: u32 = 8_192;
+
+/// The bytes of a diagnostic block.
+const BLOCK: i128 = 256;
+
+/// The most ranges that are shown.
+const MOST_SHOWS: usize = 64;
+
+/// The most bytes that are shown.
+const MOST_SHOWN: u64 = 65_536;
 
 // ---- CPUs
 
@@ -116,7 +131,10 @@ fn fill_register(setup: &mut Setup, operands: &[Operand]) -> Result<(), LineFaul
 fn is_accessible(first: i128, count: i128) -> bool
     ensures { result ≡ is_accessible first count }
 {
-    0 < count && count <= 1_048_576 && 8192 <= first && first <= 1_048_576 - count
+    0 < count
+        && count <= SIZE as i128
+        && FIRST_BYTE as i128 <= first
+        && first <= SIZE as i128 - count
 }
 
 fn count_shown(shows: &[Show]) -> u64
@@ -134,12 +152,12 @@ fn count_shown(shows: &[Show]) -> u64
 fn has_room_for(count: u32, shows: &[Show]) -> bool
     ensures { result ≡ has_room_for count shows.now }
 {
-    shows.len() < 64 && count_shown(shows) + u64::from(count) <= 65_536
+    shows.len() < MOST_SHOWS && count_shown(shows) + u64::from(count) <= MOST_SHOWN
 }
 
 #[tactic(auto, unfolding(crate::specs::Machine::shown))]
-fn show(setup: &mut Setup, first: i128, count: i128, fields: bool) -> Result<(), LineFault>
-    ensures gives { Gives result (shown first count fields (machine_of setup.old)) (machine_of setup.new) }
+fn show(setup: &mut Setup, first: i128, count: i128, showing: Showing) -> Result<(), LineFault>
+    ensures gives { Gives result (shown first count (has_fields showing) (machine_of setup.old)) (machine_of setup.new) }
     ensures entered { setup.new.entered ≡ setup.old.entered }
 {
     if !is_accessible(first, count) || !has_room_for(count as u32, &setup.shows) {
@@ -148,7 +166,7 @@ fn show(setup: &mut Setup, first: i128, count: i128, fields: bool) -> Result<(),
     setup.shows.push(Show {
         first: first as u32,
         length: count as u32,
-        fields,
+        fields: has_fields(showing),
     })?;
     Ok(())
 }
@@ -159,7 +177,7 @@ fn show_bytes(setup: &mut Setup, operands: &[Operand]) -> Result<(), LineFault>
     ensures entered { setup.new.entered ≡ setup.old.entered }
 {
     let (first, count) = two_in(operands)?;
-    show(setup, first, count, false)
+    show(setup, first, count, Showing::Bytes)
 }
 
 #[tactic(auto, unfolding(crate::specs::Machine::block_line))]
@@ -168,7 +186,7 @@ fn show_block(setup: &mut Setup, operands: &[Operand]) -> Result<(), LineFault>
     ensures entered { setup.new.entered ≡ setup.old.entered }
 {
     let first = one_in(operands)?;
-    show(setup, first, 256, true)
+    show(setup, first, BLOCK, Showing::Block)
 }
 
 // ---- the numbers of the retry ladder
@@ -214,7 +232,9 @@ fn choose(setup: &mut Setup, parameter: Parameter, operands: &[Operand]) -> Resu
 fn is_area(value: i128) -> bool
     ensures { result ≡ is_area value }
 {
-    8192 <= value && value <= 1_040_384 && value as u32 % 8192 == 0
+    i128::from(AREA) <= value
+        && value <= SIZE as i128 - i128::from(AREA)
+        && value as u32 % AREA == 0
 }
 
 fn is_same_prefix(prefix: u32, other: Option<u32>) -> bool
@@ -263,18 +283,18 @@ fn places_in(area: u32, here: usize, operation: Operation) -> bool
     match operation {
         Operation::Instruction(row, _) => {
             let area = area as usize;
-            here < area + 8192 && area < here + size_of_row(row)
+            here < area + AREA as usize && area < here + size_of_row(row)
         }
         _ => false,
     }
 }
 
 #[tactic(auto, using(crate::proofs::Lists::any_steps))]
-fn is_text_in(area: u32, works: &[Work]) -> bool
-    ensures { result ≡ list_any (task_places_in area) (map task_of works.now) }
+fn is_text_in(area: u32, works: &Works) -> bool
+    ensures { result ≡ list_any (task_places_in area) (tasks_of works.now) }
 {
-    for work in works {
-        if places_in(area, work.here as usize, work.operation) {
+    for kept in &works.kept {
+        if places_in(area, kept.here as usize, kept.operation) {
             return true;
         }
     }
@@ -282,8 +302,8 @@ fn is_text_in(area: u32, works: &[Work]) -> bool
 }
 
 #[tactic(auto, unfolding(crate::specs::Machine::prefix_line))]
-fn give_prefix(setup: &mut Setup, works: &[Work], operands: &[Operand]) -> Result<(), LineFault>
-    ensures gives { Gives result (prefix_line (map task_of works.now) operands.now (machine_of setup.old))
+fn give_prefix(setup: &mut Setup, works: &Works, operands: &[Operand]) -> Result<(), LineFault>
+    ensures gives { Gives result (prefix_line (tasks_of works.now) operands.now (machine_of setup.old))
         (machine_of setup.new) }
     ensures entered { setup.new.entered ≡ setup.old.entered }
 {
@@ -389,7 +409,7 @@ fn choose_named(
     room: &mut Room,
     setup: &mut Setup,
     labels: &Labels,
-    works: &[Work],
+    works: &Works,
     work: Work,
     tokens: &[Token],
 ) -> Result<(), LineFault>
@@ -412,7 +432,7 @@ fn choose_named(
 fn directive(
     setup: &mut Setup,
     labels: &Labels,
-    works: &[Work],
+    works: &Works,
     operation: Operation,
     operands: &[Operand],
 ) -> Result<(), LineFault>
@@ -439,7 +459,7 @@ fn read_again(
     room: &mut Room,
     setup: &mut Setup,
     labels: &Labels,
-    works: &[Work],
+    works: &Works,
     work: Work,
     tokens: &[Token],
 ) -> Result<(), LineFault>
@@ -475,7 +495,7 @@ pub(crate) fn read_second(
     reading: &mut Reading,
     setup: &mut Setup,
     labels: &Labels,
-    works: &[Work],
+    works: &Works,
     work: Work,
 ) -> Result<(), LineFault>
     requires { setup.old.entered < 2 ^ 64 - 1 }

@@ -8,23 +8,26 @@ ghost use Rattle.z_text.specs.Labels.{value_in};
 ghost use Rattle.tx_journal.specs.Content.{content};
 ghost use Rattle.tx_journal.specs.Image.{length_at};
 ghost use Rattle.z_operands.specs.Pieces.{pieces_by};
-ghost use Rattle.z_assemble.specs.Listing.{plan_of, task_of};
+ghost use Rattle.z_assemble.specs.Listing.{plan_of, task_of, tasks_of, line_gives};
+ghost use Rattle.z_assemble.specs.Kept.{IsThere};
 ghost use Rattle.z_assemble.specs.Setup.{machine_of, known_of};
 ghost use Rattle.z_assemble.specs.Steps.{Passes, on_line};
 ghost use Rattle.z_assemble.specs.Text.{lines_of, copies};
-ghost use Rattle.z_assemble.specs.Whole.{first_on, first_over, second_on, second_over, blank, no_label};
+ghost use Rattle.z_assemble.specs.Whole.{on, first_on, first_over, second_on, second_over, blank, no_label};
 ghost use Rattle.z_assemble.specs.Whole.{with_page, with_pages, pages_with};
 ghost use Rattle.z_assemble.specs.Whole.{image_of, finished, after_first, over_lines, assembled, Stands};
 ghost use Rattle.z_assemble.specs.Whole.{HasFault, IsOutcome, fault_at, ready_for};
 
-use crate::draft::{Draft, SIZE, Work};
+use crate::draft::{Draft, FIRST_LOCATION, SIZE};
 use crate::fault::{AssembleFault, ListingFault};
 use crate::first::read_first;
+use crate::kept::{TextLine, Work};
 use crate::parts::Parts;
 use crate::places::places_of;
 use crate::reading::Reading;
 use crate::second::read_second;
 use crate::setup::Setup;
+use crate::works::Works;
 use std::alloc::{AllocError, Global};
 use tx_journal::Image;
 use tx_ladder::Parms;
@@ -53,31 +56,42 @@ fn on_line(line: u32, fault: LineFault) -> AssembleFault
 
 // ---- the first reading
 
-fn first_on<'a>(
+fn first_on(
     alloc: Global,
     reading: &mut Reading,
-    draft: &mut Draft<'a>,
-    number: u32,
-    line: &'a [u8],
+    draft: &mut Draft,
+    line: TextLine,
 ) -> Result<(), AssembleFault>
-    ensures { Passes result (first_on number line.now (plan_of draft.old)) (plan_of draft.new) }
+    requires { IsThere draft.old.works.text.now line.first line.bytes.now }
+    ensures passes { Passes result (on line.entry.number (line_gives line.entry.number line.entry.bytes.now (plan_of draft.old)))
+        (plan_of draft.new) }
+    ensures text { draft.new.works.text ≡ draft.old.works.text }
 {
-    match read_first(alloc, reading, draft, number, without_end(line)) {
+    match read_first(alloc, reading, draft, line) {
         Ok(()) => Ok(()),
-        Err(fault) => Err(on_line(number, fault)),
+        Err(fault) => Err(on_line(line.number, fault)),
     }
 }
 
-fn first_over<'a>(alloc: Global, draft: &mut Draft<'a>, text: &'a [u8]) -> Result<(), AssembleFault>
-    requires { length (pieces_by 10 text.now) ≤ 262144 }
-    ensures { Passes result (first_over 1 (pieces_by 10 text.now) (plan_of draft.old)) (plan_of draft.new) }
+/// Reads all lines of the draft's text for the first time.
+fn first_over(alloc: Global, draft: &mut Draft) -> Result<(), AssembleFault>
+    requires size { length draft.old.works.text.now ≤ 16777216 }
+    requires lines { length (pieces_by 10 draft.old.works.text.now) ≤ 262144 }
+    ensures { Passes result (first_over 1 (pieces_by 10 draft.old.works.text.now) (plan_of draft.old))
+        (plan_of draft.new) }
 {
+    let text = draft.works.text;
     let mut reading = Reading::new(alloc);
     let mut number = 1;
     let mut rest = text;
     while 0 < rest.len() {
-        let (line, behind) = first_piece(b'\n', rest);
-        first_on(alloc, &mut reading, draft, number, line)?;
+        let (piece, behind) = first_piece(b'\n', rest);
+        let line = TextLine {
+            number,
+            first: (text.len() - rest.len()) as u32,
+            bytes: without_end(piece),
+        };
+        first_on(alloc, &mut reading, draft, line)?;
         number += 1;
         rest = behind;
     }
@@ -127,20 +141,21 @@ fn no_labels(alloc: Global, text: &[u8]) -> Result<Labels, AllocError>
 #[tactic(auto, unfolding(crate::specs::Whole::blank))]
 fn blank<'a>(alloc: Global, text: &'a [u8]) -> Result<Draft<'a>, AllocError>
     ensures is { IfOk result (λ d. plan_of d ≡ blank) }
+    ensures text { IfOk result (λ d. d.works.text.now ≡ text.now) }
 {
     let labels = no_labels(alloc, text)?;
     let storage = zeros(alloc, SIZE)?;
     let taken = unmarked(alloc, SIZE)?;
     let begins = unmarked(alloc, SIZE)?;
     Ok(Draft {
-        here: 16384,
+        here: FIRST_LOCATION,
         labels,
         storage,
         taken,
         begins,
         ended: false,
         cpus: 0,
-        works: Vec::new(alloc),
+        works: Works::none(alloc, text),
     })
 }
 
@@ -151,7 +166,7 @@ fn second_on(
     reading: &mut Reading,
     setup: &mut Setup,
     labels: &Labels,
-    works: &[Work],
+    works: &Works,
     work: Work,
 ) -> Result<(), AssembleFault>
     requires { setup.old.entered < 2 ^ 64 - 1 }
@@ -169,15 +184,16 @@ fn second_over(
     alloc: Global,
     setup: &mut Setup,
     labels: &Labels,
-    works: &[Work],
+    works: &Works,
 ) -> Result<(), AssembleFault>
     requires { setup.old.entered ≡ 0 }
-    ensures { Passes result (second_over (known_of labels.now works.now) (map task_of works.now)
+    ensures { Passes result (second_over (known_of labels.now works.now) (tasks_of works.now)
         (machine_of setup.old)) (machine_of setup.new) }
 {
     let mut reading = Reading::new(alloc);
-    for work in works {
-        second_on(alloc, &mut reading, setup, labels, works, *work)?;
+    for kept in &works.kept {
+        let work = works.with_text(*kept);
+        second_on(alloc, &mut reading, setup, labels, works, work)?;
     }
     Ok(())
 }
@@ -286,19 +302,22 @@ fn whole_fault(kind: Kind) -> AssembleFault
 
 /// The image that the lines of a text in capitals stand for, or the first fault.
 fn over_lines(alloc: Global, text: &[u8]) -> Result<Parts, AssembleFault>
-    requires { length (pieces_by 10 text.now) ≤ 262144 }
+    requires size { length text.now ≤ 16777216 }
+    requires lines { length (pieces_by 10 text.now) ≤ 262144 }
     ensures { IsOutcome result (over_lines (pieces_by 10 text.now)) }
 {
     let mut draft = blank(alloc, text)?;
-    first_over(alloc, &mut draft, text)?;
+    first_over(alloc, &mut draft)?;
     let Draft {
         labels,
         storage,
+        taken,
         begins,
         cpus,
         works,
         ..
     } = draft;
+    drop(taken);
     let mut setup = ready(alloc, storage, cpus)?;
     second_over(alloc, &mut setup, &labels, &works)?;
     if cpus == 0 {

@@ -1,5 +1,5 @@
 //! The lines of a text.
-ghost use Rattle.std.specs.Prelude.{◌≡◌, ◌≤◌, ◌<◌, ◌+◌, ◌∷◌, length, map, take, drop, IfOk, ℕ};
+ghost use Rattle.std.specs.Prelude.{◌≡◌, ◌≤◌, ◌<◌, ◌+◌, ◌∷◌, ◌++◌, length, map, take, drop, IfOk, ℕ};
 ghost use Rattle.std.specs.List.{prefix_len};
 ghost use Rattle.z_operands.specs.Pieces.{pieces_by, is_before, first_size, ends_with, shortened};
 ghost use Rattle.z_operands.specs.Pieces.{without_return, without_end};
@@ -30,6 +30,7 @@ fn first_size(stop: u8, text: &[u8]) -> usize
 pub fn first_piece(stop: u8, text: &[u8]) -> (&[u8], &[u8])
     requires { 0 < length text.now }
     ensures pieces { pieces_by stop text.now ≡ result.0.now ∷ pieces_by stop result.1.now }
+    ensures parts { result.0.now ++ result.1.now ≡ text.now }
     ensures shorter { length result.1.now < length text.now }
 {
     text.split_at(first_size(stop, text))

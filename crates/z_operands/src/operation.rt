@@ -45,43 +45,23 @@ fn directive_named(name: &[u8]) -> Option<Operation>
     ensures is { result ≡ directive_named name.now }
     ensures known { IfSome result IsKnown }
 {
-    if name == b"ORG".as_slice() {
-        return Some(Operation::Org);
-    }
-    if name == b"EQU".as_slice() {
-        return Some(Operation::Equ);
-    }
-    if name == b"DS".as_slice() {
-        return Some(Operation::Ds);
-    }
-    if name == b"DC".as_slice() {
-        return Some(Operation::Dc);
-    }
-    if name == b"CPU".as_slice() {
-        return Some(Operation::Cpu);
-    }
-    if name == b"REG".as_slice() {
-        return Some(Operation::Reg);
-    }
-    if name == b"SHOW".as_slice() {
-        return Some(Operation::Show);
-    }
-    if name == b"TDB".as_slice() {
-        return Some(Operation::Tdb);
-    }
-    if name == b"SCHED".as_slice() {
-        return Some(Operation::Sched);
-    }
-    if name == b"PARM".as_slice() {
-        return Some(Operation::Parm);
-    }
     if name == b"PREFIX".as_slice() {
         return Some(Operation::Prefix);
     }
-    if name == b"END".as_slice() {
-        return Some(Operation::End);
+    match name {
+        b"ORG" => Some(Operation::Org),
+        b"EQU" => Some(Operation::Equ),
+        b"DS" => Some(Operation::Ds),
+        b"DC" => Some(Operation::Dc),
+        b"CPU" => Some(Operation::Cpu),
+        b"REG" => Some(Operation::Reg),
+        b"SHOW" => Some(Operation::Show),
+        b"TDB" => Some(Operation::Tdb),
+        b"SCHED" => Some(Operation::Sched),
+        b"PARM" => Some(Operation::Parm),
+        b"END" => Some(Operation::End),
+        _ => None,
     }
-    None
 }
 
 /// The mask of an extended mnemonic that branches to a target.
@@ -90,46 +70,18 @@ fn branch_mask(name: &[u8]) -> Option<u8>
     ensures is { result ≡ branch_mask name.now }
     ensures known { IsMask result }
 {
-    if name == b"J".as_slice() {
-        return Some(15);
+    match name {
+        b"J" => Some(15),
+        b"JE" | b"JZ" => Some(8),
+        b"JNE" | b"JNZ" => Some(7),
+        b"JH" | b"JP" => Some(2),
+        b"JL" | b"JM" => Some(4),
+        b"JO" => Some(1),
+        b"JNH" => Some(13),
+        b"JNL" => Some(11),
+        b"JNO" => Some(14),
+        _ => None,
     }
-    if name == b"JE".as_slice() {
-        return Some(8);
-    }
-    if name == b"JZ".as_slice() {
-        return Some(8);
-    }
-    if name == b"JNE".as_slice() {
-        return Some(7);
-    }
-    if name == b"JNZ".as_slice() {
-        return Some(7);
-    }
-    if name == b"JH".as_slice() {
-        return Some(2);
-    }
-    if name == b"JP".as_slice() {
-        return Some(2);
-    }
-    if name == b"JL".as_slice() {
-        return Some(4);
-    }
-    if name == b"JM".as_slice() {
-        return Some(4);
-    }
-    if name == b"JO".as_slice() {
-        return Some(1);
-    }
-    if name == b"JNH".as_slice() {
-        return Some(13);
-    }
-    if name == b"JNL".as_slice() {
-        return Some(11);
-    }
-    if name == b"JNO".as_slice() {
-        return Some(14);
-    }
-    None
 }
 
 /// The number of the row of a name.
@@ -149,8 +101,7 @@ fn instruction(row: Option<u16>, mask: Option<u8>) -> Option<Operation>
     ensures is { result ≡ instruction row mask }
     ensures known { IfSome result IsKnown }
 {
-    let row = row?;
-    Some(Operation::Instruction(row, mask))
+    Some(Operation::Instruction(row?, mask))
 }
 
 /// The operation of an extended mnemonic.
@@ -158,14 +109,12 @@ fn extended(name: &[u8]) -> Option<Operation>
     ensures is { result ≡ extended name.now (branch_mask name.now) }
     ensures known { IfSome result IsKnown }
 {
-    match branch_mask(name) {
-        Some(mask) => instruction(row_named(b"BRC"), Some(mask)),
-        None => {
-            if name == b"BR".as_slice() {
-                return instruction(row_named(b"BCR"), Some(15));
-            }
-            None
-        }
+    if let Some(mask) = branch_mask(name) {
+        return instruction(row_named(b"BRC"), Some(mask));
+    }
+    match name {
+        b"BR" => instruction(row_named(b"BCR"), Some(15)),
+        _ => None,
     }
 }
 

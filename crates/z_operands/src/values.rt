@@ -32,10 +32,8 @@ fn value_at(line: &[u8], tokens: &[Token], at: usize, labels: &Labels, here: usi
     requires here { here ≤ 1048576 }
     ensures { result ≡ value_there (expression_of line.now tokens.now at labels.now here) }
 {
-    match expression(line, tokens, at, labels, here as u64) {
-        Ok((value, _)) => Some(value),
-        Err(_) => None,
-    }
+    let (value, _) = expression(line, tokens, at, labels, here as u64).ok()?;
+    Some(value)
 }
 
 /// The part at a place, and the place behind it.

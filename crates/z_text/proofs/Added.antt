@@ -10,7 +10,7 @@ use Rattle.std.specs.declared.alloc.Global.{Global}
 use Rattle.std.specs.declared.vec.Vec.{Vec}
 use Rattle.std.proofs.lemmas.Map.Text.{is_eq-slice_cmp}
 use Rattle.z_text.specs.Expected.{place_in as first_place, place_for, place_of, value_at}
-use Rattle.z_text.specs.Labels.{key_of, place_in, found_at, value_in}
+use Rattle.z_text.specs.Labels.{key_of, place_in, found_at, value_in, value_of}
 use Rattle.z_text.specs.Line.{is_name}
 use Rattle.z_text.proofs.Places.{apart, places_decide}
 use Rattle.z_text.proofs.Table.{lookup_inserted, mapped_choice}
@@ -45,9 +45,9 @@ same_places l m q = refl
 
 -- the value of a name that is expected, and of another
 at_place : (l : Labels) (q : List ℕ) (o : Option ℕ) → place_in l q ≡ o →
-    value_in l q ≡ option_map (λ v. v.value) (found_at o l q)
+    value_in l q ≡ option_map value_of (found_at o l q)
 unfolding value_in
-at_place l q o h = ap (λ p. option_map (λ v. v.value) (found_at p l q)) h
+at_place l q o h = ap (λ p. option_map value_of (found_at p l q)) h
 
 -- Other names that stay leave the values as they are.
 pub other_kept : (l : Labels) (m : Others) (q : List ℕ) → m.entries ≡ l.others.entries →
@@ -58,7 +58,7 @@ other_kept l m q e = by_place (place_in l q) refl
     by_place (Some i) p = at_place (with_others l m) q (Some i) (same_places l m q ∙ p) ∙ sym (at_place l q (Some i) p)
     by_place None p =
         at_place (with_others l m) q None (same_places l m q ∙ p)
-        ∙ (ap (λ es. option_map (λ v. v.value) (lookup (is_at (λ k. slice_cmp nat_cmp q k.items)) es)) e
+        ∙ (ap (λ es. option_map value_of (lookup (is_at (λ k. slice_cmp nat_cmp q k.items)) es)) e
         ∙ sym (at_place l q None p))
 
 none_is_not : (l : Labels) (a b : List ℕ) (i : ℕ) → place_in l a ≡ None → place_in l b ≡ Some i →
@@ -73,42 +73,42 @@ some_is_not l a b i p q e = absurd cc
 pub expected_added : (l : Labels) (e : Expected) (name : List ℕ) (v : LabelValue) (place : ℕ) (q : List ℕ) →
     place_in l name ≡ Some place → e.keys ≡ l.expected.keys →
     ((other : ℕ) → value_at e other ≡ (if other == place then Some v else value_at l.expected other)) →
-    value_in (with_expected l e) q ≡ (if bytes_eq q name then Some v.value else value_in l q)
+    value_in (with_expected l e) q ≡ (if bytes_eq q name then Some (value_of v) else value_in l q)
 expected_added l e name v place q there keys values = by_place (place_in l q) refl
   where
     by_place : (o : Option ℕ) → place_in l q ≡ o →
-        value_in (with_expected l e) q ≡ (if bytes_eq q name then Some v.value else value_in l q)
+        value_in (with_expected l e) q ≡ (if bytes_eq q name then Some (value_of v) else value_in l q)
     by_place (Some i) p =
         at_place (with_expected l e) q (Some i) (places_kept l e q keys ∙ p)
-        ∙ (ap (option_map (λ v. v.value)) (values i)
-        ∙ (mapped_choice (λ v. v.value) (i == place) (bytes_eq q name) v (value_at l.expected i)
+        ∙ (ap (option_map value_of) (values i)
+        ∙ (mapped_choice value_of (i == place) (bytes_eq q name) v (value_at l.expected i)
         (places_decide l q name i place p there)
-        ∙ ap (λ o. cond (bytes_eq q name) (Some v.value) o) (sym (at_place l q (Some i) p))))
+        ∙ ap (λ o. cond (bytes_eq q name) (Some (value_of v)) o) (sym (at_place l q (Some i) p))))
     by_place None p =
         at_place (with_expected l e) q None (places_kept l e q keys ∙ p)
         ∙ (sym (at_place l q None p)
-        ∙ ap (λ b. if b then Some v.value else value_in l q)
+        ∙ ap (λ b. if b then Some (value_of v) else value_in l q)
         (sym (apart l q name (none_is_not l q name place p there))))
 
 -- A name that is not expected has its value, and no other name another one.
 pub other_added : (l : Labels) (m : Others) (name : List ℕ) (v : LabelValue) (key : Vec ℕ Global)
     (q : List ℕ) → place_in l name ≡ None → key.items ≡ name →
     m.entries ≡ insert_entry (λ x y. slice_cmp nat_cmp x.items y.items) l.others.entries key v →
-    value_in (with_others l m) q ≡ (if bytes_eq q name then Some v.value else value_in l q)
+    value_in (with_others l m) q ≡ (if bytes_eq q name then Some (value_of v) else value_in l q)
 other_added l m name v key q there is given = by_place (place_in l q) refl
   where
     by_place : (o : Option ℕ) → place_in l q ≡ o →
-        value_in (with_others l m) q ≡ (if bytes_eq q name then Some v.value else value_in l q)
+        value_in (with_others l m) q ≡ (if bytes_eq q name then Some (value_of v) else value_in l q)
     by_place (Some i) p =
         at_place (with_others l m) q (Some i) (same_places l m q ∙ p)
         ∙ (sym (at_place l q (Some i) p)
-        ∙ ap (λ b. if b then Some v.value else value_in l q)
+        ∙ ap (λ b. if b then Some (value_of v) else value_in l q)
         (sym (apart l q name (some_is_not l q name i p there))))
     by_place None p =
         at_place (with_others l m) q None (same_places l m q ∙ p)
-        ∙ (ap (λ es. option_map (λ v. v.value) (lookup (λ a. is_eq (slice_cmp nat_cmp q a.items)) es)) given
-        ∙ (ap (option_map (λ v. v.value)) (lookup_inserted (λ a. a.items) key v q l.others.entries)
-        ∙ (mapped_choice (λ v. v.value) _ (bytes_eq q name) v
+        ∙ (ap (λ es. option_map value_of (lookup (λ a. is_eq (slice_cmp nat_cmp q a.items)) es)) given
+        ∙ (ap (option_map value_of) (lookup_inserted (λ a. a.items) key v q l.others.entries)
+        ∙ (mapped_choice value_of _ (bytes_eq q name) v
         (lookup (λ a. is_eq (slice_cmp nat_cmp q a.items)) l.others.entries)
         (is_eq-slice_cmp q key.items ∙ ap (bytes_eq q) is)
-        ∙ ap (λ o. cond (bytes_eq q name) (Some v.value) o) (sym (at_place l q None p)))))
+        ∙ ap (λ o. cond (bytes_eq q name) (Some (value_of v)) o) (sym (at_place l q None p)))))

@@ -8,6 +8,7 @@ use Rattle.std.specs.Ordering.{nat_cmp}
 use Rattle.std.specs.Cmp.Lexicographic.{slice_cmp}
 use Rattle.z_text.specs.Expected.{place_of, value_at}
 use Rattle.z_text.specs.Line.{is_inked, is_name}
+use Rattle.z_text.specs.Value.{value_from}
 use Rattle.z_text.specs.declared.labels.Labels.{Labels}
 use Rattle.z_text.specs.declared.value.LabelValue.{LabelValue}
 
@@ -32,6 +33,9 @@ key_in_front line = key_if_name (take (prefix_len is_inked line) line)
 unfoldable pub place_in : Labels → List ℕ → Option ℕ
 place_in l name = if is_name name then place_of l.expected (key_of name) else None
 
+abbrev pub value_of : LabelValue → ℤ
+value_of v = value_from v.negative v.bytes
+
 -- the value at this place, or else among the other names
 abbrev pub found_at : Option ℕ → Labels → List ℕ → Option LabelValue
 found_at (Some place) l name = value_at l.expected place
@@ -39,4 +43,4 @@ found_at None l name = get_by (λ k. slice_cmp nat_cmp name k.items) l.others
 
 -- the value of the label of this name, if there is one
 unfoldable pub value_in : Labels → List ℕ → Option ℤ
-value_in l name = option_map (λ v. v.value) (found_at (place_in l name) l name)
+value_in l name = option_map value_of (found_at (place_in l name) l name)

@@ -1,4 +1,5 @@
 pub mod Line
+pub mod Value
 pub mod Numbers
 pub mod Tokens
 pub mod Splits

@@ -23,7 +23,7 @@ impl Labels {
     ghost use Rattle.std.specs.Prelude.{ℕ, List, Option, Some, None, IfOk, IfSome, OnOk, OnErr, is_none};
     ghost use Rattle.std.specs.Prelude.{if◌then◌else◌, ◌<◌, length};
     ghost use Rattle.std.specs.Str.{bytes_eq};
-    ghost use Rattle.z_text.specs.Labels.{value_in, place_in};
+    ghost use Rattle.z_text.specs.Labels.{value_in, place_in, value_of};
 
     /// No labels. Memory for those that are added comes from the allocator.
     #[tactic(auto, unfolding(crate::specs::Labels::value_in, crate::specs::Labels::place_in))]
@@ -37,7 +37,7 @@ impl Labels {
         }
     }
 
-    /// No labels, with room for those of the names with these numbers (`key_in_front`): 33 bytes for each number.
+    /// No labels, with room for those of the names with these numbers (`key_in_front`): 26 bytes for each number.
     #[tactic(auto, unfolding(crate::specs::Labels::value_in))]
     pub fn expecting(alloc: Global, keys: Vec<u128>) -> Result<Labels, AllocError>
         ensures { IfOk result (λ labels. (name : List ℕ) → value_in labels name ≡ None) }
@@ -69,22 +69,16 @@ impl Labels {
         ensures high { IfSome result (λ v. v ≤ℤ pos (2 ^ 64 - 1)) }
     {
         if let Some(place) = self.place_of(name) {
-            return match self.expected.value_at(place) {
-                Some(found) => Some(found.value),
-                None => None,
-            };
+            return self.expected.value_at(place).map(LabelValue::value);
         }
-        match self.others.get(name) {
-            Some(found) => Some(found.value),
-            None => None,
-        }
+        self.others.get(name).map(|found| found.value())
     }
 
     fn add_expected(&mut self, name: &[u8], place: usize, value: LabelValue)
         requires place { place_in self.old name.now ≡ Some place }
         requires within { place < length self.old.expected.values.items }
         ensures { (other : List ℕ) → value_in self.new other ≡
-            (if bytes_eq other name.now then Some value.value else value_in self.old other) }
+            (if bytes_eq other name.now then Some (value_of value) else value_in self.old other) }
     {
         self.expected.put(place, value);
     }
@@ -92,7 +86,7 @@ impl Labels {
     fn add_other(&mut self, name: &[u8], value: LabelValue) -> Result<(), NoMemory>
         requires { place_in self.old name.now ≡ None }
         ensures ok { OnOk result ((other : List ℕ) → value_in self.new other ≡
-            (if bytes_eq other name.now then Some value.value else value_in self.old other)) }
+            (if bytes_eq other name.now then Some (value_of value) else value_in self.old other)) }
         ensures err { OnErr result ((other : List ℕ) → value_in self.new other ≡ value_in self.old other) }
     {
         let key = Vec::from_slice(self.alloc, name)?;

@@ -27,13 +27,8 @@ fn number_in(base: u8, digits: &[u8]) -> Option<u64>
 {
     let mut number = 0u64;
     for b in digits {
-        let Some(digit) = char::from(*b).to_digit(u32::from(base)) else {
-            return None;
-        };
-        let Some(longer) = with_digit(number, base, digit) else {
-            return None;
-        };
-        number = longer;
+        let digit = char::from(*b).to_digit(u32::from(base))?;
+        number = with_digit(number, base, digit)?;
     }
     Some(number)
 }

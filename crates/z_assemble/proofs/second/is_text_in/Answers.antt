@@ -1,18 +1,26 @@
-use Rattle.std.proofs.Common.{◌∙◌, sym}
-use Rattle.z_assemble.specs.Listing.{task_of}
+use Rattle.std.proofs.Common.{◌≡◌, ◌<◌, ◌≤◌, ◌∙◌, length, get_or, sym, subst}
+use Rattle.z_assemble.specs.Listing.{task_in}
 use Rattle.z_assemble.specs.Machine.{task_places_in}
 use Rattle.z_assemble.proofs.Lists.{any_here, any_over, any_map}
 use Rattle.z_assemble.proofs.second.is_text_in.Goals as goal
 
 pub returns-then-places_in : goal.returns-then-places_in
 returns-then-places_in c =
-    sym (any_map (task_places_in c.args.area) task_of c.args.works.now
-    ∙ (sym c.loop-work.invariant ∙ any_here (λ w. task_places_in c.args.area (task_of w)) c.args.works.now
-    c.loop-work.work-index c.work-item.result c.loop-work-test.true c.work-item.is
+    let works = c.args.works.now in
+    let same = c.deref-kept-items.ensures.value in
+    let within = subst (λ l. c.loop-kept.kept-index < length l) same c.loop-kept-test.true in
+    let item = subst (λ l. c.kept-item.result ≡ get_or l c.loop-kept.kept-index c.kept-item.result) same
+    c.kept-item.is in
+    sym (any_map (task_places_in c.args.area) (task_in works.text.now) works.kept.items
+    ∙ (sym c.loop-kept.invariant ∙ any_here (λ k. task_places_in c.args.area (task_in works.text.now k))
+    works.kept.items c.loop-kept.kept-index c.kept-item.result within item
     (sym c.places_in.ensures ∙ c.if-places_in.true)))
 
 pub returns : goal.returns
 returns c =
-    sym (any_map (task_places_in c.args.area) task_of c.args.works.now
-    ∙ (sym c.loop-work.invariant ∙ any_over (λ w. task_places_in c.args.area (task_of w)) c.args.works.now
-    c.loop-work.work-index c.loop-work-test.false))
+    let works = c.args.works.now in
+    let behind = subst (λ l. length l ≤ c.loop-kept.kept-index) c.deref-kept-items.ensures.value
+    c.loop-kept-test.false in
+    sym (any_map (task_places_in c.args.area) (task_in works.text.now) works.kept.items
+    ∙ (sym c.loop-kept.invariant ∙ any_over (λ k. task_places_in c.args.area (task_in works.text.now k))
+    works.kept.items c.loop-kept.kept-index behind))

@@ -1,4 +1,4 @@
-use Rattle.std.proofs.Common.{◌≡◌, ◌+◌, length}
+use Rattle.std.proofs.Common.{◌≡◌, ◌≤◌, ◌+◌, ◌-◌, length, drop}
 use Rattle.z_operands.specs.Pieces.{pieces_by}
 use Rattle.z_assemble.specs.Listing.{plan_of}
 use Rattle.z_assemble.specs.Whole.{first_over}
@@ -6,9 +6,12 @@ use Rattle.z_assemble.proofs.whole.first_over.Given as goal
 
 abbrev pub invariant-loop-rest : goal.invariant-loop-rest
 invariant-loop-rest l = record {
-  count : l.number + length (pieces_by 10 l.rest) ≡ 1 + length (pieces_by 10 l.text);
+  count : l.number + length (pieces_by 10 l.rest) ≡ 1 + length (pieces_by 10 l.fn.draft.works.text.now);
   same : first_over l.number (pieces_by 10 l.rest) (plan_of l.draft) ≡ first_over 1
-      (pieces_by 10 l.text) (plan_of l.fn.draft);
+      (pieces_by 10 l.fn.draft.works.text.now) (plan_of l.fn.draft);
+  size : length l.rest ≤ length l.fn.draft.works.text.now;
+  place : drop (length l.fn.draft.works.text.now - length l.rest) l.fn.draft.works.text.now ≡ l.rest;
+  text : l.draft.works.text.now ≡ l.fn.draft.works.text.now;
 }
 
 abbrev pub decreases-loop-rest : goal.decreases-loop-rest

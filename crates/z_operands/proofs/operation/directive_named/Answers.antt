@@ -1,0 +1,14 @@
+-- The directive of six letters.
+use Rattle.std.proofs.Common.{◌≡◌, ◌∙◌, Some, ap, refl, sym, subst}
+use Rattle.std.specs.Prelude.{codes}
+use Rattle.std.specs.Str.{bytes_eq}
+use Rattle.z_text.proofs.Keys.{bytes_same}
+use Rattle.z_operands.specs.Operations.{directive_named}
+use Rattle.z_operands.specs.declared.operation.Operation.TheVariants.{Prefix}
+use Rattle.z_operands.proofs.operation.directive_named.Goals as goal
+
+pub returns-then-eq-clause-is : goal.returns-then-eq-clause-is
+unfolding directive_named
+returns-then-eq-clause-is c =
+    let same = ap (bytes_eq c.args.name.now) (sym c.as_slice.ensures) ∙ (sym c.eq.ensures ∙ c.if-eq.true) in
+    subst (λ n. Some Prefix ≡ directive_named n) (sym (bytes_same c.args.name.now (codes "PREFIX") same)) refl
