@@ -116,6 +116,21 @@ begins_traced image limits machine sight steps is shown none =
       shown = shown ∙ sym (sight_all (setting_of machine) machine.events (length steps) (omega arith));
     }
 
+-- what was shown before all events, behind them
+pub stands_first : (image : Content) (limits : RunLimits) (opening machine : Seen) (first sight : Sight)
+    (steps : List Step) → opening ≡ opened image limits
+    → first ≡ sight_of (setting_of opening) (state_of opening)
+    → setting_of machine ≡ record { image = image; limits = limits }
+    → IsTraced machine sight steps (length steps) → IsTraced machine first steps 0
+stands_first image limits opening machine first sight steps is shown setting t = record {
+  count = t.count;
+  lead = t.lead;
+  within = omega arith;
+  shown =
+      shown ∙ ap (λ (s : Seen). sight_of (setting_of s) (state_of s)) is
+      ∙ ap (λ m. sight_behind m machine.events 0) (sym setting);
+}
+
 -- an event that is not recorded
 pub follows_idle : (before next : Seen) (e : Event) (sight : Sight) (steps : List Step)
     → next ≡ after before e → (event_of before e).state.events ≡ before.events

@@ -1,5 +1,6 @@
 -- A run that is looked at behind each of its recorded events.
 use Rattle.std.specs.Prelude.{◌≡◌, ℕ, ◌+◌, ◌-◌, ◌<◌, ◌≤◌, List, length, take, min, get_or, refl}
+use Rattle.std.specs.Prelude.{slice_set}
 use Rattle.std.specs.Coded.{Coded, code_by, coded×, coded_ℕ, coded_list}
 use Rattle.tx_journal.specs.contracts.events.Event as event
 use Rattle.tx_journal.specs.Content.{Content, content_code}
@@ -9,6 +10,7 @@ use Rattle.tx_meaning.specs.Meaning.{meaning}
 use Rattle.tx_meaning.specs.State.{State}
 use Rattle.tx_machine.specs.Machine.{Seen, setting_of}
 use Rattle.tx_step.specs.Changes.{redo, undo}
+use Rattle.tx_step.specs.Parts.{put_part}
 use Rattle.tx_step.specs.Sights.{Sight, sight_of}
 use Rattle.tx_step.specs.declared.following.Step.{Step}
 
@@ -67,15 +69,15 @@ traced_code =
 -- a step is made, and taken back
 abbrev pub forward_by : Step → Sight → Sight
 forward_by s v = record {
-  cpus = redo s.cpus.items v.cpus;
-  words = redo s.words.items v.words;
+  cpus = redo put_part s.parts.items v.cpus;
+  words = redo slice_set s.words.items v.words;
   entries = s.after;
 }
 
 abbrev pub back_by : Step → Sight → Sight
 back_by s v = record {
-  cpus = undo s.cpus.items v.cpus;
-  words = undo s.words.items v.words;
+  cpus = undo put_part s.parts.items v.cpus;
+  words = undo slice_set s.words.items v.words;
   entries = s.before;
 }
 

@@ -1,19 +1,26 @@
 //! What an event changes of all that is shown.
-ghost use Rattle.std.specs.Prelude.{◌≡◌, ◌≢◌, ◌⊎◌, ℕ, ◌/◌, ◌%◌, ◌<◌, true, IfOk, List, length};
-ghost use Rattle.std.specs.Prelude.{slice_index, slice_index_or};
+ghost use Rattle.std.specs.Prelude.{◌≡◌, ◌≢◌, ◌⊎◌, ℕ, ◌/◌, ◌%◌, ◌<◌, ◌≤◌, true, false, IfOk, List, length};
+ghost use Rattle.std.specs.Prelude.{slice_index, slice_index_or, slice_set};
 ghost use Rattle.z_regs.specs.Prefix.{storage_size};
+ghost use Rattle.tx_meaning.specs.Shown.{levels_at};
 ghost use Rattle.tx_meaning.specs.State.{flat_of};
+ghost use Rattle.tx_serial.specs.Changes.{cpu_of_entry};
 ghost use Rattle.tx_machine.specs.Machine.{setting_of, state_of};
 ghost use Rattle.tx_step.specs.Sights.{cpus_seen, sight_of, word_at, words_of};
-ghost use Rattle.tx_step.specs.Changes.{Leads};
+ghost use Rattle.tx_step.specs.Changes.{Adds};
+ghost use Rattle.tx_step.specs.Parts.{put_part};
+ghost use Rattle.tx_step.specs.Resting.{StayAsSeen, is_entered};
 ghost use Rattle.tx_step.specs.Traces.{forward_by, back_by};
 ghost use Rattle.tx_step.specs.Stored.{due_lines, may_change, is_among};
 
-use crate::changes::{Change, note_cpu, note_word, redo_cpus, redo_words, undo_cpus, undo_words};
+use crate::changes::{Change, note_word, redo_words, undo_words};
+use crate::cpus::{note_cpu, redo_parts, undo_parts};
+use crate::parts::Part;
 use crate::seen::CpuSight;
 use crate::stored::{Asked, StoredLines};
 use std::alloc::{AllocError, Global};
 use std::marker::Model;
+use tx_journal::Entry;
 use tx_machine::machine::Machine;
 
 /// The words of storage, of eight bytes each.
@@ -24,6 +31,9 @@ const LINE: u32 = 32;
 
 /// The lines of storage.
 const LINES: u32 = 4096;
+
+/// The parts of CPUs that most events change at most: a register, an address, and the control or the attempt.
+const PARTS: usize = 3;
 
 /// All that is shown behind some of the events. Contracts see it as data.
 #[derive(Drop)]
@@ -44,8 +54,8 @@ impl Model for View {
 /// What one event changes.
 #[derive(Drop)]
 pub struct Step {
-    /// The CPUs that it changes.
-    pub cpus: Vec<Change<CpuSight>>,
+    /// The parts of CPUs that it changes.
+    pub parts: Vec<Change<Part>>,
     /// The words of storage that it changes.
     pub words: Vec<Change<[u8; 8]>>,
     /// How many entries the history has before it.
@@ -96,21 +106,54 @@ fn words_in(alloc: Global, machine: &Machine) -> Result<Vec<[u8; 8]>, AllocError
     Ok(words)
 }
 
-/// Makes CPUs those of a machine, and gives what that changes.
-fn note_cpus(
-    alloc: Global,
-    machine: &Machine,
-    cpus: &mut [CpuSight],
-) -> Result<Vec<Change<CpuSight>>, AllocError>
-    requires { length cpus.old ≡ length machine.now.image.cpus }
-    ensures value { IfOk result (λ _. cpus.new ≡ cpus_seen (setting_of machine.now) (state_of machine.now)) }
-    ensures leads { IfOk result (λ changes. Leads cpus.old changes.items cpus.new) }
+/// The CPU of an entry.
+fn cpu_of_entry(entry: &Entry) -> u32
+    ensures { result ≡ cpu_of_entry entry.now }
 {
-    let mut changes = Vec::with_capacity(alloc, 1)?;
-    for cpu in 0..machine.image().cpu_count() {
-        note_cpu(machine, cpus, &mut changes, cpu)?;
+    match *entry {
+        Entry::Step(cpu) | Entry::Tdb(cpu) | Entry::Interrupt(cpu) => cpu,
+        Entry::Commit(cpu, _) => cpu,
+        Entry::Abort(cpu, _, _) => cpu,
     }
-    Ok(changes)
+}
+
+/// Whether some entry is of a CPU.
+fn is_entered(entries: &[Entry], cpu: u32) -> bool
+    ensures { result ≡ is_entered entries.now cpu }
+{
+    entries.iter().any(|entry| cpu_of_entry(entry) == cpu)
+}
+
+/// Whether a machine may show something else of a CPU than was seen of it, by the new entries and its attempt.
+fn may_differ(machine: &Machine, entries: &[Entry], sight: &CpuSight, cpu: u32) -> bool
+    requires { cpu < length machine.now.image.cpus }
+    ensures entries { result ≡ false → is_entered entries.now cpu ≡ false }
+    ensures live { result ≡ false → sight.now.live ≡ levels_at (setting_of machine.now) (state_of machine.now) cpu }
+{
+    is_entered(entries, cpu) || sight.live() != machine.live(cpu)
+}
+
+/// Makes CPUs those of a machine, and adds what that changes. Those stay as they were seen of which no entry is
+/// new, and whose attempts have come no further.
+fn note_cpus(
+    machine: &Machine,
+    before: u64,
+    cpus: &mut [CpuSight],
+    changes: &mut Vec<Change<Part>>,
+) -> Result<(), AllocError>
+    requires size { length cpus.old ≡ length machine.now.image.cpus }
+    requires grown { before ≤ length (state_of machine.now).history }
+    requires stay { StayAsSeen cpus.old before (setting_of machine.now) (state_of machine.now) }
+    ensures value { IfOk result (λ _. cpus.new ≡ cpus_seen (setting_of machine.now) (state_of machine.now)) }
+    ensures adds { IfOk result (λ _. Adds put_part changes.old.items changes.new.items cpus.old cpus.new) }
+{
+    let entries = &machine.journal()[before as usize..];
+    for cpu in 0..machine.image().cpu_count() {
+        if may_differ(machine, entries, &cpus[cpu as usize], cpu) {
+            note_cpu(machine, &mut cpus[cpu as usize], changes, cpu)?;
+        }
+    }
+    Ok(())
 }
 
 /// Makes the words of a line those of a machine, and adds what that changes.
@@ -128,8 +171,7 @@ fn note_line(
         ≡ word_at (flat_of (setting_of machine.now) (state_of machine.now)).storage w
         → slice_index_or words.new w d
         ≡ word_at (flat_of (setting_of machine.now) (state_of machine.now)).storage w) }
-    ensures leads { IfOk result (λ _. (from : List (List ℕ)) → Leads from changes.old.items words.old
-        → Leads from changes.new.items words.new) }
+    ensures adds { IfOk result (λ _. Adds slice_set changes.old.items changes.new.items words.old words.new) }
 {
     if line >= LINES {
         return Ok(());
@@ -142,27 +184,25 @@ fn note_line(
     Ok(())
 }
 
-/// Makes the words of some lines those of a machine, and gives what that changes; all others are so already.
+/// Makes the words of some lines those of a machine, and adds what that changes; all others are so already.
 fn note_lines(
-    alloc: Global,
     machine: &Machine,
     words: &mut [[u8; 8]],
+    changes: &mut Vec<Change<[u8; 8]>>,
     lines: &[u32],
-) -> Result<Vec<Change<[u8; 8]>>, AllocError>
+) -> Result<(), AllocError>
     requires size { length words.old ≡ 131072 }
     requires others { (w : ℕ) (d : List ℕ) → w < 131072 → (is_among lines.now (w / 32) ≡ true)
         ⊎ (slice_index_or words.old w d
         ≡ word_at (flat_of (setting_of machine.now) (state_of machine.now)).storage w) }
     ensures value { IfOk result (λ _. words.new
         ≡ words_of (flat_of (setting_of machine.now) (state_of machine.now)).storage) }
-    ensures leads { IfOk result (λ changes. Leads words.old changes.items words.new) }
+    ensures adds { IfOk result (λ _. Adds slice_set changes.old.items changes.new.items words.old words.new) }
 {
-    let mut changes = Vec::new(alloc);
     for line in lines {
-        note_line(machine, words, &mut changes, *line)?;
+        note_line(machine, words, changes, *line)?;
     }
-    changes.shrink_to_fit();
-    Ok(changes)
+    Ok(())
 }
 
 impl View {
@@ -214,6 +254,8 @@ impl View {
             → (may_change self.old.cpus (setting_of machine.now) (state_of machine.now) asked.now stored.now
             (w / 32) ≡ true) ⊎ (slice_index_or self.old.words w d
             ≡ word_at (flat_of (setting_of machine.now) (state_of machine.now)).storage w) }
+        requires grown { self.old.entries ≤ length (state_of machine.now).history }
+        requires stay { StayAsSeen self.old.cpus self.old.entries (setting_of machine.now) (state_of machine.now) }
         ensures value { IfOk result (λ _. self.new ≡ sight_of (setting_of machine.now) (state_of machine.now)) }
         ensures forward { IfOk result (λ step. forward_by step self.old ≡ self.new) }
         ensures back { IfOk result (λ step. back_by step self.new ≡ self.old) }
@@ -222,11 +264,14 @@ impl View {
         let before = self.entries;
         let after = machine.journal().len() as u64;
         let lines = self.lines_due(alloc, machine, stored, asked)?;
-        let words = note_lines(alloc, machine, &mut self.words, &lines)?;
-        let cpus = note_cpus(alloc, machine, &mut self.cpus)?;
+        let mut words = Vec::with_capacity(alloc, LINE as usize * lines.len().min(LINES as usize))?;
+        note_lines(machine, &mut self.words, &mut words, &lines)?;
+        words.shrink_to_fit();
+        let mut parts = Vec::with_capacity(alloc, PARTS)?;
+        note_cpus(machine, before, &mut self.cpus, &mut parts)?;
         self.entries = after;
         Ok(Step {
-            cpus,
+            parts,
             words,
             before,
             after,
@@ -237,7 +282,7 @@ impl View {
     pub fn forward(&mut self, step: &Step)
         ensures { self.new ≡ forward_by step.now self.old }
     {
-        redo_cpus(&mut self.cpus, &step.cpus);
+        redo_parts(&mut self.cpus, &step.parts);
         redo_words(&mut self.words, &step.words);
         self.entries = step.after;
     }
@@ -246,7 +291,7 @@ impl View {
     pub fn back(&mut self, step: &Step)
         ensures { self.new ≡ back_by step.now self.old }
     {
-        undo_cpus(&mut self.cpus, &step.cpus);
+        undo_parts(&mut self.cpus, &step.parts);
         undo_words(&mut self.words, &step.words);
         self.entries = step.before;
     }

@@ -2,8 +2,10 @@
 #![tactic(auto)]
 
 pub mod changes;
+pub mod cpus;
 pub mod following;
 pub mod laws;
+pub mod parts;
 pub mod seen;
 pub mod stored;
 pub mod trace;

@@ -1,9 +1,11 @@
 //! What is shown of one CPU.
-ghost use Rattle.std.specs.Prelude.{◌≡◌, ◌<◌, IsTrue, true, length};
+ghost use Rattle.std.specs.Prelude.{◌≡◌, ◌<◌, IsTrue, length};
 ghost use Rattle.z_regs.specs.Cpu.{cpu_of};
 ghost use Rattle.tx_machine.specs.Machine.{setting_of, state_of};
 ghost use Rattle.tx_step.specs.Sights.{cpu_seen};
+ghost use Rattle.tx_step.specs.Parts.{with_part};
 
+use crate::parts::{Controls, Part};
 use std::marker::Model;
 use tx_machine::machine::Machine;
 use z_regs::CpuImage;
@@ -17,64 +19,113 @@ pub struct CpuSight {
 }
 
 impl Model for CpuSight {
+    ghost use Rattle.std.specs.Prelude.{◌≡◌, length};
     ghost use Rattle.tx_step.specs.Sights.{CpuSeen};
     ghost use Rattle.z_regs.specs.Cpu.{cpu_of};
 
     ghost Value = { CpuSeen };
 
     ghost view = { λ s. record { cpu = cpu_of s.image; live = s.live; pending = s.pending } };
+
+    ghost invariant = { λ s. (length s.image.general ≡ 16) × (length s.image.access ≡ 16) };
 }
 
-/// Whether both hold the same.
-fn is_same_image(a: &CpuImage, b: &CpuImage) -> bool
-    ensures { IsTrue result → cpu_of a.now ≡ cpu_of b.now }
+/// What an image holds beside its registers and the address of its next instruction.
+pub fn controls_of(image: &CpuImage) -> Controls
+    ensures { (result.condition ≡ image.now.condition) × (result.mask ≡ image.now.mask)
+        × (result.state ≡ image.now.state) × (result.prefix ≡ image.now.prefix) }
 {
-    a.general == b.general
-        && a.access == b.access
-        && a.address == b.address
-        && a.condition == b.condition
-        && a.mask == b.mask
-        && a.state == b.state
-        && a.prefix == b.prefix
+    Controls {
+        condition: image.condition,
+        mask: image.mask,
+        state: image.state,
+        prefix: image.prefix,
+    }
+}
+
+/// Whether an image has these.
+fn has_controls(image: &CpuImage, controls: &Controls) -> bool
+    ensures { IsTrue result → (image.now.condition ≡ controls.now.condition) × (image.now.mask ≡ controls.now.mask)
+        × (image.now.state ≡ controls.now.state) × (image.now.prefix ≡ controls.now.prefix) }
+{
+    image.condition == controls.condition
+        && image.mask == controls.mask
+        && image.state == controls.state
+        && image.prefix == controls.prefix
 }
 
 impl CpuSight {
+    /// These three.
+    fn with(image: &CpuImage, live: Option<(u32, u32)>, pending: Option<u64>) -> CpuSight
+        ensures { result ≡ record { cpu = cpu_of image.now; live = live; pending = pending } }
+    {
+        let _registers = (image.general[0], image.access[0]);
+        CpuSight {
+            image: *image,
+            live,
+            pending,
+        }
+    }
+
     /// What a machine shows of a CPU.
     pub fn of(machine: &Machine, cpu: u32) -> CpuSight
         requires { cpu < length machine.now.image.cpus }
         ensures { result ≡ cpu_seen (setting_of machine.now) (state_of machine.now) cpu }
     {
-        CpuSight {
-            image: *machine.cpu(cpu),
-            live: machine.live(cpu),
-            pending: machine.pending(cpu),
+        CpuSight::with(machine.cpu(cpu), machine.live(cpu), machine.pending(cpu))
+    }
+
+    /// Whether it has this part.
+    pub fn has(&self, part: &Part) -> bool
+        ensures { IsTrue result → with_part self.now part.now ≡ self.now }
+    {
+        match part {
+            Part::General(r, value) => self.image.general[r.number as usize] == *value,
+            Part::Access(r, value) => self.image.access[r.number as usize] == *value,
+            Part::Address(address) => self.image.address == *address,
+            Part::Control(controls) => has_controls(&self.image, controls),
+            Part::Live(live) => self.live == *live,
+            Part::Pending(pending) => self.pending == *pending,
         }
     }
 
-    /// The same once more.
-    pub fn again(&self) -> CpuSight
-        ensures { result ≡ self.now }
+    /// The part by which it comes back once another has been put into its place.
+    pub fn part_before(&self, new: &Part) -> Part
+        ensures { with_part (with_part self.now new.now) result ≡ self.now }
     {
-        CpuSight {
-            image: self.image,
-            live: self.live,
-            pending: self.pending,
+        match new {
+            Part::General(r, _) => Part::General(*r, self.image.general[r.number as usize]),
+            Part::Access(r, _) => Part::Access(*r, self.image.access[r.number as usize]),
+            Part::Address(_) => Part::Address(self.image.address),
+            Part::Control(_) => Part::Control(controls_of(&self.image)),
+            Part::Live(_) => Part::Live(self.live),
+            Part::Pending(_) => Part::Pending(self.pending),
         }
     }
 
-    /// Whether it is what a machine shows of a CPU.
-    pub fn is_shown(&self, machine: &Machine, cpu: u32) -> bool
-        requires { cpu < length machine.now.image.cpus }
-        ensures { IsTrue result → self.now ≡ cpu_seen (setting_of machine.now) (state_of machine.now) cpu }
+    /// Puts a part into its place.
+    pub fn put(&mut self, part: &Part)
+        ensures { self.new ≡ with_part self.old part.now }
     {
-        self.live == machine.live(cpu)
-            && self.pending == machine.pending(cpu)
-            && is_same_image(&self.image, machine.cpu(cpu))
+        match part {
+            Part::General(r, value) => self.image.general[r.number as usize] = *value,
+            Part::Access(r, value) => self.image.access[r.number as usize] = *value,
+            Part::Address(address) => self.image.address = *address,
+            Part::Control(controls) => {
+                self.image.condition = controls.condition;
+                self.image.mask = controls.mask;
+                self.image.state = controls.state;
+                self.image.prefix = controls.prefix;
+            }
+            Part::Live(live) => self.live = *live,
+            Part::Pending(pending) => self.pending = *pending,
+        }
     }
 
     /// What the CPU holds.
     pub fn image(&self) -> &CpuImage
-        ensures { cpu_of result.now ≡ self.now.cpu }
+        ensures value { cpu_of result.now ≡ self.now.cpu }
+        ensures registers { (length self.now.cpu.general ≡ 16) × (length self.now.cpu.access ≡ 16) }
     {
         &self.image
     }

@@ -130,6 +130,7 @@ impl Trace {
     {
         let most = image.cpu_count() as usize * limits.turns as usize + limits.externals as usize;
         let mut machine = Machine::open(alloc, image, limits)?;
+        let first = View::of(alloc, &machine)?;
         let mut view = View::of(alloc, &machine)?;
         let mut stored = StoredLines::none(alloc);
         let mut steps = Vec::with_capacity(alloc, most.min(events.len()))?;
@@ -143,15 +144,12 @@ impl Trace {
                 *event,
             )?;
         }
-        let position = steps.len();
-        let mut trace = Trace {
+        Ok(Trace {
             machine,
-            view,
+            view: first,
             steps,
-            position,
-        };
-        trace.back(position as u64);
-        Ok(trace)
+            position: 0,
+        })
     }
 
     /// Over the next event.

@@ -1,10 +1,9 @@
--- A word that is the same is not written; the change that is noted leads on.
-use Rattle.std.proofs.Common.{ℕ, List, [], get_or, sym, ap, subst, ◌∙◌, arith}
+-- A word that is the same is not written; the change that is noted is one more.
+use Rattle.std.proofs.Common.{◌≡◌, ℕ, List, [], get_or, refl, sym, ap, ◌∙◌, arith}
 use Rattle.std.specs.Prelude.{slice_set}
 use Rattle.std.proofs.lemmas.List.{get_or_default, set-get_or}
-use Rattle.tx_step.specs.Changes.{Leads}
 use Rattle.tx_step.specs.declared.changes.Change.{Change}
-use Rattle.tx_step.proofs.Changed.{leads_more}
+use Rattle.tx_step.proofs.Changed.{adds_nothing, adds_one, set_same, set_twice}
 use Rattle.tx_step.proofs.changes.note_word.Goals as goal
 
 pub returns-then-is_same_word-clause-value : goal.returns-then-is_same_word-clause-value
@@ -13,11 +12,17 @@ returns-then-is_same_word-clause-value c =
     let at = c.args.at in
     sym (set-get_or table at []) ∙ ap (slice_set table at) (c.is_same_word.ensures c.if-is_same_word.true)
 
-pub returns-clause-leads : goal.returns-clause-leads
-returns-clause-leads c from leads =
+pub returns-then-is_same_word-clause-adds : goal.returns-then-is_same_word-clause-adds
+returns-then-is_same_word-clause-adds c =
+    adds_nothing slice_set c.args.changes.now.items c.args.changes.now.items c.args.table.now c.args.table.now refl
+    refl
+
+pub returns-clause-adds : goal.returns-clause-adds
+returns-clause-adds c =
     let table = c.args.table.now in
     let at = c.args.at in
-    let change : Change (List ℕ) = record { at = at; old = get_or table at []; new = c.args.new } in
-    subst (λ items. Leads from items (slice_set table at c.args.new)) (sym c.in_ok-push.ensures.items)
-    (leads_more from c.args.changes.now.items table change
-    (get_or_default table at (get_or table at []) [] (omega arith)) leads)
+    let old = get_or table at [] in
+    let change : Change (List ℕ) = record { at = at; old = old; new = c.args.new } in
+    adds_one slice_set c.args.changes.now.items c.push.new.self.items change table (slice_set table at c.args.new)
+    c.in_ok-push.ensures.items refl
+    (set_twice table at c.args.new old ∙ set_same table at old [] (omega arith) refl)

@@ -1,8 +1,9 @@
 -- So many words of the line are those of the machine, and those that were so before are so still.
 use Rattle.std.proofs.Common.{◌≡◌, ℕ, ◌+◌, ◌*◌, ◌<◌, ◌≤◌, List, get_or}
+use Rattle.std.specs.Prelude.{slice_set}
 use Rattle.tx_meaning.specs.State.{flat_of}
 use Rattle.tx_machine.specs.Machine.{setting_of, state_of}
-use Rattle.tx_step.specs.Changes.{Leads}
+use Rattle.tx_step.specs.Changes.{Adds}
 use Rattle.tx_step.specs.Sights.{word_at}
 use Rattle.tx_step.proofs.following.note_line.Given as goal
 
@@ -13,5 +14,5 @@ invariant-loop-place l = record {
   others : (w : ℕ) (d : List ℕ)
       → get_or l.fn.words w d ≡ word_at (flat_of (setting_of l.machine) (state_of l.machine)).storage w
       → get_or l.words w d ≡ word_at (flat_of (setting_of l.machine) (state_of l.machine)).storage w;
-  leads : (from : List (List ℕ)) → Leads from l.fn.changes.items l.fn.words → Leads from l.changes.items l.words;
+  adds : Adds slice_set l.fn.changes.items l.changes.items l.fn.words l.words;
 }

@@ -1,15 +1,14 @@
 -- Line by line every word is that of the machine.
-use Rattle.std.proofs.Common.{◌≡◌, ◌/◌, ◌<◌, ◌∙◌, true, false, sym, ap, subst, arith, get_or, take, length}
+use Rattle.std.proofs.Common.{◌≡◌, ◌/◌, ◌<◌, ◌∙◌, true, false, refl, sym, ap, arith, get_or, take, length}
 use Rattle.std.proofs.lemmas.Bool.{or_cases, eqb-true}
 use Rattle.std.proofs.lemmas.List.{take_all}
 use Rattle.std.proofs.lemmas.List.Folds.{list_any_more}
-use Rattle.std.specs.Prelude.{◌==◌}
+use Rattle.std.specs.Prelude.{◌==◌, slice_set}
 use borrow.Enum.Arm.{by_way}
 use Rattle.tx_meaning.specs.State.{flat_of}
 use Rattle.tx_machine.specs.Machine.{setting_of, state_of}
-use Rattle.tx_step.specs.Changes.{Leads}
 use Rattle.tx_step.specs.Stored.{is_among}
-use Rattle.tx_step.proofs.Changed.{leads_nowhere}
+use Rattle.tx_step.proofs.Changed.{adds_nothing, adds_on}
 use Rattle.tx_step.proofs.Listed.{all_words}
 use Rattle.tx_step.proofs.following.note_lines.Goals as goal
 
@@ -17,9 +16,9 @@ pub loop-line-init : goal.loop-line-init
 loop-line-init c = record {
   there = λ w d low is. absurd (let x : false ≡ true = is in cc);
   others = λ w d same. same;
-  leads =
-      subst (λ l. Leads c.args.words.now l c.args.words.now) (sym c.new-changes.ensures.items)
-      (leads_nowhere c.args.words.now);
+  adds =
+      adds_nothing slice_set c.args.changes.now.items c.args.changes.now.items c.args.words.now c.args.words.now refl
+      refl;
 }
 
 pub loop-line-preserved : goal.loop-line-preserved
@@ -34,7 +33,10 @@ loop-line-preserved c = record {
       (λ before. c.in_ok-note_line.ensures.others w d (c.loop-line.invariant.there w d low before))
       (λ here. c.in_ok-note_line.ensures.there w d low (sym (eqb-true line (w / 32) here)));
   others = λ w d same. c.in_ok-note_line.ensures.others w d (c.loop-line.invariant.others w d same);
-  leads = c.in_ok-note_line.ensures.leads c.args.words.now c.loop-line.invariant.leads;
+  adds =
+      adds_on slice_set c.args.changes.now.items c.loop-line.changes.items c.note_line.new.changes.items
+      c.args.words.now c.loop-line.words c.note_line.new.words c.loop-line.invariant.adds
+      c.in_ok-note_line.ensures.adds;
 }
 
 pub returns-clause-value : goal.returns-clause-value

@@ -1,12 +1,13 @@
 -- What the machine shows is followed, and a step is more.
-use Rattle.std.proofs.Common.{◌≡◌, ℕ, ◌<◌, true, All, length, sym, ap, subst, ◌∙◌}
+use Rattle.std.proofs.Common.{◌≡◌, ℕ, ◌<◌, true, [], ◌∷◌, ◌++◌, All, length, sym, ap, subst, ◌∙◌, rules}
 use Rattle.tx_footprint.specs.Places.{stores}
 use Rattle.tx_journal.specs.Image.{cpu_of_event}
 use Rattle.tx_meaning.specs.Views.{AreKnown}
-use Rattle.tx_machine.specs.Machine.{setting_of, state_of}
+use Rattle.tx_machine.specs.Machine.{event_of, setting_of, state_of}
 use Rattle.tx_works.specs.Wanted.{wanted}
 use Rattle.tx_step.proofs.Due.{due_or_same, next_covers}
-use Rattle.tx_step.proofs.Stepped.{same_cpus, full_words, same_storage}
+use Rattle.tx_step.proofs.Resting.{has_grown, stay_as_seen}
+use Rattle.tx_step.proofs.Stepped.{follows_idle, follows_more, same_cpus, full_words, same_storage}
 use Rattle.tx_step.specs.Stored.{Covers, has}
 use Rattle.tx_step.proofs.trace.follow.Goals as goal
 use Rattle.tx_step.proofs.trace.follow.Goals.{then-step, else-step}
@@ -24,6 +25,17 @@ pub follow-requires-clause-same : goal.follow-requires-clause-same
 follow-requires-clause-same c size =
     same_storage c.args.machine.now c.event-outcome-2.new.self c.args.e c.args.view.now c.args.steps.now.items
     c.requires.traced c.event-outcome-2.ensures.machine c.event-outcome-2.ensures.grows size
+
+pub follow-requires-clause-grown : goal.follow-requires-clause-grown
+follow-requires-clause-grown c =
+    has_grown c.args.machine.now c.event-outcome-2.new.self c.args.e c.args.view.now c.args.steps.now.items
+    c.requires.traced c.event-outcome-2.ensures.grows
+
+pub follow-requires-clause-stay : goal.follow-requires-clause-stay
+follow-requires-clause-stay c =
+    stay_as_seen c.args.machine.now c.event-outcome-2.new.self c.args.e c.args.view.now c.args.steps.now.items
+    c.requires.traced c.event-outcome-2.ensures.machine c.event-outcome-2.ensures.grows
+    c.event-outcome-2.ensures.legal c.event-outcome-2.ensures.views
 
 pub follow-requires-clause-others : goal.follow-requires-clause-others
 follow-requires-clause-others c w d low =
@@ -46,6 +58,21 @@ follow-requires-clause-others c w d low =
     c.event-outcome-2.ensures.machine c.event-outcome-2.ensures.state covers wants
     (record { cpu = c.cpu_in-cpu.result; touches = c.wanted.result }) cpu asks
     c.args.view.now c.args.steps.now.items c.requires.traced w d low
+
+pub returns-then-not-is_recorded-clause-traced : goal.returns-then-not-is_recorded-clause-traced
+returns-then-not-is_recorded-clause-traced c =
+    let idle : (event_of c.args.machine.now c.args.e).state.events ≡ c.args.machine.now.events = search rules in
+    follows_idle c.args.machine.now c.event-outcome.new.self c.args.e c.args.view.now c.args.steps.now.items
+    c.event-outcome.ensures.machine idle c.requires.traced
+
+pub returns-clause-traced : goal.returns-clause-traced
+returns-clause-traced c =
+    let recorded : (event_of c.args.machine.now c.args.e).state.events
+    ≡ c.args.machine.now.events ++ c.args.e ∷ [] = search rules in
+    follows_more c.args.machine.now c.args.e c.args.view.now c.follow.new.self c.args.steps.now.items
+    c.in_ok-step.step c.event-outcome-2.new.self c.push.new.self.items c.event-outcome-2.ensures.machine recorded
+    c.in_ok-push.ensures.items c.requires.traced c.in_ok-step.ensures.value c.in_ok-step.ensures.forward
+    c.in_ok-step.ensures.back
 
 pub returns-clause-covers : goal.returns-clause-covers
 returns-clause-covers c =

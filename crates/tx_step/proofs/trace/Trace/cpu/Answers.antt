@@ -28,5 +28,5 @@ returns c =
     let seen : c.cpu.result.now ≡ cpu_seen m s c.args.cpu =
     c.cpu.ensures ∙ ap (λ (v : Sight). get_or v.cpus c.args.cpu c.cpu.result.now) c.self.invariant.shown
     ∙ cpu_at m s c.args.cpu c.cpu.result.now known in
-    c.image.ensures ∙ ap (λ (x : CpuSeen). x.cpu) seen
+    c.image.ensures.value ∙ ap (λ (x : CpuSeen). x.cpu) seen
     ∙ ap (λ (t : Traced). cpu_of (setting_in t) (state_at t) c.args.cpu) c.self.view_is

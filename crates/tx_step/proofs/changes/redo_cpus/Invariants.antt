@@ -1,7 +1,0 @@
--- The changes that are left lead to the end.
-use Rattle.std.proofs.Common.{◌≡◌, drop}
-use Rattle.tx_step.specs.Changes.{redo}
-use Rattle.tx_step.proofs.changes.redo_cpus.Given as goal
-
-abbrev pub invariant-loop-change : goal.invariant-loop-change
-invariant-loop-change l = redo (drop l.change-index l.changes) l.table ≡ redo l.changes l.fn.table
