@@ -6,5 +6,6 @@ pub mod Atoms
 pub mod Bytes
 pub mod Forms
 pub mod Rows
+pub mod Branches
 pub mod Spelled
 pub mod SmallEvents

@@ -6,6 +6,7 @@ mod data;
 mod fault;
 mod instruction;
 mod lines;
+mod names;
 mod number;
 mod operand;
 mod operation;

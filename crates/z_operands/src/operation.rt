@@ -5,6 +5,7 @@ ghost use Rattle.z_operands.specs.Operations.{directive_named, branch_mask, row_
 ghost use Rattle.z_operands.specs.Operations.{or_else, operation_named, size_of_row};
 ghost use Rattle.z_operands.specs.Sizes.{IsKnown, IsMask};
 
+use crate::names::row_in_order;
 use z_instr::format::length_in;
 use z_instr::lookup::{find, line};
 use z_instr::op::Op;
@@ -89,6 +90,9 @@ fn row_named(name: &[u8]) -> Option<u16>
     ensures is { result ≡ row_named name.now }
     ensures known { IfSome result (λ row. row < ROWS) }
 {
+    if let Some(row) = row_in_order(name) {
+        return Some(row);
+    }
     match find(name) {
         Some(op) => Some(op.number),
         None => None,
@@ -126,6 +130,9 @@ pub fn operation_named(name: &[u8]) -> Option<Operation>
 {
     if let Some(directive) = directive_named(name) {
         return Some(directive);
+    }
+    if let Some(mask) = branch_mask(name) {
+        return instruction(row_named(b"BRC"), Some(mask));
     }
     if let Some(operation) = instruction(row_named(name), None) {
         return Some(operation);
