@@ -103,6 +103,22 @@ fn what_an_attempt_sees_and_touches(rt: HostRuntime) -> Result<(), Fail> {
     Ok(())
 }
 
+/// What a CPU in a constrained attempt sees and has touched once it is made equal to another, and its register 2.
+fn copied(alloc: Global) -> Result<([u32; 8], u64), Fail> {
+    let first = after(alloc, STORES, 4)?;
+    let mut second = after(alloc, LOADS, 3)?;
+    second.cpu.copy_from(&first.cpu);
+    Ok((second.seen_and_touched(), second.cpu.image().general[2]))
+}
+
+#[test]
+fn a_cpu_that_is_made_equal(rt: HostRuntime) -> Result<(), Fail> {
+    let (inside, register) = copied(rt.alloc())?;
+    assert_eq!(rt; inside, [1, 8, 0, 0, 3, 2, 1, 1]);
+    assert_eq!(rt; register, 0x0102_0304_0506_0708);
+    Ok(())
+}
+
 /// Constrained loads from two octowords of one line.
 const LOADS: &str = " CPU X'4000'\n TBEGINC 0,0\n LG 1,X'9000'\n LG 2,X'9020'\n TEND\n END\n";
 
