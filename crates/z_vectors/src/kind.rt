@@ -6,32 +6,41 @@ use z_instr::kind::{Kind, Transaction};
 use z_instr::lookup::{find, kind_of};
 use z_instr::op::Op;
 
+/// What an operation about transactions is.
+fn name_of(operation: Transaction) -> &'static str {
+    match operation {
+        Transaction::Begin => "a begin",
+        Transaction::BeginConstrained => "a constrained begin",
+        Transaction::End => "an end",
+        Transaction::Abort => "an abort",
+        Transaction::ExtractDepth => "an extraction of the depth",
+        Transaction::StoreLasting => "a lasting store",
+        Transaction::Assist => "an assist",
+    }
+}
+
 /// What an operation about transactions is; nothing for all others.
 fn role_of(kind: Kind) -> &'static str {
     match kind {
-        Kind::Transaction(Transaction::Begin) => "a begin",
-        Kind::Transaction(Transaction::BeginConstrained) => "a constrained begin",
-        Kind::Transaction(Transaction::End) => "an end",
-        Kind::Transaction(Transaction::Abort) => "an abort",
-        Kind::Transaction(Transaction::ExtractDepth) => "an extraction of the depth",
-        Kind::Transaction(Transaction::StoreLasting) => "a lasting store",
-        Kind::Transaction(Transaction::Assist) => "an assist",
+        Kind::Transaction(operation) => name_of(operation),
         _ => "",
     }
+}
+
+/// Adds words where they hold.
+fn add_where(text: &mut String, holds: bool, words: &str) -> Result<(), AllocError> {
+    if holds {
+        text.push_str(words)?;
+    }
+    Ok(())
 }
 
 /// Every crate that takes an operation for its own, and what the operation is, if it is about transactions.
 fn owners(alloc: Global, op: Op) -> Result<String, AllocError> {
     let mut text = String::new(alloc);
-    for (owner, is_mine) in [
-        ("of z_general", z_general::is_mine(op)),
-        ("of z_branch", z_branch::is_mine(op)),
-        ("of z_storage", z_storage::is_mine(op)),
-    ] {
-        if is_mine {
-            text.push_str(owner)?;
-        }
-    }
+    add_where(&mut text, z_general::is_mine(op), "of z_general")?;
+    add_where(&mut text, z_branch::is_mine(op), "of z_branch")?;
+    add_where(&mut text, z_storage::is_mine(op), "of z_storage")?;
     text.push_str(role_of(kind_of(op)))?;
     Ok(text)
 }
