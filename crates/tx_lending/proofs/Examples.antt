@@ -28,7 +28,7 @@ use Rattle.tx_progress.specs.Local.{Beside, settled}
 use Rattle.tx_progress.specs.Trial.{fate_by_progress}
 use Rattle.store_cache.specs.Overlay.{nothing, with_one}
 use Rattle.tx_lending.specs.Away.{is_plain, ran, touched, stored}
-use Rattle.tx_lending.specs.Stranger.{waiting}
+use Rattle.tx_lending.specs.Stranger.{waiting, waits_at}
 
 -- ---- a loop
 
@@ -146,10 +146,12 @@ unfolding ran touched stored waiting executed fate_by_progress cause_in laid_ove
     next_operand_breach with_octowords add_of divide_word_of
 not_stored = refl
 
-marked_inside : map (stored (4 ∷ []) 3 (inside_of 0)) (0x9000 ∷ 0x9007 ∷ [])
+marked_inside : map (waits_at (4 ∷ []) 3 (inside_of 0)) (0x8FFF ∷ 0x9000 ∷ 0x9007 ∷ 0x9008 ∷ 0xA000 ∷ [])
+    ++ map (stored (4 ∷ []) 3 (inside_of 0)) (0x9000 ∷ 0x9007 ∷ [])
     ++ map (touched (4 ∷ []) 3 (inside_of 0)) (0x4005 ∷ 0x4006 ∷ 0x4015 ∷ 0x4016 ∷ 0x9007 ∷ 0x9008 ∷ [])
-    ≡ false ∷ false ∷ false ∷ true ∷ true ∷ false ∷ true ∷ false ∷ []
-unfolding ran touched stored waiting executed fate_by_progress cause_in laid_over reading_of row_number entry_at table
+    ≡ false ∷ true ∷ true ∷ false ∷ false
+    ∷ false ∷ false ∷ false ∷ true ∷ true ∷ false ∷ true ∷ false ∷ []
+unfolding ran touched stored waits_at executed fate_by_progress cause_in laid_over reading_of row_number entry_at table
     accessible_pages text_pages unfetched spans_in unspecified_in inaccessible_in kind_at combined general_effect
     branch_effect storage_effect transaction_effect absolute_range has_place count_below next_text_breach
     next_operand_breach with_octowords add_of divide_word_of

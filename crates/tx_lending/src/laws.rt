@@ -19,7 +19,7 @@ ghost use Rattle.tx_keeping.specs.Keeping.{keeping, keeping_from};
 ghost use Rattle.tx_keeping.specs.Kept.{Kept, text_of, beside};
 ghost use Rattle.tx_keeping.specs.Turn.{k_happen, k_turned};
 ghost use Rattle.tx_lending.specs.Home.{MayComeHome, brought_home, MayBeTaken, with_taken, IsNow};
-ghost use Rattle.tx_lending.specs.Stranger.{GoesOnLike, SeeAlike, gone_on, upon, waiting};
+ghost use Rattle.tx_lending.specs.Stranger.{GoesOnLike, SeeAlike, gone_on, upon, waiting, waits_at, only_at};
 ghost use Rattle.tx_lending.specs.Turns.{MayMake, with_turns};
 ghost use Rattle.tx_lending.specs.Away.{AreDoneAlike, IsClear, GoAway, ran, touched, stored};
 ghost use Rattle.tx_lending.specs.Places.{is_among, text_places, operand_places, LookAlike, over};
@@ -58,7 +58,7 @@ pub fn lent_turns_depend_on_what_they_touch()
 /// Inside a transaction another CPU that goes on like the first makes the same turns, whatever its attempt has stored
 /// before: where both see, before the first turn, the same bytes of all instructions and operands, as many of its turns
 /// go away; they leave its program as they leave the other's, with what they have stored over its own stores that wait,
-/// and storage as it was.
+/// and storage as it was. What they have stored is what waits in the first at the places of their stored operands.
 pub fn a_cpu_that_goes_on_alike_makes_the_same_turns()
     ensures makes { (text : List ℕ) (held : ℕ → Option Mode) (k : ℕ) (local own : Local) (s t : Storage)
         → GoesOnLike local.attempt own.attempt → is_live local.attempt ≡ true
@@ -76,6 +76,9 @@ pub fn a_cpu_that_goes_on_alike_makes_the_same_turns()
         → SeeAlike (touched text k record { local = local; storage = s }) local.attempt.overlay s
         own.attempt.overlay t
         → GoAway text held k record { local = own; storage = t } }
+    ensures waits { (text : List ℕ) (held : ℕ → Option Mode) (k a : ℕ) (b : Beside)
+        → is_live b.local.attempt ≡ true → GoAway text held k b
+        → waiting text k b a ≡ only_at (waits_at text k b) (ran text k b).local.attempt.overlay a }
 {}
 
 /// Turns that could be made away are turns of the machine. Where a CPU of the machine that keeps may have so many
