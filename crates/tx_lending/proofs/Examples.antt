@@ -2,7 +2,7 @@
 -- the same bytes where they look and others elsewhere; and which instructions may be made away.
 use Rattle.std.proofs.Common.{◌≡◌, refl, ℕ, ◌+◌, ◌-◌, Bool, true, false, List, [], ◌∷◌, ◌++◌}
 use Rattle.std.proofs.Common.{length, get_or, Option, Some, None}
-use Rattle.std.specs.Prelude.{◌&&◌, nat_lt, nat_le, if◌then◌else◌, map, is_some}
+use Rattle.std.specs.Prelude.{◌&&◌, nat_lt, nat_le, if◌then◌else◌, map, is_some, unwrap_or}
 use Rattle.bit_set.specs.Counts.{count_below}
 use Rattle.z_arith.specs.Sum.{add_of}
 use Rattle.z_arith.specs.Quotient.{divide_word_of}
@@ -26,7 +26,9 @@ use Rattle.tx_serial.specs.Flat.{Storage, laid_over}
 use Rattle.tx_progress.specs.Doing.{executed}
 use Rattle.tx_progress.specs.Local.{Beside, settled}
 use Rattle.tx_progress.specs.Trial.{fate_by_progress}
+use Rattle.store_cache.specs.Overlay.{nothing, with_one}
 use Rattle.tx_lending.specs.Away.{is_plain, ran, touched, stored}
+use Rattle.tx_lending.specs.Stranger.{waiting, waits_at}
 
 -- ---- a loop
 
@@ -100,6 +102,68 @@ unfolding ran stored executed fate_by_progress cause_in laid_over reading_of row
     storage_effect transaction_effect absolute_range has_place count_below next_text_breach next_operand_breach
     with_octowords add_of divide_word_of
 stored_so = refl
+
+-- ---- inside a transaction
+
+-- TBEGIN 0,X'FF00' before them
+abbrev inside_of : ℕ → Beside
+inside_of byte =
+    ran (4 ∷ []) 1 (on (placed 0x4000 (0xE5 ∷ 0x60 ∷ 0x00 ∷ 0x00 ∷ 0xFF ∷ 0x00 ∷ counting)
+    (placed 0x9000 (0 ∷ 0 ∷ 0 ∷ 0 ∷ 0 ∷ 0 ∷ 0 ∷ 5 ∷ []) (λ a. byte))))
+
+-- that CPU, whose attempt has stored this byte at A000 before
+abbrev stranger : ℕ → Beside → Beside
+stranger byte b = record b {
+  local = record b.local { attempt = record b.local.attempt { overlay = with_one nothing 0xA000 byte } };
+}
+
+-- register 1, the address, and the bytes that wait at the end of the counter, at A000 and behind the counter
+abbrev waits_in : Beside → ℕ × ℕ × List (Option ℕ)
+waits_in b = (
+  get_or b.local.attempt.cpu.general 1 0,
+  b.local.attempt.cpu.address,
+  map b.local.attempt.overlay (0x9007 ∷ 0xA000 ∷ 0x9008 ∷ []),
+)
+
+-- a byte that so many turns have stored and that waits, or 300
+abbrev waited : ℕ → ℕ → ℕ
+waited k a = unwrap_or (waiting (4 ∷ []) k (inside_of 0) a) 300
+
+-- the counter waits, and is not stored
+waits : waits_in (ran (4 ∷ []) 3 (inside_of 0)) ≡ (6, 0x4016, Some 6 ∷ None ∷ None ∷ [])
+unfolding ran touched stored waiting executed fate_by_progress cause_in laid_over reading_of row_number entry_at table
+    accessible_pages text_pages unfetched spans_in unspecified_in inaccessible_in kind_at combined general_effect
+    branch_effect storage_effect transaction_effect absolute_range has_place count_below next_text_breach
+    next_operand_breach with_octowords add_of divide_word_of
+waits = refl
+
+not_stored : (ran (4 ∷ []) 3 (inside_of 0)).storage 0x9007
+    ∷ map (waited 3) (0x8FFF ∷ 0x9000 ∷ 0x9007 ∷ 0xA000 ∷ [])
+    ≡ 5 ∷ 300 ∷ 0 ∷ 6 ∷ 300 ∷ []
+unfolding ran touched stored waiting executed fate_by_progress cause_in laid_over reading_of row_number entry_at table
+    accessible_pages text_pages unfetched spans_in unspecified_in inaccessible_in kind_at combined general_effect
+    branch_effect storage_effect transaction_effect absolute_range has_place count_below next_text_breach
+    next_operand_breach with_octowords add_of divide_word_of
+not_stored = refl
+
+marked_inside : map (waits_at (4 ∷ []) 3 (inside_of 0)) (0x8FFF ∷ 0x9000 ∷ 0x9007 ∷ 0x9008 ∷ 0xA000 ∷ [])
+    ++ map (stored (4 ∷ []) 3 (inside_of 0)) (0x9000 ∷ 0x9007 ∷ [])
+    ++ map (touched (4 ∷ []) 3 (inside_of 0)) (0x4005 ∷ 0x4006 ∷ 0x4015 ∷ 0x4016 ∷ 0x9007 ∷ 0x9008 ∷ [])
+    ≡ false ∷ true ∷ true ∷ false ∷ false
+    ∷ false ∷ false ∷ false ∷ true ∷ true ∷ false ∷ true ∷ false ∷ []
+unfolding ran touched stored waits_at executed fate_by_progress cause_in laid_over reading_of row_number entry_at table
+    accessible_pages text_pages unfetched spans_in unspecified_in inaccessible_in kind_at combined general_effect
+    branch_effect storage_effect transaction_effect absolute_range has_place count_below next_text_breach
+    next_operand_breach with_octowords add_of divide_word_of
+marked_inside = refl
+
+-- another CPU inside, over sevens, keeps what it has stored before
+beside_it : waits_in (ran (4 ∷ []) 3 (stranger 9 (inside_of 7))) ≡ (6, 0x4016, Some 6 ∷ Some 9 ∷ None ∷ [])
+unfolding ran executed fate_by_progress cause_in laid_over reading_of row_number entry_at table accessible_pages
+    text_pages unfetched spans_in unspecified_in inaccessible_in kind_at combined general_effect branch_effect
+    storage_effect transaction_effect absolute_range has_place count_below next_text_breach next_operand_breach
+    with_octowords add_of divide_word_of
+beside_it = refl
 
 -- ---- which instructions may be made away
 

@@ -1,4 +1,5 @@
--- One instruction on two storages, one more that is made away, so many, and what they leave; one turn of the machine.
+-- One instruction on two storages, one more that is made away, so many, and what they leave; turns of the machine; the
+-- same for a CPU that has stored other bytes; and what is brought home.
 mod Touching
 mod Stores
 mod OneMore
@@ -6,6 +7,7 @@ mod Along
 mod Leaving
 mod OneTurn
 mod Turning
-mod Examples
-mod Homing
 mod Strangers
+mod Waiting
+mod Homing
+mod Examples

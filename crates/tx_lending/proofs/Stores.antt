@@ -23,10 +23,10 @@ pub or_second : (x y : Bool) → (x || y) ≡ false → y ≡ false
 or_second true y h = absurd (true≢false h)
 or_second false y h = h
 
-not_first : (a : ℕ) (xs ys : List ℕ) → is_among (xs ++ ys) a ≡ false → is_among xs a ≡ false
+pub not_first : (a : ℕ) (xs ys : List ℕ) → is_among (xs ++ ys) a ≡ false → is_among xs a ≡ false
 not_first a xs ys h = or_first (is_among xs a) (is_among ys a) (sym (list_any-append (nat_eq a) xs ys) ∙ h)
 
-not_second : (a : ℕ) (xs ys : List ℕ) → is_among (xs ++ ys) a ≡ false → is_among ys a ≡ false
+pub not_second : (a : ℕ) (xs ys : List ℕ) → is_among (xs ++ ys) a ≡ false → is_among ys a ≡ false
 not_second a xs ys h = or_second (is_among xs a) (is_among ys a) (sym (list_any-append (nat_eq a) xs ys) ∙ h)
 
 -- those of one operand among those of all: it is stored or not

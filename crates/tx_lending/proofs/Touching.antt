@@ -25,6 +25,7 @@ use Rattle.tx_progress.specs.Doing.{executed, executed_where, closed_by, stores_
 use Rattle.tx_progress.specs.Local.{Local, Beside}
 use Rattle.tx_progress.specs.Progress.{Progress, seen_through, is_live, advanced}
 use Rattle.tx_progress.specs.Trial.{at_hand, fetched, fate_by_progress, outcome_by}
+use Rattle.tx_progress.specs.declared.done.Done.{Done}
 use Rattle.tx_progress.proofs.SeenStores.{laid_is_seen}
 use Rattle.tx_lending.specs.Away.{AreDoneAlike}
 use Rattle.tx_lending.specs.Places.{places_from, text_places, operand_places, is_among, LookAlike}
@@ -108,6 +109,10 @@ fate_alike text s t q h =
 abbrev unchanged : (s t : Storage) → AreStoredAlike s t s t
 unchanged s t = record { stores = nothing; first = refl; second = refl }
 
+unstored : (l : Local) (d : Done) (s t : Storage)
+    → AreDoneAlike s t record { after = on l s; told = d } record { after = on l t; told = d }
+unstored l d s t = record { local = refl; told = refl; storage = unchanged s t }
+
 -- stores that an instruction makes are laid over both
 abbrev laid : (s t : Storage) (stores : List Store)
     → AreStoredAlike s t (laid_over s stores) (laid_over t stores)
@@ -124,7 +129,7 @@ closed_alike q [] local s t = record {
   told = refl;
   storage = record { stores = q.overlay; first = refl; second = refl };
 }
-closed_alike q (outermost ∷ inner) local s t = record { local = refl; told = refl; storage = unchanged s t }
+closed_alike q (outermost ∷ inner) local s t = unstored _ _ s t
 
 done_where : (live begin : Bool) (i : Instr) (ranges : List Range) (local : Local) (s t : Storage)
     (o : Outcome)
@@ -134,19 +139,19 @@ done_where true begin i ranges local s t (Did c bytes) =
     let q = local.attempt in
     let next = advanced i ranges c (stores_of ranges bytes q) q in
     closed_alike next next.nest local s t
-done_where true begin i ranges local s t (outcome.Overflowed c bytes) = record { local = refl; told = refl; storage = unchanged s t }
-done_where true begin i ranges local s t Divides = record { local = refl; told = refl; storage = unchanged s t }
-done_where true begin i ranges local s t (Aborts code) = record { local = refl; told = refl; storage = unchanged s t }
-done_where false true i ranges local s t (Did c bytes) = record { local = refl; told = refl; storage = unchanged s t }
-done_where false true i ranges local s t (outcome.Overflowed c bytes) = record { local = refl; told = refl; storage = unchanged s t }
-done_where false true i ranges local s t Divides = record { local = refl; told = refl; storage = unchanged s t }
-done_where false true i ranges local s t (Aborts code) = record { local = refl; told = refl; storage = unchanged s t }
+done_where true begin i ranges local s t (outcome.Overflowed c bytes) = unstored _ _ s t
+done_where true begin i ranges local s t Divides = unstored _ _ s t
+done_where true begin i ranges local s t (Aborts code) = unstored _ _ s t
+done_where false true i ranges local s t (Did c bytes) = unstored _ _ s t
+done_where false true i ranges local s t (outcome.Overflowed c bytes) = unstored _ _ s t
+done_where false true i ranges local s t Divides = unstored _ _ s t
+done_where false true i ranges local s t (Aborts code) = unstored _ _ s t
 done_where false false i ranges local s t (Did c bytes) =
     record { local = refl; told = refl; storage = laid s t (stores_of ranges bytes local.attempt) }
 done_where false false i ranges local s t (outcome.Overflowed c bytes) =
     record { local = refl; told = refl; storage = laid s t (stores_of ranges bytes local.attempt) }
-done_where false false i ranges local s t Divides = record { local = refl; told = refl; storage = unchanged s t }
-done_where false false i ranges local s t (Aborts code) = record { local = refl; told = refl; storage = unchanged s t }
+done_where false false i ranges local s t Divides = unstored _ _ s t
+done_where false false i ranges local s t (Aborts code) = unstored _ _ s t
 
 -- what an instruction does next, by the bytes of its operands
 pub outcome_alike : (i : Instr) (ranges : List Range) (q : Progress) (s t : Storage)

@@ -105,7 +105,8 @@ module _ (i : ℕ) (t : Kept) where
       let none : n.turns + 0 ≡ n.turns = omega arith in
       let numbers : numbers_of 0 (beside t i) ≡ n =
       λ x. record n { completed = sym e x; turns = none x } in
-      let history : t.state.history ++ steps_of (is_live t.state i) i 0 ≡ t.state.history = nothing (is_live t.state i) in
+      let history : t.state.history ++ steps_of (is_live t.state i) i 0 ≡ t.state.history =
+      nothing (is_live t.state i) in
       sym (λ x. with_these (beside t i) (history x) (append-nil t.state.events x)
       (put_back t.state.numbers (numbers_of 0 (beside t i)) numbers x) (put_back t.locals (t.locals i) refl x))
     where
@@ -183,7 +184,8 @@ module _ (m : Setting) (i : ℕ) (t : Kept) where
               ∙ sym (ap (λ (l : Local). l.attempt.count) here);
           delay = ap (λ (x : Numbers). x.delay) numbers ∙ may.delay;
           queue = may.queue;
-          left = ap (λ (x : Numbers). is_spent m.limits x) numbers ∙ unspent (t.state.numbers i).turns k m.limits.turns less may.turns;
+          left = ap (λ (x : Numbers). is_spent m.limits x) numbers
+              ∙ unspent (t.state.numbers i).turns k m.limits.turns less may.turns;
           tick = ap (λ (x : Numbers). is_tick m.limits (x.turns + 1)) numbers ∙ may.ticks k less;
         }
 

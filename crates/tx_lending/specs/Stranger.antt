@@ -1,5 +1,5 @@
 -- Turns inside a transaction, for a CPU that goes on as another does: its attempt may have stored other bytes.
-use Rattle.std.specs.Prelude.{◌≡◌, ℕ, zero, suc, Bool, true, if◌then◌else◌, List, [], Option, Some, None}
+use Rattle.std.specs.Prelude.{◌≡◌, ℕ, zero, suc, Bool, true, false, ◌||◌, if◌then◌else◌, List, [], Option, Some, None}
 use Rattle.z_regs.specs.declared.ranges.Range.{Range}
 use Rattle.z_effect.specs.Outcome.{Outcome, Did, Overflowed, Divides, Aborts}
 use Rattle.store_cache.specs.Overlay.{Overlay, Store, nothing}
@@ -10,6 +10,7 @@ use Rattle.tx_progress.specs.Trial.{fate_by_progress, outcome_by}
 use Rattle.tx_progress.specs.Local.{Local, Beside}
 use Rattle.tx_progress.specs.Doing.{stores_of}
 use Rattle.tx_lending.specs.Away.{ran}
+use Rattle.tx_lending.specs.Places.{stored_places, is_among}
 
 -- ---- two CPUs
 
@@ -60,6 +61,23 @@ turn_waits text b = fate_waits (fate_by_progress text b.storage b.local.attempt)
 unfoldable pub waiting : List ℕ → ℕ → Beside → Overlay
 waiting text zero b = nothing
 waiting text (suc k) b = laying (waiting text k b) (turn_waits text (ran text k b))
+
+-- where they are: at the places of stored operands
+abbrev pub fate_waits_at : Fate → Progress → List ℕ
+fate_waits_at (Goes instr ranges) q = if is_live q then stored_places ranges q else []
+fate_waits_at (Ends why) q = []
+fate_waits_at (Stops e) q = []
+
+unfoldable pub waits_at : List ℕ → ℕ → Beside → ℕ → Bool
+waits_at text zero b a = false
+waits_at text (suc k) b a =
+    let now = ran text k b in
+    let places = fate_waits_at (fate_by_progress text now.storage now.local.attempt) now.local.attempt in
+    waits_at text k b a || is_among places a
+
+-- the marked bytes of a CPU's stores that wait, and no others
+abbrev pub only_at : (ℕ → Bool) → Overlay → Overlay
+only_at marked waits a = if marked a then waits a else None
 
 -- ---- what is left
 

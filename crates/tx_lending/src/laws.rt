@@ -1,5 +1,5 @@
 //! Laws of turns that are made away from the machine. Each law is the contract of a function that does nothing.
-ghost use Rattle.std.specs.Prelude.{◌≡◌, ℕ, suc, ◌<◌, true, ◌++◌, List, Option, replicate};
+ghost use Rattle.std.specs.Prelude.{◌≡◌, ℕ, suc, ◌<◌, true, List, Option, replicate};
 ghost use Rattle.line_table.specs.declared.table.Mode.{Mode};
 ghost use Rattle.z_regs.specs.declared.ranges.Range.{Range};
 ghost use Rattle.z_instr.specs.declared.instr.Instr.{Instr};
@@ -7,20 +7,19 @@ ghost use Rattle.tx_journal.specs.declared.events.Event.{Event};
 ghost use Rattle.tx_journal.specs.declared.events.Event.TheVariants.{Turn};
 ghost use Rattle.tx_serial.specs.Flat.{Storage};
 ghost use Rattle.tx_progress.specs.Doing.{executed};
-ghost use Rattle.tx_progress.specs.Local.{Local};
+ghost use Rattle.tx_progress.specs.Local.{Local, Beside};
 ghost use Rattle.tx_progress.specs.Progress.{Progress, is_live};
 ghost use Rattle.tx_progress.specs.Trial.{fate_by_progress};
 ghost use Rattle.tx_meaning.specs.Limits.{Setting};
-ghost use Rattle.tx_meaning.specs.Meaning.{IsSetting, meaning};
+ghost use Rattle.tx_meaning.specs.Meaning.{IsSetting};
 ghost use Rattle.tx_meaning.specs.State.{cpus_of};
-ghost use Rattle.tx_meaning.specs.Turn.{happen, turned};
 ghost use Rattle.tx_meaning.specs.Views.{AreKnown};
 ghost use Rattle.tx_meaning.specs.declared.outcome.Outcome.TheVariants.{Executed};
 ghost use Rattle.tx_keeping.specs.Keeping.{keeping, keeping_from};
 ghost use Rattle.tx_keeping.specs.Kept.{Kept, text_of, beside};
 ghost use Rattle.tx_keeping.specs.Turn.{k_happen, k_turned};
-ghost use Rattle.tx_lending.specs.Home.{MayComeHome, brought_home};
-ghost use Rattle.tx_lending.specs.Stranger.{GoesOnLike, SeeAlike, gone_on, upon, waiting};
+ghost use Rattle.tx_lending.specs.Home.{MayComeHome, brought_home, MayBeTaken, with_taken, IsNow};
+ghost use Rattle.tx_lending.specs.Stranger.{GoesOnLike, SeeAlike, gone_on, upon, waiting, waits_at, only_at};
 ghost use Rattle.tx_lending.specs.Turns.{MayMake, with_turns};
 ghost use Rattle.tx_lending.specs.Away.{AreDoneAlike, IsClear, GoAway, ran, touched, stored};
 ghost use Rattle.tx_lending.specs.Places.{is_among, text_places, operand_places, LookAlike, over};
@@ -59,7 +58,7 @@ pub fn lent_turns_depend_on_what_they_touch()
 /// Inside a transaction another CPU that goes on like the first makes the same turns, whatever its attempt has stored
 /// before: where both see, before the first turn, the same bytes of all instructions and operands, as many of its turns
 /// go away; they leave its program as they leave the other's, with what they have stored over its own stores that wait,
-/// and storage as it was.
+/// and storage as it was. What they have stored is what waits in the first at the places of their stored operands.
 pub fn a_cpu_that_goes_on_alike_makes_the_same_turns()
     ensures makes { (text : List ℕ) (held : ℕ → Option Mode) (k : ℕ) (local own : Local) (s t : Storage)
         → GoesOnLike local.attempt own.attempt → is_live local.attempt ≡ true
@@ -77,6 +76,9 @@ pub fn a_cpu_that_goes_on_alike_makes_the_same_turns()
         → SeeAlike (touched text k record { local = local; storage = s }) local.attempt.overlay s
         own.attempt.overlay t
         → GoAway text held k record { local = own; storage = t } }
+    ensures waits { (text : List ℕ) (held : ℕ → Option Mode) (k a : ℕ) (b : Beside)
+        → is_live b.local.attempt ≡ true → GoAway text held k b
+        → waiting text k b a ≡ only_at (waits_at text k b) (ran text k b).local.attempt.overlay a }
 {}
 
 /// Turns that could be made away are turns of the machine. Where a CPU of the machine that keeps may have so many
@@ -96,16 +98,13 @@ pub fn lent_turns_are_turns()
 /// Turns that are brought home are turns of the machine. A CPU has made so many turns on storage of its own; behind
 /// all events the machine has that CPU as it was, and where the turns have looked it has the same bytes. Then the
 /// events with as many turns of the CPU behind them mean what the turns have made: what they have stored is laid over
-/// storage as it is now, and the CPU is as it was left. Each of those turns is executed, with no reject.
+/// storage as it is now, and the CPU is as it was left. Each of those turns is executed, with no reject. So it is
+/// inside a transaction where another CPU has made the turns, whose attempt goes on like that of the machine's CPU.
 pub fn what_is_brought_home_is_so_many_turns()
-    ensures kept { (m : Setting) (events : List Event) (i k : ℕ) (own : Storage) → IsSetting m
+    ensures own { (m : Setting) (events : List Event) (i k : ℕ) (own : Storage) → IsSetting m
         → AreKnown m events → i < cpus_of m → MayComeHome m i k own (keeping m events)
-        → keeping m (events ++ replicate k (Turn i)) ≡ brought_home m i k own (keeping m events) }
-    ensures meant { (m : Setting) (events : List Event) (i k : ℕ) (own : Storage) → IsSetting m
-        → AreKnown m events → i < cpus_of m → MayComeHome m i k own (keeping m events)
-        → meaning m (events ++ replicate k (Turn i)) ≡ (brought_home m i k own (keeping m events)).state }
-    ensures each { (m : Setting) (events : List Event) (i k : ℕ) (own : Storage) → IsSetting m
-        → AreKnown m events → i < cpus_of m → MayComeHome m i k own (keeping m events) → (j : ℕ) → j < k
-        → happen m (Turn i) (meaning m (events ++ replicate j (Turn i)))
-        ≡ turned (meaning m (events ++ replicate (suc j) (Turn i))) Executed }
+        → IsNow m events i k (brought_home m i k own (keeping m events)) }
+    ensures taken { (m : Setting) (events : List Event) (i k : ℕ) (from : Beside) → IsSetting m
+        → AreKnown m events → i < cpus_of m → MayBeTaken m i k from (keeping m events)
+        → IsNow m events i k (with_taken m i k from (keeping m events)) }
 {}
