@@ -1,8 +1,7 @@
 -- A CPU stays as it was seen where no new entry is its own and its attempt has come no further.
-use Rattle.std.proofs.Common.{◌≡◌, ◌≢◌, ℕ, ◌+◌, ◌<◌, ◌≤◌, Bool, true, false, List, [], ◌∷◌, ◌++◌, Option, Some, None}
+use Rattle.std.proofs.Common.{◌≡◌, ◌≢◌, ℕ, ◌<◌, ◌≤◌, true, false, List, [], ◌∷◌, ◌++◌, Option, Some, None}
 use Rattle.std.proofs.Common.{length, drop, get_or, refl, sym, ap, subst, ◌∙◌, arith, length-append}
 use Rattle.std.specs.Prelude.{◌==◌}
-use Rattle.std.specs.List.{list_any}
 use Rattle.std.proofs.Math.Seq.{drop-append_seam}
 use Rattle.std.proofs.lemmas.Bool.{cases_Bool, or_parts, both_ways, eq-eqb}
 use borrow.Enum.Arm.{by_way}
@@ -11,11 +10,11 @@ use Rattle.tx_journal.specs.declared.events.Event.{Event}
 use Rattle.tx_progress.proofs.Parts.{not_live}
 use Rattle.z_regs.specs.Cpu.{Cpu}
 use Rattle.tx_serial.proofs.Entries.{entry_changes, replay_none, replay_twice}
-use Rattle.tx_serial.specs.Alike.{Track, track_of}
+use Rattle.tx_serial.specs.Alike.{Track}
 use Rattle.tx_serial.specs.Apply.{apply}
-use Rattle.tx_serial.specs.Changes.{cpu_of_entry, ChangesOnly}
+use Rattle.tx_serial.specs.Changes.{cpu_of_entry}
 use Rattle.tx_serial.specs.Flat.{FlatState, address_of}
-use Rattle.tx_serial.specs.History.{IsLegal, on_some, replay, replay_from}
+use Rattle.tx_serial.specs.History.{IsLegal, replay, replay_from}
 use Rattle.tx_serial.specs.Run.{run}
 use Rattle.tx_meaning.specs.Limits.{Setting}
 use Rattle.tx_meaning.specs.Shown.{levels_at}
@@ -25,7 +24,7 @@ use Rattle.tx_machine.specs.Machine.{Seen, setting_of, state_of}
 use Rattle.tx_machine.specs.Machine.{after as after_event}
 use Rattle.tx_step.specs.Stored.{completed_in}
 use Rattle.tx_step.specs.Resting.{StayAsSeen, is_entered}
-use Rattle.tx_step.specs.Sights.{CpuSeen, Sight, cpu_seen, cpus_seen}
+use Rattle.tx_step.specs.Sights.{CpuSeen, Sight, cpu_seen}
 use Rattle.tx_step.specs.Traces.{IsTraced}
 use Rattle.tx_step.specs.declared.following.Step.{Step}
 use Rattle.tx_step.proofs.Due.{completed_is}

@@ -1,7 +1,7 @@
 -- A word that is the same is not written; the change that is noted is one more.
-use Rattle.std.proofs.Common.{◌≡◌, ℕ, List, [], get_or, refl, sym, ap, ◌∙◌, arith}
+use Rattle.std.proofs.Common.{ℕ, List, [], get_or, refl, sym, ap, ◌∙◌, arith}
 use Rattle.std.specs.Prelude.{slice_set}
-use Rattle.std.proofs.lemmas.List.{get_or_default, set-get_or}
+use Rattle.std.proofs.lemmas.List.{set-get_or}
 use Rattle.tx_step.specs.declared.changes.Change.{Change}
 use Rattle.tx_step.proofs.Changed.{adds_nothing, adds_one, set_same, set_twice}
 use Rattle.tx_step.proofs.changes.note_word.Goals as goal

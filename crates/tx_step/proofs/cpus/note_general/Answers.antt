@@ -1,5 +1,5 @@
 -- One register more is that of the image, and at the end all are.
-use Rattle.std.proofs.Common.{◌≡◌, ℕ, ◌+◌, List, length, get_or, refl, sym, ap, ◌∙◌, arith}
+use Rattle.std.proofs.Common.{◌≡◌, length, get_or, refl, sym, ap, ◌∙◌, arith}
 use Rattle.std.specs.Prelude.{slice_set}
 use Rattle.std.proofs.lemmas.List.{ext_get_or, length-set}
 use Rattle.tx_step.specs.Parts.{with_general}

@@ -1,5 +1,5 @@
 -- One word more is that of the machine, and its change is one more.
-use Rattle.std.proofs.Common.{◌≡◌, refl, arith}
+use Rattle.std.proofs.Common.{refl, arith}
 use Rattle.std.proofs.lemmas.Grind.{common_steps}
 use Rattle.std.specs.Prelude.{slice_set}
 use Rattle.tx_step.proofs.Changed.{adds_nothing, adds_on}

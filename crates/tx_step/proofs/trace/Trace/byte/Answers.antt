@@ -1,5 +1,5 @@
 -- The byte is that of what is shown.
-use Rattle.std.proofs.Common.{◌/◌, ◌%◌, ◌<◌, [], get_or, length, sym, ap, ◌∙◌, arith}
+use Rattle.std.proofs.Common.{◌/◌, ◌%◌, ◌<◌, [], get_or, length, ap, ◌∙◌, arith}
 use Rattle.tx_meaning.specs.Meaning.{meaning}
 use Rattle.tx_meaning.specs.State.{flat_of}
 use Rattle.std.specs.Prelude.{take}
