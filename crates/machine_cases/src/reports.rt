@@ -1,68 +1,11 @@
 //! Reports and summaries of machines against those of an independent model.
 
+use crate::machines::{Way, ran};
 use std::alloc::Global;
-use std::process::Abort;
-use std::sync::Arc;
 use std::test::Fail;
 use tx_gen::generate;
-use tx_journal::Event;
-use tx_machine::machine::Machine;
-use tx_meaning::Limits;
 use tx_meaning::limits::MOST_TURNS;
 use tx_report::{report, status, summary};
-use z_assemble::assemble;
-
-/// The machine of a listing, from which nothing has happened.
-fn opened(alloc: Global, listing: &[u8]) -> Result<Machine, Fail> {
-    let image = assemble(alloc, listing)?;
-    let limits = Limits {
-        turns: MOST_TURNS,
-        tick: 0,
-        externals: 0,
-    };
-    let shared = Arc::new(alloc, image)?;
-    Ok(
-        Machine::open(alloc, shared, limits)
-            .ok()
-            .ok_or("no memory")?,
-    )
-}
-
-/// A turn of a CPU, where there is this CPU.
-fn turn(machine: &mut Machine, cpu: u32) {
-    if cpu < machine.image().cpu_count() {
-        let _outcome = machine.event(Event::Turn(cpu));
-    }
-}
-
-/// A machine after the turns of its schedule.
-fn after_schedule(alloc: Global, listing: &[u8]) -> Result<Machine, Fail> {
-    let mut machine = opened(alloc, listing)?;
-    for k in 0..machine.image().schedule.len() {
-        if let Some(Event::Turn(cpu)) = machine.image().schedule.get(k).copied() {
-            turn(&mut machine, cpu);
-        }
-    }
-    Ok(machine)
-}
-
-/// A machine after so many rounds, in which each CPU that is ready has a turn.
-fn after_rounds(alloc: Global, listing: &[u8], rounds: u32) -> Result<Machine, Fail> {
-    let mut machine = opened(alloc, listing)?;
-    for _ in 0..rounds {
-        for cpu in 0..machine.image().cpu_count() {
-            if cpu < machine.image().cpu_count() && machine.ready(cpu) {
-                turn(&mut machine, cpu);
-            }
-        }
-    }
-    Ok(machine)
-}
-
-/// The text is the expected one.
-fn compare(rt: &impl Abort, text: &[u8], expected: &str) {
-    assert!(rt; text == expected.as_bytes());
-}
 
 /// One CPU has committed and is rejected now, one has a block to store, and one is in a transaction.
 static UNFINISHED: &str = " CPU ADDS
@@ -147,27 +90,22 @@ ABORTS 394
 SUM 274
 ";
 
-#[test]
-fn a_report_tells_what_has_happened(rt: HostRuntime) -> Result<(), Fail> {
-    let machine = after_schedule(rt.alloc(), UNFINISHED.as_bytes())?;
-    compare(
-        &rt,
-        report(rt.alloc(), &machine)?.as_slice(),
-        UNFINISHED_REPORT,
-    );
-    assert_eq!(rt; status(&machine), 6);
-    Ok(())
+/// Whether the run of a listing by its own schedule has this report and this status.
+fn is_reported(alloc: Global, listing: &str, text: &str, number: u8) -> Result<bool, Fail> {
+    let machine = ran(alloc, listing.as_bytes(), MOST_TURNS, Way::Given)?;
+    Ok(report(alloc, &machine)?.as_slice() == text.as_bytes() && status(&machine) == number)
+}
+
+/// Whether the run in the round of the generator's listing for a number has this summary and this status.
+fn is_summed(alloc: Global, of: u64, text: &str, number: u8) -> Result<bool, Fail> {
+    let listing = generate(alloc, of)?;
+    let machine = ran(alloc, listing.as_slice(), MOST_TURNS, Way::Round)?;
+    Ok(summary(alloc, of, &machine)?.as_slice() == text.as_bytes() && status(&machine) == number)
 }
 
 #[test]
-fn a_summary_adds_up(rt: HostRuntime) -> Result<(), Fail> {
-    let listing = generate(rt.alloc(), 0)?;
-    let machine = after_rounds(rt.alloc(), listing.as_slice(), 12_000)?;
-    compare(
-        &rt,
-        summary(rt.alloc(), 0, &machine)?.as_slice(),
-        FIRST_SUMMARY,
-    );
-    assert_eq!(rt; status(&machine), 0);
+fn reports_and_summaries(rt: HostRuntime) -> Result<(), Fail> {
+    assert!(rt; is_reported(rt.alloc(), UNFINISHED, UNFINISHED_REPORT, 6)?);
+    assert!(rt; is_summed(rt.alloc(), 0, FIRST_SUMMARY, 0)?);
     Ok(())
 }

@@ -1,6 +1,6 @@
 //! Races of listings: that threads overlap, that each CPU gets its turns, and that all races end. That `run` on the
 //! printed schedule gives the same report is tried through the built program, by examples/check.
-ghost use Rattle.std.specs.Prelude.{◌≡◌, ◌≤◌, [], IfOk};
+ghost use Rattle.std.specs.Prelude.{◌≤◌};
 
 use crate::{Gate, OpenGate, Raced, race};
 use std::alloc::Global;
@@ -14,7 +14,7 @@ use tx_machine::Machine;
 use tx_meaning::Limits;
 use z_assemble::assemble;
 
-/// Each CPU adds one to the same doubleword, so many times.
+/// Each CPU adds one to the same doubleword, so many times as its second register says.
 const COUNTER: &str = "LOOP TBEGINC 0,X'FF00'
  LG 1,X'9000'
  AGHI 1,1
@@ -68,48 +68,44 @@ impl Gate for Meeting {
     }
 }
 
-/// A listing on which so many CPUs count, so many times each.
-fn counter(alloc: Global, cpus: u32, times: u32) -> Result<String, Fail> {
+/// The image of a listing on which so many CPUs count, as often as its line says that loads their second register.
+fn image_of(alloc: Global, cpus: u32, load: &str) -> Result<Arc<Image>, Fail> {
     let mut text = String::new(alloc);
     for _ in 0..cpus {
-        writeln!(text, " CPU GO")?;
+        text.push_str(" CPU GO\n")?;
     }
-    writeln!(text, "GO LGHI 2,{times}")?;
+    text.push_str(load)?;
     text.push_str(COUNTER)?;
-    Ok(text)
+    let image = assemble(alloc, text.as_bytes())?;
+    Ok(Arc::new(alloc, image)?)
 }
 
-/// A machine of an image, from which nothing has happened, with so many turns for each CPU.
-fn machine_on(alloc: Global, image: Arc<Image>, turns: u32) -> Result<Machine, Fail>
+/// A race on an image, with so many turns for each CPU.
+fn race_on<R: Threads + Wait + Sync, G: Gate>(
+    rt: &R,
+    alloc: Global,
+    image: &Arc<Image>,
+    turns: u32,
+    gate: &G,
+) -> Result<Raced, Fail>
     requires { (1 ≤ turns) × (turns ≤ 200000) }
-    ensures unused { IfOk result (λ machine. machine.events ≡ []) }
-    ensures externals { IfOk result (λ machine. machine.limits.externals ≡ 0) }
 {
     let limits = Limits {
         turns,
         tick: 0,
         externals: 0,
     };
-    let machine = Machine::open(alloc, image, limits);
-    Ok(machine.ok().ok_or("no memory")?)
-}
-
-/// A machine on which so many CPUs are to count, so many times each.
-fn machine_for(alloc: Global, cpus: u32, times: u32) -> Result<Machine, Fail>
-    ensures unused { IfOk result (λ machine. machine.events ≡ []) }
-    ensures externals { IfOk result (λ machine. machine.limits.externals ≡ 0) }
-{
-    let listing = counter(alloc, cpus, times)?;
-    let image = assemble(alloc, listing.as_bytes())?;
-    machine_on(alloc, Arc::new(alloc, image)?, 200_000)
+    let machine = Machine::open(alloc, Arc::try_clone(image)?, limits);
+    let machine = machine.ok().ok_or("no memory")?;
+    Ok(race(rt, alloc, machine, gate).ok().ok_or("no memory")?)
 }
 
 /// How often the CPU has committed.
-fn commits_of(history: &[Entry], cpu: u32) -> usize {
+fn commits_of(history: &[Entry], cpu: u32) -> u64 {
     history
         .iter()
         .filter(|entry| matches!(entry, Entry::Commit(other, _) if *other == cpu))
-        .count()
+        .count() as u64
 }
 
 /// The count in storage.
@@ -121,71 +117,83 @@ fn count_in(machine: &Machine) -> u64 {
     count
 }
 
-/// A race of so many CPUs that count so many times each.
-fn counted<R: Threads + Wait + Sync>(
-    rt: &R,
-    alloc: Global,
-    cpus: u32,
-    times: u32,
-) -> Result<Raced, Fail> {
-    let machine = machine_for(alloc, cpus, times)?;
-    Ok(race(rt, alloc, machine, &OpenGate).ok().ok_or("no memory")?)
+/// Whether each of so many CPUs has counted so many times, some turns were made by workers and none away from the
+/// machine, and all that were made are recorded.
+fn is_right(raced: &Raced, cpus: u32, times: u64) -> bool {
+    let machine = &raced.machine;
+    for cpu in 0..cpus {
+        if commits_of(machine.journal(), cpu) != times {
+            return false;
+        }
+    }
+    count_in(machine) == times.saturating_mul(u64::from(cpus))
+        && raced.worked.saturating_add(raced.finished) == machine.events().len() as u64
+        && raced.worked > 0
+        && raced.homed == 0
 }
 
 #[test]
 fn both_pass(rt: HostRuntime) -> Result<(), Fail> {
     let gate = Meeting::new();
-    let machine = machine_for(rt.alloc(), 2, 100)?;
-    let raced = race(&rt, rt.alloc(), machine, &gate)
-        .ok()
-        .ok_or("no memory")?;
-    assert!(rt; gate.met[0].load(Ordering::SeqCst));
-    assert!(rt; gate.met[1].load(Ordering::SeqCst));
-    assert!(rt; raced.worked > 0);
-    assert_eq!(rt; count_in(&raced.machine), 200);
+    let image = image_of(rt.alloc(), 2, "GO LGHI 2,100\n")?;
+    let raced = race_on(&rt, rt.alloc(), &image, 200_000, &gate)?;
+    let met = gate.met[0].load(Ordering::SeqCst) && gate.met[1].load(Ordering::SeqCst);
+    assert!(rt; met && is_right(&raced, 2, 100));
     Ok(())
 }
 
-#[test]
-fn four_count(rt: HostRuntime) -> Result<(), Fail> {
-    let raced = counted(&rt, rt.alloc(), 4, 100)?;
-    assert_eq!(rt; count_in(&raced.machine), 400);
-    for cpu in 0..4u32 {
-        assert_eq!(rt; commits_of(raced.machine.journal(), cpu), 100);
+/// CPUs that count, and how often each: the line that says so, and the number; the turns of each, and how many races.
+struct Case {
+    cpus: u32,
+    load: &'static str,
+    times: u64,
+    turns: u32,
+    races: u32,
+}
+
+static CASES: [Case; 3] = [
+    Case {
+        cpus: 4,
+        load: "GO LGHI 2,100\n",
+        times: 100,
+        turns: 200_000,
+        races: 1,
+    },
+    Case {
+        cpus: 16,
+        load: "GO LGHI 2,20\n",
+        times: 20,
+        turns: 200_000,
+        races: 1,
+    },
+    Case {
+        cpus: 2,
+        load: "GO LGHI 2,3\n",
+        times: 3,
+        turns: 400,
+        races: 1000,
+    },
+];
+
+/// How many of the races of a case are right.
+fn right_races<R: Threads + Wait + Sync>(rt: &R, alloc: Global, case: &Case) -> Result<u32, Fail> {
+    let image = image_of(alloc, case.cpus, case.load)?;
+    let turns = case.turns.clamp(1, 200_000);
+    let mut right = 0u32;
+    for _ in 0..case.races {
+        let raced = race_on(rt, alloc, &image, turns, &OpenGate)?;
+        if is_right(&raced, case.cpus, case.times) {
+            right = right.saturating_add(1);
+        }
     }
-    Ok(())
+    Ok(right)
 }
 
 #[test]
-fn sixteen_count(rt: HostRuntime) -> Result<(), Fail> {
-    let raced = counted(&rt, rt.alloc(), 16, 20)?;
-    assert_eq!(rt; count_in(&raced.machine), 320);
-    assert_eq!(rt;
-        raced.worked.saturating_add(raced.finished),
-        raced.machine.events().len() as u64
-    );
-    assert!(rt; raced.worked > 0);
-    assert_eq!(rt; raced.homed, 0);
-    Ok(())
-}
-
-/// A race on the image of a machine, with few turns.
-fn small_race<R: Threads + Wait + Sync>(
-    rt: &R,
-    alloc: Global,
-    given: &Machine,
-) -> Result<Raced, Fail> {
-    let image = given.shared_image().ok().ok_or("no memory")?;
-    let machine = machine_on(alloc, image, 400)?;
-    Ok(race(rt, alloc, machine, &OpenGate).ok().ok_or("no memory")?)
-}
-
-#[test]
-fn a_thousand_races_end(rt: HostRuntime) -> Result<(), Fail> {
-    let given = machine_for(rt.alloc(), 2, 3)?;
-    for _ in 0..1000u32 {
-        let raced = small_race(&rt, rt.alloc(), &given)?;
-        assert_eq!(rt; count_in(&raced.machine), 6);
+fn all_cpus_count(rt: HostRuntime) -> Result<(), Fail> {
+    for case in &CASES {
+        let right = right_races(&rt, rt.alloc(), case)?;
+        assert_eq!(rt; right, case.races, "{} CPUs", case.cpus);
     }
     Ok(())
 }

@@ -1,5 +1,5 @@
--- What is due to a request: one answer for every input, and for one that is too long a fault.
-use Rattle.std.proofs.Common.{◌≡◌, ◌≢◌, ℕ, ◌<◌, List, length, IfOk, Result, Ok, Err, inl, refl, subst, sym}
+-- What is due to an input that is too long: the line of that fault.
+use Rattle.std.proofs.Common.{◌≡◌, ℕ, ◌<◌, List, length, IfOk, Result, Ok, Err, inl, refl, subst, sym}
 use Rattle.std.proofs.lemmas.Bool.{lt-ltb}
 use Rattle.z_assemble.specs.Whole.{FirstFault}
 use Rattle.z_assemble.specs.Words.{fault_line}
@@ -7,38 +7,13 @@ use Rattle.ztx_answers.specs.declared.answer.Answer.{Answer}
 use Rattle.ztx_answers.specs.declared.requests.Request.{Request}
 use Rattle.ztx_answers.specs.declared.requests.Request.TheVariants as request
 use Rattle.ztx_answers.specs.Due.{IsDueToList, IsDueToRun, IsRefusal, long_fault}
-use Rattle.ztx_answers.specs.One.{IsOnly, IsSome}
-use Rattle.ztx_answers.specs.Requests.{IsAllowed, IsDue, most_of}
-use Rattle.ztx_answers.proofs.Answered.{listed, one_list, reported, one_report}
+use Rattle.ztx_answers.specs.Requests.{IsDue, most_of}
 use Rattle.z_deck.specs.Reading.{FirstFault as CardFault}
 use Rattle.z_deck.specs.declared.fault.Kind.TheVariants as kinds
 use Rattle.ztx_answers.specs.Decks.{IsDeckRefusal, IsDueToDeck, long_deck_line}
-use Rattle.ztx_answers.proofs.Decked.{one_read, one_written, read, written}
 use Rattle.ztx_answers.specs.Heats.{IsDueToHeat}
 use Rattle.ztx_answers.proofs.Checks.{long_check_ok}
-use Rattle.ztx_answers.proofs.Heats.{one_heat, some_heat}
-use Rattle.ztx_answers.proofs.OneCheck.{HasOneAnswer, one_check}
-use Rattle.ztx_answers.proofs.Steps.{long_step_ok, one_step, some_step}
-
--- something is due
-pub some_due : (r : Request) (input : List ℕ) → IsAllowed r → r ≢ request.Check → IsSome (IsDue r input)
-some_due request.List input allowed other = listed input
-some_due (request.Run turns tick seed) input allowed other = reported turns tick seed input allowed
-some_due request.Deck input allowed other = written input
-some_due (request.ReadDeck origin) input allowed other = read origin input
-some_due (request.Step turns tick seed) input allowed other = some_step turns tick seed input
-some_due (request.Heat turns tick seed) input allowed other = some_heat turns tick seed input
-some_due request.Check input allowed other = absurd (other refl)
-
--- only one thing is
-pub one_due : HasOneAnswer → (r : Request) (input : List ℕ) → IsOnly (IsDue r input)
-one_due once request.List input = one_list input
-one_due once (request.Run turns tick seed) input = one_report turns tick seed input
-one_due once request.Deck input = one_written input
-one_due once (request.ReadDeck origin) input = one_read origin input
-one_due once (request.Step turns tick seed) input = one_step turns tick seed input
-one_due once (request.Heat turns tick seed) input = one_heat turns tick seed input
-one_due once request.Check input = one_check once input
+use Rattle.ztx_answers.proofs.Steps.{long_step_ok}
 
 -- a text with too many bytes for a listing has that fault first
 pub long_listing : (input : List ℕ) (status : ℕ) (text : List ℕ) → 16777216 < length input → status ≡ 5

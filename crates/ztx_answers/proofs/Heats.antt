@@ -1,6 +1,5 @@
--- The conflicts of a machine's run, and one answer to a listing whose conflicts are counted.
-use Rattle.std.proofs.Common.{◌≡◌, ℕ, ◌⊎◌, Bool, List, [], ◌∷◌, ◌++◌, Option, Some, Result, Ok, Err}
-use Rattle.std.proofs.Common.{IfOk, refl, sym, ap, subst, ◌∙◌, inl, inr, append_assoc}
+-- The conflicts of a machine's run, and of a listing that is refused.
+use Rattle.std.proofs.Common.{◌≡◌, ℕ, Bool, List, Option, Result, Ok, Err, IfOk, ap, subst, ◌∙◌, inl}
 use Rattle.std.specs.Prelude.{if◌then◌else◌}
 use Rattle.std.specs.List.{range_with_len}
 use Rattle.std.proofs.lemmas.List.Folds.{list_all-map}
@@ -22,18 +21,15 @@ use Rattle.tx_schedule.specs.Ran.{HasRun}
 use Rattle.z_assemble.specs.Whole.{Stands, FirstFault}
 use Rattle.z_assemble.specs.Words.{fault_line}
 use Rattle.z_assemble.specs.declared.fault.ListingFault.{ListingFault}
-use Rattle.z_assemble.proofs.Says.{one_holds, both_fail, same_image}
 use Rattle.ztx_answers.specs.declared.answer.Answer.{Answer}
-use Rattle.ztx_answers.specs.Heats.{heat_on, IsHeat, IsDueToHeat}
-use Rattle.ztx_answers.specs.One.{IsSome, IsOnly}
+use Rattle.ztx_answers.specs.Heats.{IsHeat, IsDueToHeat}
 use Rattle.ztx_answers.specs.Runs.{running}
-use Rattle.ztx_answers.proofs.Answered.{same_refusal, refusal}
 use Rattle.ztx_answers.proofs.Ran.{IsOpened, ran_status}
 
 -- ---- statuses
 
 -- the status of the report is the one that is printed
-same_status : (m : Setting) (events : List Event) → status_of m events ≡ printed.status_of (heat_of m.image m.limits events)
+pub same_status : (m : Setting) (events : List Event) → status_of m events ≡ printed.status_of (heat_of m.image m.limits events)
 unfolding status_of heat_of
 same_status m events =
     let s = meaning m events in
@@ -62,60 +58,9 @@ heat_due image turns tick seed before after found input status text is ran h s t
       text_is = t ∙ ap heat_text (h ∙ ran_heat m after (planned m seed) run.setting run.state);
     }
 
--- ---- only one
-
--- the status, and the text, of the run of an image
-abbrev status_on : ℕ → ℕ → Option ℕ → Content → ℕ
-status_on turns tick seed image = let m = running image turns tick in status_of m (planned m seed)
-
-abbrev text_on : ℕ → ℕ → Option ℕ → Content → List ℕ
-text_on turns tick seed image = heat_text (heat_on image turns tick seed)
+-- ---- of a listing that is refused
 
 module _ (turns tick : ℕ) (seed : Option ℕ) (input : List ℕ) where
-  -- a listing has one heat
-  same_heat : IsOnly (IsHeat turns tick seed input)
-  same_heat s t xs ys r q =
-      let images = same_image input r.image q.image r.stands q.stands in
-      record {
-        statuses = r.status_is ∙ ap (status_on turns tick seed) images ∙ sym q.status_is;
-        texts = r.text_is ∙ ap (text_on turns tick seed) images ∙ sym q.text_is;
-      }
-
-  -- one answer is due
-  pub one_heat : IsOnly (IsDueToHeat turns tick seed input)
-  one_heat s t xs ys (inl r) (inl q) = same_refusal input s t xs ys r q
-  one_heat s t xs ys (inl r) (inr q) = absurd (both_fail input q.image r.fault q.stands r.first)
-  one_heat s t xs ys (inr r) (inl q) = absurd (both_fail input r.image q.fault r.stands q.first)
-  one_heat s t xs ys (inr r) (inr q) = same_heat s t xs ys r q
-
-  -- ---- one there is
-
-  -- a listing has a heat, another text its first fault
-  heat_by : ((image : Content) × Stands input image) ⊎ ((f : ListingFault) × FirstFault input f)
-      → IsSome (IsDueToHeat turns tick seed input)
-  heat_by (inl (image, s)) = record {
-    status = status_on turns tick seed image;
-    text = text_on turns tick seed image;
-    is_due = inr (record {
-      image = image;
-      stands = s;
-      status_is = refl;
-      printed_is = let m = running image turns tick in same_status m (planned m seed);
-      text_is = refl;
-    });
-  }
-  heat_by (inr (f, first)) = record {
-    status = 5;
-    text = fault_line f;
-    is_due = inl (refusal input f first);
-  }
-
-  -- something is due
-  pub some_heat : IsSome (IsDueToHeat turns tick seed input)
-  some_heat = heat_by (one_holds input)
-
-  -- ---- of a listing that is refused
-
   -- the line of its first fault is due to a text that is no listing
   pub heat_refused : {E : Type 0} (r : Result Answer E) (fault : ListingFault) → FirstFault input fault
       → IfOk r (λ a. a.status ≡ 5) → IfOk r (λ a. a.text.items ≡ fault_line fault)

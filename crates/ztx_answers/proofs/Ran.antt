@@ -20,10 +20,10 @@ use Rattle.z_assemble.specs.Whole.{Stands}
 use Rattle.ztx_answers.specs.Due.{IsReport, IsSummary, IsStatus}
 use Rattle.ztx_answers.specs.Runs.{AreLimits, running, usual_turns}
 use Rattle.z_assemble.proofs.Images.{stands_for_image}
-use Rattle.ztx_answers.proofs.Answered.{may_run}
 use Rattle.ztx_answers.proofs.Plans.{planned_known}
 use Rattle.ztx_answers.proofs.Printed.{printed}
 use Rattle.ztx_answers.proofs.Serials.{serial_run}
+use Rattle.ztx_answers.proofs.Settings.{may_run}
 
 -- ---- what is shown depends on what the events mean
 

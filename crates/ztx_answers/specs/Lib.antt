@@ -7,6 +7,5 @@ pub mod Decks
 pub mod Steps
 pub mod Heats
 pub mod Checks
-pub mod One
 pub mod Races
 pub mod Requests

@@ -7,7 +7,6 @@ mod checked;
 mod decks;
 mod generated;
 mod heated;
-pub mod laws;
 mod listed;
 mod machine;
 mod raced;

@@ -4,11 +4,11 @@ ghost use Rattle.ztx_top.specs.Answers.{Tells, Wrote};
 ghost use Rattle.ztx_top.specs.Asked.{asked, due, is_settled};
 
 use crate::ztx_top;
+use answer_laws::laws::one_answer_is_due;
 use std::alloc::Global;
 use std::sync::Wait;
 use std::thread::Threads;
 use tx_race::Gate;
-use ztx_answers::laws::one_answer_is_due;
 use ztx_io::{Sink, Source, SureSink, SureSource};
 
 /// The same over a source and a sink that never fail. A text that is due came whole, or 1 for want of memory. But

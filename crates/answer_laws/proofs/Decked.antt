@@ -1,33 +1,23 @@
 -- One answer is due to the command that writes and reads decks, and only one.
-use Rattle.std.proofs.Common.{ℕ, ◌<◌, ◌⊎◌, List, length, sym, ap, ap₂, ◌∙◌, inl, inr, refl}
+use Rattle.std.proofs.Common.{ℕ, ◌⊎◌, List, sym, ap, ap₂, ◌∙◌, inl, inr, refl}
 use Rattle.tx_journal.specs.Content.{Content}
 use Rattle.z_assemble.specs.Whole.{Stands, FirstFault}
 use Rattle.z_assemble.specs.Words.{fault_line}
 use Rattle.z_assemble.specs.declared.fault.ListingFault.{ListingFault}
-use Rattle.z_assemble.proofs.Says.{one_holds, both_fail, same_image, same_fault}
+use Rattle.z_assemble.proofs.Says.{one_holds, both_fail, same_image}
 use Rattle.z_deck.specs.Listing.{listing_of}
-use Rattle.z_deck.specs.Reading.{too_long}
 use Rattle.z_deck.specs.Ways.{HasDeck, HasFault}
 use Rattle.z_deck.specs.Words.{number_of}
 use Rattle.z_deck.specs.Words as words
 use Rattle.z_deck.specs.Writing.{deck_of_image}
 use Rattle.z_deck.specs.declared.fault.Kind.{Kind}
-use Rattle.z_deck.specs.declared.fault.Kind.TheVariants.{ShortCard}
 use Rattle.z_deck.proofs.One as deck
-use Rattle.ztx_answers.specs.Due.{IsRefusal}
 use Rattle.ztx_answers.specs.Decks.{IsWrittenDeck, IsDeckRefusal, IsDeckListing, IsDueToDeck}
-use Rattle.ztx_answers.specs.Decks.{IsDueToReadDeck, long_deck_line}
-use Rattle.ztx_answers.specs.One.{IsSome, IsOnly}
+use Rattle.ztx_answers.specs.Decks.{IsDueToReadDeck}
+use Rattle.answer_laws.specs.One.{IsSome, IsOnly}
+use Rattle.answer_laws.proofs.Answered.{same_refusal, refusal}
 
 -- ---- only one
-
-same_refusal : (input : List ℕ) → IsOnly (IsRefusal input)
-same_refusal input s t xs ys r q =
-    let faults = same_fault input r.fault q.fault r.first q.first in
-    record {
-      statuses = r.status_is ∙ sym q.status_is;
-      texts = r.text_is ∙ ap fault_line faults ∙ sym q.text_is;
-    }
 
 same_written : (input : List ℕ) → IsOnly (IsWrittenDeck input)
 same_written input s t xs ys r q =
@@ -71,9 +61,6 @@ module _ (origin : ℕ) (input : List ℕ) where
 
 -- ---- one there is
 
-refusal : (input : List ℕ) (f : ListingFault) → FirstFault input f → IsRefusal input 5 (fault_line f)
-refusal input f first = record { fault = f; first = first; status_is = refl; text_is = refl }
-
 pub written : (input : List ℕ) → IsSome (IsDueToDeck input)
 written input = by (one_holds input)
   where
@@ -116,14 +103,3 @@ read origin input = by (deck.one_holds input origin)
         text_is = refl;
       });
     }
-
--- bytes that are too many for a deck have that fault
-pub long_deck : (origin : ℕ) (input : List ℕ) → 16777216 < length input
-    → IsDueToReadDeck origin input 5 long_deck_line
-long_deck origin input many = inl (record {
-  number = 209716;
-  kind = ShortCard;
-  first = too_long many refl refl;
-  status_is = refl;
-  text_is = refl;
-})

@@ -1,12 +1,7 @@
 -- One answer is due, and only one.
-use Rattle.std.proofs.Common.{ℕ, ◌≤◌, ◌⊎◌, List, Option, sym}
-use Rattle.std.proofs.Common.{ap, ◌∙◌, inl, inr, refl, arith}
-use Rattle.std.proofs.lemmas.List.Sums.{count_by-le-length}
+use Rattle.std.proofs.Common.{ℕ, ◌⊎◌, List, Option, sym, ap, ◌∙◌, inl, inr, refl}
 use Rattle.tx_gen.specs.Programs.{listing_of}
 use Rattle.tx_journal.specs.Content.{Content}
-use Rattle.tx_journal.specs.Image.{IsImage}
-use Rattle.tx_meaning.specs.Meaning.{IsSetting, is_external}
-use Rattle.tx_meaning.specs.Limits.{external_limit}
 use Rattle.tx_meaning.specs.Schedules.{planned, round}
 use Rattle.tx_report.specs.Report.{report_of, status_of, summary_of}
 use Rattle.z_assemble.specs.Whole.{Stands, FirstFault}
@@ -18,12 +13,12 @@ use Rattle.z_list.specs.Listing.{list_of}
 use Rattle.listing_laws.proofs.Listings.{has_image}
 use Rattle.ztx_answers.specs.Due.{IsRefusal, IsDisassembly, IsReport, IsSummary, IsGenerated}
 use Rattle.ztx_answers.specs.Due.{IsDueToList, IsDueToRun}
-use Rattle.ztx_answers.specs.One.{IsSome, IsOnly}
-use Rattle.ztx_answers.specs.Runs.{AreLimits, externals_in, running, usual_turns}
-use Rattle.ztx_answers.proofs.Printed.{printed}
+use Rattle.answer_laws.specs.One.{IsSome, IsOnly}
+use Rattle.ztx_answers.specs.Runs.{AreLimits, running, usual_turns}
 use Rattle.ztx_answers.proofs.Plans.{planned_known}
 use Rattle.ztx_answers.proofs.Printed.{printed}
 use Rattle.ztx_answers.proofs.Serials.{serial_run}
+use Rattle.ztx_answers.proofs.Settings.{may_run}
 
 -- ---- only one
 
@@ -93,21 +88,6 @@ one_listing number s t xs ys r q = record {
 }
 
 -- ---- one there is
-
-few_of : (image : Content) → IsImage image → externals_in image ≤ external_limit
-few_of image is = omega (arith, count_by-le-length is_external image.schedule, is.few_events)
-
-module _ (image : Content) (turns tick : ℕ) (is : IsImage image) (limits : AreLimits turns tick) where
-  pub may_run : IsSetting (running image turns tick)
-  may_run = record {
-    image = is;
-    limits = record {
-      some_turn = limits.0;
-      few_turns = limits.1;
-      few_ticks = limits.2;
-      few_externals = few_of image is;
-    };
-  }
 
 pub reports : (turns tick : ℕ) (seed : Option ℕ) → AreLimits turns tick → (input : List ℕ) (image : Content)
     → (s : Stands input image) → IsReport turns tick seed input (status_on turns tick seed image)

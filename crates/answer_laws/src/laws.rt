@@ -5,7 +5,7 @@ ghost use Rattle.tx_meaning.specs.Views.{AreKnown};
 ghost use Rattle.tx_meaning.specs.Limits.{Setting};
 ghost use Rattle.tx_meaning.specs.Meaning.{IsSetting};
 ghost use Rattle.ztx_answers.specs.Due.{IsSummary, IsGenerated};
-ghost use Rattle.ztx_answers.specs.One.{IsSome, IsOnly};
+ghost use Rattle.answer_laws.specs.One.{IsSome, IsOnly};
 ghost use Rattle.ztx_answers.specs.Requests.{IsAllowed, IsDue};
 ghost use Rattle.ztx_answers.specs.Serial.{IsSerialRun};
 ghost use Rattle.ztx_answers.specs.declared.requests.Request.{Request};

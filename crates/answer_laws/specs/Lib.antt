@@ -1,0 +1,2 @@
+-- When one answer is due, and only one.
+pub mod One
