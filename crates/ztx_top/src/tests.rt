@@ -126,6 +126,7 @@ const READS: u64 = 13;
 const WRITES: u64 = 81;
 
 /// A command line, an input, and what an independent model answers: a status and a text.
+#[derive(Drop)]
 struct Case {
     words: &'static str,
     input: &'static str,
