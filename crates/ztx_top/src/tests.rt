@@ -1,9 +1,7 @@
 //! The top call on its commands, and on sources and sinks that fail.
 use crate::{sure_top, ztx_top};
 use std::alloc::{AllocError, Global};
-use std::sync::Wait;
 use std::test::Fail;
-use std::thread::Threads;
 use tx_race::OpenGate;
 use ztx_io::{MemorySink, MemorySource, SureSink, SureSource};
 
@@ -126,7 +124,6 @@ const READS: u64 = 13;
 const WRITES: u64 = 81;
 
 /// A command line, an input, and what an independent model answers: a status and a text.
-#[derive(Drop)]
 struct Case {
     words: &'static str,
     input: &'static str,
@@ -134,7 +131,7 @@ struct Case {
     text: &'static str,
 }
 
-static CASES: [Case; 22] = [
+const CASES: [Case; 22] = [
     Case {
         words: "list",
         input: " CPU START\nSTART LGHI 1,5\n SVC 0\n",
@@ -291,101 +288,91 @@ fn sink_of(alloc: Global, fails: u64) -> Result<MemorySink, AllocError> {
     Ok(MemorySink::new(alloc, 16, vec![in alloc; fails; 1]?))
 }
 
-/// Which read and which write of a call fail; 0 for none.
-#[derive(Clone, Copy)]
-struct Faults {
-    read: u64,
-    write: u64,
-}
-
-/// What the command of a case answers: its status, and the sink.
-fn answer_to<R: Threads + Wait + Sync>(
-    rt: &R,
-    alloc: Global,
-    case: &Case,
-    faults: Faults,
-) -> Result<(u8, MemorySink), AllocError> {
-    let words = words_of(alloc, case.words)?;
-    let mut source = source_of(alloc, case.input, faults.read)?;
-    let mut sink = sink_of(alloc, faults.write)?;
-    let status = ztx_top(
-        rt,
-        alloc,
-        words.as_slice(),
-        &mut source,
-        &mut sink,
-        &OpenGate,
-    );
-    Ok((status, sink))
-}
-
-/// Whether the status and the text are those of the case.
-fn is_told<R: Threads + Wait + Sync>(
-    rt: &R,
-    alloc: Global,
-    case: &Case,
-    faults: Faults,
-) -> Result<bool, AllocError> {
-    let (status, sink) = answer_to(rt, alloc, case, faults)?;
-    Ok(status == case.status && sink.taken() == case.text.as_bytes())
-}
-
 #[test]
 fn commands_are_answered(rt: HostRuntime) -> Result<(), Fail> {
+    let alloc = rt.alloc();
     for case in &CASES {
-        let told = is_told(&rt, rt.alloc(), case, Faults { read: 0, write: 0 })?;
-        assert!(rt; told, "{}", case.words);
+        let mut source = source_of(alloc, case.input, 0)?;
+        let mut sink = sink_of(alloc, 0)?;
+        let words = words_of(alloc, case.words)?;
+        let status = ztx_top(
+            &rt,
+            alloc,
+            words.as_slice(),
+            &mut source,
+            &mut sink,
+            &OpenGate,
+        );
+        assert_eq!(rt; status, case.status, "{}", case.words);
+        assert_eq!(rt; sink.taken(), case.text.as_bytes(), "{}", case.words);
     }
     Ok(())
 }
 
-/// The run of CONFLICT, with this status and this text.
-fn conflict(status: u8, text: &'static str) -> Case {
-    Case {
-        words: "run --turns 20",
-        input: CONFLICT,
-        status,
-        text,
-    }
-}
-
 #[test]
 fn each_read_fails_in_turn(rt: HostRuntime) -> Result<(), Fail> {
-    for read in 1..=READS {
-        let told = is_told(&rt, rt.alloc(), &conflict(2, ""), Faults { read, write: 0 })?;
-        assert!(rt; told, "call {read}");
+    let alloc = rt.alloc();
+    let words = words_of(alloc, "run --turns 20")?;
+    for call in 1..=READS {
+        let mut source = source_of(alloc, CONFLICT, call)?;
+        let mut sink = sink_of(alloc, 0)?;
+        let status = ztx_top(
+            &rt,
+            alloc,
+            words.as_slice(),
+            &mut source,
+            &mut sink,
+            &OpenGate,
+        );
+        assert_eq!(rt; status, 2, "call {call}");
+        assert!(rt; sink.taken().is_empty(), "call {call}");
     }
     Ok(())
 }
 
 #[test]
 fn each_write_fails_in_turn(rt: HostRuntime) -> Result<(), Fail> {
-    for write in 1..=WRITES {
-        let taken = REPORT.get(..16 * (write - 1) as usize).ok_or("too short")?;
-        let told = is_told(
+    let alloc = rt.alloc();
+    let words = words_of(alloc, "run --turns 20")?;
+    for call in 1..=WRITES {
+        let mut source = source_of(alloc, CONFLICT, 0)?;
+        let mut sink = sink_of(alloc, call)?;
+        let status = ztx_top(
             &rt,
-            rt.alloc(),
-            &conflict(3, taken),
-            Faults { read: 0, write },
-        )?;
-        assert!(rt; told, "call {write}");
+            alloc,
+            words.as_slice(),
+            &mut source,
+            &mut sink,
+            &OpenGate,
+        );
+        let taken = (16 * (call - 1)) as usize;
+        assert_eq!(rt; status, 3, "call {call}");
+        assert_eq!(rt;
+            Some(sink.taken()),
+            REPORT.as_bytes().get(..taken),
+            "call {call}"
+        );
     }
     Ok(())
 }
 
 #[test]
 fn faults_of_texts_that_are_refused(rt: HostRuntime) -> Result<(), Fail> {
-    for words in ["run", "frob"] {
-        let case = Case {
-            words,
-            input: "",
-            status: 3,
-            text: "",
-        };
-        assert!(rt;
-            is_told(&rt, rt.alloc(), &case, Faults { read: 0, write: 1 })?,
-            "{words}"
+    let alloc = rt.alloc();
+    for line in ["run", "frob"] {
+        let words = words_of(alloc, line)?;
+        let mut source = source_of(alloc, "", 0)?;
+        let mut sink = sink_of(alloc, 1)?;
+        let status = ztx_top(
+            &rt,
+            alloc,
+            words.as_slice(),
+            &mut source,
+            &mut sink,
+            &OpenGate,
         );
+        assert_eq!(rt; status, 3, "{line}");
+        assert!(rt; sink.taken().is_empty(), "{line}");
     }
     Ok(())
 }
@@ -404,6 +391,7 @@ fn a_source_and_a_sink_that_never_fail(rt: HostRuntime) -> Result<(), Fail> {
         &mut sink,
         &OpenGate,
     );
-    assert!(rt; status == 0 && sink.taken() == REPORT.as_bytes());
+    assert_eq!(rt; status, 0);
+    assert_eq!(rt; sink.taken(), REPORT.as_bytes());
     Ok(())
 }
