@@ -79,10 +79,11 @@ no_fate : {A : Type 0} (nest : List Begin) (refusal : Refusal) (i : Instr) (rang
 unfolding goes
 no_fate nest refusal i ranges h = absurd (true≢false (sym (ap goes h) ∙ stays nest refusal))
 
-record Found (text : List ℕ) (s : Storage) (q : Progress) (i : Instr) (need : List Range) : Type 0 where
-  fetched : fetch_refusal text (at_hand s q) ≡ None
-  passed : first_refusal (tests_by text s q i) ≡ None
-  touches : need ≡ operands i q.cpu
+-- it is fetched, no test refuses it, and the operands are its own
+pub record Found (text : List ℕ) (s : Storage) (q : Progress) (i : Instr) (need : List Range) : Type 0 where
+  pub fetched : fetch_refusal text (at_hand s q) ≡ None
+  pub passed : first_refusal (tests_by text s q i) ≡ None
+  pub touches : need ≡ operands i q.cpu
 
 by_tests : (text : List ℕ) (s : Storage) (q : Progress) (i : Instr) (need : List Range) (j : Instr)
     (o : Option Refusal) → first_refusal (tests_by text s q j) ≡ o → fetch_refusal text (at_hand s q) ≡ None
@@ -105,20 +106,40 @@ by_reading text s q i need None None f h = no_fate q.nest (Excepts (unreadable (
 by_reading text s q i need None (Some j) f h =
     by_tests text s q i need j (first_refusal (tests_by text s q j)) refl f h
 
-found-so : (text : List ℕ) (s : Storage) (q : Progress) (i : Instr) (need : List Range)
+pub found-so : (text : List ℕ) (s : Storage) (q : Progress) (i : Instr) (need : List Range)
     → fate_by_progress text s q ≡ Goes i need → Found text s q i need
 unfolding fate_by_progress
 found-so text s q i need h =
     by_reading text s q i need (fetch_refusal text (at_hand s q)) (instruction_at (at_hand s q)) refl h
 
-none-first : (o : Option Refusal) (rest : List (Option Refusal)) → first_refusal (o ∷ rest) ≡ None
+-- ---- what is touched by the instruction that is read
+
+tried-touches : (q : Progress) (j i : Instr) (need : List Range) (o : Option Refusal) → tried q j o ≡ Goes i need
+    → need ≡ operands j q.cpu
+unfolding ranges_in
+tried-touches q j i need None h = sym (ap ranges_in h)
+tried-touches q j i need (Some refusal) h = no_fate q.nest refusal i need h
+
+fetched-touches : (text : List ℕ) (s : Storage) (q : Progress) (j i : Instr) (need : List Range) (u : Option ℕ)
+    → fetched text s q u (Some j) ≡ Goes i need → need ≡ operands j q.cpu
+fetched-touches text s q j i need (Some code) h = no_fate q.nest (Excepts (at_fetch code)) i need h
+fetched-touches text s q j i need None h = tried-touches q j i need (first_refusal (tests_by text s q j)) h
+
+pub read-touches : (text : List ℕ) (s : Storage) (q : Progress) (j i : Instr) (need : List Range)
+    → instruction_at (at_hand s q) ≡ Some j → fate_by_progress text s q ≡ Goes i need → need ≡ operands j q.cpu
+unfolding fate_by_progress
+read-touches text s q j i need reads h =
+    let u = fetch_refusal text (at_hand s q) in
+    fetched-touches text s q j i need u (ap (fetched text s q u) (sym reads) ∙ h)
+
+pub none-first : (o : Option Refusal) (rest : List (Option Refusal)) → first_refusal (o ∷ rest) ≡ None
     → (o ≡ None) × (first_refusal rest ≡ None)
 none-first None rest h = (refl, h)
 none-first (Some r) rest h = absurd (cc)
 
 -- ---- what each says
 
-unexcepted : (i : Instr) (o : Option ℕ) → excepted i o ≡ None → o ≡ None
+pub unexcepted : (i : Instr) (o : Option ℕ) → excepted i o ≡ None → o ≡ None
 unexcepted i None h = refl
 unexcepted i (Some code) h = absurd (cc)
 

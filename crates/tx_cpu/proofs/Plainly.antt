@@ -50,7 +50,8 @@ use Rattle.tx_cpu.specs.Parts.{storage_of}
 use Rattle.tx_cpu.specs.Plain.{IsPlain}
 use Rattle.tx_cpu.specs.Tracked.{Tracked, progress}
 use Rattle.tx_cpu.specs.Shapes.{shape_in, boundary_size, shape_by, is_other, IsReady, touched_by, is_in_line, is_open}
-use Rattle.tx_cpu.specs.Shapes.{is_reached, is_admitted, is_bare_begin, no_shape}
+use Rattle.tx_cpu.specs.Shapes.{is_reached, is_admitted, is_bare_begin, is_nothing, no_shape}
+use Rattle.tx_cpu.proofs.Goes.{read-touches}
 use Rattle.tx_cpu.proofs.Programs.{plain_length, plain_reading}
 use Rattle.tx_cpu.proofs.Tests.{heads, tails, planned-read, tried-goes}
 
@@ -68,11 +69,6 @@ and-no false = refl
 where-known : (b : Bool) (s : Shape) → is_other (cond b s no_shape).touch ≡ false → b ≡ true
 where-known true s h = refl
 where-known false s h = absurd (true≢false h)
-
--- and it is the one that was asked for
-known-there : (b : Bool) (s : Shape) → is_other (cond b s no_shape).touch ≡ false → cond b s no_shape ≡ s
-known-there true s h = refl
-known-there false s h = absurd (true≢false h)
 
 bare-begin : (i : Instr) (s : Shape) → is_other (cond (is_bare_begin i) s no_shape).touch ≡ false
     → (nat_eq i.b 0 ≡ true) × (not (nat_eq (modulo 16 i.imm % 4) 3) ≡ true)
@@ -477,3 +473,43 @@ attempt-admits q i need none bare allowed text place fits = record {
       (ap (λ (rs : List Range). fit_of (touching q.footprint rs))
       (ap (λ p. absolute_ranges p need) none ∙ bare-ranges need) ∙ fits);
 }
+
+-- ---- an instruction without an operand
+
+known-nothing : (t : Touch) → is_nothing t ≡ true → is_other t ≡ false
+known-nothing touch.Nothing h = refl
+known-nothing touch.Fetch h = refl
+known-nothing touch.Store h = refl
+known-nothing touch.Other h = sym h
+
+touched-nothing : (t : Touch) (first size : ℕ) → is_nothing t ≡ true → touched_by t first size ≡ []
+touched-nothing touch.Nothing first size h = refl
+touched-nothing touch.Fetch first size h = absurd (true≢false (sym h))
+touched-nothing touch.Store first size h = absurd (true≢false (sym h))
+touched-nothing touch.Other first size h = refl
+
+no-operands : (storage text : List ℕ) (place : ℕ) (r : Ready) (c : Cpu) → IsReady storage text place r
+    → is_nothing r.shape.touch ≡ true → operands r.instr c ≡ []
+no-operands storage text at r c ready h =
+    let row = entry_at r.instr.op.number in
+    let known = known-nothing r.shape.touch h in
+    let shaped = ready.shape known in
+    let known-row = ap (λ (s : Shape). is_other s.touch) (sym shaped) ∙ known in
+    sym (ranges-by row.demand row.operands r.instr c.general c.condition known-row)
+    ∙ touched-nothing (shape_by row.demand row.operands r.instr).touch (first_address r.instr c.general)
+    (shape_by row.demand row.operands r.instr).size (ap (λ (s : Shape). is_nothing s.touch) (sym shaped) ∙ h)
+
+-- whatever comes of it, where it is the one that the CPU sees
+pub goes-untouched : (text bytes : List ℕ) (q : Progress) (r : Ready) (i : Instr) (need : List Range)
+    → q.cpu.prefix ≡ None → IsReady bytes text q.cpu.address r → is_nothing r.shape.touch ≡ true
+    → ((k : ℕ) → k < 6 → q.overlay (q.cpu.address + k) ≡ None)
+    → fate_by_progress text (storage_of bytes) q ≡ Goes i need → need ≡ []
+goes-untouched text bytes q r i need none ready nothing bare goes =
+    let plain : IsPlain q.overlay q.cpu.prefix q.cpu.address q.cpu.address = record {
+      ends = ready.ends;
+      there = λ k lt. ap (λ p. absolute_of p (q.cpu.address + k)) none;
+      bare = bare;
+    } in
+    read-touches text (storage_of bytes) q r.instr i need
+    (sym (plain_reading q bytes q.cpu.address ready.size plain) ∙ ready.read) goes
+    ∙ no-operands bytes text q.cpu.address r q.cpu ready nothing

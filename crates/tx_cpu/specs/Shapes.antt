@@ -57,6 +57,10 @@ abbrev pub is_other : Touch → Bool
 is_other touch.Other = true
 is_other _ = false
 
+abbrev pub is_nothing : Touch → Bool
+is_nothing touch.Nothing = true
+is_nothing _ = false
+
 -- a transaction may have it whatever its begins allow and however many they are
 abbrev pub is_admitted : Entry → Bool
 is_admitted e = not (e.restricted || (sets_access_register e || begins e))

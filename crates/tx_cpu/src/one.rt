@@ -2,13 +2,15 @@
 ghost use Rattle.z_instr.specs.Roles.{begins as is_begun, is_end as is_ended, block_named};
 ghost use Rattle.z_instr.specs.Table.{entry_at};
 ghost use Rattle.tx_cpu.specs.Performed.{no_range};
-ghost use Rattle.std.specs.Prelude.{get_or, ℕ, Some, ◌+◌, ◌≤◌, ◌^◌, ◌&&◌, nat_eq};
+ghost use Rattle.std.specs.Prelude.{get_or, ℕ, List, [], Some, ◌+◌, ◌≤◌, ◌^◌, ◌&&◌, nat_eq};
 ghost use Rattle.std.specs.Prelude.{◌≡◌, ◌<◌, ◌↔◌, IsTrue, IfOk, is_some, length, true, false, All};
 ghost use Rattle.z_regs.specs.Cpu.{cpu_of};
 ghost use Rattle.z_regs.specs.Prefix.{storage_size};
+ghost use Rattle.z_regs.specs.declared.ranges.Range.{Range};
+ghost use Rattle.z_instr.specs.declared.instr.Instr.{Instr};
 ghost use Rattle.tx_footprint.specs.Touched.{sets_of};
 ghost use Rattle.tx_serial.specs.Remains.{pending_after as pends_after};
-ghost use Rattle.tx_progress.specs.Progress.{is_live, seen_through};
+ghost use Rattle.tx_progress.specs.Progress.{is_live, resting, seen_through};
 ghost use Rattle.tx_progress.specs.Local.{settled, aborted, block_stored, interruption_taken};
 ghost use Rattle.tx_progress.specs.Doing.{stopped, executed, executed_where, inside};
 ghost use Rattle.tx_progress.specs.Trial.{fate_by_progress, outcome_by};
@@ -32,7 +34,7 @@ use crate::lending::operand;
 use crate::outside::{delay_after, end_outside, perform_outside, told, wait_outside};
 use crate::pending::{Block, pending_after};
 use crate::performing::{Ended, MOST_BYTES, perform};
-use crate::plain::{Plain, plain_next};
+use crate::plain::{Plain, plain_next, touches_nothing};
 use crate::plan::{Plan, next_plan};
 use crate::program::Program;
 use crate::refusal::cause_in;
@@ -158,6 +160,7 @@ impl Cpu {
     /// The next instruction, where nothing unusual is the case: nothing is left to do before it, the CPU has no
     /// prefix, and the instruction has been read before, goes, and fetches or stores no more than some bytes in one
     /// line. Inside a transaction it is no begin, and no begin names a block.
+    #[inline(always)]
     pub fn plain<'a>(&self, program: &'a Program) -> Option<Plain<'a>>
         ensures quiet { IfSome result (λ p. IsQuiet (local_of self.now)) }
         ensures goes { IfSome result (λ p. fate_by_progress (items program.now.guard)
@@ -173,6 +176,15 @@ impl Cpu {
             return None;
         }
         plain_next(&self.attempt, &self.image, program)
+    }
+
+    /// Whether the next instruction is known to have no operand, so that it touches nothing, whatever comes of it: the CPU
+    /// has no prefix, and the instruction has been read before.
+    pub fn touches_nothing(&self, program: &Program) -> bool
+        ensures { (i : Instr) (need : List Range) → result ≡ true → fate_by_progress (items program.now.guard)
+            (storage_of program.now.storage) (local_of self.now).attempt ≡ Goes i need → need ≡ [] }
+    {
+        touches_nothing(&self.attempt, &self.image, program)
     }
 
     /// The byte that the CPU sees over `base` at an absolute address.
@@ -191,6 +203,16 @@ impl Cpu {
             AreSameAttempts (local_of self.now).attempt (local_of other.now).attempt }
     {
         self.attempt.same(&other.attempt)
+    }
+
+    /// What holds of every CPU: where no attempt is live, nothing is left of an earlier one, so that no store waits; and where
+    /// one is, a begin is open.
+    pub fn is_sound(&self)
+        ensures rests { is_live (local_of self.now).attempt ≡ false
+            → (local_of self.now).attempt ≡ resting (local_of self.now).attempt.cpu }
+        ensures opens { is_live (local_of self.now).attempt ≡ true → 0 < length (local_of self.now).attempt.nest }
+    {
+        self.attempt.is_sound();
     }
 
     /// Makes this CPU equal to the other, with its attempt and what is left to do.
@@ -215,6 +237,7 @@ impl Cpu {
     }
 
     /// Executes an instruction outside transactions that begins none.
+    #[inline(always)]
     fn execute_outside<V: Bytes>(&mut self, instr: &Instr, need: &Touches, base: &mut V) -> Done
         requires rests { is_live (local_of self.old).attempt ≡ false }
         requires need { need.now ≡ operands instr.now (local_of self.old).attempt.cpu }
@@ -318,6 +341,7 @@ impl Cpu {
 
     /// Executes an instruction inside a transaction. Most have no operand in storage, or one of at most eight
     /// bytes.
+    #[inline(always)]
     fn execute_inside<V: Bytes>(&mut self, instr: &Instr, need: &Touches, base: &mut V) -> Done
         requires live { is_live (local_of self.old).attempt ≡ true }
         requires goes { MayGo self.old.attempt self.old.image instr.now need.now }

@@ -129,6 +129,7 @@ fn perform_apart<V: Bytes>(
 
 /// Performs an instruction outside transactions and stores what it stores. A CPU without a prefix sees storage
 /// as it is, so there the instruction is executed on storage itself.
+#[inline(always)]
 pub fn perform_outside<V: Bytes>(
     attempt: &Attempt,
     instr: &Instr,

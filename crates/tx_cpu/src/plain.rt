@@ -1,9 +1,11 @@
 //! The next instruction where nothing unusual is the case.
-ghost use Rattle.std.specs.Prelude.{◌≡◌, ◌<◌, ◌≤◌, ◌+◌, ◌/◌, ◌%◌, IfSome, true, nat_eq, not, None, Ok};
+ghost use Rattle.std.specs.Prelude.{◌≡◌, ◌<◌, ◌≤◌, ◌+◌, ◌/◌, ◌%◌, IfSome, true, nat_eq, not, None, Ok, List, [], ℕ};
 ghost use Rattle.std.specs.List.{list_any};
 ghost use Rattle.std.specs.FinSet.{items};
 ghost use Rattle.z_regs.specs.Cpu.{cpu_of};
 ghost use Rattle.z_regs.specs.Prefix.{storage_size};
+ghost use Rattle.z_regs.specs.declared.ranges.Range.{Range};
+ghost use Rattle.z_instr.specs.declared.instr.Instr.{Instr};
 ghost use Rattle.z_instr.specs.Operands.{bytes_of};
 ghost use Rattle.z_instr.specs.Table.{entry_at};
 ghost use Rattle.tx_constraint.specs.Kept.{next_text_breach, next_operand_breach};
@@ -14,7 +16,7 @@ ghost use Rattle.tx_cpu.specs.Admits.{Admits};
 ghost use Rattle.tx_cpu.specs.Tracked.{progress};
 ghost use Rattle.tx_cpu.specs.Parts.{storage_of};
 ghost use Rattle.tx_cpu.specs.Shapes.{is_in_line as lies_in_line, is_open as lies_open, is_reached as lies_reached};
-ghost use Rattle.tx_cpu.specs.Shapes.{touched_by, is_placed, is_admitted as goes_inside};
+ghost use Rattle.tx_cpu.specs.Shapes.{touched_by, is_placed, is_nothing, is_admitted as goes_inside};
 
 use crate::attempt::Attempt;
 use crate::program::Program;
@@ -198,6 +200,7 @@ fn admits(attempt: &Attempt, image: &CpuImage, ready: &Ready, first: u64) -> boo
 
 /// The next instruction of a CPU without a prefix, where it has been read before, fetches or stores no more than some
 /// bytes in one line, and goes.
+#[inline(always)]
 pub fn plain_next<'a>(
     attempt: &Attempt,
     image: &CpuImage,
@@ -218,4 +221,36 @@ pub fn plain_next<'a>(
         return None;
     }
     Some(Plain { ready, first })
+}
+
+/// Whether an instruction has no operand, and demands nothing of which more would have to be known.
+fn has_no_operand(ready: &Ready) -> bool
+    ensures { result ≡ is_nothing ready.now.shape.touch }
+{
+    matches!(ready.shape.touch, Touch::Nothing)
+}
+
+/// Whether the attempt sees the bytes of the next instruction of its CPU as they are in storage.
+fn sees_instruction(attempt: &Attempt, image: &CpuImage) -> bool
+    requires { image.now.address + 6 ≤ storage_size }
+    ensures { result ≡ true → (k : ℕ) → k < 6 → (progress attempt.now (cpu_of image.now)).overlay (image.now.address + k)
+        ≡ None }
+{
+    attempt.is_sound();
+    !attempt.is_live() || !attempt.has_stored(image.address)
+}
+
+/// Whether the next instruction of a CPU is known to have no operand: the CPU has no prefix, and the instruction has been
+/// read before. Where it goes, it touches nothing.
+pub fn touches_nothing(attempt: &Attempt, image: &CpuImage, program: &Program) -> bool
+    ensures { (i : Instr) (need : List Range) → result ≡ true → fate_by_progress (items program.now.guard)
+        (storage_of program.now.storage) (progress attempt.now (cpu_of image.now)) ≡ Goes i need → need ≡ [] }
+{
+    if image.prefix.is_some() {
+        return false;
+    }
+    match program.known(image.address) {
+        None => false,
+        Some(ready) => has_no_operand(ready) && sees_instruction(attempt, image),
+    }
 }

@@ -200,6 +200,7 @@ fn completed(machine: &Machine, cpu: u32) -> u32
 }
 
 /// What is kept of an event's CPU, behind the event.
+#[inline(always)]
 fn track_own(machine: &Machine, track: &mut Track, cpu: u32)
     requires { cpu < length machine.now.image.cpus }
     ensures { (s : State) → (is_live s cpu ≡ true → track.old.asked ≡ wanted (setting_of machine.now) s cpu)

@@ -183,17 +183,19 @@ free_spans prefix text (s ∷ ss) ok small inside apart =
     )
 
 -- where the test of operands finds nothing, all of them pass
+spans_passed : (text : List ℕ) (i : Instr) (c : Cpu) (depth : ℕ)
+    → inaccessible i c.general c.condition depth (accessible_pages c.prefix) (text_pages c.prefix text) ≡ None
+    → ArePassed (accessible_pages c.prefix) (text_pages c.prefix text) (spans i c.general c.condition)
+spans_passed text i c depth h =
+    let e = entry_at i.op.number in
+    spans_pass e.demand e.operands i c.general c.condition depth (accessible_pages c.prefix)
+    (text_pages c.prefix text) (all_begin_bare i.op.number i.op.known)
+    (tested_pass e i c.general c.condition depth (accessible_pages c.prefix) (text_pages c.prefix text) h)
+
 operands_pass : (text : List ℕ) (p : Run) (i : Instr) → operand_refusal text p i ≡ None
     → ArePassed (accessible_pages p.cpu.prefix) (text_pages p.cpu.prefix text)
     (spans i p.cpu.general p.cpu.condition)
-operands_pass text p i h =
-    let c = p.cpu in
-    let e = entry_at i.op.number in
-    spans_pass e.demand e.operands i c.general c.condition (length p.nest) (accessible_pages c.prefix)
-    (text_pages c.prefix text) (all_begin_bare i.op.number i.op.known)
-    (tested_pass e i c.general c.condition (length p.nest) (accessible_pages c.prefix) (text_pages c.prefix
-    text)
-    (not_excepted i _ h))
+operands_pass text p i h = spans_passed text i p.cpu (length p.nest) (not_excepted i _ h)
 
 pub operands_inside : (text : List ℕ) (p : Run) (i : Instr) → operand_refusal text p i ≡ None
     → list_all (is_inside (accessible_pages p.cpu.prefix)) (spans i p.cpu.general p.cpu.condition) ≡ true
@@ -272,11 +274,16 @@ free_block text p i a ok outside h names k below =
 pub inside_operands : (text : List ℕ) (i : Instr) (c : Cpu) (depth : ℕ)
     → inaccessible i c.general c.condition depth (accessible_pages c.prefix) (text_pages c.prefix text) ≡ None
     → list_all (is_inside (accessible_pages c.prefix)) (spans i c.general c.condition) ≡ true
-inside_operands text i c depth h =
-    let e = entry_at i.op.number in
-    (spans_pass e.demand e.operands i c.general c.condition depth (accessible_pages c.prefix)
-    (text_pages c.prefix text) (all_begin_bare i.op.number i.op.known)
-    (tested_pass e i c.general c.condition depth (accessible_pages c.prefix) (text_pages c.prefix text) h)).inside
+inside_operands text i c depth h = (spans_passed text i c depth h).inside
+
+-- and those that are stored lie in no text
+pub operands_free : (text : List ℕ) (i : Instr) (c : Cpu) (depth : ℕ) → is_prefix c.prefix ≡ true
+    → inaccessible i c.general c.condition depth (accessible_pages c.prefix) (text_pages c.prefix text) ≡ None
+    → AreFree c.prefix text (operands i c)
+operands_free text i c depth ok h =
+    let passed = spans_passed text i c depth h in
+    free_spans c.prefix text (spans i c.general c.condition) ok
+    (sizes (entry_at i.op.number).operands i c.general c.condition) passed.inside passed.apart
 
 -- and so is the block that an outermost begin names
 pub inside_block : (text : List ℕ) (i : Instr) (c : Cpu) (a : ℕ)

@@ -102,7 +102,7 @@ first_apart text prefix r rs bytes true stored free rest =
     (rest (drop r.length bytes))
 first_apart text prefix r rs bytes false stored free rest = rest bytes
 
-operands_apart : (text : List ℕ) (prefix : Option ℕ) (ranges : List Range) → AreFree prefix text ranges
+pub operands_apart : (text : List ℕ) (prefix : Option ℕ) (ranges : List Range) → AreFree prefix text ranges
     → (bytes : List ℕ) → any_text text (operand_stores prefix ranges bytes) ≡ false
 operands_apart text prefix [] free bytes = refl
 operands_apart text prefix (r ∷ rs) free bytes =

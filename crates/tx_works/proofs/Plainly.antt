@@ -1,7 +1,7 @@
 -- The line of one operand is there, so that nobody is asked for it.
 use Rattle.std.proofs.Common.{◌≡◌, ℕ, ◌+◌, ◌-◌, ◌/◌, ◌%◌, ◌<◌, ◌≤◌, Bool, true, false, List, [], ◌∷◌, ◌++◌, Option, None}
 use Rattle.std.proofs.Common.{refl, sym, ap, ◌∙◌, arith, inl, inr}
-use Rattle.std.specs.Prelude.{◌&&◌, ◌||◌, if◌then◌else◌, nat_eq, nat_lt, nat_le, map}
+use Rattle.std.specs.Prelude.{◌&&◌, ◌||◌, if◌then◌else◌, nat_eq, map}
 use Rattle.std.specs.List.{range_with_len}
 use Rattle.std.proofs.lemmas.Bool.{cases_lt, true≢false}
 use Rattle.std.proofs.lemmas.Bool.Decides.{nat_tests}
@@ -14,7 +14,7 @@ use Rattle.tx_cpu.specs.declared.ready.Shape.{Shape}
 use Rattle.tx_cpu.specs.declared.ready.Touch.{Touch}
 use Rattle.tx_cpu.specs.declared.ready.Touch.TheVariants as touch
 use Rattle.tx_cpu.specs.Shapes.{is_in_line, is_open, is_reached}
-use Rattle.tx_cpu.proofs.Plainly.{InLine, in-line}
+use Rattle.tx_cpu.proofs.Plainly.{in-line}
 use Rattle.std.proofs.lemmas.Bool.{and_parts}
 use Rattle.tx_lines.specs.Needs.{need_at}
 use Rattle.tx_meaning.specs.Asking.{is_there}

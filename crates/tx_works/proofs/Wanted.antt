@@ -3,7 +3,8 @@ use Rattle.std.proofs.Common.{◌≡◌, ℕ, Bool, List, [], ◌∷◌, Option,
 use Rattle.z_regs.specs.Absolute.{absolute_ranges}
 use Rattle.z_regs.specs.declared.ranges.Range.{Range}
 use Rattle.z_regs.specs.declared.waiting.Waiting.{Waiting}
-use Rattle.tx_serial.specs.Fate.{Fate}
+use Rattle.z_instr.specs.declared.instr.Instr.{Instr}
+use Rattle.tx_serial.specs.Fate.{Fate, Goes, Ends, Stops}
 use Rattle.tx_serial.specs.Flat.{Pending}
 use Rattle.tx_serial.specs.Flat.{address_of}
 use Rattle.tx_meaning.specs.Needs.{stored, interruption_ranges}
@@ -33,3 +34,9 @@ pub next-wanted : (p : Option Pending) (w : Option Waiting) (f : Fate) → None 
 next-wanted (Some b) w f none e = absurd (cc)
 next-wanted None (Some w) f none e = absurd (cc)
 next-wanted None None f none e = refl
+
+-- nothing where no instruction that goes touches anything
+pub nothing-wanted : (f : Fate) → ((i : Instr) (need : List Range) → f ≡ Goes i need → need ≡ []) → operands_of f ≡ []
+nothing-wanted (Goes i need) h = h i need refl
+nothing-wanted (Ends why) h = refl
+nothing-wanted (Stops e) h = refl

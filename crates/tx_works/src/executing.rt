@@ -74,6 +74,7 @@ impl Works {
     }
 
     /// The CPU executes an instruction that is prepared, inside a transaction.
+    #[inline(always)]
     fn execute_inside(&mut self, cpu: u32, instr: &Instr, need: &Touches) -> Turned
         requires cpu { cpu < length self.old.slots }
         requires live { (rest : Seat) → is_live (kept_by rest self.old).state cpu ≡ true }
@@ -102,6 +103,7 @@ impl Works {
     }
 
     /// The CPU executes an instruction that is prepared, outside transactions.
+    #[inline(always)]
     pub(crate) fn execute_outside(&mut self, cpu: u32, instr: &Instr, need: &Touches) -> Turned
         requires cpu { cpu < length self.old.slots }
         requires live { (rest : Seat) → is_live (kept_by rest self.old).state cpu ≡ false }

@@ -1,6 +1,8 @@
 //! A turn in which nothing unusual is the case.
-ghost use Rattle.std.specs.Prelude.{◌≡◌, ◌<◌, ◌/◌, IfSome, true, false, length, ℕ, List, None};
+ghost use Rattle.std.specs.Prelude.{◌≡◌, ◌<◌, ◌/◌, IfSome, true, false, length, ℕ, List, [], None};
 ghost use Rattle.std.specs.FinSet.{items};
+ghost use Rattle.z_regs.specs.declared.ranges.Range.{Range};
+ghost use Rattle.z_instr.specs.declared.instr.Instr.{Instr};
 ghost use Rattle.tx_serial.specs.Fate.{Goes};
 ghost use Rattle.tx_serial.specs.History.{start_of};
 ghost use Rattle.tx_progress.specs.Trial.{fate_by_progress};
@@ -64,6 +66,18 @@ impl Works {
             ≡ true) }
     {
         self.slots[cpu as usize].cpu.plain(program)
+    }
+
+    /// Whether the next instruction of the CPU is known to have no operand, so that it touches nothing, whatever comes of it.
+    #[tactic(auto, unfolding(tx_serial::specs::History::start_of))]
+    pub(crate) fn touches_nothing(&self, cpu: u32, program: &Program) -> bool
+        requires { cpu < length self.now.slots }
+        ensures { (rest : Seat) (limits : RunLimits) (i : Instr) (need : List Range) →
+            let m : Setting = record { image = program.now; limits = limits } in result ≡ true
+            → fate_by_progress (text_of m) (image_storage m) ((kept_by rest self.now).locals cpu).attempt ≡ Goes i need
+            → need ≡ [] }
+    {
+        self.slots[cpu as usize].cpu.touches_nothing(program)
     }
 
     /// Whether the CPU holds the line of an operand as it touches it, so that nobody is asked.

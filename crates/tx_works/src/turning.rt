@@ -313,6 +313,9 @@ impl Works {
         ensures small { All (λ r. r.length ≤ 256) result }
         ensures in_storage { All (λ r. r.first + r.length ≤ storage_size) result }
     {
+        if self.touches_nothing(cpu, program) {
+            return Touches::none();
+        }
         if let Some(plain) = self.plain(cpu, program) {
             return operands_at(plain.ready.shape, plain.first);
         }

@@ -1,5 +1,5 @@
 -- One range in one line needs this line.
-use Rattle.std.proofs.Common.{◌≡◌, ◌+◌, ◌<◌, ◌≤◌, ◌/◌, ◌%◌, List, [], ◌∷◌, length, sym, subst, ◌∙◌, arith}
+use Rattle.std.proofs.Common.{◌≡◌, ◌+◌, ◌<◌, ◌≤◌, ◌/◌, ◌%◌, List, [], ◌∷◌, length, sym, subst, arith}
 use Rattle.z_regs.specs.declared.ranges.Range.{Range}
 use Rattle.tx_footprint.proofs.Ones.{only}
 use Rattle.tx_lines.specs.Needs.{need_at}

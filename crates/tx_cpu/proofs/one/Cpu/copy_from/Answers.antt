@@ -1,8 +1,7 @@
 -- The attempt has the progress of the other, and all else is the other's.
-use Rattle.std.proofs.Common.{◌≡◌, ap, ◌∙◌}
+use Rattle.std.proofs.Common.{ap, ◌∙◌}
 use Rattle.std.specs.Prelude.{nat_lt, if◌then◌else◌}
-use Rattle.z_regs.specs.Cpu.{cpu_of}
-use Rattle.tx_cpu.specs.Parts.{Parts, local_of}
+use Rattle.tx_cpu.specs.Parts.{local_of}
 use Rattle.tx_cpu.specs.contracts.one.Cpu.{the_view}
 use Rattle.tx_cpu.proofs.one.Cpu.copy_from.Goals as goal
 

@@ -1,16 +1,11 @@
 -- By its plan it goes, ends its transaction, or stops the program.
-use Rattle.std.proofs.Common.{◌≡◌, List, false, sym, ap, ◌∙◌}
-use Rattle.tx_serial.specs.Fate.{Fate, Goes}
-use Rattle.tx_progress.specs.Doing.{executed}
-use Rattle.tx_progress.specs.Trial.{fate_by_progress}
-use Rattle.z_regs.specs.declared.ranges.Range.{Range}
-use Rattle.tx_meaning.specs.Needs.{operand_needs}
-use Rattle.tx_meaning.specs.State.{is_live}
+use Rattle.std.proofs.Common.{◌≡◌, sym, ap, ◌∙◌}
+use Rattle.tx_serial.specs.Fate.{Fate}
 use Rattle.tx_cpu.specs.Plans.{fate_of}
 use Rattle.tx_cpu.specs.declared.plan.Plan.{Plan}
 use Rattle.tx_meaning.specs.Limits.{Setting}
-use Rattle.tx_keeping.specs.Kept.{text_of, beside}
-use Rattle.tx_keeping.specs.Turn.{k_attempting, k_ends_by, k_done, k_executing, k_with_lines}
+use Rattle.tx_keeping.specs.Kept.{text_of}
+use Rattle.tx_keeping.specs.Turn.{k_attempting, k_ends_by}
 use Rattle.tx_works.specs.Ready.{image_storage}
 use Rattle.tx_works.specs.Works.{kept_by}
 use Rattle.tx_works.proofs.Seats.{no_seat}

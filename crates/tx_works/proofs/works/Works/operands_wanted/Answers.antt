@@ -1,7 +1,7 @@
 -- Those of an instruction that goes.
-use Rattle.std.proofs.Common.{◌≡◌, ℕ, ◌+◌, ◌≤◌, List, IsTrue, refl, sym, ap, subst, ◌∙◌, Option, None}
+use Rattle.std.proofs.Common.{ℕ, ◌+◌, ◌≤◌, List, refl, sym, ap, subst, ◌∙◌, Option, None}
 use Rattle.std.specs.Prelude.{All}
-use Rattle.z_regs.specs.Prefix.{is_prefix, storage_size}
+use Rattle.z_regs.specs.Prefix.{storage_size}
 use Rattle.z_regs.specs.Absolute.{absolute_ranges, IsAccessible}
 use Rattle.z_regs.specs.declared.ranges.Range.{Range}
 use Rattle.tx_cpu.specs.Shapes.{touched_by}
@@ -11,6 +11,7 @@ use Rattle.tx_works.specs.Works.{kept_by}
 use Rattle.tx_works.proofs.Seats.{no_seat}
 use Rattle.tx_works.proofs.Lined.{no_limits}
 use Rattle.tx_works.proofs.Plainly.{touched-places}
+use Rattle.tx_works.proofs.Wanted.{nothing-wanted}
 use Rattle.tx_works.proofs.SmallPlaces.{ranges-small, ranges-inside, accessible-places}
 use Rattle.tx_works.proofs.works.Works.operands_wanted.Goals as goal
 
@@ -38,7 +39,7 @@ pub returns-in-Ends-clause-value : goal.returns-in-Ends-clause-value
 returns-in-Ends-clause-value c rest limits =
     let k = kept_by rest c.args.self.now in
     let prefix = (k.locals c.args.cpu).attempt.cpu.prefix in
-    c.none.ensures
+    c.none-in-Ends.ensures
     ∙ ap (λ (f : Fate). absolute_ranges prefix (operands_of f))
     ((c.in-Ends.ensures).value rest limits ∙ (c.requires.wants rest limits).text)
 
@@ -83,3 +84,14 @@ returns-in-Some-clause-in_storage c =
     subst (λ (rs : List Range). All (λ (r : Range). r.first + r.length ≤ storage_size) rs)
     (sym (c.operands_at.ensures ∙ touched-places s.touch p.first s.size None refl))
     (ranges-inside None need refl (accessible-places _ need reach.accessible))
+
+-- ---- an instruction without an operand
+
+pub returns-then-touches_nothing-clause-value : goal.returns-then-touches_nothing-clause-value
+returns-then-touches_nothing-clause-value c rest limits =
+    let k = kept_by rest c.args.self.now in
+    let prefix = (k.locals c.args.cpu).attempt.cpu.prefix in
+    c.none.ensures
+    ∙ ap (absolute_ranges prefix) (sym (nothing-wanted _ (λ i need goes.
+    c.touches_nothing.ensures rest limits i need c.if-touches_nothing.true goes)))
+    ∙ ap (λ (f : Fate). absolute_ranges prefix (operands_of f)) (c.requires.wants rest limits).text

@@ -10,7 +10,7 @@ use Rattle.tx_progress.specs.Trial.{fate_by_progress}
 use Rattle.tx_cpu.specs.Parts.{local_of, storage_of}
 use Rattle.tx_cpu.specs.Shapes.{touched_by}
 use Rattle.tx_cpu.specs.Quiet.{IsQuiet}
-use Rattle.tx_works.specs.Works.{Works, Seat, kept_by}
+use Rattle.tx_works.specs.Works.{Works, Seat}
 use Rattle.tx_works.proofs.works.Works.plain.Goals as goal
 
 pub returns-clause-quiet : goal.returns-clause-quiet
