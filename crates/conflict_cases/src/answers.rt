@@ -4,6 +4,7 @@ ghost use Rattle.tx_footprint.specs.Places.{IsInStorage};
 
 use interrogate::{Answer, Asker, answer};
 use line_table::Mode;
+use std::alloc::Global;
 use std::test::Fail;
 use tx_control::Why;
 use tx_footprint::{Footprint, Overflow};
@@ -121,55 +122,89 @@ const ANSWERS: [(bool, bool, Mode, &[u8; 32]); 8] = [
     ),
 ];
 
-#[test]
-fn answers_of_all_kinds(rt: HostRuntime) -> Result<(), Fail> {
-    for (fetched, stored, mode, letters) in ANSWERS {
-        let mut footprint = Footprint::open(rt.alloc())?;
-        if fetched {
-            touch(&mut footprint, false)?;
-        }
-        if stored {
-            touch(&mut footprint, true)?;
-        }
-        for k in 0..32u32 {
-            let bit = |place: u32| k >> place & 1 == 1;
-            let rejects = if bit(2) { 8 } else { 7 };
-            let mut ladder = ladder_of(bit(3), 0, rejects);
-            let asker = Asker {
-                head: bit(0),
-                late: bit(1),
-            };
-            let answered = answer(bit(4), &footprint, &mut ladder, LINE, mode, asker);
-            assert_eq!(rt; letter(answered), letters[k as usize]);
-        }
+/// Fetches a doubleword of the line, or stores it, or both.
+fn touch_as(footprint: &mut Footprint, fetched: bool, stored: bool) -> Result<(), Overflow> {
+    if fetched {
+        touch(footprint, false)?;
+    }
+    if stored {
+        touch(footprint, true)?;
     }
     Ok(())
 }
 
+/// The footprint of an attempt that has fetched a doubleword of the line, or stored it, or both.
+fn footprint_of(alloc: Global, fetched: bool, stored: bool) -> Result<Footprint, Fail> {
+    let mut footprint = Footprint::open(alloc)?;
+    touch_as(&mut footprint, fetched, stored)?;
+    Ok(footprint)
+}
+
+/// The letter of the answer at a place of the letters of `ANSWERS`.
+fn letter_at(footprint: &Footprint, mode: Mode, place: u32) -> u8 {
+    let rejects = if place & 4 == 0 { 7 } else { 8 };
+    let mut ladder = ladder_of(place & 8 != 0, 0, rejects);
+    let asker = Asker {
+        head: place & 1 != 0,
+        late: place & 2 != 0,
+    };
+    let live = place & 16 != 0;
+    letter(answer(live, footprint, &mut ladder, LINE, mode, asker))
+}
+
+/// The letters of the answers of an attempt that has fetched the line, or stored it, or both.
+fn letters_of(
+    alloc: Global,
+    (fetched, stored): (bool, bool),
+    mode: Mode,
+) -> Result<[u8; 32], Fail> {
+    let footprint = footprint_of(alloc, fetched, stored)?;
+    let mut letters = [0; 32];
+    for place in 0..32u32 {
+        letters[place as usize] = letter_at(&footprint, mode, place);
+    }
+    Ok(letters)
+}
+
 #[test]
-fn a_late_holder_is_firm(rt: HostRuntime) -> Result<(), Fail> {
-    let mut footprint = Footprint::open(rt.alloc())?;
-    touch(&mut footprint, false)?;
+fn answers_of_all_kinds(rt: HostRuntime) -> Result<(), Fail> {
+    for (fetched, stored, mode, letters) in ANSWERS {
+        assert_eq!(rt; letters_of(rt.alloc(), (fetched, stored), mode)?, *letters);
+    }
+    Ok(())
+}
+
+/// How many rejects a constrained attempt gives when it is asked a hundred times, after some conflict aborts of
+/// its CPU and some rejects.
+fn rejects_after(footprint: &Footprint, conflicts: u32, rejects: u32) -> u32 {
     let asker = Asker {
         head: false,
         late: false,
     };
-    for (conflicts, rejects, expected) in [
-        (3u32, 7u32, 1u32),
-        (3, 8, 0),
-        (4, 8, 56),
-        (4, 63, 1),
-        (4, 64, 0),
-    ] {
-        let mut ladder = ladder_of(true, conflicts, rejects);
-        let mut given = 0u32;
-        for _ in 0..100 {
-            if answer(true, &footprint, &mut ladder, LINE, Mode::Exclusive, asker)
-                == Answer::Rejects
-            {
-                given = given.saturating_add(1);
-            }
+    let mut ladder = ladder_of(true, conflicts, rejects);
+    let mut given = 0u32;
+    for _ in 0..100 {
+        let answered = answer(true, footprint, &mut ladder, LINE, Mode::Exclusive, asker);
+        if answered == Answer::Rejects {
+            given = given.saturating_add(1);
         }
+    }
+    given
+}
+
+/// The same of an attempt that has fetched the line.
+fn rejects_of_a_fetch(alloc: Global, conflicts: u32, rejects: u32) -> Result<u32, Fail> {
+    let footprint = footprint_of(alloc, true, false)?;
+    Ok(rejects_after(&footprint, conflicts, rejects))
+}
+
+/// Conflict aborts, rejects that were given, and how many more are given.
+const REJECTS: [(u32, u32, u32); 5] = [(3, 7, 1), (3, 8, 0), (4, 8, 56), (4, 63, 1), (4, 64, 0)];
+
+#[test]
+fn a_late_holder_is_firm(rt: HostRuntime) -> Result<(), Fail> {
+    for (conflicts, rejects, expected) in REJECTS {
+        let given = rejects_of_a_fetch(rt.alloc(), conflicts, rejects)?;
         assert_eq!(rt; given, expected);
     }
     Ok(())

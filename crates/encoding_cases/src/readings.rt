@@ -2,7 +2,6 @@
 //! bytes.
 
 use std::process::Abort;
-use std::test::Fail;
 use z_decode::{Code, NoReading, decode, encode, length_of};
 use z_instr::instr::{Fields, Instr};
 use z_instr::limits::{Bounds, field_limits};
@@ -168,22 +167,37 @@ fn is_spelled(case: &Case, op: Op) -> bool {
     }
 }
 
-#[test]
-fn outside_encodings_are_read_and_spelled(rt: HostRuntime) -> Result<(), Fail> {
-    for case in &CASES {
-        let op = find(case.name).ok_or("a name of the table")?;
-        assert!(rt; is_read(case, op), "reading of {:?}", case.bytes);
-        assert!(rt; is_spelled(case, op), "spelling of {:?}", case.bytes);
+/// Whether the bytes of a case read as its instruction, and whether this is spelled as them.
+fn agreements(case: &Case) -> [bool; 2] {
+    match find(case.name) {
+        Some(op) => [is_read(case, op), is_spelled(case, op)],
+        None => [false; 2],
     }
-    Ok(())
+}
+
+#[test]
+fn outside_encodings_are_read_and_spelled(rt: HostRuntime) {
+    for case in &CASES {
+        assert_eq!(rt; agreements(case), [true; 2], "{:?}", case.bytes);
+    }
+}
+
+/// Whether bytes of any length have no reading.
+fn is_refused(bytes: &[u8]) -> bool {
+    reading(bytes).is_none()
+}
+
+/// Why two zeros have no reading, if they have none.
+fn fault_of_zeros() -> Option<NoReading> {
+    decode(&[0x00, 0x00]).err()
 }
 
 #[test]
 fn bytes_without_a_reading_are_refused(rt: HostRuntime) {
     for bytes in REFUSED {
-        assert!(rt; reading(bytes).is_none(), "{bytes:?}");
+        assert!(rt; is_refused(bytes), "{bytes:?}");
     }
-    assert!(rt; decode(&[0x00, 0x00]).err() == Some(NoReading));
+    assert!(rt; fault_of_zeros() == Some(NoReading));
 }
 
 #[test]
@@ -232,13 +246,19 @@ fn comes_back(op: Op, fields: Fields) -> bool {
     }
 }
 
+/// Whether an operation comes back from its bytes with fields of zero, with the highest ones, and from its name.
+fn returns(op: Op) -> [bool; 3] {
+    [
+        comes_back(op, Fields::zero()),
+        comes_back(op, highest_fields(op)),
+        find(row(op).name.bytes()) == Some(op),
+    ]
+}
+
 #[test]
 fn every_row_comes_back_from_its_bytes(rt: HostRuntime) {
     for number in 0..ROWS {
-        let op = Op { number };
-        assert!(rt; comes_back(op, Fields::zero()), "row {number}");
-        assert!(rt; comes_back(op, highest_fields(op)), "row {number}");
-        assert!(rt; find(row(op).name.bytes()) == Some(op), "row {number}");
+        assert_eq!(rt; returns(Op { number }), [true; 3], "row {number}");
     }
 }
 
@@ -278,21 +298,21 @@ fn demand_of(name: &[u8]) -> Demand {
     }
 }
 
+/// Whether the flags of an operation and its demand are those of the lists.
+fn follows_lists(op: Op) -> [bool; 3] {
+    let row = row(op);
+    let name = row.name.bytes();
+    [
+        row.restricted == RESTRICTED.contains(&name),
+        row.permitted != NOT_PERMITTED.contains(&name),
+        line(op).kind.demand() == demand_of(name),
+    ]
+}
+
 /// The lists were copied from the architecture's, and from no table here.
 #[test]
 fn flags_of_every_row_are_those_of_the_lists(rt: HostRuntime) {
     for number in 0..ROWS {
-        let line = line(Op { number });
-        let row = row(Op { number });
-        let name = row.name.bytes();
-        assert!(rt;
-            row.restricted == RESTRICTED.contains(&name),
-            "row {number}"
-        );
-        assert!(rt;
-            row.permitted != NOT_PERMITTED.contains(&name),
-            "row {number}"
-        );
-        assert!(rt; line.kind.demand() == demand_of(name), "row {number}");
+        assert_eq!(rt; follows_lists(Op { number }), [true; 3], "row {number}");
     }
 }

@@ -7,6 +7,7 @@ use z_instr::instr::{Fields, Instr};
 use z_instr::limits::field_limits;
 use z_instr::lookup::{find, line, row};
 use z_instr::name::Name;
+use z_instr::op::Op;
 use z_instr::operand::{Demand, Operands, Size};
 use z_instr::roles::{begins, block_named, is_end, is_relative_branch, sets_access_register};
 
@@ -22,11 +23,24 @@ static NAMES: [(&[u8], Option<u16>); 8] = [
     (b"", None),
 ];
 
+/// The opcode of a name's row, if there is one.
+fn opcode_of(name: &[u8]) -> Option<u16> {
+    match find(name) {
+        Some(op) => Some(row(op).opcode),
+        None => None,
+    }
+}
+
 #[test]
 fn names_are_found_whole(rt: HostRuntime) {
     for (name, opcode) in NAMES {
-        assert_eq!(rt; find(name).map(|op| row(op).opcode), opcode);
+        assert_eq!(rt; opcode_of(name), opcode);
     }
+}
+
+/// The operation of a name.
+fn op_of(name: &[u8]) -> Result<Op, Fail> {
+    Ok(find(name).ok_or("no such mnemonic")?)
 }
 
 /// Names, with what transactions do: refuse, and permit under constraints.
@@ -36,31 +50,45 @@ static FLAGS: [(&[u8], [bool; 2]); 3] = [
     (b"SAR", [false, false]),
 ];
 
+/// Whether the row of an operation has this name and these flags.
+fn has_columns(op: Op, name: &[u8], flags: [bool; 2]) -> bool {
+    let row = row(op);
+    row.name.bytes() == name && [row.restricted, row.permitted] == flags
+}
+
+/// The opcode and the format of an operation.
+fn opcode_and_format(op: Op) -> (u16, Format) {
+    let row = row(op);
+    (row.opcode, row.format)
+}
+
 #[test]
 fn rows_have_their_columns(rt: HostRuntime) -> Result<(), Fail> {
     for (name, flags) in FLAGS {
-        let row = row(find(name).ok_or("no such mnemonic")?);
-        assert_eq!(rt; [row.restricted, row.permitted], flags);
-        assert_eq!(rt; row.name.bytes(), name);
+        assert!(rt; has_columns(op_of(name)?, name, flags));
     }
-    let store = row(find(b"STG").ok_or("STG")?);
-    assert!(rt; store.opcode == 0xE324 && store.format == Format::RXY);
+    let store = opcode_and_format(op_of(b"STG")?);
+    assert!(rt; store == (0xE324, Format::RXY));
     Ok(())
+}
+
+/// Which operands an operation has, and what it demands of them.
+fn operands_and_demand(op: Op) -> (Operands, Demand) {
+    let kind = line(op).kind;
+    (kind.operands(), kind.demand())
+}
+
+/// Whether an operand of the operation is relative to its address.
+fn is_relative(op: Op) -> bool {
+    line(op).relative
 }
 
 #[test]
 fn lines_have_their_columns(rt: HostRuntime) -> Result<(), Fail> {
-    let swap = line(find(b"CSG").ok_or("CSG")?);
-    assert!(rt;
-        swap.kind.operands() == Operands::Stored(Size::Doubleword)
-            && swap.kind.demand() == Demand::Boundary
-    );
-    for (name, relative) in [(b"LARL", true), (b"LGFI", false)] {
-        assert_eq!(rt;
-            line(find(name).ok_or("no such mnemonic")?).relative,
-            relative
-        );
-    }
+    let swap = operands_and_demand(op_of(b"CSG")?);
+    let relative = [is_relative(op_of(b"LARL")?), is_relative(op_of(b"LGFI")?)];
+    assert!(rt; swap == (Operands::Stored(Size::Doubleword), Demand::Boundary));
+    assert_eq!(rt; relative, [true, false]);
     Ok(())
 }
 
@@ -83,69 +111,89 @@ static FIELDS: [(&[u8], u8, u8, i32, i64, bool); 8] = [
     (b"LGHI", 0, 0, 0, 65535, false),
 ];
 
+/// The instruction of an operation and fields.
+fn instruction(op: Op, fields: Fields) -> Result<Instr, Fail> {
+    Ok(Instr::new(op, fields).ok_or("no such instruction")?)
+}
+
+/// The first register, the displacement and the immediate of the instruction with these fields, if there is one.
+fn made(op: Op, r1: u8, r2: u8, d: i32, imm: i64) -> Option<(u8, i32, i64)> {
+    let fields = Fields {
+        r1,
+        r2,
+        d,
+        imm,
+        ..Fields::zero()
+    };
+    let instr = Instr::new(op, fields)?;
+    Some((instr.r1, instr.d, instr.imm))
+}
+
+/// Whether the immediate of an operation may be a halfword's lowest number, and the one below.
+fn has_lowest(op: Op) -> [bool; 2] {
+    let limits = field_limits(op);
+    [limits.imm.has(-32768), limits.imm.has(-32769)]
+}
+
 #[test]
 fn fields_are_held_to_their_ranges(rt: HostRuntime) -> Result<(), Fail> {
     for (name, r1, r2, d, imm, allowed) in FIELDS {
-        let op = find(name).ok_or("no such mnemonic")?;
-        let fields = Fields {
-            r1,
-            r2,
-            d,
-            imm,
-            ..Fields::zero()
-        };
-        let made = Instr::new(op, fields).map(|instr| (instr.r1, instr.d, instr.imm));
-        assert_eq!(rt; made, if allowed { Some((r1, d, imm)) } else { None });
+        let wanted = if allowed { Some((r1, d, imm)) } else { None };
+        assert_eq!(rt; made(op_of(name)?, r1, r2, d, imm), wanted);
     }
-    let limits = field_limits(find(b"LGHI").ok_or("LGHI")?);
-    let inside = [limits.imm.has(-32768), limits.imm.has(-32769)];
-    assert_eq!(rt; inside, [true, false]);
+    assert_eq!(rt; has_lowest(op_of(b"LGHI")?), [true, false]);
     Ok(())
+}
+
+/// The first address of an instruction with base register 5 and index register 7, by their values, and the second.
+fn addresses_by(instr: &Instr, base: u64, index: u64) -> [u64; 2] {
+    let mut general = [3; 16];
+    general[5] = base;
+    general[7] = index;
+    [
+        first_address(instr, &general),
+        second_address(instr, &general),
+    ]
 }
 
 // An address takes base, index and displacement; register number 0 adds nothing, and the sum goes on from
 // 2^64 at 0.
 #[test]
 fn addresses_of_operands(rt: HostRuntime) -> Result<(), Fail> {
-    let load = find(b"LG").ok_or("LG")?;
     let fields = Fields {
         b: 5,
         x: 7,
         d: -8,
         ..Fields::zero()
     };
-    let load = Instr::new(load, fields).ok_or("LG 0,-8(7,5)")?;
-    let mut general = [3; 16];
-    general[5] = 0x9000;
-    general[7] = 0x100;
-    let first = first_address(&load, &general);
-    let second = second_address(&load, &general);
-    general[5] = u64::MAX;
-    assert_eq!(rt;
-        [first, second, first_address(&load, &general)],
-        [0x90f8, 0, 0xf7]
-    );
+    let load = instruction(op_of(b"LG")?, fields)?;
+    let [first, second] = addresses_by(&load, 0x9000, 0x100);
+    let [around, _] = addresses_by(&load, u64::MAX, 0x100);
+    assert_eq!(rt; [first, second, around], [0x90f8, 0, 0xf7]);
     Ok(())
+}
+
+/// Whether these masks select these codes: 8 code 0, 8 code 3, 1 code 3, 1 code 0.
+fn selections() -> [bool; 4] {
+    [
+        is_selected(8, 0),
+        is_selected(8, 3),
+        is_selected(1, 3),
+        is_selected(1, 0),
+    ]
 }
 
 // The registers from 15 up to 1 are three, and a mask of 8 is for code 0 alone.
 #[test]
 fn registers_and_codes_named(rt: HostRuntime) -> Result<(), Fail> {
-    let store = find(b"STM").ok_or("STM")?;
     let fields = Fields {
         r1: 15,
         r3: 1,
         ..Fields::zero()
     };
-    let store = Instr::new(store, fields).ok_or("STM 15,1,0")?;
+    let store = instruction(op_of(b"STM")?, fields)?;
     assert_eq!(rt; registers_named(&store), 3);
-    let selected = [
-        is_selected(8, 0),
-        is_selected(8, 3),
-        is_selected(1, 3),
-        is_selected(1, 0),
-    ];
-    assert_eq!(rt; selected, [true, false, true, false]);
+    assert_eq!(rt; selections(), [true, false, true, false]);
     assert_eq!(rt; [Size::Halfword.bytes(), Size::Doubleword.bytes()], [2, 8]);
     Ok(())
 }
@@ -160,18 +208,21 @@ static ROLES: [(&[u8], [bool; 4]); 6] = [
     (b"TBEGINC", [false, false, false, true]),
 ];
 
+/// Whether an operation is an end, sets an access register, is a relative branch or a begin.
+fn roles_of(op: Op) -> [bool; 4] {
+    [
+        is_end(op),
+        sets_access_register(op),
+        is_relative_branch(op),
+        begins(op),
+    ]
+}
+
 // Which operations the rules of transactions name.
 #[test]
 fn roles_in_transactions(rt: HostRuntime) -> Result<(), Fail> {
     for (name, wanted) in ROLES {
-        let op = find(name).ok_or("no such mnemonic")?;
-        let roles = [
-            is_end(op),
-            sets_access_register(op),
-            is_relative_branch(op),
-            begins(op),
-        ];
-        assert_eq!(rt; roles, wanted);
+        assert_eq!(rt; roles_of(op_of(name)?), wanted);
     }
     Ok(())
 }
@@ -183,7 +234,7 @@ fn a_begin_names_its_block(rt: HostRuntime) -> Result<(), Fail> {
         d: 8,
         ..Fields::zero()
     };
-    let begin = Instr::new(find(b"TBEGIN").ok_or("TBEGIN")?, fields).ok_or("a begin")?;
+    let begin = instruction(op_of(b"TBEGIN")?, fields)?;
     assert_eq!(rt; block_named(&begin, &[0x9000; 16]), Some(0x9008));
     Ok(())
 }

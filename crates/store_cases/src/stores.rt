@@ -38,14 +38,23 @@ fn zeros(alloc: Global) -> Result<Storage, Fail> {
     Ok(Storage::open(alloc, zeros.as_slice())?)
 }
 
+/// Stores the doubleword 3 by NTSTG, and 4 over it, where there is room.
+fn store_both(cache: &mut StoreCache) -> bool {
+    if !ntstg(cache, PLACE, 3) || !cache.has_room((PLACE / BLOCK_SIZE as u64) as u32) {
+        return false;
+    }
+    cache.store_bytes(PLACE, &FOUR);
+    true
+}
+
 /// A cache with the doubleword 3 by NTSTG, and 4 stored over it.
 fn three_then_four(alloc: Global) -> Result<StoreCache, Fail> {
     let mut cache = StoreCache::open(alloc)?;
-    if !ntstg(&mut cache, PLACE, 3) || !cache.has_room((PLACE / BLOCK_SIZE as u64) as u32) {
-        return Err("no room")?;
+    if store_both(&mut cache) {
+        Ok(cache)
+    } else {
+        Err("no room")?
     }
-    cache.store_bytes(PLACE, &FOUR);
-    Ok(cache)
 }
 
 /// The attempt ends in a commit or an abort, where storage has its size.
@@ -66,47 +75,123 @@ fn byte_of(storage: &Storage, address: u64) -> Option<u8> {
     storage.as_slice().get(address as usize).copied()
 }
 
+/// A copy of a cache.
+fn copy_of(alloc: Global, cache: &StoreCache) -> Result<StoreCache, Fail> {
+    let mut copy = StoreCache::open(alloc)?;
+    copy.copy_from(cache);
+    Ok(copy)
+}
+
+/// Aborts the attempt of a cache and then that of its copy: whether each was done; the last byte of the doubleword as
+/// the first leaves it, as the copy shows it, and as the second leaves it; and the blocks of the cache.
+fn aborted(
+    cache: &mut StoreCache,
+    copy: &mut StoreCache,
+    storage: &mut Storage,
+) -> ([bool; 2], [Option<u8>; 3], u32) {
+    let first = end(cache, storage, false);
+    let left = byte_of(storage, PLACE + 7);
+    let seen = copy.byte(PLACE + 7);
+    let second = end(copy, storage, false);
+    let bytes = [left, seen, byte_of(storage, PLACE + 7)];
+    ([first, second], bytes, cache.blocks())
+}
+
+/// The same of a cache and a copy that is made of it.
+fn aborted_twice(
+    alloc: Global,
+    cache: &mut StoreCache,
+    storage: &mut Storage,
+) -> Result<([bool; 2], [Option<u8>; 3], u32), Fail> {
+    let mut copy = copy_of(alloc, cache)?;
+    Ok(aborted(cache, &mut copy, storage))
+}
+
+/// The same of the doubleword 3 by NTSTG with 4 stored over it.
+fn both_aborted(alloc: Global) -> Result<([bool; 2], [Option<u8>; 3], u32), Fail> {
+    let mut storage = zeros(alloc)?;
+    let mut cache = three_then_four(alloc)?;
+    aborted_twice(alloc, &mut cache, &mut storage)
+}
+
 #[test]
 fn the_last_ntstg_lasts(rt: HostRuntime) -> Result<(), Fail> {
-    let mut cache = three_then_four(rt.alloc())?;
-    let mut copy = StoreCache::open(rt.alloc())?;
-    copy.copy_from(&cache);
-    let mut storage = zeros(rt.alloc())?;
-    let first = end(&mut cache, &mut storage, false);
-    let left = byte_of(&storage, PLACE + 7);
-    let seen = copy.byte(PLACE + 7);
-    let second = end(&mut copy, &mut storage, false);
-    assert_eq!(rt; (first, second, cache.blocks()), (true, true, 0));
-    assert_eq!(rt;
-        [left, seen, byte_of(&storage, PLACE + 7)],
-        [Some(3), Some(4), Some(3)]
-    );
+    let answer = both_aborted(rt.alloc())?;
+    assert_eq!(rt; answer, ([true; 2], [Some(3), Some(4), Some(3)], 0));
     Ok(())
+}
+
+/// Commits the attempt of a cache: whether it was done, the last byte of the doubleword and the next, and the blocks of
+/// the cache.
+fn committed(cache: &mut StoreCache, storage: &mut Storage) -> (bool, [Option<u8>; 2], u32) {
+    let done = end(cache, storage, true);
+    let left = [byte_of(storage, PLACE + 7), byte_of(storage, PLACE + 8)];
+    (done, left, cache.blocks())
+}
+
+/// The same of the doubleword 3 by NTSTG with 4 stored over it.
+fn last_committed(alloc: Global) -> Result<(bool, [Option<u8>; 2], u32), Fail> {
+    let mut storage = zeros(alloc)?;
+    let mut cache = three_then_four(alloc)?;
+    Ok(committed(&mut cache, &mut storage))
 }
 
 #[test]
 fn a_commit_leaves_the_last_store(rt: HostRuntime) -> Result<(), Fail> {
-    let mut cache = three_then_four(rt.alloc())?;
-    let mut storage = zeros(rt.alloc())?;
-    let done = end(&mut cache, &mut storage, true);
-    let left = [byte_of(&storage, PLACE + 7), byte_of(&storage, PLACE + 8)];
-    assert_eq!(rt; (done, left, cache.blocks()), (true, [Some(4), Some(0)], 0));
+    let answer = last_committed(rt.alloc())?;
+    assert_eq!(rt; answer, (true, [Some(4), Some(0)], 0));
     Ok(())
+}
+
+/// Stores a byte into every 128th block, and answers how many could be stored.
+fn fill(cache: &mut StoreCache) -> u64 {
+    let mut stored = 0u64;
+    for k in 0..64u64 {
+        if store(cache, k * 16384 + 5, 1) {
+            stored = stored.saturating_add(1);
+        }
+    }
+    stored
+}
+
+/// Whether every 128th block has room, and no other.
+fn has_room_where_filled(cache: &StoreCache) -> bool {
+    for block in 0..8192u32 {
+        if cache.has_room(block) != (block % 128 == 0) {
+            return false;
+        }
+    }
+    true
+}
+
+/// The bytes that a cache shows at these addresses: 128, 5, 16389.
+fn bytes_of(cache: &StoreCache) -> [Option<u8>; 3] {
+    [cache.byte(128), cache.byte(5), cache.byte(16389)]
+}
+
+/// What comes of filling an empty cache: how many bytes are stored, whether the blocks that they are in have room and
+/// no other, how many these are, and whether a byte of one more is stored; and what the cache shows.
+fn filled(alloc: Global) -> Result<((u64, bool, u32, bool), [Option<u8>; 3]), Fail> {
+    let mut cache = StoreCache::open(alloc)?;
+    let stored = fill(&mut cache);
+    let room = has_room_where_filled(&cache);
+    let blocks = cache.blocks();
+    let one_more = store(&mut cache, 128, 1);
+    Ok(((stored, room, blocks, one_more), bytes_of(&cache)))
+}
+
+/// What an empty cache shows at the address of the doubleword.
+fn byte_of_nothing(alloc: Global) -> Result<Option<u8>, Fail> {
+    let cache = StoreCache::open(alloc)?;
+    Ok(cache.byte(PLACE))
 }
 
 #[test]
 fn sixty_four_blocks_have_room(rt: HostRuntime) -> Result<(), Fail> {
-    let mut cache = StoreCache::open(rt.alloc())?;
-    let nothing = cache.byte(PLACE);
-    for k in 0..64u64 {
-        assert!(rt; store(&mut cache, k * 16384 + 5, 1));
-    }
-    for block in 0..8192u32 {
-        assert_eq!(rt; cache.has_room(block), block % 128 == 0);
-    }
-    assert_eq!(rt; (cache.blocks(), store(&mut cache, 128, 1)), (64, false));
-    let bytes = [nothing, cache.byte(128), cache.byte(5), cache.byte(16389)];
-    assert_eq!(rt; bytes, [None, None, Some(1), Some(1)]);
+    let (blocks, bytes) = filled(rt.alloc())?;
+    assert_eq!(rt; blocks, (64, true, 64, false));
+    assert_eq!(rt; bytes, [None, Some(1), Some(1)]);
+    assert_eq!(rt; byte_of_nothing(rt.alloc())?, None);
     Ok(())
 }
 
@@ -144,6 +229,20 @@ struct Beside {
 }
 
 impl Beside {
+    /// An empty cache and storage of zeros.
+    fn open(alloc: Global) -> Result<Beside, Fail> {
+        let plain = vec![in alloc; 0u8; STORAGE_SIZE as usize]?;
+        let storage = zeros(alloc)?;
+        let cache = StoreCache::open(alloc)?;
+        Ok(Beside {
+            cache,
+            storage,
+            stores: Vec::new(alloc),
+            lasting: Vec::new(alloc),
+            plain,
+        })
+    }
+
     /// A byte is stored, where it may be. Answers whether the cache shows the last byte stored there.
     fn store(&mut self, address: u64, byte: u8) -> Result<bool, AllocError> {
         if store(&mut self.cache, address, byte) {
@@ -191,23 +290,30 @@ impl Beside {
             _ => self.store(PLACE + place % 64, byte),
         }
     }
+
+    /// What so many numbers say, drawn one from another, until an answer is wrong. Answers how many were right.
+    fn walk(&mut self, turns: u32) -> Result<u32, AllocError> {
+        let mut number = 1u64;
+        for right in 0..turns {
+            number = number
+                .wrapping_mul(6364136223846793005)
+                .wrapping_add(1442695040888963407);
+            if !self.turn(number)? {
+                return Ok(right);
+            }
+        }
+        Ok(turns)
+    }
+}
+
+/// How many of so many turns from nothing are right.
+fn walked(alloc: Global, turns: u32) -> Result<u32, Fail> {
+    let mut beside = Beside::open(alloc)?;
+    Ok(beside.walk(turns)?)
 }
 
 #[test]
 fn walks_beside_plain_lists(rt: HostRuntime) -> Result<(), Fail> {
-    let mut beside = Beside {
-        cache: StoreCache::open(rt.alloc())?,
-        storage: zeros(rt.alloc())?,
-        stores: Vec::new(rt.alloc()),
-        lasting: Vec::new(rt.alloc()),
-        plain: vec![in rt.alloc(); 0u8; STORAGE_SIZE as usize]?,
-    };
-    let mut number = 1u64;
-    for _ in 0..1500u32 {
-        number = number
-            .wrapping_mul(6364136223846793005)
-            .wrapping_add(1442695040888963407);
-        assert!(rt; beside.turn(number)?);
-    }
+    assert_eq!(rt; walked(rt.alloc(), 1500)?, 1500);
     Ok(())
 }

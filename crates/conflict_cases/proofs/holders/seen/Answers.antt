@@ -3,10 +3,10 @@ use Rattle.std.specs.Prelude.{◌&&◌}
 use Rattle.line_table.specs.declared.table.Mode.TheVariants.{Shared, Exclusive}
 use Rattle.line_table.specs.Holders.{Holders, holding, is_against, mode_in}
 use Rattle.line_table.proofs.Against.{nobody_against}
-use Rattle.conflict_cases.proofs.holders.grants_and_gives_up.Goals as goal
+use Rattle.conflict_cases.proofs.holders.seen.Goals as goal
 
 pub grant-requires-clause-free : goal.grant-requires-clause-free
-grant-requires-clause-free g c =
+grant-requires-clause-free c =
     nobody_against c.in_ok-table.table.cpus (mode_in c.in_ok-table.table) 2 144 Exclusive
     (λ other _ _. ap (λ (h : Holders). is_against Exclusive (h other 144)) c.in_ok-table.ensures.empty)
 
@@ -17,7 +17,7 @@ quiet true = refl
 quiet false = refl
 
 pub grant-requires-2-clause-free : goal.grant-requires-2-clause-free
-grant-requires-2-clause-free g c =
+grant-requires-2-clause-free c =
     let now = c.demote.ensures.held
     ∙ ap (λ (h : Holders). holding h 2 144 (Some Shared)) (c.grant.ensures.held
     ∙ ap (λ (h : Holders). holding h 2 144 (Some Exclusive)) c.in_ok-table.ensures.empty) in
