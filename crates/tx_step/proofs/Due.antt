@@ -23,15 +23,17 @@ use Rattle.tx_meaning.specs.Views.{AreKnown}
 use Rattle.tx_machine.specs.Machine.{Seen, setting_of, state_of, event_of, opened}
 use Rattle.tx_machine.specs.Machine.{after as after_event}
 use Rattle.tx_works.specs.Wanted.{wanted}
-use Rattle.tx_step.specs.Sights.{CpuSeen, Sight, cpus_seen, word_at, words_of}
+use Rattle.step_changes.specs.Seen.{CpuSeen, Sight, cpus_seen, word_at}
+use Rattle.step_changes.specs.Stored.{has, completed_in, completed_of, in_spans, lives_where, may_be_live}
+use Rattle.step_changes.specs.Due.{goes_on, is_due, may_change}
+use Rattle.step_changes.specs.declared.stored.Asked.{Asked}
+use Rattle.step_changes.specs.declared.stored.StoredLine.{StoredLine}
+use Rattle.step_changes.specs.declared.view.Step.{Step}
+use Rattle.step_changes.proofs.Lined.{none_passes, all_spanned}
+use Rattle.step_changes.proofs.Listed.{cpus_size, cpu_at, word_there, same_word}
+use Rattle.tx_step.specs.Sights.{shown_of, sight_of}
+use Rattle.tx_step.specs.Stored.{Covers}
 use Rattle.tx_step.specs.Traces.{IsTraced}
-use Rattle.tx_step.specs.declared.following.Step.{Step}
-use Rattle.tx_step.specs.Stored.{has, Covers, completed_in, completed_of, goes_on, in_spans}
-use Rattle.tx_step.specs.Stored.{is_due, due_lines, may_change, is_among}
-use Rattle.tx_step.specs.declared.stored.Asked.{Asked}
-use Rattle.tx_step.specs.declared.stored.StoredLine.{StoredLine}
-use Rattle.tx_step.proofs.Lined.{none_passes, passing_listed, all_spanned}
-use Rattle.tx_step.proofs.Listed.{cpus_size, cpu_at, word_there, same_word}
 use Rattle.tx_step.proofs.Stepped.{shown_now}
 use Rattle.tx_step.proofs.Touched.{bytes_stay, lines_stay, attempts_keep, live_afterwards}
 
@@ -45,26 +47,37 @@ pub completed_is : (m : Setting) (s : State) (i : ℕ) → completed_in (levels_
 completed_is m s i = completed_by (is_live s i) (s.numbers i).completed _ refl
 
 -- a CPU that was seen with a live attempt is one that there is
-seen_by : (m : Setting) (s : State) (i : ℕ) → nat_lt 0 (completed_of (slice_get (cpus_seen m s) i)) ≡ true
-    → completed_of (slice_get (cpus_seen m s) i) ≡ (s.numbers i).completed
-seen_by m s i live = by_way (slice_get_cases (cpus_seen m s) i).1
+seen_by : (m : Setting) (s : State) (i : ℕ) → nat_lt 0 (completed_of (slice_get (cpus_seen (shown_of m s)) i)) ≡ true
+    → completed_of (slice_get (cpus_seen (shown_of m s)) i) ≡ (s.numbers i).completed
+seen_by m s i live = by_way (slice_get_cases (cpus_seen (shown_of m s)) i).1
     (λ there.
     let x = there.0 in
-    let low : i < cpus_of m = subst (λ n. i < n) (cpus_size m s) there.1 in
+    let low : i < cpus_of m = subst (λ n. i < n) (cpus_size (shown_of m s)) there.1 in
     ap completed_of there.2
-    ∙ ap (λ (c : CpuSeen). completed_in c.live) (sym there.3 ∙ cpu_at m s i x low)
+    ∙ ap (λ (c : CpuSeen). completed_in c.live) (sym there.3 ∙ cpu_at (shown_of m s) i x low)
     ∙ completed_is m s i)
     (λ past. absurd (let x : false ≡ true = sym (ap (λ o. nat_lt 0 (completed_of o)) past.1) ∙ live in cc))
+
+-- a live attempt is seen
+seen_live : (m : Setting) (s : State) (i : ℕ) → is_live s i ≡ true → may_be_live (cpus_seen (shown_of m s)) i ≡ true
+seen_live m s i live = by_way (slice_get_cases (cpus_seen (shown_of m s)) i).1
+    (λ there.
+    let x = there.0 in
+    let low : i < cpus_of m = subst (λ n. i < n) (cpus_size (shown_of m s)) there.1 in
+    ap lives_where there.2
+    ∙ ap (λ (c : CpuSeen). nat_lt 0 (completed_in c.live)) (sym there.3 ∙ cpu_at (shown_of m s) i x low)
+    ∙ ap (nat_lt 0) (completed_is m s i) ∙ live)
+    (λ past. ap lives_where past.1)
 
 -- an attempt that goes on was live, and is
 record Goes (before after : State) (j : ℕ) : Type 0 where
   live : is_live before j ≡ true
   lives : is_live after j ≡ true
 
-goes_there : (m : Setting) (before after : State) (j : ℕ) → goes_on (cpus_seen m before) m after j ≡ true
+goes_there : (m : Setting) (before after : State) (j : ℕ) → goes_on (cpus_seen (shown_of m before)) (shown_of m after) j ≡ true
     → Goes before after j
 goes_there m before after j is =
-    let n = completed_of (slice_get (cpus_seen m before) j) in
+    let n = completed_of (slice_get (cpus_seen (shown_of m before)) j) in
     let both = and_parts (nat_lt 0 n) (nat_lt 0 (completed_in (levels_at m after j))) is in
     record {
       live = ap (nat_lt 0) (sym (seen_by m before j both.0)) ∙ both.0;
@@ -84,24 +97,24 @@ module _ (m : Setting) (s : IsSetting m) (events : List Event) (known : AreKnown
   after = (happen m e before).state
 
   abbrev cpus : List CpuSeen
-  cpus = cpus_seen m before
+  cpus = cpus_seen (shown_of m before)
 
   -- a line of a CPU that has not changed is not asked for, and the attempt of the CPU goes on
   record Quiet (j line : ℕ) : Type 0 where
     apart : (j == asked.cpu && in_spans asked.touches line) ≡ false
-    goes : goes_on cpus m after j ≡ true
+    goes : goes_on cpus (shown_of m after) j ≡ true
 
   quiet_at : (line : ℕ) (l : StoredLine) → (l.line == line) ≡ true
-      → (l.line == line && is_due cpus m after asked l) ≡ false → Quiet l.cpu l.line
+      → (l.line == line && is_due cpus (shown_of m after) asked l) ≡ false → Quiet l.cpu l.line
   quiet_at line l here off =
       let asks = l.cpu == asked.cpu && in_spans asked.touches l.line in
-      let w = goes_on cpus m after l.cpu in
+      let w = goes_on cpus (shown_of m after) l.cpu in
       by_way (and_cases (l.line == line) (asks || not w) off)
       (λ elsewhere. absurd (both_ways (l.line == line) elsewhere here))
       (λ none. let parts = or_parts asks (not w) none in
       record { apart = parts.0; goes = not-false w parts.1 })
 
-  quiet_of : (j line : ℕ) → may_change cpus m after asked lines line ≡ false → has lines j line ≡ true
+  quiet_of : (j line : ℕ) → may_change cpus (shown_of m after) asked lines line ≡ false → has lines j line ≡ true
       → Quiet j line
   quiet_of j line off there =
       let at = Any-from_list_any (λ (l : StoredLine). l.cpu == j && l.line == line) lines there in
@@ -110,7 +123,7 @@ module _ (m : Setting) (s : IsSetting m) (events : List Event) (known : AreKnown
       subst (λ x. Quiet x line) (eqb-true l.cpu j both.0)
       (subst (Quiet l.cpu) (eqb-true l.line line both.1)
       (quiet_at line l both.1 (none_passes
-      (λ (x : StoredLine). x.line == line && is_due cpus m after asked x) lines at.0 l off at.2 at.3)))
+      (λ (x : StoredLine). x.line == line && is_due cpus (shown_of m after) asked x) lines at.0 l off at.2 at.3)))
 
   -- one of them has stored into the line
   abbrev stored_by : ℕ → StoredLine → Bool
@@ -130,7 +143,7 @@ module _ (m : Setting) (s : IsSetting m) (events : List Event) (known : AreKnown
   Stays a = (flat_of m after).storage a ≡ (flat_of m before).storage a
 
   -- where the line has not changed, an attempt that has stored into it keeps it, or nothing stores into it
-  stays_where : (a : ℕ) → may_change cpus m after asked lines (a / 256) ≡ false → Stays a
+  stays_where : (a : ℕ) → may_change cpus (shown_of m after) asked lines (a / 256) ≡ false → Stays a
   stays_where a off = by_way (cases_Bool (list_any (stored_by (a / 256)) lines))
       (λ some.
       let at = Any-from_list_any (stored_by (a / 256)) lines some in
@@ -150,13 +163,13 @@ module _ (m : Setting) (s : IsSetting m) (events : List Event) (known : AreKnown
       ∙ all_spanned (wanted m before (cpu_of_event e)) (a / 256) is)))))
 
   -- a word is the same, or its line may have changed
-  pub changed_or_same : (w : ℕ) → (may_change cpus m after asked lines (w / 32) ≡ true)
+  pub changed_or_same : (w : ℕ) → (may_change cpus (shown_of m after) asked lines (w / 32) ≡ true)
       ⊎ (word_at (flat_of m after).storage w ≡ word_at (flat_of m before).storage w)
-  changed_or_same w = by_way (cases_Bool (may_change cpus m after asked lines (w / 32)))
+  changed_or_same w = by_way (cases_Bool (may_change cpus (shown_of m after) asked lines (w / 32)))
       (λ on. inl on)
       (λ off. inr (same_word (flat_of m after).storage (flat_of m before).storage w (λ a here.
       let line : w / 32 ≡ a / 256 = omega arith in
-      stays_where a (ap (may_change cpus m after asked lines) (sym line) ∙ off))))
+      stays_where a (ap (may_change cpus (shown_of m after) asked lines) (sym line) ∙ off))))
 
   -- what is stored into afterwards was among the lines, and is that of a live attempt
   covered_by : (j line : ℕ) → (footprint_of m after j).stored line ≡ true → has lines j line ≡ true
@@ -179,23 +192,6 @@ module _ (m : Setting) (s : IsSetting m) (events : List Event) (known : AreKnown
       → Covers m after kept
   covers_live kept keeps j line is =
       keeps j line (live_afterwards m s events known e within j line is) (covered_by j line is)
-
--- ---- lines that are looked at
-
--- where the history is as long as before nothing is others, else what is others lies in lines that are looked at
-pub looked_at : (m : Setting) (s : State) (view : Sight) (asked : Asked) (stored : List StoredLine) (lines : List ℕ)
-    → (view.entries ≡ length s.history → view.words ≡ words_of (flat_of m s).storage)
-    → ((w : ℕ) (d : List ℕ) → w < 131072 → (may_change view.cpus m s asked stored (w / 32) ≡ true)
-    ⊎ (get_or view.words w d ≡ word_at (flat_of m s).storage w))
-    → (view.entries ≢ length s.history → lines ≡ due_lines view.cpus m s asked stored)
-    → (w : ℕ) (d : List ℕ) → w < 131072
-    → (is_among lines (w / 32) ≡ true) ⊎ (get_or view.words w d ≡ word_at (flat_of m s).storage w)
-looked_at m s view asked stored lines none others are w d low = by_way (cases_eq view.entries (length s.history))
-    (λ same. inr (ap (λ l. get_or l w d) (none same) ∙ word_there (flat_of m s).storage w d low))
-    (λ grown. by_way (others w d low)
-    (λ on. inl (ap (λ l. is_among l (w / 32)) (are grown)
-    ∙ passing_listed (is_due view.cpus m s asked) stored (w / 32) on))
-    (λ same. inr same))
 
 -- ---- by what is seen of a machine
 
@@ -242,22 +238,22 @@ module _ (before next : Seen) (e : Event) (lines : List StoredLine) (s : IsSetti
   -- what is shown has the words that the machine has, but in lines that may have changed
   pub due_or_same : (sight : Sight) (steps : List Step) → IsTraced before sight steps (length steps)
       → (w : ℕ) (d : List ℕ) → w < 131072
-      → (may_change sight.cpus (setting_of next) (state_of next) asked lines (w / 32) ≡ true)
+      → (may_change sight.cpus (shown_of (setting_of next) (state_of next)) asked lines (w / 32) ≡ true)
       ⊎ (get_or sight.words w d ≡ word_at (flat_of (setting_of next) (state_of next)).storage w)
   due_or_same sight steps traced w d low =
       let shown = shown_now before sight steps traced in
-      let cpus = cpus_seen m (state_of before) in
+      let cpus = cpus_seen (shown_of m (state_of before)) in
       by_way (changed_or_same m s before.events known e within lines covers wants asked own asks_is w)
-      (λ on. inl (ap (λ (v : Sight). may_change v.cpus (setting_of next) (state_of next) asked lines (w / 32)) shown
-      ∙ ap (λ n. may_change cpus n (state_of next) asked lines (w / 32)) setting
-      ∙ ap (λ t. may_change cpus m t asked lines (w / 32)) state_is ∙ on))
+      (λ on. inl (ap (λ (v : Sight). may_change v.cpus (shown_of (setting_of next) (state_of next)) asked lines (w / 32)) shown
+      ∙ ap (λ n. may_change cpus (shown_of n (state_of next)) asked lines (w / 32)) setting
+      ∙ ap (λ t. may_change cpus (shown_of m t) asked lines (w / 32)) state_is ∙ on))
       (λ same. inr (ap (λ (v : Sight). get_or v.words w d) shown
       ∙ word_there (flat_of m (state_of before)).storage w d low ∙ sym same
       ∙ sym (ap (λ n. word_at (flat_of n (state_of next)).storage w) setting
       ∙ ap (λ t. word_at (flat_of m t).storage w) state_is)))
 
   -- lines of which those of live attempts are kept cover what is stored into
-  pub next_covers : (kept : List StoredLine)
+  next_covers : (kept : List StoredLine)
       → ((j line : ℕ) → is_live (state_of next) j ≡ true → has lines j line ≡ true → has kept j line ≡ true)
       → Covers (setting_of next) (state_of next) kept
   next_covers kept keeps =
@@ -265,3 +261,10 @@ module _ (before next : Seen) (e : Event) (lines : List StoredLine) (s : IsSetti
       (subst (λ t. Covers m t kept) (sym state_is)
       (covers_live m s before.events known e within lines covers wants asked own asks_is kept
       (λ j line live. keeps j line (ap (λ t. is_live t j) state_is ∙ live))))
+
+  -- and so do those that are kept by what is shown behind the event
+  pub seen_covers : (sight : Sight) → sight ≡ sight_of (setting_of next) (state_of next) → (kept : List StoredLine)
+      → ((j line : ℕ) → may_be_live sight.cpus j ≡ true → has lines j line ≡ true → has kept j line ≡ true)
+      → Covers (setting_of next) (state_of next) kept
+  seen_covers sight shown kept keeps = next_covers kept (λ j line live. keeps j line
+      (ap (λ (v : Sight). may_be_live v.cpus j) shown ∙ seen_live (setting_of next) (state_of next) j live))

@@ -22,13 +22,14 @@ use Rattle.tx_meaning.specs.State.{State, cpu_of, cpus_of, flat_of, flat_where, 
 use Rattle.tx_meaning.specs.Views.{GoesOnWith, KeepsViews}
 use Rattle.tx_machine.specs.Machine.{Seen, setting_of, state_of}
 use Rattle.tx_machine.specs.Machine.{after as after_event}
-use Rattle.tx_step.specs.Stored.{completed_in}
-use Rattle.tx_step.specs.Resting.{StayAsSeen, is_entered}
-use Rattle.tx_step.specs.Sights.{CpuSeen, Sight, cpu_seen}
+use Rattle.step_changes.specs.Seen.{CpuSeen, Sight}
+use Rattle.step_changes.specs.Stored.{completed_in}
+use Rattle.step_changes.specs.Resting.{StayAsSeen, is_entered}
+use Rattle.step_changes.specs.declared.view.Step.{Step}
+use Rattle.step_changes.proofs.Listed.{cpus_size, cpu_at}
+use Rattle.tx_step.specs.Sights.{cpu_seen, shown_of}
 use Rattle.tx_step.specs.Traces.{IsTraced}
-use Rattle.tx_step.specs.declared.following.Step.{Step}
 use Rattle.tx_step.proofs.Due.{completed_is}
-use Rattle.tx_step.proofs.Listed.{cpus_size, cpu_at}
 use Rattle.tx_step.proofs.Stepped.{shown_now}
 
 -- of one CPU nothing but what it has in storage changes
@@ -124,7 +125,7 @@ pub stay_as_seen : (before next : Seen) (e : Event) (sight : Sight) (steps : Lis
     → GoesOnWith (state_of before).history (state_of next).history
     → IsLegal next.image (state_of next).history
     → KeepsViews (setting_of before) (state_of before) (state_of next)
-    → StayAsSeen sight.cpus sight.entries (setting_of next) (state_of next)
+    → StayAsSeen sight.cpus sight.entries (shown_of (setting_of next) (state_of next))
 stay_as_seen before next e sight steps traced is grows legal views i d low none same =
     let shown = shown_now before sight steps traced in
     let m = setting_of before in
@@ -132,9 +133,9 @@ stay_as_seen before next e sight steps traced is grows legal views i d low none 
     let t = state_of next in
     let setting : setting_of next ≡ m = ap setting_of is in
     let within : i < cpus_of m =
-    subst (λ n. i < n) (ap (λ (v : Sight). length v.cpus) shown ∙ cpus_size m s) low in
+    subst (λ n. i < n) (ap (λ (v : Sight). length v.cpus) shown ∙ cpus_size (shown_of m s)) low in
     let seen : get_or sight.cpus i d ≡ cpu_seen m s i =
-    ap (λ (v : Sight). get_or v.cpus i d) shown ∙ cpu_at m s i d within in
+    ap (λ (v : Sight). get_or v.cpus i d) shown ∙ cpu_at (shown_of m s) i d within in
     let unentered : is_entered (drop (length s.history) t.history) i ≡ false =
     ap (λ (v : Sight). is_entered (drop v.entries t.history) i) (sym shown) ∙ none in
     let levels : levels_at m s i ≡ levels_at m t i =

@@ -13,10 +13,12 @@ use Rattle.tx_meaning.specs.Views.{GoesOnWith}
 use Rattle.tx_serial.specs.Flat.{FlatState}
 use Rattle.tx_serial.specs.History.{replay}
 use Rattle.tx_machine.specs.Machine.{Seen, setting_of, state_of, event_of, after, opened}
-use Rattle.tx_step.specs.Sights.{Sight, sight_of, words_of}
-use Rattle.tx_step.specs.Traces.{IsTraced, IsStepAt, AreSteps, sight_behind, forward_by, back_by}
-use Rattle.tx_step.specs.declared.following.Step.{Step}
-use Rattle.tx_step.proofs.Listed.{cpus_size, words_size}
+use Rattle.step_changes.specs.Seen.{Sight, words_of}
+use Rattle.step_changes.specs.Steps.{forward_by, back_by}
+use Rattle.step_changes.specs.declared.view.Step.{Step}
+use Rattle.step_changes.proofs.Listed.{cpus_size, words_size}
+use Rattle.tx_step.specs.Sights.{shown_of, sight_of}
+use Rattle.tx_step.specs.Traces.{IsTraced, IsStepAt, AreSteps, sight_behind}
 
 -- what is shown behind some events is shown behind them where more events follow
 pub sight_before : (m : Setting) (events rest : List Event) (p : ℕ) → p ≤ length events
@@ -93,7 +95,7 @@ pub same_cpus : (before next : Seen) (e : Event) (sight : Sight) (steps : List S
     → length sight.cpus ≡ length next.image.cpus
 same_cpus before next e sight steps t is =
     ap (λ (v : Sight). length v.cpus) (shown_now before sight steps t)
-    ∙ cpus_size (setting_of before) (state_of before)
+    ∙ cpus_size (shown_of (setting_of before) (state_of before))
     ∙ sym (ap (λ (s : Seen). length s.image.cpus) is)
 
 pub full_words : (before : Seen) (sight : Sight) (steps : List Step) → IsTraced before sight steps (length steps)
@@ -115,21 +117,6 @@ begins_traced image limits machine sight steps is shown none =
       within = omega arith;
       shown = shown ∙ sym (sight_all (setting_of machine) machine.events (length steps) (omega arith));
     }
-
--- what was shown before all events, behind them
-pub stands_first : (image : Content) (limits : RunLimits) (opening machine : Seen) (first sight : Sight)
-    (steps : List Step) → opening ≡ opened image limits
-    → first ≡ sight_of (setting_of opening) (state_of opening)
-    → setting_of machine ≡ record { image = image; limits = limits }
-    → IsTraced machine sight steps (length steps) → IsTraced machine first steps 0
-stands_first image limits opening machine first sight steps is shown setting t = record {
-  count = t.count;
-  lead = t.lead;
-  within = omega arith;
-  shown =
-      shown ∙ ap (λ (s : Seen). sight_of (setting_of s) (state_of s)) is
-      ∙ ap (λ m. sight_behind m machine.events 0) (sym setting);
-}
 
 -- an event that is not recorded
 pub follows_idle : (before next : Seen) (e : Event) (sight : Sight) (steps : List Step)

@@ -1,6 +1,5 @@
 -- A run that is looked at behind each of its recorded events.
 use Rattle.std.specs.Prelude.{◌≡◌, ℕ, ◌+◌, ◌-◌, ◌<◌, ◌≤◌, List, length, take, min, get_or, refl}
-use Rattle.std.specs.Prelude.{slice_set}
 use Rattle.std.specs.Coded.{Coded, code_by, coded×, coded_ℕ, coded_list}
 use Rattle.tx_journal.specs.contracts.events.Event as event
 use Rattle.tx_journal.specs.Content.{Content, content_code}
@@ -9,10 +8,10 @@ use Rattle.tx_meaning.specs.Limits.{RunLimits, Setting}
 use Rattle.tx_meaning.specs.Meaning.{meaning}
 use Rattle.tx_meaning.specs.State.{State}
 use Rattle.tx_machine.specs.Machine.{Seen, setting_of}
-use Rattle.tx_step.specs.Changes.{redo, undo}
-use Rattle.tx_step.specs.Parts.{put_part}
-use Rattle.tx_step.specs.Sights.{Sight, sight_of}
-use Rattle.tx_step.specs.declared.following.Step.{Step}
+use Rattle.step_changes.specs.Seen.{Sight}
+use Rattle.step_changes.specs.Steps.{forward_by, back_by}
+use Rattle.step_changes.specs.declared.view.Step.{Step}
+use Rattle.tx_step.specs.Sights.{sight_of}
 
 -- its image, its limits, the recorded events, and how many of them are behind
 pub record Traced : Type 0 where
@@ -65,21 +64,6 @@ traced_code =
     (λ _. refl)
 
 -- ---- what is kept
-
--- a step is made, and taken back
-abbrev pub forward_by : Step → Sight → Sight
-forward_by s v = record {
-  cpus = redo put_part s.parts.items v.cpus;
-  words = redo slice_set s.words.items v.words;
-  entries = s.after;
-}
-
-abbrev pub back_by : Step → Sight → Sight
-back_by s v = record {
-  cpus = undo put_part s.parts.items v.cpus;
-  words = undo slice_set s.words.items v.words;
-  entries = s.before;
-}
 
 -- what is shown behind so many of the events
 abbrev pub sight_behind : Setting → List Event → ℕ → Sight

@@ -6,7 +6,10 @@ ghost use Rattle.z_regs.specs.Cpu.{cpu_of};
 ghost use Rattle.z_regs.specs.Prefix.{storage_size};
 ghost use Rattle.tx_serial.specs.Flat.{address_of};
 ghost use Rattle.tx_journal.specs.Image.{cpu_of_event};
+ghost use Rattle.tx_serial.specs.History.{IsLegal};
 ghost use Rattle.tx_meaning.specs.Meaning.{IsSetting, is_external};
+ghost use Rattle.tx_meaning.specs.Views.{GoesOnWith, KeepsViews};
+ghost use Rattle.step_changes.specs.Stored.{has, may_be_live};
 ghost use Rattle.tx_meaning.specs.State as meant;
 ghost use Rattle.tx_machine.specs.Machine.{setting_of, state_of, event_of, after};
 ghost use Rattle.tx_meaning.specs.Shown.{levels_at};
@@ -14,11 +17,12 @@ ghost use Rattle.tx_step.specs.Traces.{Traced, IsTraced, setting_in, state_at, a
 ghost use Rattle.tx_step.specs.Traces.{forward_from, back_from};
 ghost use Rattle.tx_step.specs.Stored.{Covers};
 
-use crate::following::{Step, View};
-use crate::stored::{Asked, StoredLines};
+use crate::shown::MachineSight;
 use std::alloc::{AllocError, Global};
 use std::marker::Model;
 use std::sync::Arc;
+use step_changes::stored::{Asked, StoredLines};
+use step_changes::view::{Step, View};
 use tx_journal::{Event, Image};
 use tx_machine::machine::Machine;
 pub use tx_machine::machine::NoMemory;
@@ -75,6 +79,30 @@ fn cpu_in(e: Event) -> u32
     }
 }
 
+/// One event more: of what a machine says of it only what is followed here.
+fn happen(machine: &mut Machine, e: Event)
+    requires known { cpu_of_event e < length machine.old.image.cpus }
+    requires external { is_external e ≡ true
+        → count_by is_external machine.old.events < machine.old.limits.externals }
+    ensures machine { machine.new ≡ after machine.old e }
+    ensures state { state_of machine.new ≡ (event_of machine.old e).state }
+    ensures legal { IsLegal machine.new.image (state_of machine.new).history }
+    ensures grows { GoesOnWith (state_of machine.old).history (state_of machine.new).history }
+    ensures views { KeepsViews (setting_of machine.old) (state_of machine.old) (state_of machine.new) }
+{
+    let _outcome = machine.event(e);
+}
+
+/// Where the history has grown, only lines of CPUs are kept that may have live attempts.
+fn keep_live(stored: &mut StoredLines, view: &View, step: &Step)
+    ensures { (i n : ℕ) → may_be_live view.now.cpus i ≡ true → has stored.old i n ≡ true
+        → has stored.new i n ≡ true }
+{
+    if step.before != step.after {
+        stored.keep_live(view.cpus());
+    }
+}
+
 /// One event more, and what it changes; the lines are those that live attempts may have stored into.
 fn follow(
     alloc: Global,
@@ -97,7 +125,7 @@ fn follow(
 {
     let _events = machine.events();
     if !is_recorded(machine, e) {
-        let _outcome = machine.event(e);
+        happen(machine, e);
         return Ok(());
     }
     let cpu = cpu_in(e);
@@ -106,11 +134,9 @@ fn follow(
         touches: machine.wanted(cpu),
     };
     stored.add_touches(cpu, &asked.touches)?;
-    let _outcome = machine.event(e);
-    let step = view.follow(alloc, machine, stored, &asked)?;
-    if step.before != step.after {
-        stored.keep_live(machine);
-    }
+    happen(machine, e);
+    let step = view.follow(alloc, &MachineSight { machine }, stored, &asked)?;
+    keep_live(stored, view, &step);
     steps.push(step)?;
     Ok(())
 }
@@ -130,8 +156,8 @@ impl Trace {
     {
         let most = image.cpu_count() as usize * limits.turns as usize + limits.externals as usize;
         let mut machine = Machine::open(alloc, image, limits)?;
-        let first = View::of(alloc, &machine)?;
-        let mut view = View::of(alloc, &machine)?;
+        let first = View::of(alloc, &MachineSight { machine: &machine })?;
+        let mut view = View::of(alloc, &MachineSight { machine: &machine })?;
         let mut stored = StoredLines::none(alloc);
         let mut steps = Vec::with_capacity(alloc, most.min(events.len()))?;
         for event in events {

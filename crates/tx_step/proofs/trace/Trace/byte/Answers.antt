@@ -4,9 +4,9 @@ use Rattle.tx_meaning.specs.Meaning.{meaning}
 use Rattle.tx_meaning.specs.State.{flat_of}
 use Rattle.std.specs.Prelude.{take}
 use Rattle.tx_machine.specs.Machine.{setting_of}
-use Rattle.tx_step.specs.Sights.{Sight}
+use Rattle.step_changes.specs.Seen.{Sight}
 use Rattle.tx_step.specs.Traces.{Traced, setting_in, state_at}
-use Rattle.tx_step.proofs.Listed.{words_size, word_there, byte_in}
+use Rattle.step_changes.proofs.Listed.{words_size, word_there, byte_in}
 use Rattle.tx_step.proofs.trace.Trace.byte.Goals as goal
 
 pub byte-requires-clause-size : goal.byte-requires-clause-size

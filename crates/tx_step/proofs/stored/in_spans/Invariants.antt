@@ -1,7 +1,0 @@
--- None of so many ranges stores there.
-use Rattle.std.proofs.Common.{◌≡◌, false, take}
-use Rattle.tx_step.specs.Stored.{in_spans}
-use Rattle.tx_step.proofs.stored.in_spans.Given as goal
-
-abbrev pub invariant-loop-i : goal.invariant-loop-i
-invariant-loop-i l = in_spans (take l.i l.touches) l.line ≡ false
