@@ -15,15 +15,15 @@ use Rattle.z_text.specs.declared.token.TextFault.{TextFault}
 use Rattle.z_text.specs.declared.token.TextFault.TheVariants.{LineTooLong, BadNumber}
 use Rattle.z_text.specs.declared.token.Token.{Token}
 use Rattle.z_text.specs.declared.token.TokenKind.TheVariants.{Name}
-use Rattle.z_operands.specs.Chain.{◌>>=◌}
-use Rattle.z_operands.specs.Data.{data_of, quoted_hex, or_bad, pairs_of}
+use Rattle.z_fields.specs.Chain.{◌>>=◌}
+use Rattle.z_fields.specs.Data.{data_of, quoted_hex, or_bad, pairs_of}
 use Rattle.z_operands.specs.Operations.{operation_named, directive_named, row_named}
-use Rattle.z_operands.specs.declared.fault.Kind.{Kind}
-use Rattle.z_operands.specs.declared.fault.Kind.TheVariants.{BadDirective}
+use Rattle.z_fields.specs.declared.fault.Kind.{Kind}
+use Rattle.z_fields.specs.declared.fault.Kind.TheVariants.{BadDirective}
 use Rattle.z_operands.specs.declared.operation.Operation.{Operation}
 use Rattle.z_operands.specs.declared.operation.Operation.TheVariants.{Dc}
-use Rattle.z_assemble.specs.Listing.{Plan, line_gives, by_kind, said_line, operation_in, operation_line, dc_line}
-use Rattle.z_assemble.specs.Listing.{field_behind, written, labelled, named_line}
+use Rattle.z_reading.specs.Listing.{Plan, line_gives, by_kind, said_line, operation_in, operation_line, dc_line}
+use Rattle.z_reading.specs.Listing.{field_behind, written, labelled, named_line}
 use Rattle.deck_laws.proofs.Digits.{capitals, AreBytes, IsDigit, pairs_back, all_digits, capitals_capital}
 use Rattle.deck_laws.proofs.Digits.{capitals_size}
 use Rattle.deck_laws.proofs.Rows.{Row}

@@ -7,7 +7,7 @@ use Rattle.std.specs.Char.{to_ascii_uppercase}
 use Rattle.std.proofs.lemmas.Bool.{and_from}
 use Rattle.hex.specs.Hex.{encode_with, encode_lower, lower_digits}
 use Rattle.z_text.specs.Line.{is_inked, is_printed}
-use Rattle.z_operands.specs.Data.{hex_digit, pair, byte_of, with_byte, pairs_of}
+use Rattle.z_fields.specs.Data.{hex_digit, pair, byte_of, with_byte, pairs_of}
 
 -- the digit of a number below 16, in capitals
 abbrev pub capital_digit : ℕ → ℕ

@@ -11,16 +11,16 @@ use Rattle.std.proofs.lemmas.Bool.{lt-leb, and_parts, eqb-true, ltb-true, ltb-fa
 use Rattle.std.proofs.lemmas.List.{length-take, length-replicate, drop_at, drop-drop, append-nil, get_or-take}
 use Rattle.std.proofs.lemmas.List.{get_or-drop, get_or_past}
 use Rattle.z_text.specs.Line.{as_read, is_name, keeps_operands_whole}
-use Rattle.z_operands.specs.Chain.{◌>>=◌}
+use Rattle.z_fields.specs.Chain.{◌>>=◌}
 use Rattle.z_operands.specs.Operations.{operation_named, directive_named, row_named}
 use Rattle.z_operands.specs.Values.{operands_on, one_in}
-use Rattle.z_operands.specs.declared.fault.Kind.{Kind}
-use Rattle.z_operands.specs.declared.fault.Kind.TheVariants.{OutOfRange, Overlap, BadDirective}
+use Rattle.z_fields.specs.declared.fault.Kind.{Kind}
+use Rattle.z_fields.specs.declared.fault.Kind.TheVariants.{OutOfRange, Overlap, BadDirective}
 use Rattle.z_operands.specs.declared.operand.Operand.{Operand}
 use Rattle.z_operands.specs.declared.operation.Operation.TheVariants as operations
-use Rattle.z_assemble.specs.Listing.{Plan, Task, line_gives, operation_line, org_line, placed, written, labelled}
-use Rattle.z_assemble.specs.Listing.{has_room, is_taken, is_below, to_nat}
-use Rattle.z_assemble.specs.Text.{write_at, copies}
+use Rattle.z_reading.specs.Listing.{Plan, Task, line_gives, operation_line, org_line, placed, written, labelled}
+use Rattle.z_reading.specs.Listing.{has_room, is_taken, is_below, to_nat}
+use Rattle.z_reading.specs.Text.{write_at, copies}
 use Rattle.z_deck.specs.Reading.{covers}
 use Rattle.z_deck.specs.Writing.{is_zero}
 use Rattle.z_deck.specs.Listing.{block_at}

@@ -5,18 +5,18 @@ use Rattle.std.specs.Prelude.{pos, Result, Ok, Err, if◌then◌else◌, nat_lt,
 use Rattle.z_text.specs.declared.token.Token.{Token}
 use Rattle.z_text.specs.declared.token.TextFault.{TextFault}
 use Rattle.tx_journal.specs.declared.image.Show.{Show}
-use Rattle.z_operands.specs.Chain.{◌>>=◌}
+use Rattle.z_fields.specs.Chain.{◌>>=◌}
 use Rattle.z_operands.specs.Values.{operands_on}
-use Rattle.z_operands.specs.declared.fault.Kind.{Kind}
-use Rattle.z_operands.specs.declared.fault.Kind.TheVariants.{WrongOperands, BadDirective, OutOfRange}
+use Rattle.z_fields.specs.declared.fault.Kind.{Kind}
+use Rattle.z_fields.specs.declared.fault.Kind.TheVariants.{WrongOperands, BadDirective, OutOfRange}
 use Rattle.z_operands.specs.declared.operand.Operand.{Operand}
 use Rattle.z_operands.specs.declared.operation.Operation.{Operation}
 use Rattle.z_operands.specs.declared.operation.Operation.TheVariants as operations
-use Rattle.z_assemble.specs.Listing.{Task, operands_in}
-use Rattle.z_assemble.specs.Machine.{Machine, Known, task_gives, read_again, tokens_in, tokens_or, code_line}
-use Rattle.z_assemble.specs.Machine.{directive_line, entry_line, show_line, shown, with_address, change_at}
-use Rattle.z_assemble.specs.Machine.{size_of_show, show}
-use Rattle.z_assemble.specs.Text.{write_at}
+use Rattle.z_reading.specs.Listing.{Task, operands_in}
+use Rattle.z_reading.specs.Machine.{Machine, Known, task_gives, read_again, tokens_in, tokens_or, code_line}
+use Rattle.z_reading.specs.Machine.{directive_line, entry_line, show_line, shown, with_address, change_at}
+use Rattle.z_reading.specs.Machine.{size_of_show, show}
+use Rattle.z_reading.specs.Text.{write_at}
 use Rattle.listing_laws.proofs.Words.{Word, tokens_for}
 use Rattle.listing_laws.proofs.Lines.{line_with, IsSaid, words_at}
 use Rattle.listing_laws.proofs.Codes.{HasCode, plain}

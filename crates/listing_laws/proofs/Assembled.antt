@@ -9,19 +9,19 @@ use Rattle.z_text.specs.declared.token.TextFault.{TextFault}
 use Rattle.z_instr.specs.declared.instr.Instr.{Instr}
 use Rattle.z_instr.specs.Reading.{Reads}
 use Rattle.z_regs.specs.Prefix.{storage_size}
-use Rattle.z_operands.specs.Chain.{◌>>=◌}
+use Rattle.z_fields.specs.Chain.{◌>>=◌}
 use Rattle.z_operands.specs.Operations.{operation_named}
 use Rattle.z_operands.specs.Values.{operands_on}
-use Rattle.z_operands.specs.declared.fault.Kind.{Kind}
-use Rattle.z_operands.specs.declared.fault.Kind.TheVariants.{WrongOperands, BadDirective}
+use Rattle.z_fields.specs.declared.fault.Kind.{Kind}
+use Rattle.z_fields.specs.declared.fault.Kind.TheVariants.{WrongOperands, BadDirective}
 use Rattle.z_operands.specs.declared.operand.Operand.{Operand}
 use Rattle.z_operands.specs.declared.operation.Operation.{Operation}
 use Rattle.z_operands.specs.declared.operation.Operation.TheVariants.{Instruction}
-use Rattle.z_assemble.specs.Listing.{Plan, line_gives, instruction_line, operation_line, by_kind}
-use Rattle.z_assemble.specs.Listing.{said_line, operation_in, named_line, operands_in}
-use Rattle.z_assemble.specs.Machine.{Machine, Known, task_gives, read_again, tokens_in, tokens_or}
-use Rattle.z_assemble.specs.Machine.{code_line}
-use Rattle.z_assemble.specs.Text.{write_at}
+use Rattle.z_reading.specs.Listing.{Plan, line_gives, instruction_line, operation_line, by_kind}
+use Rattle.z_reading.specs.Listing.{said_line, operation_in, named_line, operands_in}
+use Rattle.z_reading.specs.Machine.{Machine, Known, task_gives, read_again, tokens_in, tokens_or}
+use Rattle.z_reading.specs.Machine.{code_line}
+use Rattle.z_reading.specs.Text.{write_at}
 use Rattle.listing_laws.specs.Printed.{TakesAgain, GivesBack}
 use Rattle.listing_laws.proofs.Words.{tokens_for}
 use Rattle.listing_laws.proofs.Lines.{line_with, heads, words_at, op_at, op_end, tokens_of_line, op_there}

@@ -11,13 +11,13 @@ use Rattle.z_instr.specs.Made.{no_fields}
 use Rattle.z_instr.specs.Ranges.{is_within, bounds}
 use Rattle.z_instr.specs.Table.{Entry, table, entry_at}
 use Rattle.z_instr.proofs.Named.{number_of}
-use Rattle.z_operands.specs.Chain.{◌>>=◌}
+use Rattle.z_fields.specs.Chain.{◌>>=◌}
 use Rattle.z_operands.specs.Code.{code_of, code_for}
 use Rattle.z_operands.specs.declared.operand.Slot.TheVariants as slot
 use Rattle.z_operands.specs.Operands.{with_slot, instruction_in, has_form, form_of, lacks_value, fields_from}
 use Rattle.z_operands.specs.Operands.{allowed, are_allowed, half, jump, immediate}
 use Rattle.z_operands.specs.Operations.{operation_named, directive_named, row_named, size_of_row}
-use Rattle.z_operands.specs.declared.fault.Kind.TheVariants.{OutOfRange, UnknownLabel, WrongOperands}
+use Rattle.z_fields.specs.declared.fault.Kind.TheVariants.{OutOfRange, UnknownLabel, WrongOperands}
 use Rattle.z_operands.specs.declared.operand.Operand.{Operand}
 use Rattle.z_operands.specs.declared.operand.Operand.TheVariants.{Plain}
 use Rattle.z_operands.specs.declared.operation.Operation.TheVariants.{Instruction, Cpu, Show, End}

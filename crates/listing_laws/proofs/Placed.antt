@@ -12,17 +12,17 @@ use Rattle.z_text.specs.Line.{span}
 use Rattle.z_text.specs.Tokens.{tokens_of}
 use Rattle.z_text.specs.declared.token.Token.{Token}
 use Rattle.z_text.specs.declared.token.TextFault.{TextFault}
-use Rattle.z_operands.specs.Chain.{◌>>=◌}
+use Rattle.z_fields.specs.Chain.{◌>>=◌}
 use Rattle.z_operands.specs.Operations.{operation_named, size_of_row}
-use Rattle.z_operands.specs.declared.fault.Kind.{Kind}
-use Rattle.z_operands.specs.declared.fault.Kind.TheVariants.{OutOfRange, Overlap, BadDirective, DoubleLabel}
+use Rattle.z_fields.specs.declared.fault.Kind.{Kind}
+use Rattle.z_fields.specs.declared.fault.Kind.TheVariants.{OutOfRange, Overlap, BadDirective, DoubleLabel}
 use Rattle.z_operands.specs.declared.operation.Operation.{Operation}
 use Rattle.z_operands.specs.declared.operation.Operation.TheVariants.{Instruction}
-use Rattle.z_assemble.specs.Listing.{Plan, Task, line_gives, instruction_line, operation_line}
-use Rattle.z_assemble.specs.Listing.{by_kind, said_line, operation_in, named_line, operands_in}
-use Rattle.z_assemble.specs.Listing.{label_in, placed, started, labelled, table_with, tasked}
-use Rattle.z_assemble.specs.Listing.{has_room, is_taken, is_bad_label, is_defined}
-use Rattle.z_assemble.specs.Text.{write_at, copies}
+use Rattle.z_reading.specs.Listing.{Plan, Task, line_gives, instruction_line, operation_line}
+use Rattle.z_reading.specs.Listing.{by_kind, said_line, operation_in, named_line, operands_in}
+use Rattle.z_reading.specs.Listing.{label_in, placed, started, labelled, table_with, tasked}
+use Rattle.z_reading.specs.Listing.{has_room, is_taken, is_bad_label, is_defined}
+use Rattle.z_reading.specs.Text.{write_at, copies}
 use Rattle.listing_laws.proofs.Words.{Word, tokens_for}
 use Rattle.listing_laws.proofs.Lines.{line_with, IsSaid, heads, words_at, op_at, op_end, tokens_of_line}
 use Rattle.listing_laws.proofs.Lines.{op_there, label_there, token_at, named_heads}

@@ -15,7 +15,7 @@ use Rattle.z_instr.specs.Reading.{spelling}
 use Rattle.z_instr.specs.Table.{Entry, entry_at}
 use Rattle.z_instr.proofs.Within.{instr_fits}
 use Rattle.z_instr.proofs.TableFacts.{passes_row, fitting_name}
-use Rattle.z_operands.specs.Chain.{◌>>=◌}
+use Rattle.z_fields.specs.Chain.{◌>>=◌}
 use Rattle.z_operands.specs.Code.{code_of, code_for}
 use Rattle.z_operands.specs.Operands.{operands_from, operands_of as read_operands, instruction_in}
 use Rattle.z_operands.specs.Operands.{form_of, lacks_value, fields_from, allowed}
@@ -23,7 +23,7 @@ use Rattle.z_operands.specs.Operands.{goes_on_rightly, with_operand}
 use Rattle.z_operands.specs.Operations.{operation_named, directive_named, instruction, or_else}
 use Rattle.z_operands.specs.Operations.{extended, branch_mask}
 use Rattle.z_operands.specs.Values.{Table, operands_on, wanted}
-use Rattle.z_operands.specs.declared.fault.Kind.TheVariants.{OutOfRange, UnknownLabel, WrongOperands}
+use Rattle.z_fields.specs.declared.fault.Kind.TheVariants.{OutOfRange, UnknownLabel, WrongOperands}
 use Rattle.z_operands.specs.declared.operand.Atom.{Atom}
 use Rattle.z_operands.specs.declared.operand.Atom.TheVariants as atoms
 use Rattle.z_operands.specs.declared.operand.Operand as read

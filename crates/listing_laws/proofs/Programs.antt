@@ -9,9 +9,9 @@ use Rattle.std.specs.Str.{bytes_eq}
 use Rattle.std.proofs.lemmas.Fmt.{decimal_injective}
 use Rattle.std.proofs.lemmas.Slice.Eq.{bytes_eq-Decides}
 use Rattle.z_operands.specs.Values.{Table, operands_on}
-use Rattle.z_operands.specs.declared.fault.Kind.{Kind}
-use Rattle.z_operands.specs.declared.fault.Kind.TheVariants.{WrongOperands}
-use Rattle.z_assemble.specs.Listing.{Plan, table_with, is_defined}
+use Rattle.z_fields.specs.declared.fault.Kind.{Kind}
+use Rattle.z_fields.specs.declared.fault.Kind.TheVariants.{WrongOperands}
+use Rattle.z_reading.specs.Listing.{Plan, table_with, is_defined}
 use Rattle.listing_laws.proofs.Words.{tokens_for}
 use Rattle.listing_laws.proofs.Lines.{line_with, IsSaid, words_at, words_lie}
 use Rattle.listing_laws.proofs.Numbers.{number}

@@ -8,12 +8,12 @@ use Rattle.std.specs.List.{list_any}
 use Rattle.std.proofs.lemmas.Bool.{ne_eqb, cases_eq}
 use Rattle.tx_journal.specs.Content.{Content}
 use Rattle.z_operands.specs.Values.{Table}
-use Rattle.z_operands.specs.declared.fault.Kind.TheVariants.{BadDirective, OutOfRange}
+use Rattle.z_fields.specs.declared.fault.Kind.TheVariants.{BadDirective, OutOfRange}
 use Rattle.z_operands.specs.declared.operation.Operation.TheVariants as operations
-use Rattle.z_assemble.specs.Listing.{Plan, Task, line_gives, operation_line, cpu_line, end_line, tasked}
-use Rattle.z_assemble.specs.Listing.{table_with}
-use Rattle.z_assemble.specs.Machine.{Machine, Known}
-use Rattle.z_assemble.specs.Text.{copies}
+use Rattle.z_reading.specs.Listing.{Plan, Task, line_gives, operation_line, cpu_line, end_line, tasked}
+use Rattle.z_reading.specs.Listing.{table_with}
+use Rattle.z_reading.specs.Machine.{Machine, Known}
+use Rattle.z_reading.specs.Text.{copies}
 use Rattle.z_assemble.specs.Whole.{blank, ready, ready_for, known_in, image_of, First, Second, Stands}
 use Rattle.listing_laws.proofs.Lines.{words_at, words_lie}
 use Rattle.listing_laws.proofs.Terms.{label_name, name_word, capital_by, label_value, one_operand}

@@ -16,7 +16,7 @@ use Rattle.z_text.specs.Expressions.{add, signed, is_term}
 use Rattle.z_text.specs.declared.token.TokenKind.TheVariants as kinds
 use Rattle.z_operands.specs.Operands.{Valuation, atoms_from, operands_from, operands_of}
 use Rattle.z_operands.specs.Values.{Table, sum_in, value_in_line, operands_on, wanted}
-use Rattle.z_operands.specs.declared.fault.Kind.{Kind}
+use Rattle.z_fields.specs.declared.fault.Kind.{Kind}
 use Rattle.z_operands.specs.declared.operand.Atom.{Atom}
 use Rattle.z_operands.specs.declared.operand.Atom.TheVariants as atoms
 use Rattle.z_operands.specs.declared.operand.Operand.TheVariants.{Plain}

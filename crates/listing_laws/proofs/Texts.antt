@@ -9,9 +9,9 @@ use Rattle.std.specs.Char.{to_ascii_uppercase}
 use Rattle.std.proofs.lemmas.Bool.{and_parts, ne_eqb, ltb-true}
 use Rattle.std.proofs.lemmas.List.{take_at}
 use Rattle.z_text.specs.Line.{as_read}
-use Rattle.z_operands.specs.Pieces.{pieces_by, onto, ends_with, shortened, without_return, without_end}
-use Rattle.z_assemble.specs.Listing.{Plan, line_gives}
-use Rattle.z_assemble.specs.Text.{lines_of}
+use Rattle.z_fields.specs.Pieces.{pieces_by, onto, ends_with, shortened, without_return, without_end}
+use Rattle.z_reading.specs.Listing.{Plan, line_gives}
+use Rattle.z_reading.specs.Text.{lines_of}
 use Rattle.z_assemble.specs.Whole.{First}
 use Rattle.listing_laws.proofs.Words.{Word, map_over}
 use Rattle.listing_laws.proofs.Lines.{line_with, IsSaid, visible_line, capital_line}

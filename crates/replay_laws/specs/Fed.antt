@@ -5,7 +5,7 @@ use Rattle.tx_journal.specs.Schedule.{schedule_text}
 use Rattle.tx_journal.specs.declared.events.Event.{Event}
 use Rattle.tx_meaning.specs.Meaning.{meaning}
 use Rattle.tx_meaning.specs.Schedules.{planned}
-use Rattle.z_assemble.specs.Text.{lines_of}
+use Rattle.z_reading.specs.Text.{lines_of}
 use Rattle.ztx_answers.specs.Runs.{running}
 
 -- the events that a run has recorded, which its report prints

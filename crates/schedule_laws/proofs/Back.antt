@@ -14,14 +14,14 @@ use Rattle.tx_journal.specs.Image.{cpu_of_event}
 use Rattle.tx_journal.specs.Schedule.{event_text, further_text, events_text}
 use Rattle.tx_journal.specs.declared.events.Event.{Event}
 use Rattle.tx_journal.specs.declared.events.Event.TheVariants.{Turn, External}
-use Rattle.z_operands.specs.Chain.{◌>>=◌}
-use Rattle.z_operands.specs.Pieces.{pieces_by, onto, is_before}
-use Rattle.z_operands.specs.Schedule.{scheduled, with_items, with_item, with_run, run_of, turns_in, make_run}
-use Rattle.z_operands.specs.Schedule.{is_before_star}
-use Rattle.z_operands.specs.Schedule as read
-use Rattle.z_operands.specs.declared.fault.Kind.{Kind}
-use Rattle.z_operands.specs.declared.fault.Kind.TheVariants.{BadSchedule}
-use Rattle.z_operands.specs.declared.schedule.Run.{Run}
+use Rattle.z_fields.specs.Chain.{◌>>=◌}
+use Rattle.z_fields.specs.Pieces.{pieces_by, onto, is_before}
+use Rattle.z_fields.specs.Schedule.{scheduled, with_items, with_item, with_run, run_of, turns_in, make_run}
+use Rattle.z_fields.specs.Schedule.{is_before_star}
+use Rattle.z_fields.specs.Schedule as read
+use Rattle.z_fields.specs.declared.fault.Kind.{Kind}
+use Rattle.z_fields.specs.declared.fault.Kind.TheVariants.{BadSchedule}
+use Rattle.z_fields.specs.declared.schedule.Run.{Run}
 use Rattle.listing_laws.proofs.Numbers.{AreDigits, digits_are, all_by, number_is}
 use Rattle.deck_laws.proofs.Rows.{shortened_so}
 use Rattle.deck_laws.proofs.Data.{prefix_all}

@@ -6,19 +6,19 @@ use Rattle.std.proofs.lemmas.List.{map-append}
 use Rattle.z_text.specs.Line.{span}
 use Rattle.z_text.specs.Tokens.{tokens_of}
 use Rattle.z_text.specs.declared.token.Token.{Token}
-use Rattle.z_operands.specs.Chain.{◌>>=◌}
-use Rattle.z_operands.specs.Data.{data_of}
+use Rattle.z_fields.specs.Chain.{◌>>=◌}
+use Rattle.z_fields.specs.Data.{data_of}
 use Rattle.z_operands.specs.Operations.{operation_named, size_of_row}
-use Rattle.z_operands.specs.Pieces.{without_end}
-use Rattle.z_operands.specs.declared.fault.Kind.{Kind}
-use Rattle.z_operands.specs.declared.fault.Kind.TheVariants.{OutOfRange, BadDirective, DoubleLabel, Overlap}
+use Rattle.z_fields.specs.Pieces.{without_end}
+use Rattle.z_fields.specs.declared.fault.Kind.{Kind}
+use Rattle.z_fields.specs.declared.fault.Kind.TheVariants.{OutOfRange, BadDirective, DoubleLabel, Overlap}
 use Rattle.z_operands.specs.declared.operation.Operation.{Operation}
 use Rattle.z_operands.specs.declared.operation.Operation.TheVariants as operations
-use Rattle.z_assemble.specs.Listing.{Plan, Task, line_gives, by_kind, said_line, operation_in, operands_in, label_in}
-use Rattle.z_assemble.specs.Listing.{named_line, known_line, operation_line, tasked, placed, written, started}
-use Rattle.z_assemble.specs.Listing.{instruction_line, org_line, equ_line, ds_line, dc_line, cpu_line, end_line}
-use Rattle.z_assemble.specs.Listing.{value_on, is_below, is_doubleword, to_nat, labelled, has_room, is_taken}
-use Rattle.z_assemble.specs.Listing.{is_bad_label, is_defined, field_behind, is_nil}
+use Rattle.z_reading.specs.Listing.{Plan, Task, line_gives, by_kind, said_line, operation_in, operands_in, label_in}
+use Rattle.z_reading.specs.Listing.{named_line, known_line, operation_line, tasked, placed, written, started}
+use Rattle.z_reading.specs.Listing.{instruction_line, org_line, equ_line, ds_line, dc_line, cpu_line, end_line}
+use Rattle.z_reading.specs.Listing.{value_on, is_below, is_doubleword, to_nat, labelled, has_room, is_taken}
+use Rattle.z_reading.specs.Listing.{is_bad_label, is_defined, field_behind, is_nil}
 use Rattle.z_assemble.specs.Whole.{First}
 
 module _ (k : ℕ) (front : List Task) where

@@ -19,17 +19,17 @@ use Rattle.z_text.specs.declared.token.Token.{Token}
 use Rattle.z_text.specs.declared.token.TokenKind.TheVariants.{Name}
 use Rattle.tx_journal.specs.Schedule.{events_text}
 use Rattle.tx_journal.specs.declared.events.Event.{Event}
-use Rattle.z_operands.specs.Chain.{◌>>=◌}
+use Rattle.z_fields.specs.Chain.{◌>>=◌}
 use Rattle.z_operands.specs.Operations.{operation_named, directive_named, row_named}
-use Rattle.z_operands.specs.Schedule.{scheduled}
-use Rattle.z_operands.specs.declared.fault.Kind.{Kind}
-use Rattle.z_operands.specs.declared.fault.Kind.TheVariants.{BadDirective}
+use Rattle.z_fields.specs.Schedule.{scheduled}
+use Rattle.z_fields.specs.declared.fault.Kind.{Kind}
+use Rattle.z_fields.specs.declared.fault.Kind.TheVariants.{BadDirective}
 use Rattle.z_operands.specs.declared.operation.Operation.{Operation}
 use Rattle.z_operands.specs.declared.operation.Operation.TheVariants.{Sched}
-use Rattle.z_assemble.specs.Listing.{Plan, Task, line_gives, by_kind, said_line, operation_in, operation_line}
-use Rattle.z_assemble.specs.Listing.{field_behind, tasked, named_line}
-use Rattle.z_assemble.specs.Machine.{Machine, Known, task_gives, read_again, schedule_line, tokens_in, tokens_or}
-use Rattle.z_assemble.specs.Machine.{end_of}
+use Rattle.z_reading.specs.Listing.{Plan, Task, line_gives, by_kind, said_line, operation_in, operation_line}
+use Rattle.z_reading.specs.Listing.{field_behind, tasked, named_line}
+use Rattle.z_reading.specs.Machine.{Machine, Known, task_gives, read_again, schedule_line, tokens_in, tokens_or}
+use Rattle.z_reading.specs.Machine.{end_of}
 use Rattle.deck_laws.proofs.Rows.{Row}
 use Rattle.deck_laws.proofs.Data.{all_take, prefix_all}
 use Rattle.schedule_laws.proofs.Marks.{AreBelow, events_pass, events_capital, events_short}

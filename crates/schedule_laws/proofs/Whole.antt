@@ -12,11 +12,11 @@ use Rattle.tx_journal.specs.Content.{Content}
 use Rattle.tx_journal.specs.Image.{cpu_of_event}
 use Rattle.tx_journal.specs.Schedule.{row_text, rows_text, schedule_text}
 use Rattle.tx_journal.specs.declared.events.Event.{Event}
-use Rattle.z_operands.specs.Pieces.{pieces_by, without_end}
+use Rattle.z_fields.specs.Pieces.{pieces_by, without_end}
 use Rattle.z_operands.specs.declared.operation.Operation.TheVariants.{Sched}
-use Rattle.z_assemble.specs.Listing.{Plan, Task, line_gives}
-use Rattle.z_assemble.specs.Machine.{Machine, Known, task_gives}
-use Rattle.z_assemble.specs.Text.{lines_of}
+use Rattle.z_reading.specs.Listing.{Plan, Task, line_gives}
+use Rattle.z_reading.specs.Machine.{Machine, Known, task_gives}
+use Rattle.z_reading.specs.Text.{lines_of}
 use Rattle.z_assemble.specs.Whole.{blank, ready, ready_for, known_in, image_of, First, Second, Stands}
 use Rattle.z_assemble.proofs.Images.{AreRead, are_read}
 use Rattle.z_assemble.proofs.Plans.{first_fits}

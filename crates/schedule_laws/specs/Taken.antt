@@ -4,7 +4,7 @@ use Rattle.tx_journal.specs.Content.{Content}
 use Rattle.tx_journal.specs.Image.{cpu_of_event}
 use Rattle.tx_journal.specs.Schedule.{schedule_text}
 use Rattle.tx_journal.specs.declared.events.Event.{Event}
-use Rattle.z_assemble.specs.Text.{lines_of}
+use Rattle.z_reading.specs.Text.{lines_of}
 use Rattle.z_assemble.specs.Whole.{Stands}
 
 -- the image with this schedule as its own

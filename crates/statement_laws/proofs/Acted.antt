@@ -7,14 +7,14 @@ use Rattle.z_text.specs.Line.{span}
 use Rattle.z_text.specs.Tokens.{tokens_of}
 use Rattle.z_text.specs.declared.token.TextFault.{TextFault}
 use Rattle.z_text.specs.declared.token.Token.{Token}
-use Rattle.z_operands.specs.Chain.{◌>>=◌}
+use Rattle.z_fields.specs.Chain.{◌>>=◌}
 use Rattle.z_operands.specs.Operations.{operation_named}
-use Rattle.z_operands.specs.Pieces.{without_end}
-use Rattle.z_operands.specs.declared.fault.Kind.TheVariants.{BadDirective, DoubleLabel}
+use Rattle.z_fields.specs.Pieces.{without_end}
+use Rattle.z_fields.specs.declared.fault.Kind.TheVariants.{BadDirective, DoubleLabel}
 use Rattle.z_operands.specs.declared.operation.Operation.{Operation}
-use Rattle.z_assemble.specs.Listing.{Plan, by_kind, said_line, named_line, operation_line, line_gives}
-use Rattle.z_assemble.specs.Listing.{is_bad_label, is_defined, label_in, operands_in, operation_in}
-use Rattle.z_assemble.specs.Machine.{tokens_in, tokens_or, end_of}
+use Rattle.z_reading.specs.Listing.{Plan, by_kind, said_line, named_line, operation_line, line_gives}
+use Rattle.z_reading.specs.Listing.{is_bad_label, is_defined, label_in, operands_in, operation_in}
+use Rattle.z_reading.specs.Machine.{tokens_in, tokens_or, end_of}
 use Rattle.statement_laws.specs.Statements.{Statement, said_by, said_with, said_on, said_from, behind}
 use Rattle.z_assemble.specs.Whole.{First}
 use Rattle.z_assemble.proofs.Passed.{unless_ok, same_ok}

@@ -10,16 +10,16 @@ use Rattle.std.proofs.lemmas.Bool.{cases_eq}
 use Rattle.std.proofs.lemmas.List.{get_or-set_other, get_or-set_same, length-set}
 use Rattle.z_text.specs.declared.token.Token.{Token}
 use Rattle.z_instr.specs.Table.{entry_at}
-use Rattle.z_operands.specs.Data.{data_of}
+use Rattle.z_fields.specs.Data.{data_of}
 use Rattle.z_operands.specs.Operations.{size_of_row}
-use Rattle.z_operands.specs.declared.fault.Kind.TheVariants.{OutOfRange, BadDirective}
+use Rattle.z_fields.specs.declared.fault.Kind.TheVariants.{OutOfRange, BadDirective}
 use Rattle.z_operands.specs.declared.operation.Operation.{Operation}
 use Rattle.z_operands.specs.declared.operation.Operation.TheVariants.{Instruction, Org, Equ, Ds, Dc, Cpu, Reg}
 use Rattle.z_operands.specs.declared.operation.Operation.TheVariants.{Show, Tdb, Sched, Parm, Prefix, End}
-use Rattle.z_assemble.specs.Listing.{Plan, labelled, value_on, placed, written, started}
-use Rattle.z_assemble.specs.Listing.{org_line, equ_line, ds_line, dc_line, instruction_line, cpu_line}
-use Rattle.z_assemble.specs.Listing.{end_line}
-use Rattle.z_assemble.specs.Listing.{operation_line, is_doubleword, is_below, to_nat, field_behind}
+use Rattle.z_reading.specs.Listing.{Plan, labelled, value_on, placed, written, started}
+use Rattle.z_reading.specs.Listing.{org_line, equ_line, ds_line, dc_line, instruction_line, cpu_line}
+use Rattle.z_reading.specs.Listing.{end_line}
+use Rattle.z_reading.specs.Listing.{operation_line, is_doubleword, is_below, to_nat, field_behind}
 use Rattle.statement_laws.specs.Statements.{Statement, IsInstruction}
 use Rattle.z_assemble.specs.Whole.{places_from}
 use Rattle.statement_laws.proofs.Acted.{Acts, Walk, either_is, none_is, first_is, later_is}

@@ -4,14 +4,14 @@ use Rattle.std.proofs.Common.{refl, sym, ap, ◌∙◌, subst, arith, append-nil
 use Rattle.std.specs.List.{flat_map}
 use Rattle.std.proofs.lemmas.List.{length-append}
 use Rattle.z_text.specs.declared.token.Token.{Token}
-use Rattle.z_operands.specs.Chain.{◌>>=◌}
+use Rattle.z_fields.specs.Chain.{◌>>=◌}
 use Rattle.z_operands.specs.Values.{one_in, operands_on}
-use Rattle.z_operands.specs.declared.fault.Kind.TheVariants.{BadDirective}
+use Rattle.z_fields.specs.declared.fault.Kind.TheVariants.{BadDirective}
 use Rattle.z_operands.specs.declared.operation.Operation.{Operation}
 use Rattle.z_operands.specs.declared.operation.Operation.TheVariants as operations
 use Rattle.z_regs.specs.Cpu.{Cpu}
-use Rattle.z_assemble.specs.Listing.{Plan, Task, operands_in, to_nat}
-use Rattle.z_assemble.specs.Machine.{Machine, Known, tokens_in, operands_for, change_at, with_address}
+use Rattle.z_reading.specs.Listing.{Plan, Task, operands_in, to_nat}
+use Rattle.z_reading.specs.Machine.{Machine, Known, tokens_in, operands_for, change_at, with_address}
 use Rattle.statement_laws.specs.Statements.{Statement, value_or_none, entry_with, entry_of}
 use Rattle.z_assemble.specs.Whole.{Second}
 use Rattle.statement_laws.proofs.Acted.{Walk}

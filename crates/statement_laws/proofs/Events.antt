@@ -3,15 +3,15 @@ use Rattle.std.proofs.Common.{◌≡◌, ℕ, ◌+◌, List, [], ◌∷◌, ◌+
 use Rattle.std.proofs.Common.{◌∙◌, ◌&&◌, nat_lt, nat_le, append_assoc, append-nil}
 use Rattle.std.specs.List.{flat_map}
 use Rattle.z_text.specs.declared.token.Token.{Token}
-use Rattle.z_operands.specs.Pieces.{shortened}
-use Rattle.z_operands.specs.Schedule.{scheduled, with_run, with_item, with_items, run_of}
-use Rattle.z_operands.specs.declared.fault.Kind.TheVariants.{BadSchedule}
+use Rattle.z_fields.specs.Pieces.{shortened}
+use Rattle.z_fields.specs.Schedule.{scheduled, with_run, with_item, with_items, run_of}
+use Rattle.z_fields.specs.declared.fault.Kind.TheVariants.{BadSchedule}
 use Rattle.z_operands.specs.declared.operation.Operation.{Operation}
 use Rattle.z_operands.specs.declared.operation.Operation.TheVariants as operations
-use Rattle.z_operands.specs.declared.schedule.Run.{Run}
+use Rattle.z_fields.specs.declared.schedule.Run.{Run}
 use Rattle.tx_journal.specs.declared.events.Event.{Event}
-use Rattle.z_assemble.specs.Listing.{Plan, Task, operation_in, field_behind}
-use Rattle.z_assemble.specs.Machine.{Machine, Known, tokens_in, end_of}
+use Rattle.z_reading.specs.Listing.{Plan, Task, operation_in, field_behind}
+use Rattle.z_reading.specs.Machine.{Machine, Known, tokens_in, end_of}
 use Rattle.statement_laws.specs.Statements.{Statement, events_of_run, events_of_item, events_of_field}
 use Rattle.statement_laws.specs.Statements.{events_with}
 use Rattle.statement_laws.specs.Statements.{events_of}

@@ -3,8 +3,8 @@ use Rattle.std.proofs.Common.{◌≡◌, ℕ, List, [], ◌∷◌, ◌++◌, Ok,
 use Rattle.std.proofs.Common.{append_assoc, append-nil}
 use Rattle.std.specs.List.{flat_map}
 use Rattle.std.proofs.lemmas.Grind.{flat_map-append}
-use Rattle.z_assemble.specs.Listing.{Plan, Task}
-use Rattle.z_assemble.specs.Machine.{Machine, Known, task_gives}
+use Rattle.z_reading.specs.Listing.{Plan, Task}
+use Rattle.z_reading.specs.Machine.{Machine, Known, task_gives}
 use Rattle.statement_laws.specs.Statements.{Statement, last_or}
 use Rattle.z_assemble.specs.Whole.{Second}
 use Rattle.statement_laws.proofs.Acted.{Acts, Walk}

@@ -9,16 +9,16 @@ use Rattle.std.proofs.lemmas.Bool.{false≢true, eqb-true, cases_eq}
 use Rattle.std.proofs.lemmas.List.{get_or-set_other, get_or-set_same, length-set}
 use Rattle.z_text.specs.declared.token.Token.{Token}
 use Rattle.z_instr.specs.Reading.{modulo}
-use Rattle.z_operands.specs.Chain.{◌>>=◌}
+use Rattle.z_fields.specs.Chain.{◌>>=◌}
 use Rattle.z_operands.specs.Values.{three_in, operands_on}
-use Rattle.z_operands.specs.declared.fault.Kind.TheVariants.{BadDirective}
+use Rattle.z_fields.specs.declared.fault.Kind.TheVariants.{BadDirective}
 use Rattle.z_operands.specs.declared.operation.Operation.{Operation}
 use Rattle.z_operands.specs.declared.operation.Operation.TheVariants as operations
 use Rattle.z_regs.specs.Cpu.{Cpu}
-use Rattle.z_assemble.specs.Listing.{Plan, Task, operands_in, to_nat}
-use Rattle.z_assemble.specs.Machine.{Machine, Known, tokens_in, operands_for, change_at, with_address}
-use Rattle.z_assemble.specs.Machine.{with_general}
-use Rattle.z_assemble.specs.Machine.{with_prefix}
+use Rattle.z_reading.specs.Listing.{Plan, Task, operands_in, to_nat}
+use Rattle.z_reading.specs.Machine.{Machine, Known, tokens_in, operands_for, change_at, with_address}
+use Rattle.z_reading.specs.Machine.{with_general}
+use Rattle.z_reading.specs.Machine.{with_prefix}
 use Rattle.statement_laws.specs.Statements.{Statement, value_for, values_with, values_of, last_or}
 use Rattle.z_assemble.specs.Whole.{Second}
 use Rattle.statement_laws.proofs.Acted.{Walk}

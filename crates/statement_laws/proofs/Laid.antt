@@ -10,20 +10,20 @@ use Rattle.std.proofs.lemmas.Bool.{false≢true, cases_lt}
 use Rattle.std.proofs.lemmas.List.Elements.{All-cons, All-nil}
 use Rattle.std.proofs.lemmas.List.Kept.{AllPairs-cons}
 use Rattle.z_text.specs.declared.token.Token.{Token}
-use Rattle.z_operands.specs.Chain.{◌>>=◌}
-use Rattle.z_operands.specs.Data.{data_of}
+use Rattle.z_fields.specs.Chain.{◌>>=◌}
+use Rattle.z_fields.specs.Data.{data_of}
 use Rattle.z_operands.specs.Operations.{size_of_row}
-use Rattle.z_operands.specs.declared.fault.Kind.{Kind}
-use Rattle.z_operands.specs.declared.fault.Kind.TheVariants.{OutOfRange, BadDirective}
+use Rattle.z_fields.specs.declared.fault.Kind.{Kind}
+use Rattle.z_fields.specs.declared.fault.Kind.TheVariants.{OutOfRange, BadDirective}
 use Rattle.z_operands.specs.declared.operation.Operation.{Operation}
 use Rattle.z_operands.specs.declared.operation.Operation.TheVariants.{Instruction, Org, Equ, Ds, Dc, Cpu, Reg}
 use Rattle.z_operands.specs.declared.operation.Operation.TheVariants.{Show, Tdb, Sched, Parm, Prefix, End}
-use Rattle.z_assemble.specs.Listing.{Plan, labelled, value_on, placed, tasked, written, started}
-use Rattle.z_assemble.specs.Listing.{org_line, equ_line, ds_line, dc_line, instruction_line, cpu_line}
-use Rattle.z_assemble.specs.Listing.{end_line}
-use Rattle.z_assemble.specs.Listing.{operation_line, is_doubleword, is_below, to_nat, field_behind}
+use Rattle.z_reading.specs.Listing.{Plan, labelled, value_on, placed, tasked, written, started}
+use Rattle.z_reading.specs.Listing.{org_line, equ_line, ds_line, dc_line, instruction_line, cpu_line}
+use Rattle.z_reading.specs.Listing.{end_line}
+use Rattle.z_reading.specs.Listing.{operation_line, is_doubleword, is_below, to_nat, field_behind}
 use Rattle.statement_laws.specs.Statements.{Statement, value_of, bytes_with, Stand}
-use Rattle.z_assemble.specs.Text.{write_at, copies}
+use Rattle.z_reading.specs.Text.{write_at, copies}
 use Rattle.z_assemble.specs.Whole.{no_label}
 use Rattle.statement_laws.proofs.Acted.{Acts, Walk, first_is, later_is}
 use Rattle.statement_laws.proofs.Named.{value_same}

@@ -10,19 +10,19 @@ use Rattle.std.proofs.lemmas.List.{get_or_default}
 use Rattle.std.proofs.lemmas.List.Elements.{All-cons, All-nil, All-contains, All-contains_itself}
 use Rattle.tx_journal.specs.Content.{Content}
 use Rattle.tx_ladder.specs.Parameters.{usual}
-use Rattle.z_assemble.specs.declared.parameter.Parameter.{Parameter}
+use Rattle.z_reading.specs.declared.parameter.Parameter.{Parameter}
 use Rattle.z_operands.specs.Operations.{size_of_row}
 use Rattle.z_operands.specs.Values.{Table}
 use Rattle.z_operands.specs.declared.operation.Operation.{Operation}
 use Rattle.z_operands.specs.declared.operation.Operation.TheVariants.{Instruction}
-use Rattle.z_assemble.specs.Listing.{Plan, operands_in}
-use Rattle.z_assemble.specs.Machine.{Known, tokens_in}
+use Rattle.z_reading.specs.Listing.{Plan, operands_in}
+use Rattle.z_reading.specs.Machine.{Known, tokens_in}
 use Rattle.statement_laws.specs.Statements.{Statement, statements_of, IsNamed, HaveOtherLabels, Stand, IsPlaced}
 use Rattle.statement_laws.specs.Statements.{events_of, values_of, last_or, entry_of, shows_of, prefixes_of}
 use Rattle.statement_laws.specs.Statements.{as_list, numbers_of, number_in}
 use Rattle.statement_laws.specs.Statements.{Covers}
 use Rattle.statement_laws.specs.Statements.{AreApart, bytes_with, IsInstruction, IsStarted}
-use Rattle.z_assemble.specs.Text.{lines_of, copies}
+use Rattle.z_reading.specs.Text.{lines_of, copies}
 use Rattle.z_assemble.specs.Whole.{Stands, blank, ready, known_in, image_of, places_from, ready_for}
 use Rattle.statement_laws.proofs.Acted.{Walk, walk, first_is}
 use Rattle.statement_laws.proofs.Begun.{all_begun, place_there}

@@ -4,19 +4,19 @@ use Rattle.std.proofs.Common.{append-nil}
 use Rattle.std.specs.Prelude.{if◌then◌else◌}
 use Rattle.std.specs.List.{flat_map}
 use Rattle.z_text.specs.declared.token.Token.{Token}
-use Rattle.z_operands.specs.Chain.{◌>>=◌}
+use Rattle.z_fields.specs.Chain.{◌>>=◌}
 use Rattle.z_operands.specs.Values.{one_in, operands_on}
-use Rattle.z_operands.specs.declared.fault.Kind.TheVariants.{BadDirective}
+use Rattle.z_fields.specs.declared.fault.Kind.TheVariants.{BadDirective}
 use Rattle.z_operands.specs.declared.operation.Operation.{Operation}
 use Rattle.z_operands.specs.declared.operation.Operation.TheVariants as operations
 use Rattle.tx_ladder.specs.Parameters.{Parameters}
-use Rattle.z_assemble.specs.Listing.{Plan, Task, operands_in, to_nat}
-use Rattle.z_assemble.specs.Machine.{Machine, Known, tokens_in, operands_for, parameter_in, with_parameter}
+use Rattle.z_reading.specs.Listing.{Plan, Task, operands_in, to_nat}
+use Rattle.z_reading.specs.Machine.{Machine, Known, tokens_in, operands_for, parameter_in, with_parameter}
 use Rattle.statement_laws.specs.Statements.{Statement, number_in, number_for, numbers_with, numbers_of, last_or}
 use Rattle.statement_laws.specs.Statements.{is_same}
 use Rattle.z_assemble.specs.Whole.{Second}
-use Rattle.z_assemble.specs.declared.parameter.Parameter.{Parameter}
-use Rattle.z_assemble.specs.declared.parameter.Parameter.TheVariants.{Reject, Firm, Late, Starve, Stop, Delay}
+use Rattle.z_reading.specs.declared.parameter.Parameter.{Parameter}
+use Rattle.z_reading.specs.declared.parameter.Parameter.TheVariants.{Reject, Firm, Late, Starve, Stop, Delay}
 use Rattle.statement_laws.proofs.Acted.{Walk}
 use Rattle.statement_laws.proofs.Effects.{Effect, task_effect}
 use Rattle.statement_laws.proofs.Gathered.{gathered, last_join}

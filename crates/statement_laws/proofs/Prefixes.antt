@@ -7,16 +7,16 @@ use Rattle.std.specs.List.{flat_map, list_any}
 use Rattle.std.proofs.lemmas.Bool.{and_parts, false≢true, eqb-true}
 use Rattle.std.proofs.lemmas.List.{get_or_default}
 use Rattle.z_text.specs.declared.token.Token.{Token}
-use Rattle.z_operands.specs.Chain.{◌>>=◌}
+use Rattle.z_fields.specs.Chain.{◌>>=◌}
 use Rattle.z_operands.specs.Values.{two_in, operands_on}
-use Rattle.z_operands.specs.declared.fault.Kind.TheVariants.{BadDirective}
+use Rattle.z_fields.specs.declared.fault.Kind.TheVariants.{BadDirective}
 use Rattle.z_operands.specs.declared.operation.Operation.{Operation}
 use Rattle.z_operands.specs.declared.operation.Operation.TheVariants as operations
 use Rattle.z_regs.specs.Cpu.{Cpu, started}
-use Rattle.z_assemble.specs.Listing.{Plan, Task, operands_in, to_nat}
-use Rattle.z_assemble.specs.Machine.{Machine, Known, tokens_in, operands_for, change_at, with_address}
-use Rattle.z_assemble.specs.Machine.{with_general, with_prefix, is_free, is_prefix_for, is_area}
-use Rattle.z_assemble.specs.Machine.{task_places_in}
+use Rattle.z_reading.specs.Listing.{Plan, Task, operands_in, to_nat}
+use Rattle.z_reading.specs.Machine.{Machine, Known, tokens_in, operands_for, change_at, with_address}
+use Rattle.z_reading.specs.Machine.{with_general, with_prefix, is_free, is_prefix_for, is_area}
+use Rattle.z_reading.specs.Machine.{task_places_in}
 use Rattle.statement_laws.specs.Statements.{Statement, prefix_for, prefixes_with, prefixes_of, as_list}
 use Rattle.z_assemble.specs.Whole.{Second}
 use Rattle.statement_laws.proofs.Acted.{Walk}

@@ -2,14 +2,14 @@
 use Rattle.std.proofs.Common.{◌≡◌, List, [], ◌++◌, refl, sym, ap, ◌∙◌, append-nil}
 use Rattle.std.specs.List.{flat_map}
 use Rattle.z_text.specs.declared.token.Token.{Token}
-use Rattle.z_operands.specs.Chain.{◌>>=◌}
+use Rattle.z_fields.specs.Chain.{◌>>=◌}
 use Rattle.z_operands.specs.Values.{one_in, two_in, operands_on}
-use Rattle.z_operands.specs.declared.fault.Kind.TheVariants.{BadDirective}
+use Rattle.z_fields.specs.declared.fault.Kind.TheVariants.{BadDirective}
 use Rattle.z_operands.specs.declared.operation.Operation.{Operation}
 use Rattle.z_operands.specs.declared.operation.Operation.TheVariants as operations
 use Rattle.tx_journal.specs.declared.image.Show.{Show}
-use Rattle.z_assemble.specs.Listing.{Plan, Task, operands_in}
-use Rattle.z_assemble.specs.Machine.{Machine, Known, tokens_in, operands_for}
+use Rattle.z_reading.specs.Listing.{Plan, Task, operands_in}
+use Rattle.z_reading.specs.Machine.{Machine, Known, tokens_in, operands_for}
 use Rattle.statement_laws.specs.Statements.{Statement, range_or_none, block_or_none, shows_with, shows_of}
 use Rattle.z_assemble.specs.Whole.{Second}
 use Rattle.statement_laws.proofs.Acted.{Walk}

@@ -12,27 +12,27 @@ use Rattle.z_text.specs.declared.token.Token.{Token}
 use Rattle.z_instr.specs.Layout.{format_length}
 use Rattle.z_instr.specs.Table.{Entry, entry_at}
 use Rattle.z_instr.specs.declared.instr.Fields.{Fields}
-use Rattle.z_operands.specs.Chain.{◌>>=◌}
+use Rattle.z_fields.specs.Chain.{◌>>=◌}
 use Rattle.z_operands.specs.Code.{code_of, code_for}
-use Rattle.z_operands.specs.Data.{data_of}
+use Rattle.z_fields.specs.Data.{data_of}
 use Rattle.z_operands.specs.Operands.{instruction_in}
 use Rattle.z_operands.specs.Operations.{size_of_row}
 use Rattle.z_operands.specs.Values.{operands_on}
-use Rattle.z_operands.specs.declared.fault.Kind.{Kind}
-use Rattle.z_operands.specs.declared.fault.Kind.TheVariants.{OutOfRange, BadDirective, WrongOperands}
+use Rattle.z_fields.specs.declared.fault.Kind.{Kind}
+use Rattle.z_fields.specs.declared.fault.Kind.TheVariants.{OutOfRange, BadDirective, WrongOperands}
 use Rattle.z_operands.specs.declared.operand.Operand.{Operand}
 use Rattle.z_operands.specs.declared.operation.Operation.{Operation}
 use Rattle.z_operands.specs.declared.operation.Operation.TheVariants.{Instruction, Org, Equ, Ds, Dc, Cpu, Reg}
 use Rattle.z_operands.specs.declared.operation.Operation.TheVariants.{Show, Tdb, Sched, Parm, Prefix, End}
-use Rattle.z_assemble.specs.Listing.{Plan, Task, labelled, value_on, placed, tasked, written, started}
-use Rattle.z_assemble.specs.Listing.{operands_in}
-use Rattle.z_assemble.specs.Listing.{org_line, equ_line, ds_line, dc_line, instruction_line, cpu_line}
-use Rattle.z_assemble.specs.Listing.{end_line}
-use Rattle.z_assemble.specs.Listing.{operation_line, is_doubleword, is_below, to_nat, field_behind}
-use Rattle.z_assemble.specs.Machine.{Machine, Known, task_gives, read_again, code_line, tokens_in}
-use Rattle.z_assemble.specs.Machine.{operands_for}
+use Rattle.z_reading.specs.Listing.{Plan, Task, labelled, value_on, placed, tasked, written, started}
+use Rattle.z_reading.specs.Listing.{operands_in}
+use Rattle.z_reading.specs.Listing.{org_line, equ_line, ds_line, dc_line, instruction_line, cpu_line}
+use Rattle.z_reading.specs.Listing.{end_line}
+use Rattle.z_reading.specs.Listing.{operation_line, is_doubleword, is_below, to_nat, field_behind}
+use Rattle.z_reading.specs.Machine.{Machine, Known, task_gives, read_again, code_line, tokens_in}
+use Rattle.z_reading.specs.Machine.{operands_for}
 use Rattle.statement_laws.specs.Statements.{Statement, Stand}
-use Rattle.z_assemble.specs.Text.{write_at}
+use Rattle.z_reading.specs.Text.{write_at}
 use Rattle.z_assemble.specs.Whole.{Second}
 use Rattle.statement_laws.proofs.Acted.{Walk, first_is, later_is, either_is, none_is}
 use Rattle.z_assemble.proofs.Codes.{size_in, task_writes, step_size, stays}

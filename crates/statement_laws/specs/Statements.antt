@@ -8,29 +8,29 @@ use Rattle.z_text.specs.Line.{span}
 use Rattle.z_text.specs.declared.token.Token.{Token}
 use Rattle.z_instr.specs.Reading.{modulo}
 use Rattle.z_instr.specs.Table.{entry_at}
-use Rattle.z_operands.specs.Chain.{◌>>=◌}
+use Rattle.z_fields.specs.Chain.{◌>>=◌}
 use Rattle.z_operands.specs.Code.{code_for}
-use Rattle.z_operands.specs.Data.{data_of}
+use Rattle.z_fields.specs.Data.{data_of}
 use Rattle.z_operands.specs.Operations.{operation_named}
-use Rattle.z_operands.specs.Pieces.{without_end, pieces_by, shortened}
-use Rattle.z_operands.specs.Schedule.{run_of, event_of}
+use Rattle.z_fields.specs.Pieces.{without_end, pieces_by, shortened}
+use Rattle.z_fields.specs.Schedule.{run_of, event_of}
 use Rattle.z_operands.specs.Values.{Table, operands_on, one_in, two_in, three_in}
-use Rattle.z_operands.specs.declared.fault.Kind.{Kind}
-use Rattle.z_operands.specs.declared.fault.Kind.TheVariants.{BadDirective, WrongOperands}
+use Rattle.z_fields.specs.declared.fault.Kind.{Kind}
+use Rattle.z_fields.specs.declared.fault.Kind.TheVariants.{BadDirective, WrongOperands}
 use Rattle.z_operands.specs.declared.operation.Operation.{Operation}
-use Rattle.z_operands.specs.declared.schedule.Run.{Run}
+use Rattle.z_fields.specs.declared.schedule.Run.{Run}
 use Rattle.tx_journal.specs.declared.events.Event.{Event}
 use Rattle.tx_journal.specs.declared.image.Show.{Show}
 use Rattle.tx_ladder.specs.Parameters.{Parameters}
 use Rattle.z_operands.specs.declared.operation.Operation.TheVariants.{Instruction, Equ, Ds, Dc, Cpu, Reg}
 use Rattle.z_operands.specs.declared.operation.Operation.TheVariants.{Sched, Parm, Prefix}
 use Rattle.z_operands.specs.declared.operation.Operation.TheVariants as operations
-use Rattle.z_assemble.specs.declared.parameter.Parameter.{Parameter}
-use Rattle.z_assemble.specs.declared.parameter.Parameter.TheVariants.{Reject, Firm, Late, Starve, Stop, Delay}
-use Rattle.z_assemble.specs.Listing.{Plan, line_gives, label_in, operands_in, operation_in, field_behind}
-use Rattle.z_assemble.specs.Listing.{to_nat}
-use Rattle.z_assemble.specs.Machine.{tokens_in, parameter_in, show}
-use Rattle.z_assemble.specs.Text.{lines_of, copies}
+use Rattle.z_reading.specs.declared.parameter.Parameter.{Parameter}
+use Rattle.z_reading.specs.declared.parameter.Parameter.TheVariants.{Reject, Firm, Late, Starve, Stop, Delay}
+use Rattle.z_reading.specs.Listing.{Plan, line_gives, label_in, operands_in, operation_in, field_behind}
+use Rattle.z_reading.specs.Listing.{to_nat}
+use Rattle.z_reading.specs.Machine.{tokens_in, parameter_in, show}
+use Rattle.z_reading.specs.Text.{lines_of, copies}
 use Rattle.z_assemble.specs.Whole.{blank}
 
 -- A line that says something: its number, its text, its location, the labels of the lines before it, its own

@@ -13,9 +13,9 @@ use Rattle.tx_journal.specs.Content.{Content}
 use Rattle.tx_journal.specs.Image.{IsImage, IsStarting, AreApart, IsShown, HasReading, HoldsText, HasFreeArea}
 use Rattle.tx_journal.specs.Image.{length_at, cpu_of_event}
 use Rattle.tx_ladder.specs.Parameters.{IsAllowed, usual}
-use Rattle.z_assemble.specs.Listing.{Plan, Task}
-use Rattle.z_assemble.specs.Machine.{Machine}
-use Rattle.z_assemble.specs.Text.{lines_of}
+use Rattle.z_reading.specs.Listing.{Plan, Task}
+use Rattle.z_reading.specs.Machine.{Machine}
+use Rattle.z_reading.specs.Text.{lines_of}
 use Rattle.z_assemble.specs.Whole.{Stands, ready, ready_for, known_in, image_of, places_from, pages_with}
 use Rattle.z_assemble.specs.Whole.{Second}
 use Rattle.z_operands.specs.declared.operation.Operation.{Operation}

@@ -2,7 +2,7 @@
 pub mod Loops
 pub mod Standing
 pub mod Says
-pub mod Lists
+pub mod Pages
 pub mod MarkedPlaces
 pub mod Passed
 pub mod Machines

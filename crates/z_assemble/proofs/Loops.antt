@@ -1,14 +1,14 @@
 -- Steps of the loops over lines.
 use Rattle.std.proofs.Common.{◌≡◌, ℕ, ◌+◌, ◌<◌, ◌≤◌, List, [], ◌∷◌, length, map, get_or, drop, Result, Ok}
 use Rattle.std.proofs.Common.{Err, refl, ap, sym, ◌∙◌, subst}
-use Rattle.z_operands.specs.Pieces.{pieces_by}
-use Rattle.z_operands.proofs.Loops.{goes_on, fails_here, is_over}
-use Rattle.z_operands.proofs.Pieces.{pieces_none}
-use Rattle.z_assemble.specs.Listing.{Plan, task_in}
-use Rattle.z_assemble.specs.Machine.{Machine, Known}
+use Rattle.z_fields.specs.Pieces.{pieces_by}
+use Rattle.z_fields.proofs.Loops.{goes_on, fails_here, is_over}
+use Rattle.z_fields.proofs.Pieces.{pieces_none}
+use Rattle.z_reading.specs.Listing.{Plan, task_in}
+use Rattle.z_reading.specs.Machine.{Machine, Known}
 use Rattle.z_assemble.specs.Steps.{Passes}
 use Rattle.z_assemble.specs.Whole.{first_on, first_over, second_on, second_over, ◌>>=◌}
-use Rattle.z_assemble.specs.declared.kept.Kept.{Kept}
+use Rattle.z_reading.specs.declared.kept.Kept.{Kept}
 use Rattle.z_assemble.specs.declared.fault.AssembleFault.{AssembleFault}
 use Rattle.z_assemble.specs.declared.fault.AssembleFault.TheVariants as ends
 use Rattle.z_assemble.specs.declared.fault.ListingFault.{ListingFault}

@@ -4,7 +4,7 @@ use Rattle.std.proofs.Common.{take, drop, replicate, refl, ap, ◌∙◌, arith,
 use Rattle.std.proofs.lemmas.List.{length-take-le, length-drop, length-append, get_or-take, get_or-drop}
 use Rattle.std.proofs.lemmas.List.{take-append-drop, length-replicate}
 use Rattle.std.proofs.lemmas.Bool.{cases_lt}
-use Rattle.z_assemble.specs.Text.{write_at, copies}
+use Rattle.z_reading.specs.Text.{write_at, copies}
 
 -- ---- elements of two lists together
 

@@ -1,8 +1,8 @@
 -- What a test that was passed says.
 use Rattle.std.proofs.Common.{◌≡◌, Bool, true, false, not, IsTrue, Result, Ok, Err, refl}
 use Rattle.std.specs.Prelude.{if◌then◌else◌}
-use Rattle.z_operands.specs.Chain.{◌>>=◌}
-use Rattle.z_operands.specs.declared.fault.Kind.{Kind}
+use Rattle.z_fields.specs.Chain.{◌>>=◌}
+use Rattle.z_fields.specs.declared.fault.Kind.{Kind}
 
 pub then_ok : {A B : Type 0} (o : Result A Kind) (f : A → Result B Kind) (b : B) → (o >>= f) ≡ Ok b →
     (a : A) × (o ≡ Ok a) × (f a ≡ Ok b)

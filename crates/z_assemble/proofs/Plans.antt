@@ -19,20 +19,20 @@ use Rattle.z_instr.specs.Table.{Entry, table, entry_at}
 use Rattle.z_instr.specs.declared.format.Format.{Format}
 use Rattle.z_instr.specs.declared.format.Format.TheVariants.{RR, I}
 use Rattle.z_instr.specs.declared.table.TheConstants.{ROWS}
-use Rattle.z_operands.specs.Chain.{◌>>=◌}
-use Rattle.z_operands.specs.Data.{data_of}
-use Rattle.z_assemble.specs.Listing.{Plan, Task, labelled, has_room, is_taken, placed, tasked, value_on}
-use Rattle.z_assemble.specs.Listing.{org_line, equ_line, ds_line, written, dc_line, started, instruction_line}
-use Rattle.z_assemble.specs.Listing.{cpu_line, end_line, operation_line, named_line, said_line, line_gives}
-use Rattle.z_assemble.specs.Listing.{is_below, to_nat, by_kind, operation_in, is_bad_label, is_defined}
-use Rattle.z_assemble.specs.Listing.{label_in, operands_in, field_behind}
+use Rattle.z_fields.specs.Chain.{◌>>=◌}
+use Rattle.z_fields.specs.Data.{data_of}
+use Rattle.z_reading.specs.Listing.{Plan, Task, labelled, has_room, is_taken, placed, tasked, value_on}
+use Rattle.z_reading.specs.Listing.{org_line, equ_line, ds_line, written, dc_line, started, instruction_line}
+use Rattle.z_reading.specs.Listing.{cpu_line, end_line, operation_line, named_line, said_line, line_gives}
+use Rattle.z_reading.specs.Listing.{is_below, to_nat, by_kind, operation_in, is_bad_label, is_defined}
+use Rattle.z_reading.specs.Listing.{label_in, operands_in, field_behind}
 use Rattle.z_operands.specs.Operations.{operation_named, directive_named, branch_mask, row_named, row_from}
 use Rattle.z_operands.specs.Operations.{instruction, extended, or_else, size_of_row}
-use Rattle.z_operands.specs.Pieces.{without_end}
-use Rattle.z_assemble.specs.Text.{write_at, cut, copies}
+use Rattle.z_fields.specs.Pieces.{without_end}
+use Rattle.z_reading.specs.Text.{write_at, cut, copies}
 use Rattle.z_assemble.specs.Whole.{First, blank}
-use Rattle.z_operands.specs.declared.fault.Kind.{Kind}
-use Rattle.z_operands.specs.declared.fault.Kind.TheVariants.{OutOfRange, Overlap, BadDirective, DoubleLabel}
+use Rattle.z_fields.specs.declared.fault.Kind.{Kind}
+use Rattle.z_fields.specs.declared.fault.Kind.TheVariants.{OutOfRange, Overlap, BadDirective, DoubleLabel}
 use Rattle.z_operands.specs.declared.operation.Operation.{Operation}
 use Rattle.z_operands.specs.declared.operation.Operation.TheVariants.{Instruction, Org, Equ, Ds, Dc, Cpu, Reg}
 use Rattle.z_operands.specs.declared.operation.Operation.TheVariants.{Show, Tdb, Sched, Parm, Prefix, End}

@@ -3,18 +3,18 @@ use Rattle.std.proofs.Common.{◌≡◌, ℕ, ◌+◌, Bool, true, false, List, 
 use Rattle.std.proofs.Common.{inl, inr, refl, sym, ap, ◌∙◌, subst, nat_lt, ◌==◌, if◌then◌else◌, ◌≤◌, le-ltb}
 use Rattle.std.specs.Prelude.{IfOk, IfErr}
 use Rattle.tx_journal.specs.Content.{Content}
-use Rattle.z_assemble.specs.Listing.{Plan, Task, line_gives}
-use Rattle.z_assemble.specs.Machine.{Machine, Known, task_gives}
-use Rattle.z_operands.specs.Pieces.{without_end}
-use Rattle.z_assemble.specs.Text.{lines_of}
+use Rattle.z_reading.specs.Listing.{Plan, Task, line_gives}
+use Rattle.z_reading.specs.Machine.{Machine, Known, task_gives}
+use Rattle.z_fields.specs.Pieces.{without_end}
+use Rattle.z_reading.specs.Text.{lines_of}
 use Rattle.z_assemble.specs.Whole.{◌>>=◌, on, fault_at, blank, ready, known_in, image_of, first_over}
 use Rattle.z_assemble.specs.Whole.{second_over, finished, after_first, over_lines, assembled, First, Second}
 use Rattle.z_assemble.specs.Whole.{FaultInFirst, FaultInSecond, Stands, FirstFault, too_long, too_many}
 use Rattle.z_assemble.specs.Whole.{in_first, in_second, no_cpu, IsOutcome, HasFault}
 use Rattle.z_assemble.specs.declared.fault.AssembleFault.{AssembleFault}
 use Rattle.z_assemble.specs.declared.fault.AssembleFault.TheVariants as ends
-use Rattle.z_operands.specs.declared.fault.Kind.{Kind}
-use Rattle.z_operands.specs.declared.fault.Kind.TheVariants.{ListingTooLong, TooManyLines, NoCpu}
+use Rattle.z_fields.specs.declared.fault.Kind.{Kind}
+use Rattle.z_fields.specs.declared.fault.Kind.TheVariants.{ListingTooLong, TooManyLines, NoCpu}
 use Rattle.z_assemble.specs.declared.fault.ListingFault.{ListingFault}
 
 -- ---- the first reading

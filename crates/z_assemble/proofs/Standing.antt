@@ -4,8 +4,8 @@ use Rattle.std.proofs.Common.{sym, ap, ◌∙◌, arith, append_assoc, append-ni
 use Rattle.std.specs.Prelude.{if◌then◌else◌}
 use Rattle.std.proofs.Math.Seq.{take-append_seam, drop-append_seam}
 use Rattle.std.proofs.lemmas.List.{take-append-drop, drop-drop}
-use Rattle.z_operands.specs.Pieces.{ends_with, shortened, without_return, without_end}
-use Rattle.z_assemble.specs.Kept.{IsThere}
+use Rattle.z_fields.specs.Pieces.{ends_with, shortened, without_return, without_end}
+use Rattle.z_reading.specs.Kept.{IsThere}
 
 -- the text begins with the part
 abbrev IsFront : List ℕ → List ℕ → Type 0

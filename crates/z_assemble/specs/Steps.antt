@@ -1,7 +1,7 @@
 -- What a pass over the lines answers.
 use Rattle.std.specs.Prelude.{◌≡◌, ℕ, Result, Ok, Err}
-use Rattle.z_operands.specs.declared.fault.LineFault.{LineFault}
-use Rattle.z_operands.specs.declared.fault.LineFault.TheVariants as stops
+use Rattle.z_fields.specs.declared.fault.LineFault.{LineFault}
+use Rattle.z_fields.specs.declared.fault.LineFault.TheVariants as stops
 use Rattle.z_assemble.specs.Whole.{fault_at}
 use Rattle.z_assemble.specs.declared.fault.AssembleFault.{AssembleFault}
 use Rattle.z_assemble.specs.declared.fault.AssembleFault.TheVariants as ends

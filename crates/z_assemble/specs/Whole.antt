@@ -7,16 +7,16 @@ use Rattle.z_regs.specs.Cpu.{started}
 use Rattle.tx_journal.specs.Content.{Content}
 use Rattle.tx_journal.specs.Image.{length_at}
 use Rattle.tx_ladder.specs.Parameters.{usual}
-use Rattle.z_operands.specs.Kinds.{number_of}
-use Rattle.z_assemble.specs.Listing.{Plan, Task, line_gives}
-use Rattle.z_assemble.specs.Machine.{Machine, Known, task_gives}
-use Rattle.z_operands.specs.Pieces.{without_end}
-use Rattle.z_assemble.specs.Text.{lines_of, copies}
+use Rattle.z_fields.specs.Kinds.{number_of}
+use Rattle.z_reading.specs.Listing.{Plan, Task, line_gives}
+use Rattle.z_reading.specs.Machine.{Machine, Known, task_gives}
+use Rattle.z_fields.specs.Pieces.{without_end}
+use Rattle.z_reading.specs.Text.{lines_of, copies}
 use Rattle.z_operands.specs.Values.{Table}
 use Rattle.z_assemble.specs.declared.fault.AssembleFault.{AssembleFault}
 use Rattle.z_assemble.specs.declared.fault.AssembleFault.TheVariants as ends
-use Rattle.z_operands.specs.declared.fault.Kind.{Kind}
-use Rattle.z_operands.specs.declared.fault.Kind.TheVariants.{ListingTooLong, TooManyLines, NoCpu}
+use Rattle.z_fields.specs.declared.fault.Kind.{Kind}
+use Rattle.z_fields.specs.declared.fault.Kind.TheVariants.{ListingTooLong, TooManyLines, NoCpu}
 use Rattle.z_assemble.specs.declared.fault.ListingFault.{ListingFault}
 
 abbrev pub fault_at : ℕ → Kind → ListingFault

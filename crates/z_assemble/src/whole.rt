@@ -7,32 +7,28 @@ ghost use Rattle.z_regs.specs.Cpu.{cpu_of, started};
 ghost use Rattle.z_text.specs.Labels.{value_in};
 ghost use Rattle.tx_journal.specs.Content.{content};
 ghost use Rattle.tx_journal.specs.Image.{length_at};
-ghost use Rattle.z_operands.specs.Pieces.{pieces_by};
-ghost use Rattle.z_assemble.specs.Listing.{plan_of, task_of, tasks_of, line_gives};
-ghost use Rattle.z_assemble.specs.Kept.{IsThere};
-ghost use Rattle.z_assemble.specs.Setup.{machine_of, known_of};
+ghost use Rattle.z_fields.specs.Pieces.{pieces_by};
+ghost use Rattle.z_reading.specs.Listing.{plan_of, task_of, tasks_of, line_gives};
+ghost use Rattle.z_reading.specs.Kept.{IsThere};
+ghost use Rattle.z_reading.specs.Setup.{machine_of, known_of};
 ghost use Rattle.z_assemble.specs.Steps.{Passes, on_line};
-ghost use Rattle.z_assemble.specs.Text.{lines_of, copies};
+ghost use Rattle.z_reading.specs.Text.{lines_of, copies};
 ghost use Rattle.z_assemble.specs.Whole.{on, first_on, first_over, second_on, second_over, blank, no_label};
 ghost use Rattle.z_assemble.specs.Whole.{with_page, with_pages, pages_with};
 ghost use Rattle.z_assemble.specs.Whole.{image_of, finished, after_first, over_lines, assembled, Stands};
 ghost use Rattle.z_assemble.specs.Whole.{HasFault, IsOutcome, fault_at, ready_for};
 
-use crate::draft::{Draft, FIRST_LOCATION, SIZE};
 use crate::fault::{AssembleFault, ListingFault};
-use crate::first::read_first;
-use crate::kept::{TextLine, Work};
 use crate::parts::Parts;
 use crate::places::places_of;
-use crate::reading::Reading;
-use crate::second::read_second;
-use crate::setup::Setup;
-use crate::works::Works;
 use std::alloc::{AllocError, Global};
 use tx_journal::Image;
 use tx_ladder::Parms;
 use z_decode::length_of;
-use z_operands::{Kind, LineFault, all_events, count_pieces, first_piece, without_end};
+use z_fields::{Kind, LineFault, all_events, count_pieces, first_piece, without_end};
+use z_reading::{
+    Draft, FIRST_LOCATION, Reading, SIZE, Setup, TextLine, Work, Works, read_first, read_second,
+};
 use z_regs::{CpuImage, Guard};
 use z_text::{Labels, key_in_front};
 
@@ -98,7 +94,7 @@ fn first_over(alloc: Global, draft: &mut Draft) -> Result<(), AssembleFault>
     Ok(())
 }
 
-#[tactic(auto, unfolding(crate::specs::Text::copies))]
+#[tactic(auto, unfolding(z_reading::specs::Text::copies))]
 fn zeros(alloc: Global, count: usize) -> Result<Vec<u8>, AllocError>
     ensures is { IfOk result (λ v. v.items ≡ copies count 0) }
     ensures len { IfOk result (λ v. length v.items ≡ count) }
@@ -106,7 +102,7 @@ fn zeros(alloc: Global, count: usize) -> Result<Vec<u8>, AllocError>
     vec![in alloc; 0; count]
 }
 
-#[tactic(auto, unfolding(crate::specs::Text::copies))]
+#[tactic(auto, unfolding(z_reading::specs::Text::copies))]
 fn unmarked(alloc: Global, count: usize) -> Result<Vec<bool>, AllocError>
     ensures is { IfOk result (λ v. v.items ≡ copies count false) }
     ensures len { IfOk result (λ v. length v.items ≡ count) }
@@ -231,7 +227,7 @@ fn add_pages(guard: &mut Guard, storage: &[u8], start: u32)
 }
 
 /// The pages that hold bytes of instructions.
-#[tactic(auto, using(crate::proofs::Lists::page_steps))]
+#[tactic(auto, using(crate::proofs::Pages::page_steps))]
 fn text_pages(storage: &[u8], starts: &[u32]) -> Guard
     requires size { length storage.now ≡ 1048576 }
     requires inside { All (λ start. start < 1048576) starts.now }
@@ -326,7 +322,7 @@ fn over_lines(alloc: Global, text: &[u8]) -> Result<Parts, AssembleFault>
     Ok(image(alloc, &begins, setup)?)
 }
 
-#[tactic(auto, unfolding(crate::specs::Whole::assembled, crate::specs::Text::lines_of))]
+#[tactic(auto, unfolding(crate::specs::Whole::assembled, z_reading::specs::Text::lines_of))]
 fn assembled(alloc: Global, text: &[u8]) -> Result<Parts, AssembleFault>
     ensures { IsOutcome result (assembled text.now) }
 {

@@ -21,7 +21,7 @@ use Rattle.z_operands.specs.declared.operand.Atom.{Atom}
 use Rattle.z_operands.specs.declared.operand.Atom.TheVariants.{Value}
 use Rattle.z_operands.specs.declared.operand.Operand.{Operand}
 use Rattle.z_operands.specs.declared.operand.Piece.{Piece}
-use Rattle.z_operands.proofs.Loops.{drop_here}
+use Rattle.z_fields.proofs.Loops.{drop_here}
 
 -- ---- the parts of tokens
 

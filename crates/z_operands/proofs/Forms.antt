@@ -7,7 +7,7 @@ use Rattle.z_instr.specs.declared.instr.Fields.{Fields}
 use Rattle.z_operands.specs.Operands.{takes, has_form, with_slot, fields_from, ◌>>=◌}
 use Rattle.z_operands.specs.declared.operand.Operand.{Operand}
 use Rattle.z_operands.specs.declared.operand.Slot.{Slot}
-use Rattle.z_operands.proofs.Loops.{drop_here}
+use Rattle.z_fields.proofs.Loops.{drop_here}
 
 form_here : (ss : List Slot) (os : List Operand) (i : ℕ) (s : Slot) (o : Operand) → i < length ss →
     i < length os →

@@ -1,11 +1,7 @@
--- Lemmas on operations, operands and pieces of text.
-pub mod Numbers
-pub mod Loops
-pub mod Pieces
+-- Lemmas on operations and operands.
 pub mod Atoms
-pub mod Bytes
 pub mod Forms
 pub mod Rows
 pub mod Branches
+pub mod Directives
 pub mod Spelled
-pub mod SmallEvents

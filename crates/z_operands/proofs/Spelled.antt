@@ -6,10 +6,10 @@ use Rattle.z_instr.specs.Table.{entry_at}
 use Rattle.z_instr.specs.declared.instr.Fields.{Fields}
 use Rattle.z_instr.specs.declared.instr.Instr.{Instr}
 use Rattle.z_instr.specs.declared.op.Op.{Op}
-use Rattle.z_operands.specs.Chain.{◌>>=◌}
+use Rattle.z_fields.specs.Chain.{◌>>=◌}
 use Rattle.z_operands.specs.Code.{code_of}
 use Rattle.z_operands.specs.Operands.{allowed, are_allowed}
-use Rattle.z_operands.specs.declared.fault.Kind.TheVariants.{OutOfRange}
+use Rattle.z_fields.specs.declared.fault.Kind.TheVariants.{OutOfRange}
 
 abbrev fields : ℕ → ℕ → ℕ → ℕ → ℕ → ℤ → ℕ → ℤ → ℤ → ℕ → Fields
 fields r1 r2 r3 x b d b2 d2 imm mask = record

@@ -23,8 +23,8 @@ use Rattle.z_operands.specs.declared.operand.Slot.{Slot}
 use Rattle.z_operands.specs.declared.operand.Slot.TheVariants.{First, Second, Third, Mask, Immediate}
 use Rattle.z_operands.specs.declared.operand.Slot.TheVariants.{Compared, Target, Indexed, Based, Counted}
 use Rattle.z_operands.specs.declared.operand.Slot.TheVariants.{SecondBased}
-use Rattle.z_operands.specs.declared.fault.Kind.{Kind}
-use Rattle.z_operands.specs.declared.fault.Kind.TheVariants.{WrongOperands, OutOfRange, UnknownLabel}
+use Rattle.z_fields.specs.declared.fault.Kind.{Kind}
+use Rattle.z_fields.specs.declared.fault.Kind.TheVariants.{WrongOperands, OutOfRange, UnknownLabel}
 
 -- ---- parts
 

@@ -23,6 +23,25 @@ directive_named name =
     else (if bytes_eq name (codes "PREFIX") then Some Prefix
     else (if bytes_eq name (codes "END") then Some End else None)))))))))))
 
+-- those that place bytes, or say where
+unfoldable pub placing_named : List ℕ → Option Operation
+placing_named name =
+    if bytes_eq name (codes "ORG") then Some Org
+    else (if bytes_eq name (codes "EQU") then Some Equ
+    else (if bytes_eq name (codes "DS") then Some Ds
+    else (if bytes_eq name (codes "DC") then Some Dc else None)))
+
+-- those that say something of the machine, but for PREFIX
+unfoldable pub machine_named : List ℕ → Option Operation
+machine_named name =
+    if bytes_eq name (codes "CPU") then Some Cpu
+    else (if bytes_eq name (codes "REG") then Some Reg
+    else (if bytes_eq name (codes "SHOW") then Some Show
+    else (if bytes_eq name (codes "TDB") then Some Tdb
+    else (if bytes_eq name (codes "SCHED") then Some Sched
+    else (if bytes_eq name (codes "PARM") then Some Parm
+    else (if bytes_eq name (codes "END") then Some End else None))))))
+
 -- the masks of the extended mnemonics, which are branches on condition to a target
 unfoldable pub branch_mask : List ℕ → Option ℕ
 branch_mask name =

@@ -9,8 +9,8 @@ use Rattle.z_text.specs.declared.token.Token.{Token}
 use Rattle.z_text.specs.declared.token.TokenKind.{TokenKind}
 use Rattle.z_text.specs.declared.token.TokenKind.TheVariants.{Name, Number, Hex, Star}
 use Rattle.z_operands.specs.Operands.{operands_of}
-use Rattle.z_operands.specs.declared.fault.Kind.{Kind}
-use Rattle.z_operands.specs.declared.fault.Kind.TheVariants.{BadDirective, UnknownLabel}
+use Rattle.z_fields.specs.declared.fault.Kind.{Kind}
+use Rattle.z_fields.specs.declared.fault.Kind.TheVariants.{BadDirective, UnknownLabel}
 use Rattle.z_operands.specs.declared.operand.Operand.{Operand}
 use Rattle.z_operands.specs.declared.operand.Operand.TheVariants.{Plain}
 

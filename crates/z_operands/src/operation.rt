@@ -1,7 +1,8 @@
 //! Operations: instructions and directives.
 ghost use Rattle.std.specs.Prelude.{◌≡◌, ◌<◌, ◌≤◌, IfSome, option_map, codes};
 ghost use Rattle.z_instr.specs.declared.table.TheConstants.{ROWS};
-ghost use Rattle.z_operands.specs.Operations.{directive_named, branch_mask, row_named, instruction, extended};
+ghost use Rattle.z_operands.specs.Operations.{placing_named, machine_named, directive_named, branch_mask, row_named};
+ghost use Rattle.z_operands.specs.Operations.{instruction, extended};
 ghost use Rattle.z_operands.specs.Operations.{or_else, operation_named, size_of_row};
 ghost use Rattle.z_operands.specs.Sizes.{IsKnown, IsMask};
 
@@ -41,19 +42,28 @@ pub enum Operation {
     End,
 }
 
-#[tactic(auto, unfolding(crate::specs::Operations::directive_named))]
-fn directive_named(name: &[u8]) -> Option<Operation>
-    ensures is { result ≡ directive_named name.now }
+/// The directive of a name that places bytes, or says where.
+#[tactic(auto, unfolding(crate::specs::Operations::placing_named))]
+fn placing_named(name: &[u8]) -> Option<Operation>
+    ensures is { result ≡ placing_named name.now }
     ensures known { IfSome result IsKnown }
 {
-    if name == b"PREFIX".as_slice() {
-        return Some(Operation::Prefix);
-    }
     match name {
         b"ORG" => Some(Operation::Org),
         b"EQU" => Some(Operation::Equ),
         b"DS" => Some(Operation::Ds),
         b"DC" => Some(Operation::Dc),
+        _ => None,
+    }
+}
+
+/// The directive of a name that says something of the machine.
+#[tactic(auto, unfolding(crate::specs::Operations::machine_named))]
+fn machine_named(name: &[u8]) -> Option<Operation>
+    ensures is { result ≡ machine_named name.now }
+    ensures known { IfSome result IsKnown }
+{
+    match name {
         b"CPU" => Some(Operation::Cpu),
         b"REG" => Some(Operation::Reg),
         b"SHOW" => Some(Operation::Show),
@@ -63,6 +73,19 @@ fn directive_named(name: &[u8]) -> Option<Operation>
         b"END" => Some(Operation::End),
         _ => None,
     }
+}
+
+fn directive_named(name: &[u8]) -> Option<Operation>
+    ensures is { result ≡ directive_named name.now }
+    ensures known { IfSome result IsKnown }
+{
+    if name == b"PREFIX".as_slice() {
+        return Some(Operation::Prefix);
+    }
+    if let Some(directive) = placing_named(name) {
+        return Some(directive);
+    }
+    machine_named(name)
 }
 
 /// The mask of an extended mnemonic that branches to a target.

@@ -6,12 +6,12 @@ ghost use Rattle.z_text.specs.Expressions.{expression_of};
 ghost use Rattle.z_text.specs.Tokens.{AreTokensIn};
 ghost use Rattle.z_operands.specs.Operands.{mark_of, atom_at, atom_size, atoms_from, piece_with, piece_at};
 ghost use Rattle.z_operands.specs.Operands.{goes_on_rightly, operands_from, operands_of};
-ghost use Rattle.z_operands.specs.Steps.{Answers};
+ghost use Rattle.z_fields.specs.Steps.{Answers};
 ghost use Rattle.z_operands.specs.Values.{value_in_line, value_there, one_in, two_in, three_in, operands_on};
 
-use crate::fault::{Kind, LineFault};
 use crate::operand::{Atom, Operand, Piece};
 use std::alloc::{AllocError, Global};
+use z_fields::{Kind, LineFault};
 use z_text::{Labels, Token, TokenKind, expression, expression_end};
 
 fn mark_of(kind: TokenKind) -> Atom

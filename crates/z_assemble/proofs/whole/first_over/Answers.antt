@@ -1,8 +1,8 @@
 use Rattle.std.proofs.Common.{◌≡◌, ◌+◌, ◌-◌, length, Ok, Err, ap, arith, sym, ◌∙◌, subst}
 use Rattle.std.proofs.lemmas.Result.{err_from_is_err_and}
-use Rattle.z_operands.specs.Pieces.{pieces_by}
-use Rattle.z_assemble.specs.Kept.{IsThere}
-use Rattle.z_assemble.specs.Listing.{plan_of, line_gives}
+use Rattle.z_fields.specs.Pieces.{pieces_by}
+use Rattle.z_reading.specs.Kept.{IsThere}
+use Rattle.z_reading.specs.Listing.{plan_of, line_gives}
 use Rattle.z_assemble.specs.Steps.{Passes}
 use Rattle.z_assemble.specs.Whole.{on}
 use Rattle.z_assemble.proofs.Loops.{line_goes, line_fails, lines_end}

@@ -1,6 +1,6 @@
 use Rattle.std.proofs.Common.{◌≡◌, ◌≤◌, ◌+◌, ◌-◌, length, drop}
-use Rattle.z_operands.specs.Pieces.{pieces_by}
-use Rattle.z_assemble.specs.Listing.{plan_of}
+use Rattle.z_fields.specs.Pieces.{pieces_by}
+use Rattle.z_reading.specs.Listing.{plan_of}
 use Rattle.z_assemble.specs.Whole.{first_over}
 use Rattle.z_assemble.proofs.whole.first_over.Given as goal
 

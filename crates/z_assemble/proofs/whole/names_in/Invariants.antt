@@ -1,5 +1,5 @@
 use Rattle.std.proofs.Common.{◌+◌, ◌≤◌, length}
-use Rattle.z_operands.specs.Pieces.{pieces_by}
+use Rattle.z_fields.specs.Pieces.{pieces_by}
 use Rattle.z_assemble.proofs.whole.names_in.Given as goal
 
 abbrev pub invariant-loop-rest : goal.invariant-loop-rest

@@ -1,8 +1,8 @@
 use Rattle.std.proofs.Common.{◌≡◌, ◌==◌, false, Ok, subst, arith}
 use Rattle.std.proofs.lemmas.Bool.Decides.{nat_tests}
-use Rattle.z_assemble.specs.Listing.{plan_of}
-use Rattle.z_assemble.specs.Setup.{machine_of}
-use Rattle.z_operands.specs.Pieces.{pieces_by}
+use Rattle.z_reading.specs.Listing.{plan_of}
+use Rattle.z_reading.specs.Setup.{machine_of}
+use Rattle.z_fields.specs.Pieces.{pieces_by}
 use Rattle.z_assemble.specs.Whole.{first_over}
 use Rattle.z_assemble.proofs.Says.{lines_stand}
 use Rattle.z_assemble.proofs.whole.over_lines.Goals as goal

@@ -1,7 +1,0 @@
--- The event of the byte.
-use Rattle.std.proofs.Common.{refl}
-use Rattle.z_operands.proofs.SmallEvents.{turn_in}
-use Rattle.z_operands.proofs.small_event.SmallEvent.turn.Goals as goal
-
-pub returns : goal.returns
-returns c = turn_in _ c.args.cpu refl c.requires
