@@ -1,10 +1,10 @@
 -- One instruction on two storages, one more that is made away, so many, and what they leave; turns of the machine; the
 -- same for a CPU that has stored other bytes; and what is brought home.
 mod Touching
-mod Stores
+pub mod Stores
 mod OneMore
-mod Along
-mod Leaving
+pub mod Along
+pub mod Leaving
 mod OneTurn
 mod Turning
 mod Strangers

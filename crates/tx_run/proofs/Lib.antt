@@ -1,0 +1,13 @@
+-- Lemmas of the bytes that a run touches, and of the lines that it has.
+pub mod BytesTouched
+pub mod MarksNeeded
+pub mod MarksEach
+pub mod MarksSmall
+pub mod Beginning
+pub mod Again
+pub mod Frame
+pub mod Making
+pub mod Starting
+pub mod Nexts
+pub mod BytesLined
+pub mod Lined

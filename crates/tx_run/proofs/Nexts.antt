@@ -1,0 +1,61 @@
+-- The next instruction, where it is known to go away.
+use Rattle.std.proofs.Common.{◌≡◌, ℕ, true, List, refl, sym, ap, subst, ◌∙◌}
+use Rattle.z_regs.specs.declared.ranges.Range.{Range}
+use Rattle.z_instr.specs.declared.instr.Instr.{Instr}
+use Rattle.tx_serial.specs.Fate.{Fate, Goes, Ends, Stops}
+use Rattle.tx_serial.specs.Flat.{Storage}
+use Rattle.tx_progress.specs.Doing.{executed}
+use Rattle.tx_progress.specs.Progress.{Progress}
+use Rattle.std.proofs.lemmas.Bool.{true≢false}
+use Rattle.tx_progress.specs.declared.done.Done.{Done}
+use Rattle.tx_progress.specs.declared.done.Done.TheVariants.{Stepped, Began, Paused, Committed, Interrupted, Ended}
+use Rattle.tx_lending.specs.Away.{is_plain}
+use Rattle.tx_run.specs.Made.{Made, now, next_fate, NextGoesAway, IsWithin, is_stepped}
+use Rattle.tx_run.proofs.Frame.{IsReachedBy}
+
+pub within-of : (text : List ℕ) (s : Storage) (q : Progress) (need : List Range) → IsReachedBy text s q need
+    → IsWithin s q need
+within-of text s q need h = record {
+  first = h.first;
+  fetched = h.fetched;
+  accessible = h.accessible;
+  inside = h.inside;
+  few = h.few;
+}
+
+instruction_in : Instr → Fate → Instr
+instruction_in d (Goes i ranges) = i
+instruction_in d (Ends why) = d
+instruction_in d (Stops e) = d
+
+ranges_in : List Range → Fate → List Range
+ranges_in d (Goes i ranges) = ranges
+ranges_in d (Ends why) = d
+ranges_in d (Stops e) = d
+
+-- it may be made away, and completes
+pub record IsAway (i : Instr) (ranges : List Range) (m : Made) : Type 0 where
+  pub plain : is_plain i ≡ true
+  pub told : (executed i ranges (now m)).told ≡ Stepped
+
+pub away-is : (text : List ℕ) (m : Made) (i : Instr) (ranges : List Range) → NextGoesAway text m
+    → next_fate text m ≡ Goes i ranges → IsAway i ranges m
+unfolding instruction_in ranges_in
+away-is text m i ranges next goes =
+    let away = next.away in
+    let both : Goes away.instr away.ranges ≡ Goes i ranges = sym away.goes ∙ goes in
+    let same : away.instr ≡ i = ap (instruction_in i) both in
+    let rest : away.ranges ≡ ranges = ap (ranges_in ranges) both in
+    record {
+      plain = subst (λ x. is_plain x ≡ true) same away.plain;
+      told = subst (λ rs. (executed i rs (now m)).told ≡ Stepped) rest
+          (subst (λ x. (executed x away.ranges (now m)).told ≡ Stepped) same away.told);
+    }
+
+pub stepped-is : (d : Done) → is_stepped d ≡ true → d ≡ Stepped
+stepped-is Stepped h = refl
+stepped-is Began h = absurd (true≢false (sym h))
+stepped-is (Paused turns) h = absurd (true≢false (sym h))
+stepped-is (Committed count) h = absurd (true≢false (sym h))
+stepped-is (Interrupted code) h = absurd (true≢false (sym h))
+stepped-is (Ended why) h = absurd (true≢false (sym h))

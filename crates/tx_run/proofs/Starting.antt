@@ -1,0 +1,52 @@
+-- What an instruction leaves of the bytes before.
+use Rattle.std.proofs.Common.{◌≡◌, ℕ, ◌<◌, Bool, true, false, List, refl, sym, ap, ◌∙◌, length}
+use Rattle.std.specs.Prelude.{if◌then◌else◌}
+use Rattle.std.specs.List.{slice_index_or}
+use Rattle.std.proofs.lemmas.Bool.{true≢false}
+use Rattle.z_regs.specs.declared.ranges.Range.{Range}
+use Rattle.z_instr.specs.declared.instr.Instr.{Instr}
+use Rattle.tx_progress.specs.Doing.{executed}
+use Rattle.tx_progress.specs.Local.{Beside}
+use Rattle.tx_progress.specs.Progress.{is_live}
+use Rattle.tx_cpu.specs.Parts.{local_of}
+use Rattle.tx_lending.specs.Away.{is_plain}
+use Rattle.tx_lending.specs.Places.{is_among, operand_places}
+use Rattle.tx_run.specs.Own.{is_touched, bytes_at}
+use Rattle.tx_run.specs.Made.{Made, now, StartsAlike}
+use Rattle.tx_run.proofs.Frame.{executed-elsewhere}
+
+-- a place that is not marked is not among those that are
+unmarked : (x y : Bool) → (x ≡ true → y ≡ true) → y ≡ false → x ≡ false
+unmarked true y h e = absurd (true≢false (sym (h refl) ∙ e))
+unmarked false y h e = refl
+
+-- the bytes before are as they were where all that is changed is marked
+given-stays : (marks : List Bool) (before old new : List ℕ)
+    → ((a : ℕ) → slice_index_or marks a false ≡ false → bytes_at new a ≡ bytes_at old a) → (a : ℕ)
+    → (if slice_index_or marks a false then bytes_at before a else bytes_at new a)
+    ≡ (if slice_index_or marks a false then bytes_at before a else bytes_at old a)
+given-stays marks before old new same a = by (slice_index_or marks a false) (same a)
+  where
+    by : (b : Bool) → (b ≡ false → bytes_at new a ≡ bytes_at old a)
+        → (if b then bytes_at before a else bytes_at new a) ≡ (if b then bytes_at before a else bytes_at old a)
+    by true h = refl
+    by false h = h refl
+
+pub executed-starts : (m other : Made) (i : Instr) (ranges : List Range) → other.start ≡ m.start
+    → other.own.before ≡ m.own.before → other.own.touched ≡ m.own.touched
+    → now other ≡ (executed i ranges (now m)).after → is_plain i ≡ true
+    → (is_live (local_of m.reached).attempt ≡ true → 0 < length (local_of m.reached).attempt.nest)
+    → ((a : ℕ) → is_among (operand_places ranges (local_of m.reached).attempt) a ≡ true → is_touched m.own a ≡ true)
+    → StartsAlike m other
+executed-starts m other i ranges start before marks after plain opens marked = record {
+  start = start;
+  given = λ a.
+      ap (λ (x : List Bool). if slice_index_or x a false then bytes_at other.own.before a else bytes_at other.own.now a)
+      marks
+      ∙ ap (λ (x : List ℕ). if is_touched m.own a then bytes_at x a else bytes_at other.own.now a) before
+      ∙ given-stays m.own.touched m.own.before m.own.now other.own.now (λ place bare.
+      ap (λ (b : Beside). b.storage place) after
+      ∙ executed-elsewhere i ranges (now m) place plain opens
+      (unmarked (is_among (operand_places ranges (local_of m.reached).attempt) place) (is_touched m.own place)
+      (marked place) bare)) a;
+}

@@ -1,0 +1,216 @@
+//! A run: a CPU that is lent, with the lines that it holds, and the steps that it makes away from its machine.
+ghost use Rattle.std.specs.Prelude.{◌≡◌, ℕ, ◌+◌, ◌<◌, ◌≤◌, ◌^◌, true, false, IfOk, IfSome, if◌then◌else◌, length, None, Some};
+ghost use Rattle.std.specs.FinSet.{items};
+ghost use Rattle.std.specs.Arc.{arc_value};
+ghost use Rattle.tx_serial.specs.Apply.{is_running};
+ghost use Rattle.tx_cpu.specs.Parts.{local_of};
+ghost use Rattle.tx_lending.specs.Away.{lent_turn};
+ghost use Rattle.tx_run.specs.Made.{now, StartsAlike};
+ghost use Rattle.z_regs.specs.Prefix.{storage_size};
+ghost use Rattle.line_table.specs.Sizes.{storage_lines};
+ghost use Rattle.tx_run.specs.Own.{bytes_at, given, is_touched};
+ghost use Rattle.tx_run.specs.Marks.{mode_in};
+ghost use Rattle.tx_run.specs.Lent.{IsLent, IsLoaded, IsSameLoan, HasOneMore, step_of, is_done};
+
+use crate::marks::LineMarks;
+use crate::reason::{Reason, RunStep};
+use crate::steps::Steps;
+use line_table::Mode;
+use std::alloc::Global;
+use std::marker::Model;
+use std::sync::Arc;
+use tx_cpu::{Cpu, Program};
+use tx_meaning::Need;
+use z_regs::{Bytes, NoMemory};
+
+/// A CPU that is lent, with the lines that it holds. Its steps are turns of that CPU on storage of the run's own. Contracts
+/// see the text pages and the bytes of the image that it runs, what it was given, and what its steps have made.
+#[derive(Drop)]
+pub struct Run {
+    program: Arc<Program>,
+    cpu: u32,
+    turns: u32,
+    attempt: u32,
+    allowance: u32,
+    held: LineMarks,
+    steps: Steps,
+}
+
+impl Model for Run {
+    ghost use Rattle.std.specs.FinSet.{items};
+    ghost use Rattle.std.specs.Arc.{arc_value};
+    ghost use Rattle.tx_run.specs.Lent.{Lent, IsLent};
+
+    ghost Value = { Lent };
+
+    ghost view = { λ r. record {
+      text = items (arc_value r.program).guard;
+      image = (arc_value r.program).storage;
+      cpu = r.cpu;
+      turns = r.turns;
+      attempt = r.attempt;
+      allowance = r.allowance;
+      held = r.held;
+      made = r.steps;
+    } };
+
+    ghost invariant = { λ r. IsLent (items (arc_value r.program).guard) (arc_value r.program).storage r.allowance
+        r.steps };
+}
+
+impl Run {
+    /// A run of this CPU, which runs this program. It was lent nothing yet: it may make no step. The error is want of memory.
+    pub fn open(alloc: Global, program: Arc<Program>, cpu: u32) -> Result<Run, NoMemory>
+        ensures cpu { IfOk result (λ r. r.cpu ≡ cpu) }
+        ensures image { IfOk result (λ r. r.image ≡ (arc_value program).storage) }
+        ensures text { IfOk result (λ r. r.text ≡ items (arc_value program).guard) }
+        ensures allowance { IfOk result (λ r. r.allowance ≡ 0) }
+    {
+        let steps = Steps::open(alloc, program.bytes())?;
+        let held = LineMarks::open(alloc)?;
+        Ok(Run {
+            program,
+            cpu,
+            turns: 0,
+            attempt: 0,
+            allowance: 0,
+            held,
+            steps,
+        })
+    }
+
+    /// The CPU that is lent.
+    pub fn cpu(&self) -> u32
+        ensures { result ≡ self.now.cpu }
+    {
+        self.cpu
+    }
+
+    /// The counted turns that it was lent with.
+    pub fn turns(&self) -> u32
+        ensures { result ≡ self.now.turns }
+    {
+        self.turns
+    }
+
+    /// The number of the attempt that it was lent with.
+    pub fn attempt(&self) -> u32
+        ensures { result ≡ self.now.attempt }
+    {
+        self.attempt
+    }
+
+    /// How many steps it has made.
+    pub fn steps(&self) -> u32
+        ensures value { result ≡ self.now.made.steps }
+        ensures few { result ≤ self.now.allowance }
+    {
+        let _allowance = self.allowance;
+        self.steps.count
+    }
+
+    /// The CPU as it was lent.
+    pub fn start(&self) -> &Cpu
+        ensures { result.now ≡ self.now.made.start }
+    {
+        &self.steps.start
+    }
+
+    /// The CPU as its steps have left it.
+    pub fn reached(&self) -> &Cpu
+        ensures { result.now ≡ self.now.made.reached }
+    {
+        &self.steps.reached
+    }
+
+    /// What holds of every run: its steps are so many turns of the CPU from its start on, no more than it may make.
+    pub fn is_lent(&self)
+        ensures { IsLent self.now.text self.now.image self.now.allowance self.now.made }
+    {
+        let _allowance = self.allowance;
+    }
+
+    /// The lowest line at or above `from` that its steps needed, and in which mode; None exactly where there is none.
+    pub fn next_need(&self, from: u32) -> Option<(u32, Mode)>
+        ensures found { IfSome result (λ p. (from ≤ p.0) × (mode_in self.now.made.needed p.0 ≡ Some p.1)) }
+        ensures first { IfSome result (λ p. (line : ℕ) → from ≤ line → line < p.0
+            → mode_in self.now.made.needed line ≡ None) }
+        ensures none { result ≡ None → (line : ℕ) → from ≤ line → mode_in self.now.made.needed line ≡ None }
+    {
+        self.steps.needed.next(from)
+    }
+
+    /// The lowest byte at or above `from` of the instructions of its steps and of their operands, with its value before the
+    /// first step; None exactly where there is none.
+    pub fn next_byte(&self, from: u64) -> Option<(u64, u8)>
+        ensures found { IfSome result (λ p. (from ≤ p.0)
+            × ((is_touched self.now.made.own p.0 ≡ true) × (p.1 ≡ given self.now.made.own p.0))) }
+        ensures first { IfSome result (λ p. (a : ℕ) → from ≤ a → a < p.0 → is_touched self.now.made.own a ≡ false) }
+        ensures none { result ≡ None → (a : ℕ) → from ≤ a → is_touched self.now.made.own a ≡ false }
+    {
+        self.steps.own.next(from)
+    }
+
+    /// Makes it a run without steps and without lines that starts from a running CPU, with the turns and the attempt that this
+    /// has, and may make so many steps.
+    pub fn load(&mut self, from: &Cpu, turns: u32, attempt: u32, allowance: u32)
+        requires most { allowance ≤ 64 }
+        requires counted { (local_of from.now).attempt.count + allowance < 2 ^ 32 }
+        requires runs { is_running (local_of from.now).attempt.cpu.state ≡ true }
+        ensures loaded { IsLoaded (local_of from.now) self.new }
+        ensures given { (self.new.turns ≡ turns) × ((self.new.attempt ≡ attempt) × (self.new.allowance ≡ allowance)) }
+        ensures stays { (self.new.cpu ≡ self.old.cpu) × ((self.new.text ≡ self.old.text) × (self.new.image ≡ self.old.image)) }
+    {
+        self.turns = turns;
+        self.attempt = attempt;
+        self.allowance = allowance;
+        self.held.clear();
+        self.steps.load(from);
+    }
+
+    /// Gives it a line, with its bytes in other storage. Bytes of text pages stay those of the image. No step has been made yet.
+    pub fn hold<V: Bytes>(&mut self, need: Need, from: &V)
+        requires line { need.line < storage_lines }
+        requires size { length (V.bytes from.now) ≡ storage_size }
+        requires none { self.old.made.steps ≡ 0 }
+        ensures { HasOneMore need (bytes_at (V.bytes from.now)) self.old self.new }
+    {
+        let _allowance = self.allowance;
+        self.steps.take_line(need.line, &self.program, from);
+        self.held.add(need);
+    }
+
+    /// What the next instruction comes to, where the run may make a step more.
+    fn try_step(&mut self) -> RunStep
+        requires { self.old.made.steps < self.old.allowance }
+        ensures answer { result ≡ step_of false self.old }
+        ensures made { now self.new.made ≡
+            (if is_done result then lent_turn self.old.text (now self.old.made) else now self.old.made) }
+        ensures steps { self.new.made.steps ≡ (if is_done result then self.old.made.steps + 1 else self.old.made.steps) }
+        ensures start { StartsAlike self.old.made self.new.made }
+        ensures stays { IsSameLoan self.old self.new }
+    {
+        let _allowance = self.allowance;
+        self.steps.step(&self.program, &self.held)
+    }
+
+    /// Makes one step, or leaves. The first of these tests that holds says why: the run is called home; it has made as many
+    /// steps as it may; the next instruction is one that is made at home, or does not go; it needs a line that the run does not
+    /// hold so; it does not complete. A run that leaves is as it was.
+    pub fn step(&mut self, called: bool) -> RunStep
+        ensures answer { result ≡ step_of called self.old }
+        ensures made { now self.new.made ≡
+            (if is_done result then lent_turn self.old.text (now self.old.made) else now self.old.made) }
+        ensures steps { self.new.made.steps ≡ (if is_done result then self.old.made.steps + 1 else self.old.made.steps) }
+        ensures start { StartsAlike self.old.made self.new.made }
+        ensures stays { IsSameLoan self.old self.new }
+    {
+        if called {
+            return RunStep::Leave(Reason::CalledHome);
+        }
+        if self.steps.count >= self.allowance {
+            return RunStep::Leave(Reason::Allowance);
+        }
+        self.try_step()
+    }
+}

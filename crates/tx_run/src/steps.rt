@@ -1,0 +1,415 @@
+//! The steps of a run: turns of a CPU on storage of its own.
+ghost use Rattle.std.specs.Prelude.{◌≡◌, ℕ, suc, ◌+◌, ◌<◌, ◌≤◌, ◌^◌, ◌||◌, ◌++◌, true, false, IsTrue, List, All, length, IfOk, if◌then◌else◌, ◌/◌, nat_eq};
+ghost use Rattle.std.specs.List.{list_any};
+ghost use Rattle.line_table.specs.Sizes.{storage_lines};
+ghost use Rattle.std.specs.FinSet.{items};
+ghost use Rattle.z_regs.specs.Prefix.{storage_size, is_prefix, absolute_of};
+ghost use Rattle.z_instr.specs.Layout.{length_by};
+ghost use Rattle.tx_meaning.specs.Needs.{operand_needs};
+ghost use Rattle.tx_progress.specs.Doing.{executed};
+ghost use Rattle.tx_cpu.specs.Parts.{local_of};
+ghost use Rattle.tx_cpu.specs.Plans.{IsPrepared, IsPlanPrepared, fate_of};
+ghost use Rattle.tx_serial.specs.Text.{SameText};
+ghost use Rattle.tx_progress.specs.Progress.{is_live, seen_through};
+ghost use Rattle.z_instr.specs.Roles.{ends_level, is_lasting_store, is_assist};
+ghost use Rattle.tx_lending.specs.Away.{is_plain, is_abort, is_service};
+ghost use Rattle.tx_lending.specs.Places.{is_among, text_places, operand_places};
+ghost use Rattle.tx_run.specs.Own.{given, is_touched, bytes_at};
+ghost use Rattle.tx_serial.specs.Fate.{Goes};
+ghost use Rattle.tx_lending.specs.Away.{lent_turn};
+ghost use Rattle.tx_run.specs.Lent.{IsLent, is_done, with_line};
+ghost use Rattle.tx_run.specs.Marks.{mode_in, with_needs, first_missing};
+ghost use Rattle.tx_run.specs.Made.{now, IsMade, MayBeMadeAgain, NextGoesAway, StartsAlike, OneMade, IsWithin, is_stepped};
+ghost use Rattle.tx_run.specs.Made.{next_fate, step_there, step_by};
+
+use crate::bytes::OwnBytes;
+use crate::marks::LineMarks;
+use crate::reason::{Reason, RunStep};
+use std::alloc::Global;
+use std::marker::Model;
+use tx_cpu::laws::the_next_instruction_is_text;
+use tx_cpu::{Cpu, Done, Plan, Program};
+use z_decode::length_of;
+use z_instr::instr::Instr;
+use z_instr::kind::{Branch, Kind, Transaction};
+use z_instr::lookup::line;
+use z_instr::roles::begins;
+use z_regs::{Bytes, CpuImage, NoMemory, Touches, place_of};
+
+/// The lines of a page.
+const LINES_A_PAGE: u32 = 16;
+
+/// A CPU as it was lent and as it has become, its storage, the lines that it needed, and how many steps it has made.
+#[derive(Drop)]
+pub(crate) struct Steps {
+    pub(crate) start: Cpu,
+    pub(crate) reached: Cpu,
+    pub(crate) own: OwnBytes,
+    pub(crate) needed: LineMarks,
+    pub(crate) count: u32,
+}
+
+impl Model for Steps {
+    ghost use Rattle.tx_run.specs.Made.{Made};
+
+    ghost Value = { Made };
+
+    ghost view = { λ s. record {
+      start = s.start;
+      reached = s.reached;
+      own = s.own;
+      needed = s.needed;
+      steps = s.count;
+    } };
+}
+
+/// Whether an instruction has completed, with nothing else to tell.
+fn is_done(done: &Done) -> bool
+    ensures { result ≡ is_stepped done.now }
+{
+    matches!(done, Done::Stepped)
+}
+
+/// Whether an operation that begins no transaction is one for the machine: it ends or aborts a transaction, stores lastingly,
+/// asks for time or calls the service.
+fn is_for_machine(kind: Kind) -> bool
+    ensures { result ≡ (ends_level kind || (is_abort kind || (is_lasting_store kind || (is_assist kind
+        || is_service kind)))) }
+{
+    match kind {
+        Kind::Transaction(Transaction::End) => true,
+        Kind::Transaction(Transaction::Abort) => true,
+        Kind::Transaction(Transaction::StoreLasting) => true,
+        Kind::Transaction(Transaction::Assist) => true,
+        Kind::Branch(Branch::ServiceCall) => true,
+        _ => false,
+    }
+}
+
+/// Whether an instruction may be made away.
+fn is_made_away(instr: &Instr) -> bool
+    ensures { result ≡ is_plain instr.now }
+{
+    !(begins(instr.op) || is_for_machine(line(instr.op).kind))
+}
+
+impl Steps {
+    /// The prefix of the CPU.
+    fn prefix(&self) -> Option<u32>
+        ensures value { result ≡ (local_of self.now.reached).attempt.cpu.prefix }
+        ensures prefix_in { IsTrue (is_prefix result) }
+    {
+        self.reached.image().prefix
+    }
+
+    /// The byte that the CPU sees over its storage at a place.
+    fn seen(&self, place: u64) -> u8
+        requires { place < storage_size }
+        ensures { result ≡ seen_through (local_of self.now.reached).attempt.overlay (bytes_at self.now.own.now) place }
+    {
+        let _size = self.own.now.as_slice();
+        self.reached.seen(place, &self.own.now)
+    }
+
+    /// How many bytes the next instruction has, by the first of them.
+    fn length(&self) -> u32
+        requires { (local_of self.now.reached).attempt.cpu.address < storage_size }
+        ensures { let q = (local_of self.now.reached).attempt in result ≡ length_by
+            (seen_through q.overlay (bytes_at self.now.own.now) (absolute_of q.cpu.prefix q.cpu.address)) }
+    {
+        let place = place_of(self.prefix(), self.reached.image().address);
+        u32::from(length_of(self.seen(place)))
+    }
+
+    /// Marks the bytes of the next instruction.
+    fn touch_text(&mut self)
+        requires first { (local_of self.old.reached).attempt.cpu.address < storage_size }
+        requires fetched { let q = (local_of self.old.reached).attempt in q.cpu.address + length_by
+            (seen_through q.overlay (bytes_at self.old.own.now) (absolute_of q.cpu.prefix q.cpu.address)) ≤ storage_size }
+        ensures start { self.new.start ≡ self.old.start }
+        ensures reached { self.new.reached ≡ self.old.reached }
+        ensures needed { self.new.needed ≡ self.old.needed }
+        ensures steps { self.new.steps ≡ self.old.steps }
+        ensures now { self.new.own.now ≡ self.old.own.now }
+        ensures given { (a : ℕ) → given self.new.own a ≡ given self.old.own a }
+        ensures touched { (a : ℕ) → is_touched self.new.own a ≡ (is_touched self.old.own a
+            || is_among (text_places (bytes_at self.old.own.now) (local_of self.old.reached).attempt) a) }
+    {
+        let prefix = self.prefix();
+        let address = self.reached.image().address;
+        let length = self.length();
+        self.own.touch_places(prefix, address, length);
+    }
+
+    /// Marks the bytes of operands.
+    fn touch_operands(&mut self, need: &Touches)
+        requires inside { All (λ r. r.first + r.length ≤ storage_size) need.now }
+        ensures start { self.new.start ≡ self.old.start }
+        ensures reached { self.new.reached ≡ self.old.reached }
+        ensures needed { self.new.needed ≡ self.old.needed }
+        ensures steps { self.new.steps ≡ self.old.steps }
+        ensures now { self.new.own.now ≡ self.old.own.now }
+        ensures given { (a : ℕ) → given self.new.own a ≡ given self.old.own a }
+        ensures touched { (a : ℕ) → is_touched self.new.own a ≡ (is_touched self.old.own a
+            || is_among (operand_places need.now (local_of self.old.reached).attempt) a) }
+    {
+        let prefix = self.prefix();
+        self.own.touch_operands(prefix, need);
+    }
+
+    /// Marks the bytes of the next instruction, which goes, and of its operands.
+    fn touch(&mut self, need: &Touches)
+        requires within { IsWithin (bytes_at self.old.own.now) (local_of self.old.reached).attempt need.now }
+        ensures start { self.new.start ≡ self.old.start }
+        ensures reached { self.new.reached ≡ self.old.reached }
+        ensures needed { self.new.needed ≡ self.old.needed }
+        ensures steps { self.new.steps ≡ self.old.steps }
+        ensures now { self.new.own.now ≡ self.old.own.now }
+        ensures given { (a : ℕ) → given self.new.own a ≡ given self.old.own a }
+        ensures touched { (a : ℕ) → is_touched self.new.own a ≡ (is_touched self.old.own a
+            || is_among (text_places (bytes_at self.old.own.now) (local_of self.old.reached).attempt
+            ++ operand_places need.now (local_of self.old.reached).attempt) a) }
+    {
+        self.touch_text();
+        self.touch_operands(need);
+    }
+
+    /// Marks the lines of the operands as needed.
+    fn need(&mut self, need: &Touches)
+        requires within { IsWithin (bytes_at self.old.own.now) (local_of self.old.reached).attempt need.now }
+        ensures start { self.new.start ≡ self.old.start }
+        ensures reached { self.new.reached ≡ self.old.reached }
+        ensures own { self.new.own ≡ self.old.own }
+        ensures steps { self.new.steps ≡ self.old.steps }
+        ensures needed { (line : ℕ) → mode_in self.new.needed line ≡ with_needs
+            (operand_needs (local_of self.old.reached).attempt.cpu.prefix need.now) (mode_in self.old.needed) line }
+    {
+        let places = need.absolute(self.prefix());
+        self.needed.add_all(&places);
+    }
+
+    /// Executes an instruction whose operands are marked as touched. The CPU that was lent and the bytes before stay.
+    fn execute(&mut self, instr: &Instr, need: &Touches) -> Done
+        requires plain { is_plain instr.now ≡ true }
+        requires prepared { IsPrepared (local_of self.old.reached).attempt instr.now need.now }
+        requires touched { (a : ℕ) → is_among (operand_places need.now (local_of self.old.reached).attempt) a ≡ true
+            → is_touched self.old.own a ≡ true }
+        requires completed { (local_of self.old.reached).attempt.count + 1 < 2 ^ 32 }
+        ensures value { record { after = now self.new; told = result } ≡ executed instr.now need.now (now self.old) }
+        ensures start { StartsAlike self.old self.new }
+        ensures touched { self.new.own.touched ≡ self.old.own.touched }
+        ensures needed { self.new.needed ≡ self.old.needed }
+        ensures steps { self.new.steps ≡ self.old.steps }
+    {
+        self.reached.is_sound();
+        let _size = self.own.now.as_slice();
+        self.reached.execute(instr, need, &mut self.own.now)
+    }
+
+    /// Makes the next instruction, which goes and may be made away, and answers whether it completes. Where it does not, the
+    /// CPU that was lent and the bytes before are still as they were, and so is the number of steps.
+    fn make(&mut self, instr: &Instr, need: &Touches) -> bool
+        requires plain { is_plain instr.now ≡ true }
+        requires prepared { IsPrepared (local_of self.old.reached).attempt instr.now need.now }
+        requires within { IsWithin (bytes_at self.old.own.now) (local_of self.old.reached).attempt need.now }
+        requires completed { (local_of self.old.reached).attempt.count + 1 < 2 ^ 32 }
+        requires few { self.old.steps < 64 }
+        ensures told { result ≡ is_stepped (executed instr.now need.now (now self.old)).told }
+        ensures start { StartsAlike self.old self.new }
+        ensures steps { self.new.steps ≡ (if result then self.old.steps + 1 else self.old.steps) }
+        ensures made { result ≡ true → OneMade instr.now need.now self.old self.new }
+    {
+        self.touch(need);
+        self.need(need);
+        let done = self.execute(instr, need);
+        if !is_done(&done) {
+            return false;
+        }
+        self.count += 1;
+        true
+    }
+
+    /// What comes of the next instruction, which is one of the program's as long as its text pages are those of the image.
+    fn plan(&self, program: &Program) -> Plan
+        requires { SameText (items program.now.guard) (bytes_at program.now.storage) (bytes_at self.now.own.now) }
+        ensures fate { fate_of result ≡ next_fate (items program.now.guard) self.now }
+        ensures prepared { IsPlanPrepared (local_of self.now.reached).attempt result }
+        ensures area { is_prefix (local_of self.now.reached).attempt.cpu.prefix ≡ true }
+        ensures opens { is_live (local_of self.now.reached).attempt ≡ true
+            → 0 < length (local_of self.now.reached).attempt.nest }
+    {
+        the_next_instruction_is_text();
+        self.reached.is_sound();
+        let _prefix = self.prefix();
+        self.reached.prepare(program)
+    }
+
+    /// No step has been made: the CPU is as it was lent, and each byte as it was before.
+    fn begin_again(&mut self)
+        ensures made { (text image : List ℕ) → SameText text (bytes_at image) (given self.old.own)
+            → IsMade text image self.new }
+        ensures start { StartsAlike self.old self.new }
+        ensures steps { self.new.steps ≡ 0 }
+    {
+        self.reached.copy_from(&self.start);
+        self.own.put_back();
+        self.needed.clear();
+        self.count = 0;
+    }
+
+    /// Makes the next instruction, of which it is known that it may be made away and completes.
+    fn make_next(&mut self, program: &Program)
+        requires made { IsMade (items program.now.guard) program.now.storage self.old }
+        requires away { NextGoesAway (items program.now.guard) self.old }
+        requires few { self.old.steps < 64 }
+        requires completed { (local_of self.old.start).attempt.count + self.old.steps + 1 < 2 ^ 32 }
+        ensures made { IsMade (items program.now.guard) program.now.storage self.new }
+        ensures start { StartsAlike self.old self.new }
+        ensures steps { self.new.steps ≡ self.old.steps + 1 }
+    {
+        if let Plan::Go { instr, need } = self.plan(program) {
+            self.make(&instr, &need);
+        }
+    }
+
+    /// Makes all steps again, from the CPU that was lent and the bytes before.
+    fn make_again(&mut self, program: &Program)
+        requires again { MayBeMadeAgain (items program.now.guard) program.now.storage self.old }
+        requires few { self.old.steps ≤ 64 }
+        requires completed { (local_of self.old.start).attempt.count + self.old.steps < 2 ^ 32 }
+        ensures made { IsMade (items program.now.guard) program.now.storage self.new }
+        ensures start { StartsAlike self.old self.new }
+        ensures steps { self.new.steps ≡ self.old.steps }
+    {
+        let count = self.count;
+        self.begin_again();
+        for _ in 0..count {
+            self.make_next(program);
+        }
+    }
+
+    /// No step of a CPU that runs, on these bytes. The error is want of memory.
+    pub(crate) fn open(alloc: Global, bytes: &[u8]) -> Result<Steps, NoMemory>
+        requires { length bytes.now ≡ storage_size }
+        ensures { IfOk result (λ s. (text : List ℕ) → IsLent text bytes.now 0 s) }
+    {
+        let start = CpuImage::entering(0);
+        Ok(Steps {
+            start: Cpu::open(alloc, start)?,
+            reached: Cpu::open(alloc, start)?,
+            own: OwnBytes::open(alloc, bytes)?,
+            needed: LineMarks::open(alloc)?,
+            count: 0,
+        })
+    }
+
+    /// No step from this CPU on; the bytes stay as they are.
+    pub(crate) fn load(&mut self, from: &Cpu)
+        ensures made { (text image : List ℕ) → SameText text (bytes_at image) (bytes_at self.old.own.now)
+            → IsMade text image self.new }
+        ensures start { local_of self.new.start ≡ local_of from.now }
+        ensures reached { local_of self.new.reached ≡ local_of from.now }
+        ensures steps { self.new.steps ≡ 0 }
+    {
+        self.start.copy_from(from);
+        self.reached.copy_from(from);
+        self.own.forget();
+        self.needed.clear();
+        self.count = 0;
+    }
+
+    /// The lowest line that an instruction needs and that is not held as it needs it.
+    fn missing(&self, need: &Touches, held: &LineMarks) -> Option<u32>
+        requires within { IsWithin (bytes_at self.now.own.now) (local_of self.now.reached).attempt need.now }
+        ensures { result ≡ first_missing (operand_needs (local_of self.now.reached).attempt.cpu.prefix need.now)
+            (mode_in held.now) }
+    {
+        let places = need.absolute(self.prefix());
+        held.missing(&places)
+    }
+
+    /// Makes the next instruction, which goes, may be made away and has its lines; where it does not complete, all is as it
+    /// was.
+    fn make_or_stay(&mut self, instr: &Instr, need: &Touches, program: &Program) -> RunStep
+        requires made { IsMade (items program.now.guard) program.now.storage self.old }
+        requires goes { next_fate (items program.now.guard) self.old ≡ Goes instr.now need.now }
+        requires plain { is_plain instr.now ≡ true }
+        requires prepared { IsPrepared (local_of self.old.reached).attempt instr.now need.now }
+        requires few { self.old.steps < 64 }
+        requires completed { (local_of self.old.start).attempt.count + self.old.steps + 1 < 2 ^ 32 }
+        requires area { is_prefix (local_of self.old.reached).attempt.cpu.prefix ≡ true }
+        requires opens { is_live (local_of self.old.reached).attempt ≡ true
+            → 0 < length (local_of self.old.reached).attempt.nest }
+        ensures answer { result ≡ step_there instr.now need.now self.old }
+        ensures made { IsMade (items program.now.guard) program.now.storage self.new }
+        ensures now { now self.new ≡ (if is_done result then (executed instr.now need.now (now self.old)).after
+            else now self.old) }
+        ensures steps { self.new.steps ≡ (if is_done result then self.old.steps + 1 else self.old.steps) }
+        ensures start { StartsAlike self.old self.new }
+    {
+        if self.make(instr, need) {
+            return RunStep::Done;
+        }
+        self.make_again(program);
+        RunStep::Leave(Reason::AtHome)
+    }
+
+    /// Makes the next instruction, where it may be made away, with these lines, and completes.
+    pub(crate) fn step(&mut self, program: &Program, held: &LineMarks) -> RunStep
+        requires made { IsMade (items program.now.guard) program.now.storage self.old }
+        requires few { self.old.steps < 64 }
+        requires completed { (local_of self.old.start).attempt.count + self.old.steps + 1 < 2 ^ 32 }
+        ensures answer { result ≡ step_by (mode_in held.now) (next_fate (items program.now.guard) self.old) self.old }
+        ensures made { IsMade (items program.now.guard) program.now.storage self.new }
+        ensures now { now self.new ≡ (if is_done result then lent_turn (items program.now.guard) (now self.old)
+            else now self.old) }
+        ensures steps { self.new.steps ≡ (if is_done result then self.old.steps + 1 else self.old.steps) }
+        ensures start { StartsAlike self.old self.new }
+    {
+        let Plan::Go { instr, need } = self.plan(program) else {
+            return RunStep::Leave(Reason::AtHome);
+        };
+        if !is_made_away(&instr) {
+            return RunStep::Leave(Reason::AtHome);
+        }
+        if let Some(line) = self.missing(&need, held) {
+            return RunStep::Leave(Reason::LineMissing(line));
+        }
+        self.make_or_stay(&instr, &need, program)
+    }
+
+    /// The bytes of a line are those of other storage. No step has been made yet, and the line lies in no text page.
+    fn copy_line<V: Bytes>(&mut self, line: u32, from: &V)
+        requires line { line < storage_lines }
+        requires size { length (V.bytes from.now) ≡ storage_size }
+        requires none { self.old.steps ≡ 0 }
+        ensures made { (text image : List ℕ) → list_any (nat_eq (line / 16)) text ≡ false → IsMade text image self.old
+            → IsMade text image self.new }
+        ensures bytes { (a : ℕ) → bytes_at self.new.own.now a ≡
+            (if nat_eq (a / 256) line then bytes_at (V.bytes from.now) a else bytes_at self.old.own.now a) }
+        ensures start { self.new.start ≡ self.old.start }
+        ensures reached { self.new.reached ≡ self.old.reached }
+        ensures steps { self.new.steps ≡ self.old.steps }
+    {
+        self.own.copy_line(line, from);
+    }
+
+    /// The bytes of a line are those of other storage, unless it lies in a text page. No step has been made yet.
+    pub(crate) fn take_line<V: Bytes>(&mut self, line: u32, program: &Program, from: &V)
+        requires line { line < storage_lines }
+        requires size { length (V.bytes from.now) ≡ storage_size }
+        requires none { self.old.steps ≡ 0 }
+        requires made { IsMade (items program.now.guard) program.now.storage self.old }
+        ensures made { IsMade (items program.now.guard) program.now.storage self.new }
+        ensures bytes { (a : ℕ) → bytes_at self.new.own.now a ≡ with_line (items program.now.guard) line
+            (bytes_at (V.bytes from.now)) (bytes_at self.old.own.now) a }
+        ensures start { self.new.start ≡ self.old.start }
+        ensures reached { self.new.reached ≡ self.old.reached }
+        ensures steps { self.new.steps ≡ self.old.steps }
+    {
+        if program.guard().has(line / LINES_A_PAGE) {
+            return;
+        }
+        self.copy_line(line, from);
+    }
+}
