@@ -197,6 +197,13 @@ is_prefix_for tasks cpus x =
 abbrev pub with_prefix : ℕ → Cpu → Cpu
 with_prefix n c = record c { prefix = Some n }
 
+-- what comes of it where the CPU and the area are some, by the other tests
+abbrev pub area_given : List Task → ℕ → ℕ → Machine → Result Machine Kind
+area_given tasks cpu area m =
+    if is_free cpu area m.cpus && not (list_any (task_places_in area) tasks)
+    then Ok (record m { cpus = change_at cpu (with_prefix area) m.cpus })
+    else Err OutOfRange
+
 unfoldable pub prefix_line : List Task → List Operand → Machine → Result Machine Kind
 prefix_line tasks os m =
     two_in os >>= λ x.

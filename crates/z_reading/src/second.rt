@@ -14,7 +14,7 @@ ghost use Rattle.z_reading.specs.Machine.{is_register_value, register_line, size
 ghost use Rattle.z_reading.specs.Machine.{has_room_for, shown, has_fields, show_line, block_line, is_comma};
 ghost use Rattle.z_reading.specs.Machine.{parameter_in, parameter_line, named_parameter, is_area};
 ghost use Rattle.z_reading.specs.Machine.{is_same_prefix, has_prefix, is_free, places_in, task_places_in};
-ghost use Rattle.z_reading.specs.Machine.{is_prefix_for, with_prefix, prefix_line, schedule_line, code_line};
+ghost use Rattle.z_reading.specs.Machine.{is_prefix_for, with_prefix, area_given, prefix_line, schedule_line, code_line};
 ghost use Rattle.z_reading.specs.Machine.{tokens_in, end_of, directive_line, read_again, task_gives};
 ghost use Rattle.z_reading.specs.Setup.{machine_of, known_of};
 ghost use Rattle.z_reading.specs.Sizes.{IsPlaced};
@@ -301,23 +301,32 @@ fn is_text_in(area: u32, works: &Works) -> bool
     false
 }
 
+/// A CPU gets an area as its prefix, where it has none yet, no other one has this, and no instruction lies there.
+fn give_area(setup: &mut Setup, works: &Works, cpu: usize, area: u32) -> Result<(), LineFault>
+    requires below { cpu < length (machine_of setup.old).cpus }
+    requires area { IsTrue (is_prefix (Some area)) }
+    ensures gives { Gives result (area_given (tasks_of works.now) cpu area (machine_of setup.old))
+        (machine_of setup.new) }
+    ensures entered { setup.new.entered ≡ setup.old.entered }
+{
+    if !is_free(cpu, area, &setup.cpus) || is_text_in(area, works) {
+        return Err(LineFault::Failed(Kind::OutOfRange));
+    }
+    set_prefix(&mut setup.cpus, cpu, area);
+    Ok(())
+}
+
 #[tactic(auto, unfolding(crate::specs::Machine::prefix_line))]
 fn give_prefix(setup: &mut Setup, works: &Works, operands: &[Operand]) -> Result<(), LineFault>
     ensures gives { Gives result (prefix_line (tasks_of works.now) operands.now (machine_of setup.old))
         (machine_of setup.new) }
     ensures entered { setup.new.entered ≡ setup.old.entered }
 {
-    let (cpu, prefix) = two_in(operands)?;
-    if !is_below(setup.cpus.len(), cpu) || !is_area(prefix) {
+    let (cpu, area) = two_in(operands)?;
+    if !is_below(setup.cpus.len(), cpu) || !is_area(area) {
         return Err(LineFault::Failed(Kind::OutOfRange));
     }
-    let cpu = cpu as usize;
-    let prefix = prefix as u32;
-    if !is_free(cpu, prefix, &setup.cpus) || is_text_in(prefix, works) {
-        return Err(LineFault::Failed(Kind::OutOfRange));
-    }
-    set_prefix(&mut setup.cpus, cpu, prefix);
-    Ok(())
+    give_area(setup, works, cpu as usize, area as u32)
 }
 
 // ---- the schedule, and instructions
