@@ -60,16 +60,6 @@ fn lend(run: &mut Run, cpu: &Cpu, storage: &Storage, allowance: u32) {
     run.hold(need, storage);
 }
 
-/// A run of the first CPU of a program that may make so many steps.
-fn lent(alloc: Global, listing: &str, allowance: u32) -> Result<Run, Fail> {
-    let program = read(alloc, listing)?;
-    let cpu = first_cpu(alloc, &program)?;
-    let storage = changed(alloc, &program)?;
-    let mut run = Run::open(alloc, Arc::new(alloc, program)?, 0)?;
-    lend(&mut run, &cpu, &storage, allowance);
-    Ok(run)
-}
-
 /// What five steps answer, how many were made, what is in register 1 then, and the first byte that was touched beside the
 /// program, as it was before.
 type Outcome = ([RunStep; 5], u32, u64, Option<(u64, u8)>);
@@ -83,15 +73,60 @@ fn outcome(run: &mut Run) -> Outcome {
     (answers, run.steps(), register, run.next_byte(0x9007))
 }
 
-/// What comes of a program that may make so many steps.
-fn made(alloc: Global, listing: &str, allowance: u32) -> Result<Outcome, Fail> {
-    let mut run = lent(alloc, listing, allowance)?;
-    Ok(outcome(&mut run))
+/// Of a run its CPU by number, the turns and the attempt, and register 1 before its steps; the first line that these needed;
+/// and the first two pages that hold a byte of their instructions or of what they have stored.
+type Loan = ([u32; 3], u64, Option<(u32, Mode)>, [Option<(u32, bool)>; 2]);
+
+fn loan(run: &Run) -> Loan {
+    let numbers = [run.cpu(), run.turns(), run.attempt()];
+    let register = run.start().image().general[1];
+    let pages = [run.next_page(0), run.next_page(5)];
+    (numbers, register, run.next_need(0), pages)
+}
+
+/// All of that, and what a step answers that is called home.
+type Seen = (Outcome, Loan, RunStep);
+
+fn seen(run: &mut Run) -> Seen {
+    let outcome = outcome(run);
+    (outcome, loan(run), run.step(true))
+}
+
+/// What comes of a CPU that is lent.
+fn seen_of(
+    alloc: Global,
+    program: Arc<Program>,
+    cpu: &Cpu,
+    storage: &Storage,
+    allowance: u32,
+) -> Result<Seen, Fail> {
+    let mut run = Run::open(alloc, program, 0)?;
+    lend(&mut run, cpu, storage, allowance);
+    Ok(seen(&mut run))
+}
+
+/// What comes of a program whose first CPU is lent.
+fn seen_in(alloc: Global, program: Arc<Program>, allowance: u32) -> Result<Seen, Fail> {
+    let cpu = first_cpu(alloc, &program)?;
+    let storage = changed(alloc, &program)?;
+    seen_of(alloc, program, &cpu, &storage, allowance)
+}
+
+/// The same of the program of a listing.
+fn made(alloc: Global, listing: &str, allowance: u32) -> Result<Seen, Fail> {
+    let program = Arc::new(alloc, read(alloc, listing)?)?;
+    seen_in(alloc, program, allowance)
 }
 
 const DONE: RunStep = RunStep::Done;
 
 const AT_HOME: RunStep = RunStep::Leave(Reason::AtHome);
+
+const SPENT: RunStep = RunStep::Leave(Reason::Allowance);
+
+const MISSING: RunStep = RunStep::Leave(Reason::LineMissing(0x92));
+
+const CALLED: RunStep = RunStep::Leave(Reason::CalledHome);
 
 /// A load, an addition and a store, and then a division by zero, which does not complete.
 const DIVIDES: &str =
@@ -100,9 +135,10 @@ const DIVIDES: &str =
 /// A load of a line that is not held.
 const ELSEWHERE: &str = " CPU X'4000'\n LGHI 1,3\n LG 1,X'9200'\n SVC 0\n END\n";
 
-const SPENT: RunStep = RunStep::Leave(Reason::Allowance);
+/// The page of the programs, and that of the operands.
+const TEXT: Option<(u32, bool)> = Some((4, true));
 
-const MISSING: RunStep = RunStep::Leave(Reason::LineMissing(0x92));
+const DATA: Option<(u32, bool)> = Some((9, false));
 
 #[test]
 fn what_steps_answer_and_leave(rt: HostRuntime) -> Result<(), Fail> {
@@ -110,38 +146,25 @@ fn what_steps_answer_and_leave(rt: HostRuntime) -> Result<(), Fail> {
     let spent = made(rt.alloc(), DIVIDES, 2)?;
     let elsewhere = made(rt.alloc(), ELSEWHERE, 64)?;
     let byte = Some((0x9007, 41));
+    let stored = Some((0x90, Mode::Exclusive));
+    let fetched = Some((0x90, Mode::Shared));
     let wanted = (
-        ([DONE, DONE, DONE, AT_HOME, AT_HOME], 3, 42, byte),
-        ([DONE, DONE, SPENT, SPENT, SPENT], 2, 42, byte),
-        ([DONE, MISSING, MISSING, MISSING, MISSING], 1, 3, None),
+        (
+            ([DONE, DONE, DONE, AT_HOME, AT_HOME], 3, 42, byte),
+            ([0, 7, 0], 0, stored, [TEXT, DATA]),
+            CALLED,
+        ),
+        (
+            ([DONE, DONE, SPENT, SPENT, SPENT], 2, 42, byte),
+            ([0, 7, 0], 0, fetched, [TEXT, None]),
+            CALLED,
+        ),
+        (
+            ([DONE, MISSING, MISSING, MISSING, MISSING], 1, 3, None),
+            ([0, 7, 0], 0, None, [TEXT, None]),
+            CALLED,
+        ),
     );
     assert_eq!(rt; (divides, spent, elsewhere), wanted);
-    Ok(())
-}
-
-/// What a run was given, what a step answers that is called home, and the first line that its steps needed.
-fn given(run: &mut Run) -> ([u32; 3], u64, RunStep, Option<(u32, Mode)>) {
-    for _ in 0..3 {
-        let _answer = run.step(false);
-    }
-    let numbers = [run.cpu(), run.turns(), run.attempt()];
-    let register = run.start().image().general[1];
-    (numbers, register, run.step(true), run.next_need(0))
-}
-
-/// The same of a run that is lent so.
-fn given_in(alloc: Global) -> Result<([u32; 3], u64, RunStep, Option<(u32, Mode)>), Fail> {
-    let mut run = lent(alloc, DIVIDES, 64)?;
-    Ok(given(&mut run))
-}
-
-#[test]
-fn what_a_run_was_given(rt: HostRuntime) -> Result<(), Fail> {
-    let found = given_in(rt.alloc())?;
-    let called = RunStep::Leave(Reason::CalledHome);
-    assert_eq!(rt;
-        found,
-        ([0, 7, 0], 0, called, Some((0x90, Mode::Exclusive)))
-    );
     Ok(())
 }

@@ -19,12 +19,6 @@ again-away text image m other again alike made below = record {
       (ap (ran text other.steps) (sym (same-from m other alike)) ∙ made.makes) (again.away other.steps below);
 }
 
-pub starts-on : (m mid other : Made) → StartsAlike m mid → StartsAlike mid other → StartsAlike m other
-starts-on m mid other g h = record {
-  start = h.start ∙ g.start;
-  given = λ a. h.given a ∙ g.given a;
-}
-
 -- where nothing has come of an instruction, all steps may be made again
 pub stays-again : (text image : List ℕ) (m other : Made) → IsMade text image m → StartsAlike m other
     → other.steps ≡ m.steps → MayBeMadeAgain text image other

@@ -1,5 +1,5 @@
--- What an instruction leaves as it was: storage beside its operands, bytes of text, and the prefix; what holds of one
--- that goes; and how much it counts.
+-- What an instruction leaves as it was: storage beside its operands, and bytes of text; what holds of one that goes; and how
+-- much it counts.
 use Rattle.std.proofs.Common.{map, ◌≡◌, ℕ, zero, suc, ◌+◌, ◌-◌, ◌/◌, ◌<◌, ◌≤◌, Bool, true, false, List, [], ◌∷◌, ◌++◌}
 use Rattle.std.proofs.Common.{Option, None, refl, sym, ap, subst, ◌∙◌, arith, length, take, ltb}
 use Rattle.std.specs.Prelude.{All, nat_eq, nat_lt, if◌then◌else◌}
@@ -19,20 +19,18 @@ use Rattle.z_instr.specs.Table.{entry_at}
 use Rattle.z_instr.proofs.SmallOperands.{count, sizes}
 use Rattle.z_touch.specs.Refusals.{range_of}
 use Rattle.z_touch.proofs.SmallRanges.{any-text_pages}
-use Rattle.z_effect.specs.After.{cpu_after}
 use Rattle.z_effect.specs.Beginning.{begin_of}
 use Rattle.z_effect.specs.Outcome.{Outcome, Did, Divides, Aborts}
 use Rattle.z_effect.specs.Outcome as outcome
-use Rattle.z_effect.proofs.Prefix.{keeps_prefix}
 use Rattle.tx_control.specs.declared.begins.Begin.{Begin}
 use Rattle.tx_serial.specs.Fate.{Goes, fetch_refusal, restricted_refusal, specified_refusal, depth_refusal}
 use Rattle.tx_serial.specs.Fate.{operand_refusal}
-use Rattle.tx_serial.specs.Flat.{Storage, operand_bytes, laid_over}
+use Rattle.tx_serial.specs.Flat.{Storage, laid_over}
 use Rattle.tx_serial.specs.Run.{nest_after}
 use Rattle.tx_serial.specs.Text.{SameText}
 use Rattle.tx_serial.proofs.FreeOperands.{AreFree, inside_operands, operands_free}
 use Rattle.tx_serial.proofs.TextStays.{laid_apart, operands_apart}
-use Rattle.tx_progress.specs.Doing.{Executed, executed, executed_where, closed_by, stores_of}
+use Rattle.tx_progress.specs.Doing.{executed, executed_where, closed_by, stores_of}
 use Rattle.tx_progress.specs.Local.{Beside}
 use Rattle.tx_progress.specs.Progress.{Progress, seen_through, is_live, advanced}
 use Rattle.tx_progress.specs.Trial.{at_hand, fate_by_progress, outcome_by, text_refusal_by}
@@ -44,6 +42,7 @@ use Rattle.tx_lending.specs.Away.{is_plain}
 use Rattle.tx_lending.specs.Places.{operand_places, stored_places, is_among}
 use Rattle.tx_lending.proofs.Along.{not_true, no_begin}
 use Rattle.tx_lending.proofs.Leaving.{count_after, left_by}
+use Rattle.tx_run.specs.Made.{IsWithin}
 use Rattle.tx_lending.proofs.Stores.{or_first, or_second, stored_among, stores_elsewhere}
 
 -- ---- no begin and no end
@@ -125,15 +124,9 @@ executed-elsewhere i ranges b a plain some apart =
 
 -- ---- an instruction that goes
 
--- It is fetched from storage; it has at most two operands, which the CPU may use; and those that are stored hold no
--- text.
+-- it and its operands lie in storage, and operands that are stored hold no text
 pub record IsReachedBy (text : List ℕ) (s : Storage) (q : Progress) (need : List Range) : Type 0 where
-  pub first : q.cpu.address < storage_size
-  pub fetched : q.cpu.address + length_by (seen_through q.overlay s (absolute_of q.cpu.prefix q.cpu.address))
-      ≤ storage_size
-  pub accessible : All (IsAccessible q.cpu.prefix) need
-  pub inside : All (λ (r : Range). r.first + r.length ≤ storage_size) need
-  pub few : length need ≤ 2
+  pub within : IsWithin s q need
   pub free : AreFree q.cpu.prefix text need
 
 -- the last of so many addresses is among them
@@ -195,11 +188,13 @@ goes-reached text s q i need ok goes =
     (inside_operands text i c (length q.nest) passed)) in
     let bytes = fetched_by text s q found.fetched in
     record {
-      first = bytes.first;
-      fetched = bytes.end;
-      accessible = accessible;
-      inside = λ k d below. (accessible k d below).end;
-      few = subst (λ (rs : List Range). length rs ≤ 2) (sym found.touches) few;
+      within = record {
+        first = bytes.first;
+        fetched = bytes.end;
+        accessible = accessible;
+        inside = λ k d below. (accessible k d below).end;
+        few = subst (λ (rs : List Range). length rs ≤ 2) (sym found.touches) few;
+      };
       free = subst (AreFree c.prefix text) (sym found.touches)
           (operands_free text i c (length q.nest) ok passed);
     }
@@ -231,41 +226,3 @@ counted i ranges b plain told =
     let q = b.local.attempt in
     at_most_one (is_live q) q.count (executed i ranges b).after.local.attempt.count
     (left_by i ranges b.local b.storage plain told).count
-
-module _ (i : Instr) (ranges : List Range) (b : Beside) where
-  abbrev KeepsPrefix : Executed → Type 0
-  KeepsPrefix x = x.after.local.attempt.cpu.prefix ≡ b.local.attempt.cpu.prefix
-
-  closed_prefix : (next : Progress) (nest : List Begin) → next.cpu.prefix ≡ b.local.attempt.cpu.prefix
-      → KeepsPrefix (closed_by next nest b)
-  closed_prefix next [] same = same
-  closed_prefix next (outermost ∷ inner) same = same
-
-  prefix_where : (live begin : Bool) (o : Outcome)
-      → (cpu_after b.local.attempt.cpu o).prefix ≡ b.local.attempt.cpu.prefix
-      → (executed_where live begin i ranges b o).told ≡ Stepped
-      → KeepsPrefix (executed_where live begin i ranges b o)
-  prefix_where true begin (Did c bytes) same told =
-      let q = b.local.attempt in
-      let next = advanced i ranges c (stores_of ranges bytes q) q in
-      closed_prefix next next.nest same
-  prefix_where true begin (outcome.Overflowed c bytes) same told = same
-  prefix_where true begin Divides same told = refl
-  prefix_where true begin (Aborts code) same told = refl
-  prefix_where false true (Did c bytes) same told = same
-  prefix_where false true (outcome.Overflowed c bytes) same told = refl
-  prefix_where false true Divides same told = refl
-  prefix_where false true (Aborts code) same told = refl
-  prefix_where false false (Did c bytes) same told = same
-  prefix_where false false (outcome.Overflowed c bytes) same told = absurd (cc)
-  prefix_where false false Divides same told = absurd (cc)
-  prefix_where false false (Aborts code) same told = refl
-
-  -- the CPU has the same prefix
-  pub prefix-stays : (executed i ranges b).told ≡ Stepped
-      → (executed i ranges b).after.local.attempt.cpu.prefix ≡ b.local.attempt.cpu.prefix
-  unfolding executed
-  prefix-stays told =
-      let q = b.local.attempt in
-      prefix_where (is_live q) (begins (entry_at i.op.number)) (outcome_by b.storage i ranges q)
-      (keeps_prefix i q.cpu _ (operand_bytes q.cpu.prefix (seen_through q.overlay b.storage) ranges)) told

@@ -10,7 +10,8 @@ use Rattle.tx_cpu.specs.Parts.{local_of}
 use Rattle.tx_lending.specs.Away.{ran, touched}
 use Rattle.tx_run.specs.Own.{is_touched, bytes_at}
 use Rattle.tx_run.specs.Marks.{mode_in}
-use Rattle.tx_run.specs.Made.{Made, from, needs_by, IsMade}
+use Rattle.tx_run.specs.Made.{Made, from, needs_by, laid, paged, IsMade}
+use Rattle.tx_run.specs.Traces.{is_stored, is_paged}
 use Rattle.tx_run.proofs.Beginning.{loaded-made}
 
 -- a byte of a text page lies in no line of another page
@@ -26,11 +27,12 @@ not-in-line text line a free is = by (nat_eq (a / 256) line) refl
 
 pub lined-made : (text image : List ℕ) (m other : Made) (line : ℕ) (bytes : ℕ → ℕ) → IsMade text image m
     → m.steps ≡ 0 → other.steps ≡ m.steps → other.start ≡ m.start → other.reached ≡ m.reached
-    → other.own.touched ≡ m.own.touched → other.needed ≡ m.needed → list_any (nat_eq (line / 16)) text ≡ false
+    → other.own.touched ≡ m.own.touched → other.traces ≡ m.traces → other.needed ≡ m.needed
+    → list_any (nat_eq (line / 16)) text ≡ false
     → ((a : ℕ) → bytes_at other.own.now a ≡ (if nat_eq (a / 256) line then bytes a else bytes_at m.own.now a))
     → IsMade text image other
-unfolding ran touched needs_by
-lined-made text image m other line bytes made none steps start reached marks needed free is =
+unfolding ran touched laid paged needs_by
+lined-made text image m other line bytes made none steps start reached marks traces needed free is =
     loaded-made text image other
     (ap (λ p. local_of p) reached
     ∙ sym (ap (λ (b : Beside). b.local) (ap (λ k. ran text k (from m)) (sym none) ∙ made.makes))
@@ -38,6 +40,11 @@ lined-made text image m other line bytes made none steps start reached marks nee
     (steps ∙ none)
     (λ a. ap (λ t. is_touched record { now = m.own.now; before = m.own.before; touched = t } a) marks ∙ made.marks a
     ∙ ap (λ k. touched text k (from m) a) none)
+    record {
+      stored = λ a. ap (λ t. is_stored t a) traces ∙ made.stored a ∙ ap (λ k. laid text k (from m) a) none;
+      pages = λ page. ap (λ t. is_paged t page) traces ∙ made.pages page
+          ∙ ap (λ k. paged text k (from m) page) none;
+    }
     (λ l. ap (λ n. mode_in n l) needed ∙ made.needs l ∙ ap (λ k. needs_by text k (from m) l) none)
     (λ a in-text. is a
     ∙ ap (λ b. if b then bytes a else bytes_at m.own.now a) (not-in-line text line a free in-text) ∙ made.now a in-text)

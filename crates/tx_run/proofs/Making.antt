@@ -18,11 +18,13 @@ use Rattle.tx_progress.specs.Progress.{is_live}
 use Rattle.tx_progress.specs.declared.done.Done.TheVariants.{Stepped}
 use Rattle.tx_cpu.specs.Parts.{local_of}
 use Rattle.tx_lending.specs.Away.{ran, GoAway, GoesAway, touched, lent_turn, lent_by, is_plain, turn_places, fate_places}
-use Rattle.tx_lending.specs.Places.{is_among, text_places, operand_places}
+use Rattle.tx_lending.specs.Places.{is_among, text_places, operand_places, stored_places}
 use Rattle.tx_lending.proofs.Along.{go_by}
 use Rattle.tx_run.specs.Own.{is_touched, bytes_at}
+use Rattle.tx_run.specs.Traces.{is_stored, is_paged, has_page}
 use Rattle.tx_run.specs.Marks.{mode_in, with_needs}
 use Rattle.tx_run.specs.Made.{Made, from, now, needs_by, turn_needs, fate_needs, IsMade, StartsAlike, OneMade, next_fate}
+use Rattle.tx_run.specs.Made.{laid, turn_lays, fate_lays, paged, turn_traces}
 use Rattle.tx_run.proofs.MarksNeeded.{needs-there, there-stays}
 use Rattle.tx_run.proofs.Frame.{keeps-text, counted}
 
@@ -100,6 +102,25 @@ module _ (text image : List ℕ) (m other : Made) (i : Instr) (ranges : List Ran
       ++ fate_places f (local_of m.reached).attempt) a) (sym goes)
       ∙ ap (λ (n : Beside). touched text k b a || is_among (turn_places text n) a) (sym made.makes)
 
+  stored-more : (a : ℕ) → is_stored other.traces a ≡ laid text (suc k) b a
+  unfolding laid
+  stored-more a =
+      one.stored a
+      ∙ ap (λ t. t || is_among (stored_places ranges (local_of m.reached).attempt) a) (made.stored a)
+      ∙ ap (λ (f : Fate). laid text k b a || is_among (fate_lays f (local_of m.reached).attempt) a) (sym goes)
+      ∙ ap (λ (n : Beside). laid text k b a || is_among (turn_lays text n) a) (sym made.makes)
+
+  pages-more : (page : ℕ) → is_paged other.traces page ≡ paged text (suc k) b page
+  unfolding paged
+  pages-more page =
+      one.pages page
+      ∙ ap (λ t. t || has_page (text_places (bytes_at m.own.now) (local_of m.reached).attempt
+      ++ stored_places ranges (local_of m.reached).attempt) page) (made.pages page)
+      ∙ ap (λ (f : Fate). paged text k b page
+      || has_page (text_places (bytes_at m.own.now) (local_of m.reached).attempt
+      ++ fate_lays f (local_of m.reached).attempt) page) (sym goes)
+      ∙ ap (λ (n : Beside). paged text k b page || has_page (turn_traces text n) page) (sym made.makes)
+
   needs-more : (line : ℕ) → mode_in other.needed line ≡ needs_by text (suc k) b line
   unfolding needs_by
   needs-more line =
@@ -130,6 +151,10 @@ module _ (text image : List ℕ) (m other : Made) (i : Instr) (ranges : List Ran
         (subst (GoAway text (mode_in other.needed) (suc k)) (sym same-from) away-more);
     marks = λ a. marks-more a ∙ ap (λ s. touched text s b a) (sym more)
         ∙ ap (λ (c : Beside). touched text other.steps c a) (sym same-from);
+    stored = λ a. stored-more a ∙ ap (λ s. laid text s b a) (sym more)
+        ∙ ap (λ (c : Beside). laid text other.steps c a) (sym same-from);
+    pages = λ page. pages-more page ∙ ap (λ s. paged text s b page) (sym more)
+        ∙ ap (λ (c : Beside). paged text other.steps c page) (sym same-from);
     needs = λ line. needs-more line ∙ ap (λ s. needs_by text s b line) (sym more)
         ∙ ap (λ (c : Beside). needs_by text other.steps c line) (sym same-from);
     given = λ a is. alike.given a ∙ made.given a is;

@@ -3,25 +3,12 @@ use Rattle.std.proofs.Common.{◌≡◌, ℕ, true, List, refl, sym, ap, subst, 
 use Rattle.z_regs.specs.declared.ranges.Range.{Range}
 use Rattle.z_instr.specs.declared.instr.Instr.{Instr}
 use Rattle.tx_serial.specs.Fate.{Fate, Goes, Ends, Stops}
-use Rattle.tx_serial.specs.Flat.{Storage}
 use Rattle.tx_progress.specs.Doing.{executed}
-use Rattle.tx_progress.specs.Progress.{Progress}
 use Rattle.std.proofs.lemmas.Bool.{true≢false}
 use Rattle.tx_progress.specs.declared.done.Done.{Done}
 use Rattle.tx_progress.specs.declared.done.Done.TheVariants.{Stepped, Began, Paused, Committed, Interrupted, Ended}
 use Rattle.tx_lending.specs.Away.{is_plain}
-use Rattle.tx_run.specs.Made.{Made, now, next_fate, NextGoesAway, IsWithin, is_stepped}
-use Rattle.tx_run.proofs.Frame.{IsReachedBy}
-
-pub within-of : (text : List ℕ) (s : Storage) (q : Progress) (need : List Range) → IsReachedBy text s q need
-    → IsWithin s q need
-within-of text s q need h = record {
-  first = h.first;
-  fetched = h.fetched;
-  accessible = h.accessible;
-  inside = h.inside;
-  few = h.few;
-}
+use Rattle.tx_run.specs.Made.{Made, now, next_fate, NextGoesAway, is_stepped}
 
 instruction_in : Instr → Fate → Instr
 instruction_in d (Goes i ranges) = i

@@ -34,6 +34,15 @@ pub record IsLent (text image : List ℕ) (allowance : ℕ) (m : Made) : Type 0 
   pub counted : (local_of m.start).attempt.count + allowance < 2 ^ 32
   pub runs : is_running (local_of m.start).attempt.cpu.state ≡ true
 
+-- it runs the same image for the same CPU, with the same turns and attempt, and may make as many steps
+pub record IsFor (r other : Lent) : Type 0 where
+  pub text : other.text ≡ r.text
+  pub image : other.image ≡ r.image
+  pub cpu : other.cpu ≡ r.cpu
+  pub turns : other.turns ≡ r.turns
+  pub attempt : other.attempt ≡ r.attempt
+  pub allowance : other.allowance ≡ r.allowance
+
 -- ---- what it is loaded with
 
 -- it has made no step, and has no line
@@ -55,17 +64,11 @@ pub record HasOneMore (need : Need) (from : Storage) (r other : Lent) : Type 0 w
   pub start : other.made.start ≡ r.made.start
   pub reached : other.made.reached ≡ r.made.reached
   pub steps : other.made.steps ≡ r.made.steps
-  pub allowance : other.allowance ≡ r.allowance
-  pub text : other.text ≡ r.text
+  pub loan : IsFor r other
 
 -- all that a run was given is as it was
 pub record IsSameLoan (r other : Lent) : Type 0 where
-  pub text : other.text ≡ r.text
-  pub image : other.image ≡ r.image
-  pub cpu : other.cpu ≡ r.cpu
-  pub turns : other.turns ≡ r.turns
-  pub attempt : other.attempt ≡ r.attempt
-  pub allowance : other.allowance ≡ r.allowance
+  pub loan : IsFor r other
   pub held : other.held ≡ r.held
 
 -- ---- a step

@@ -21,18 +21,21 @@ use Rattle.tx_progress.specs.declared.done.Done.{Done}
 use Rattle.tx_progress.specs.declared.done.Done.TheVariants as done
 use Rattle.tx_cpu.specs.Parts.{Parts, local_of, beside}
 use Rattle.tx_lending.specs.Away.{ran, GoAway, GoesAway, touched, is_plain}
-use Rattle.tx_lending.specs.Places.{is_among, text_places, operand_places}
+use Rattle.tx_lending.specs.Places.{is_among, text_places, operand_places, stored_places}
 use Rattle.tx_run.specs.Own.{Own, given, is_touched, bytes_at}
+use Rattle.tx_run.specs.Traces.{Traces, is_stored, is_paged, has_page}
 use Rattle.tx_run.specs.Marks.{Marks, mode_in, with_needs, first_missing}
 use Rattle.tx_run.specs.declared.reason.Reason.TheVariants as reason
 use Rattle.tx_run.specs.declared.reason.RunStep.{RunStep}
 use Rattle.tx_run.specs.declared.reason.RunStep.TheVariants as step
 
--- a CPU as it was lent and as it has become, its storage, the lines that it needed, and how many steps it has made
+-- a CPU as it was lent and as it has become, its storage and what its steps have left there, the lines that they needed, and
+-- how many they are
 pub record Made : Type 0 where
   pub start : Parts
   pub reached : Parts
   pub own : Own
+  pub traces : Traces
   pub needed : Marks
   pub steps : ℕ
 
@@ -57,14 +60,37 @@ unfoldable pub needs_by : List ℕ → ℕ → Beside → ℕ → Option Mode
 needs_by text zero b line = None
 needs_by text (suc k) b line = with_needs (turn_needs text (ran text k b)) (needs_by text k b) line
 
+-- ---- what steps store, and the pages of that and of their instructions
+
+abbrev pub fate_lays : Fate → Progress → List ℕ
+fate_lays (Goes instr ranges) q = stored_places ranges q
+fate_lays (Ends why) q = []
+fate_lays (Stops e) q = []
+
+abbrev pub turn_lays : List ℕ → Beside → List ℕ
+turn_lays text b = fate_lays (fate_by_progress text b.storage b.local.attempt) b.local.attempt
+
+unfoldable pub laid : List ℕ → ℕ → Beside → ℕ → Bool
+laid text zero b a = false
+laid text (suc k) b a = laid text k b a || is_among (turn_lays text (ran text k b)) a
+
+abbrev pub turn_traces : List ℕ → Beside → List ℕ
+turn_traces text b = text_places b.storage b.local.attempt ++ turn_lays text b
+
+unfoldable pub paged : List ℕ → ℕ → Beside → ℕ → Bool
+paged text zero b page = false
+paged text (suc k) b page = paged text k b page || has_page (turn_traces text (ran text k b)) page
+
 -- ---- what the steps are
 
--- As many turns as steps make what it has become; each of them may be made away; what they touched and needed is marked;
--- and the bytes of text pages are those of the image, before and now.
+-- As many turns as steps make what it has become; each of them may be made away; what they touched, stored and needed is
+-- marked, and the pages of what they stored and of themselves; and the bytes of text pages are those of the image, before and now.
 pub record IsMade (text : List ℕ) (image : List ℕ) (m : Made) : Type 0 where
   pub makes : ran text m.steps (from m) ≡ now m
   pub away : GoAway text (mode_in m.needed) m.steps (from m)
   pub marks : (a : ℕ) → is_touched m.own a ≡ touched text m.steps (from m) a
+  pub stored : (a : ℕ) → is_stored m.traces a ≡ laid text m.steps (from m) a
+  pub pages : (page : ℕ) → is_paged m.traces page ≡ paged text m.steps (from m) page
   pub needs : (line : ℕ) → mode_in m.needed line ≡ needs_by text m.steps (from m) line
   pub given : SameText text (bytes_at image) (given m.own)
   pub now : SameText text (bytes_at image) (bytes_at m.own.now)
@@ -97,12 +123,17 @@ pub record IsWithin (s : Storage) (q : Progress) (need : List Range) : Type 0 wh
   pub inside : All (λ (r : Range). r.first + r.length ≤ storage_size) need
   pub few : length need ≤ 2
 
--- an instruction has been made: the CPU and its storage are what it leaves, and what it touched and needed is marked
+-- an instruction has been made: the CPU and its storage are what it leaves, and what it touched, stored and needed is marked
 pub record OneMade (instr : Instr) (ranges : List Range) (m other : Made) : Type 0 where
   pub now : now other ≡ (executed instr ranges (now m)).after
   pub touched : (a : ℕ) → is_touched other.own a ≡ (is_touched m.own a
       || is_among (text_places (bytes_at m.own.now) (local_of m.reached).attempt
       ++ operand_places ranges (local_of m.reached).attempt) a)
+  pub stored : (a : ℕ) → is_stored other.traces a ≡ (is_stored m.traces a
+      || is_among (stored_places ranges (local_of m.reached).attempt) a)
+  pub pages : (page : ℕ) → is_paged other.traces page ≡ (is_paged m.traces page
+      || has_page (text_places (bytes_at m.own.now) (local_of m.reached).attempt
+      ++ stored_places ranges (local_of m.reached).attempt) page)
   pub needed : (line : ℕ) → mode_in other.needed line
       ≡ with_needs (operand_needs (local_of m.reached).attempt.cpu.prefix ranges) (mode_in m.needed) line
 

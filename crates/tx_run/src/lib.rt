@@ -6,6 +6,7 @@ mod marks;
 mod reason;
 mod run;
 mod steps;
+mod traces;
 
 pub use reason::{Reason, RunStep};
 pub use run::Run;

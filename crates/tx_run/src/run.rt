@@ -1,5 +1,7 @@
 //! A run: a CPU that is lent, with the lines that it holds, and the steps that it makes away from its machine.
 ghost use Rattle.std.specs.Prelude.{◌≡◌, ℕ, ◌+◌, ◌<◌, ◌≤◌, ◌^◌, true, false, IfOk, IfSome, if◌then◌else◌, length, None, Some};
+ghost use Rattle.std.specs.Prelude.{nat_eq};
+ghost use Rattle.std.specs.List.{list_any};
 ghost use Rattle.std.specs.FinSet.{items};
 ghost use Rattle.std.specs.Arc.{arc_value};
 ghost use Rattle.tx_serial.specs.Apply.{is_running};
@@ -9,6 +11,7 @@ ghost use Rattle.tx_run.specs.Made.{now, StartsAlike};
 ghost use Rattle.z_regs.specs.Prefix.{storage_size};
 ghost use Rattle.line_table.specs.Sizes.{storage_lines};
 ghost use Rattle.tx_run.specs.Own.{bytes_at, given, is_touched};
+ghost use Rattle.tx_run.specs.Traces.{is_paged};
 ghost use Rattle.tx_run.specs.Marks.{mode_in};
 ghost use Rattle.tx_run.specs.Lent.{IsLent, IsLoaded, IsSameLoan, HasOneMore, step_of, is_done};
 
@@ -149,6 +152,19 @@ impl Run {
         ensures none { result ≡ None → (a : ℕ) → from ≤ a → is_touched self.now.made.own a ≡ false }
     {
         self.steps.own.next(from)
+    }
+
+    /// The lowest page at or above `from` that holds a byte of the instructions of its steps or of what these have stored, and
+    /// whether it is a text page of the image that it runs; None exactly where there is none.
+    pub fn next_page(&self, from: u32) -> Option<(u32, bool)>
+        ensures found { IfSome result (λ p. (from ≤ p.0) × (is_paged self.now.made.traces p.0 ≡ true)) }
+        ensures text { IfSome result (λ p. p.1 ≡ list_any (nat_eq p.0) self.now.text) }
+        ensures first { IfSome result (λ p. (page : ℕ) → from ≤ page → page < p.0
+            → is_paged self.now.made.traces page ≡ false) }
+        ensures none { result ≡ None → (page : ℕ) → from ≤ page → is_paged self.now.made.traces page ≡ false }
+    {
+        let page = self.steps.traces.next_page(from)?;
+        Some((page, self.program.guard().has(page)))
     }
 
     /// Makes it a run without steps and without lines that starts from a running CPU, with the turns and the attempt that this

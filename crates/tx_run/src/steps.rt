@@ -13,7 +13,8 @@ ghost use Rattle.tx_serial.specs.Text.{SameText};
 ghost use Rattle.tx_progress.specs.Progress.{is_live, seen_through};
 ghost use Rattle.z_instr.specs.Roles.{ends_level, is_lasting_store, is_assist};
 ghost use Rattle.tx_lending.specs.Away.{is_plain, is_abort, is_service};
-ghost use Rattle.tx_lending.specs.Places.{is_among, text_places, operand_places};
+ghost use Rattle.tx_lending.specs.Places.{is_among, text_places, operand_places, stored_places};
+ghost use Rattle.tx_run.specs.Traces.{is_stored, is_paged, has_page};
 ghost use Rattle.tx_run.specs.Own.{given, is_touched, bytes_at};
 ghost use Rattle.tx_serial.specs.Fate.{Goes};
 ghost use Rattle.tx_lending.specs.Away.{lent_turn};
@@ -25,6 +26,7 @@ ghost use Rattle.tx_run.specs.Made.{next_fate, step_there, step_by};
 use crate::bytes::OwnBytes;
 use crate::marks::LineMarks;
 use crate::reason::{Reason, RunStep};
+use crate::traces::Traces;
 use std::alloc::Global;
 use std::marker::Model;
 use tx_cpu::laws::the_next_instruction_is_text;
@@ -39,12 +41,14 @@ use z_regs::{Bytes, CpuImage, NoMemory, Touches, place_of};
 /// The lines of a page.
 const LINES_A_PAGE: u32 = 16;
 
-/// A CPU as it was lent and as it has become, its storage, the lines that it needed, and how many steps it has made.
+/// A CPU as it was lent and as it has become, its storage and what its steps have left there, the lines that they needed, and
+/// how many they are.
 #[derive(Drop)]
 pub(crate) struct Steps {
     pub(crate) start: Cpu,
     pub(crate) reached: Cpu,
     pub(crate) own: OwnBytes,
+    pub(crate) traces: Traces,
     pub(crate) needed: LineMarks,
     pub(crate) count: u32,
 }
@@ -58,6 +62,7 @@ impl Model for Steps {
       start = s.start;
       reached = s.reached;
       own = s.own;
+      traces = s.traces;
       needed = s.needed;
       steps = s.count;
     } };
@@ -121,7 +126,7 @@ impl Steps {
         u32::from(length_of(self.seen(place)))
     }
 
-    /// Marks the bytes of the next instruction.
+    /// Marks the bytes of the next instruction, and their pages.
     fn touch_text(&mut self)
         requires first { (local_of self.old.reached).attempt.cpu.address < storage_size }
         requires fetched { let q = (local_of self.old.reached).attempt in q.cpu.address + length_by
@@ -134,14 +139,18 @@ impl Steps {
         ensures given { (a : ℕ) → given self.new.own a ≡ given self.old.own a }
         ensures touched { (a : ℕ) → is_touched self.new.own a ≡ (is_touched self.old.own a
             || is_among (text_places (bytes_at self.old.own.now) (local_of self.old.reached).attempt) a) }
+        ensures stored { self.new.traces.stored ≡ self.old.traces.stored }
+        ensures pages { (page : ℕ) → is_paged self.new.traces page ≡ (is_paged self.old.traces page
+            || has_page (text_places (bytes_at self.old.own.now) (local_of self.old.reached).attempt) page) }
     {
         let prefix = self.prefix();
         let address = self.reached.image().address;
         let length = self.length();
         self.own.touch_places(prefix, address, length);
+        self.traces.mark_pages(prefix, address, length);
     }
 
-    /// Marks the bytes of operands.
+    /// Marks the bytes of operands, and of those that are stored the pages too.
     fn touch_operands(&mut self, need: &Touches)
         requires inside { All (λ r. r.first + r.length ≤ storage_size) need.now }
         ensures start { self.new.start ≡ self.old.start }
@@ -152,9 +161,14 @@ impl Steps {
         ensures given { (a : ℕ) → given self.new.own a ≡ given self.old.own a }
         ensures touched { (a : ℕ) → is_touched self.new.own a ≡ (is_touched self.old.own a
             || is_among (operand_places need.now (local_of self.old.reached).attempt) a) }
+        ensures stored { (a : ℕ) → is_stored self.new.traces a ≡ (is_stored self.old.traces a
+            || is_among (stored_places need.now (local_of self.old.reached).attempt) a) }
+        ensures pages { (page : ℕ) → is_paged self.new.traces page ≡ (is_paged self.old.traces page
+            || has_page (stored_places need.now (local_of self.old.reached).attempt) page) }
     {
         let prefix = self.prefix();
         self.own.touch_operands(prefix, need);
+        self.traces.mark_operands(prefix, need);
     }
 
     /// Marks the bytes of the next instruction, which goes, and of its operands.
@@ -169,6 +183,11 @@ impl Steps {
         ensures touched { (a : ℕ) → is_touched self.new.own a ≡ (is_touched self.old.own a
             || is_among (text_places (bytes_at self.old.own.now) (local_of self.old.reached).attempt
             ++ operand_places need.now (local_of self.old.reached).attempt) a) }
+        ensures stored { (a : ℕ) → is_stored self.new.traces a ≡ (is_stored self.old.traces a
+            || is_among (stored_places need.now (local_of self.old.reached).attempt) a) }
+        ensures pages { (page : ℕ) → is_paged self.new.traces page ≡ (is_paged self.old.traces page
+            || has_page (text_places (bytes_at self.old.own.now) (local_of self.old.reached).attempt
+            ++ stored_places need.now (local_of self.old.reached).attempt) page) }
     {
         self.touch_text();
         self.touch_operands(need);
@@ -180,6 +199,7 @@ impl Steps {
         ensures start { self.new.start ≡ self.old.start }
         ensures reached { self.new.reached ≡ self.old.reached }
         ensures own { self.new.own ≡ self.old.own }
+        ensures traces { self.new.traces ≡ self.old.traces }
         ensures steps { self.new.steps ≡ self.old.steps }
         ensures needed { (line : ℕ) → mode_in self.new.needed line ≡ with_needs
             (operand_needs (local_of self.old.reached).attempt.cpu.prefix need.now) (mode_in self.old.needed) line }
@@ -198,6 +218,7 @@ impl Steps {
         ensures value { record { after = now self.new; told = result } ≡ executed instr.now need.now (now self.old) }
         ensures start { StartsAlike self.old self.new }
         ensures touched { self.new.own.touched ≡ self.old.own.touched }
+        ensures traces { self.new.traces ≡ self.old.traces }
         ensures needed { self.new.needed ≡ self.old.needed }
         ensures steps { self.new.steps ≡ self.old.steps }
     {
@@ -253,6 +274,7 @@ impl Steps {
     {
         self.reached.copy_from(&self.start);
         self.own.put_back();
+        self.traces.clear();
         self.needed.clear();
         self.count = 0;
     }
@@ -298,6 +320,7 @@ impl Steps {
             start: Cpu::open(alloc, start)?,
             reached: Cpu::open(alloc, start)?,
             own: OwnBytes::open(alloc, bytes)?,
+            traces: Traces::open(alloc)?,
             needed: LineMarks::open(alloc)?,
             count: 0,
         })
@@ -314,6 +337,7 @@ impl Steps {
         self.start.copy_from(from);
         self.reached.copy_from(from);
         self.own.forget();
+        self.traces.clear();
         self.needed.clear();
         self.count = 0;
     }

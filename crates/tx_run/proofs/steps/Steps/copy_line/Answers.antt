@@ -11,7 +11,7 @@ returns-clause-made g c text image free made =
     let v = c.self.view_is in
     lined-made text image c.args.self.now _ c.args.line (bytes_at (g.V.Bytes.bytes c.args.from.now)) made c.requires.none
     (ap (λ (m : Made). m.steps) v) (ap (λ (m : Made). m.start) v) (ap (λ (m : Made). m.reached) v)
-    (c.copy_line.ensures.touched ∙ ap (λ (m : Made). m.own.touched) v) (ap (λ (m : Made). m.needed) v) free
+    (c.copy_line.ensures.touched ∙ ap (λ (m : Made). m.own.touched) v) (ap (λ (m : Made). m.traces) v) (ap (λ (m : Made). m.needed) v) free
     (λ a. c.copy_line.ensures.now a
     ∙ ap (λ (m : Made). if nat_eq (a / 256) c.args.line then bytes_at (g.V.Bytes.bytes c.args.from.now) a
     else bytes_at m.own.now a) v)

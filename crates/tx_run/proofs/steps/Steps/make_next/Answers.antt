@@ -8,16 +8,15 @@ use Rattle.tx_run.specs.Own.{bytes_at}
 use Rattle.tx_run.specs.Made.{is_stepped}
 use Rattle.tx_run.proofs.Frame.{goes-reached}
 use Rattle.tx_run.proofs.Making.{one-more-made}
-use Rattle.tx_run.proofs.Nexts.{within-of, away-is}
+use Rattle.tx_run.proofs.Nexts.{away-is}
 use Rattle.tx_run.proofs.steps.Steps.make_next.Goals as goal
 
 pub make-requires-clause-within : goal.make-requires-clause-within
 make-requires-clause-within c =
     let text = items c.args.program.now.guard in
     let m = c.args.self.now in
-    within-of text (bytes_at m.own.now) (local_of m.reached).attempt c.in-Go.need
     (goes-reached text (bytes_at m.own.now) (local_of m.reached).attempt c.in-Go.instr c.in-Go.need
-    c.in-Go.ensures.area (sym c.in-Go.ensures.fate))
+    c.in-Go.ensures.area (sym c.in-Go.ensures.fate)).within
 
 pub returns-in-Go-clause-made : goal.returns-in-Go-clause-made
 returns-in-Go-clause-made c =

@@ -7,16 +7,15 @@ use Rattle.tx_run.specs.Own.{bytes_at}
 use Rattle.tx_run.proofs.Again.{stays-again}
 use Rattle.tx_run.proofs.Frame.{goes-reached}
 use Rattle.tx_run.proofs.Making.{one-more-made}
-use Rattle.tx_run.proofs.Nexts.{within-of, stepped-is}
+use Rattle.tx_run.proofs.Nexts.{stepped-is}
 use Rattle.tx_run.proofs.steps.Steps.make_or_stay.Goals as goal
 
 pub make-requires-clause-within : goal.make-requires-clause-within
 make-requires-clause-within c =
     let text = items c.args.program.now.guard in
     let m = c.args.self.now in
-    within-of text (bytes_at m.own.now) (local_of m.reached).attempt c.args.need.now
     (goes-reached text (bytes_at m.own.now) (local_of m.reached).attempt c.args.instr.now c.args.need.now
-    c.requires.area c.requires.goes)
+    c.requires.area c.requires.goes).within
 
 pub returns-then-make-clause-made : goal.returns-then-make-clause-made
 returns-then-make-clause-made c =

@@ -8,4 +8,5 @@ pub returns : goal.returns
 returns c text =
     opened-lent text c.args.bytes.now _ (c.in_ok-open.ensures ∙ ap settled c.entering-start.ensures)
     (c.in_ok-open-2.ensures ∙ ap settled c.entering-start.ensures) refl c.in_ok-open-3.ensures.bytes
-    c.in_ok-open-3.ensures.untouched c.in_ok-open-4.ensures
+    c.in_ok-open-3.ensures.untouched
+    record { stored = c.in_ok-open-4.ensures.stored; pages = c.in_ok-open-4.ensures.pages } c.in_ok-open-5.ensures

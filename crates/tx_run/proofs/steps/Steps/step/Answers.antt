@@ -4,7 +4,6 @@ use Rattle.std.specs.FinSet.{items}
 use Rattle.tx_cpu.specs.Parts.{local_of}
 use Rattle.tx_run.specs.Own.{bytes_at}
 use Rattle.tx_run.proofs.Frame.{goes-reached}
-use Rattle.tx_run.proofs.Nexts.{within-of}
 use Rattle.tx_run.proofs.steps.Steps.step.Goals as goal
 
 pub missing-requires : goal.missing-requires
@@ -12,7 +11,6 @@ missing-requires c =
     let text = items c.args.program.now.guard in
     let m = c.args.self.now in
     record {
-      within = within-of text (bytes_at m.own.now) (local_of m.reached).attempt c.in-Go.need
-          (goes-reached text (bytes_at m.own.now) (local_of m.reached).attempt c.in-Go.instr c.in-Go.need
-          c.in-Go.ensures.area (sym c.in-Go.ensures.fate));
+      within = (goes-reached text (bytes_at m.own.now) (local_of m.reached).attempt c.in-Go.instr c.in-Go.need
+          c.in-Go.ensures.area (sym c.in-Go.ensures.fate)).within;
     }
