@@ -127,7 +127,9 @@ pub fn check(alloc: Global, image: &Image, report: &[u8]) -> Result<u32, CheckFa
     };
     let sheet = sheet_of(alloc, image, &lines)?;
     let replayed = history_of(alloc, image, &lines, sheet)?;
-    let Ok(state) = expected_state(alloc, image, &lines, sheet, &replayed) else {
+    let state = expected_state(alloc, image, &lines, sheet, &replayed);
+    drop(replayed);
+    let Ok(state) = state else {
         return Err(CheckFault::Memory);
     };
     let Ok(place) = first_unexpected(alloc, &lines, sheet.history - 1, state) else {

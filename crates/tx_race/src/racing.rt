@@ -1,5 +1,5 @@
 //! A race: workers for all CPUs, and then the rest of the round.
-ghost use Rattle.std.specs.Prelude.{◌≡◌, ◌+◌, ◌≤◌, [], length, IfOk};
+ghost use Rattle.std.specs.Prelude.{◌≡◌, ◌+◌, ◌≤◌, [], length, vec_len, IfOk, IfSome};
 ghost use Rattle.tx_board.specs.Shares.{IsOfSameRun, HasTurnsAlone, shares_for};
 ghost use Rattle.tx_schedule.specs.Ran.{HasNoneReady};
 
@@ -11,13 +11,37 @@ use std::sync::ledger::Ledger;
 use std::sync::{Mutex, Wait, ledger};
 use std::thread;
 use std::thread::Threads;
-use tx_board::{Blank, Board, Raced, cpu_count, finish_round, is_of_run, run_again};
+use tx_board::{Blank, Board, Raced, Share, cpu_count, finish_round, is_of_run, run_again};
 use tx_machine::{Machine, NoMemory};
 use tx_meaning::Limits;
 
 /// The most lockings of a worker.
 fn lockings_of(limits: Limits) -> u64 {
     4 * u64::from(limits.turns) + 1000
+}
+
+/// Workers make the turns of a board's machine, one for each job, in so many lockings at most; hands back the board, and
+/// the shares. None where memory is wanting.
+fn work_all<L: Ledger + Send + Sync, R: Threads + Wait + Sync, G: Gate>(
+    rt: &R,
+    board: Board<L>,
+    jobs: Vec<Job<L>>,
+    gate: &G,
+    lockings: u64,
+) -> Option<(Board<L>, Vec<Share<L>>)>
+    ensures all { IfSome result (λ r. vec_len r.1 ≡ vec_len jobs) }
+{
+    let board = Mutex::new(board);
+    let shared = &board;
+    let done = thread::map_vec(
+        rt,
+        jobs,
+        &|job: Job<L>| work(rt, shared, gate, job, lockings),
+    );
+    match done {
+        Ok(shares) => Some((board.into_inner(), shares)),
+        Err(_) => None,
+    }
 }
 
 /// The race on one ledger.
@@ -43,23 +67,20 @@ fn race_on<L: Ledger + Send + Sync, R: Threads + Wait + Sync, G: Gate>(
     let (board, shares) = Board::open(alloc, machine, Blank::<L>::new(blank))?;
     let mut shares = shares;
     let mut last = shares.pop().unwrap();
-    let jobs = jobs_of(alloc, shares)?;
-    let board = Mutex::new(board);
-    let shared = &board;
-    let Ok(done) = thread::map_vec(
-        rt,
-        jobs,
-        &|job: Job<L>| work(rt, shared, gate, job, lockings),
-    ) else {
+    let Ok(jobs) = jobs_of(alloc, shares) else {
+        drop(board);
         return Err(NoMemory);
     };
-    let mut board = board.into_inner();
+    let Some((mut board, mut shares)) = work_all(rt, board, jobs, gate, lockings) else {
+        return Err(NoMemory);
+    };
     if !is_of_run(board.machine(), &image, limits) {
+        drop(board);
         return run_again(alloc, image, limits);
     }
     finish_round(&mut board, &mut last);
-    let mut shares = done;
     if shares.push(last).is_err() {
+        drop(board);
         return Err(NoMemory);
     }
     Ok(board.close(shares))

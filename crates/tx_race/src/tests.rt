@@ -1,6 +1,5 @@
 //! Races of listings: that threads overlap, that each CPU gets its turns, and that all races end. That `run` on the
 //! printed schedule gives the same report is tried through the built program, by examples/check.
-ghost use Rattle.std.specs.Prelude.{◌≤◌};
 
 use crate::{Gate, OpenGate, Raced, race};
 use std::alloc::Global;
@@ -68,36 +67,21 @@ impl Gate for Meeting {
     }
 }
 
-/// The image of a listing on which so many CPUs count, as often as its line says that loads their second register.
-fn image_of(alloc: Global, cpus: u32, load: &str) -> Result<Arc<Image>, Fail> {
+/// A listing on which so many CPUs count, as often as its line says that loads their second register.
+fn text_of(alloc: Global, cpus: u32, load: &str) -> Result<String, Fail> {
     let mut text = String::new(alloc);
     for _ in 0..cpus {
         text.push_str(" CPU GO\n")?;
     }
     text.push_str(load)?;
     text.push_str(COUNTER)?;
-    let image = assemble(alloc, text.as_bytes())?;
-    Ok(Arc::new(alloc, image)?)
+    Ok(text)
 }
 
-/// A race on an image, with so many turns for each CPU.
-fn race_on<R: Threads + Wait + Sync, G: Gate>(
-    rt: &R,
-    alloc: Global,
-    image: &Arc<Image>,
-    turns: u32,
-    gate: &G,
-) -> Result<Raced, Fail>
-    requires { (1 ≤ turns) × (turns ≤ 200000) }
-{
-    let limits = Limits {
-        turns,
-        tick: 0,
-        externals: 0,
-    };
-    let machine = Machine::open(alloc, Arc::try_clone(image)?, limits);
-    let machine = machine.ok().ok_or("no memory")?;
-    Ok(race(rt, alloc, machine, gate).ok().ok_or("no memory")?)
+/// Its image.
+fn image_of(alloc: Global, cpus: u32, load: &str) -> Result<Image, Fail> {
+    let text = text_of(alloc, cpus, load)?;
+    Ok(assemble(alloc, text.as_bytes())?)
 }
 
 /// How often the CPU has committed.
@@ -132,13 +116,49 @@ fn is_right(raced: &Raced, cpus: u32, times: u64) -> bool {
         && raced.homed == 0
 }
 
+/// CPUs that count: how many, how often each, and how many turns each may have.
+#[derive(Clone, Copy)]
+struct Counting {
+    cpus: u32,
+    times: u64,
+    turns: u32,
+}
+
+/// Whether a race of them on this image is right.
+fn is_right_race<R: Threads + Wait + Sync, G: Gate>(
+    rt: &R,
+    alloc: Global,
+    image: Arc<Image>,
+    counting: Counting,
+    gate: &G,
+) -> Result<bool, Fail> {
+    let limits = Limits {
+        turns: counting.turns.clamp(1, 200_000),
+        tick: 0,
+        externals: 0,
+    };
+    let machine = Machine::open(alloc, image, limits).ok().ok_or("no memory")?;
+    let raced = race(rt, alloc, machine, gate).ok().ok_or("no memory")?;
+    Ok(is_right(&raced, counting.cpus, counting.times))
+}
+
+/// Whether two workers that count a hundred times each meet, and their race is right.
+fn both_meet<R: Threads + Wait + Sync>(rt: &R, alloc: Global, gate: &Meeting) -> Result<bool, Fail> {
+    let image = Arc::new(alloc, image_of(alloc, 2, "GO LGHI 2,100\n")?)?;
+    let counting = Counting {
+        cpus: 2,
+        times: 100,
+        turns: 200_000,
+    };
+    is_right_race(rt, alloc, image, counting, gate)
+}
+
 #[test]
 fn both_pass(rt: HostRuntime) -> Result<(), Fail> {
     let gate = Meeting::new();
-    let image = image_of(rt.alloc(), 2, "GO LGHI 2,100\n")?;
-    let raced = race_on(&rt, rt.alloc(), &image, 200_000, &gate)?;
+    let right = both_meet(&rt, rt.alloc(), &gate)?;
     let met = gate.met[0].load(Ordering::SeqCst) && gate.met[1].load(Ordering::SeqCst);
-    assert!(rt; met && is_right(&raced, 2, 100));
+    assert!(rt; met && right);
     Ok(())
 }
 
@@ -176,23 +196,31 @@ static CASES: [Case; 3] = [
 ];
 
 /// How many of the races of a case are right.
-fn right_races<R: Threads + Wait + Sync>(rt: &R, alloc: Global, case: &Case) -> Result<u32, Fail> {
-    let image = image_of(alloc, case.cpus, case.load)?;
-    let turns = case.turns.clamp(1, 200_000);
+fn right_races<R: Threads + Wait + Sync>(rt: &R, alloc: Global, case: &Case, image: &Arc<Image>) -> Result<u32, Fail> {
+    let counting = Counting {
+        cpus: case.cpus,
+        times: case.times,
+        turns: case.turns,
+    };
     let mut right = 0u32;
     for _ in 0..case.races {
-        let raced = race_on(rt, alloc, &image, turns, &OpenGate)?;
-        if is_right(&raced, case.cpus, case.times) {
+        if is_right_race(rt, alloc, Arc::try_clone(image)?, counting, &OpenGate)? {
             right = right.saturating_add(1);
         }
     }
     Ok(right)
 }
 
+/// The same, with its image.
+fn right_races_of<R: Threads + Wait + Sync>(rt: &R, alloc: Global, case: &Case) -> Result<u32, Fail> {
+    let image = Arc::new(alloc, image_of(alloc, case.cpus, case.load)?)?;
+    right_races(rt, alloc, case, &image)
+}
+
 #[test]
 fn all_cpus_count(rt: HostRuntime) -> Result<(), Fail> {
     for case in &CASES {
-        let right = right_races(&rt, rt.alloc(), case)?;
+        let right = right_races_of(&rt, rt.alloc(), case)?;
         assert_eq!(rt; right, case.races, "{} CPUs", case.cpus);
     }
     Ok(())

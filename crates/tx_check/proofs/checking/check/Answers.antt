@@ -46,25 +46,25 @@ overflow_cast-result-in-None c =
 pub returns-clause-sound : goal.returns-clause-sound
 returns-clause-sound c =
     let s = c.in_ok-sheet.sheet in
-    let state = c.in-Ok-expected_state.state.items in
+    let state = c.in-Ok-state.state.items in
     let lines = c.in-Ok.lines.items in
     let text = state ++ joined (drop (s.history - 1) (seen lines)) in
     let same = rw c.in-None.is at c.in-Ok-first_unexpected.ensures.none in
     (accepted c.args.image.now c.args.report.now text (seen lines) (lines_of text) s c.in-Ok.ensures refl
     (subst (λ ls. IsSheet c.args.image.now (seen ls) s) c.deref.ensures.value c.in_ok-sheet.ensures.sheet)
     (subst (λ ls. IsDueText c.args.image.now (seen ls) s.entries (state ++ joined (drop (s.history - 1) (seen ls))))
-    c.deref-3.ensures.value c.in-Ok-expected_state.ensures)
+    c.deref-3.ensures.value c.in-Ok-state.ensures)
     (subst (λ ls. seen ls ≡ lines_of (state ++ joined (drop (s.history - 1) (seen ls)))) c.deref-4.ensures.value same)).0
 
 pub returns-clause-accepted : goal.returns-clause-accepted
 returns-clause-accepted c =
     let s = c.in_ok-sheet.sheet in
-    let state = c.in-Ok-expected_state.state.items in
+    let state = c.in-Ok-state.state.items in
     let lines = c.in-Ok.lines.items in
     let text = state ++ joined (drop (s.history - 1) (seen lines)) in
     let same = rw c.in-None.is at c.in-Ok-first_unexpected.ensures.none in
     (accepted c.args.image.now c.args.report.now text (seen lines) (lines_of text) s c.in-Ok.ensures refl
     (subst (λ ls. IsSheet c.args.image.now (seen ls) s) c.deref.ensures.value c.in_ok-sheet.ensures.sheet)
     (subst (λ ls. IsDueText c.args.image.now (seen ls) s.entries (state ++ joined (drop (s.history - 1) (seen ls))))
-    c.deref-3.ensures.value c.in-Ok-expected_state.ensures)
+    c.deref-3.ensures.value c.in-Ok-state.ensures)
     (subst (λ ls. seen ls ≡ lines_of (state ++ joined (drop (s.history - 1) (seen ls)))) c.deref-4.ensures.value same)).1
