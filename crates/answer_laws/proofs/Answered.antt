@@ -11,14 +11,14 @@ use Rattle.z_assemble.proofs.Images.{stands_for_image}
 use Rattle.z_assemble.proofs.Says.{one_holds, both_fail, same_image, same_fault}
 use Rattle.z_list.specs.Listing.{list_of}
 use Rattle.listing_laws.proofs.Listings.{has_image}
-use Rattle.ztx_answers.specs.Due.{IsRefusal, IsDisassembly, IsReport, IsSummary, IsGenerated}
-use Rattle.ztx_answers.specs.Due.{IsDueToList, IsDueToRun}
+use Rattle.listing_answers.specs.Due.{IsRefusal, IsDisassembly, IsGenerated, IsDueToList}
+use Rattle.run_answers.specs.Reports.{IsReport, IsSummary, IsDueToRun}
 use Rattle.answer_laws.specs.One.{IsSome, IsOnly}
-use Rattle.ztx_answers.specs.Runs.{AreLimits, running, usual_turns}
-use Rattle.ztx_answers.proofs.Plans.{planned_known}
-use Rattle.ztx_answers.proofs.Printed.{printed}
-use Rattle.ztx_answers.proofs.Serials.{serial_run}
-use Rattle.ztx_answers.proofs.Settings.{may_run}
+use Rattle.run_answers.specs.Runs.{AreLimits, running, usual_turns}
+use Rattle.run_answers.proofs.Plans.{planned_known}
+use Rattle.run_answers.proofs.Printed.{printed}
+use Rattle.run_answers.proofs.Serials.{serial_run}
+use Rattle.run_answers.proofs.Settings.{may_run}
 
 -- ---- only one
 

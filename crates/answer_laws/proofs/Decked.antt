@@ -12,8 +12,8 @@ use Rattle.z_deck.specs.Words as words
 use Rattle.z_deck.specs.Writing.{deck_of_image}
 use Rattle.z_deck.specs.declared.fault.Kind.{Kind}
 use Rattle.z_deck.proofs.One as deck
-use Rattle.ztx_answers.specs.Decks.{IsWrittenDeck, IsDeckRefusal, IsDeckListing, IsDueToDeck}
-use Rattle.ztx_answers.specs.Decks.{IsDueToReadDeck}
+use Rattle.listing_answers.specs.Decks.{IsWrittenDeck, IsDeckRefusal, IsDeckListing, IsDueToDeck}
+use Rattle.listing_answers.specs.Decks.{IsDueToReadDeck}
 use Rattle.answer_laws.specs.One.{IsSome, IsOnly}
 use Rattle.answer_laws.proofs.Answered.{same_refusal, refusal}
 

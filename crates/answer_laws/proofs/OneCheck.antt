@@ -7,7 +7,7 @@ use Rattle.tx_check.specs.declared.checking.CheckFault.{CheckFault}
 use Rattle.tx_check.specs.declared.checking.CheckFault.TheVariants.{Memory, Form, Entry, State}
 use Rattle.tx_journal.specs.Content.{Content}
 use Rattle.z_assemble.proofs.Says.{both_fail, same_image}
-use Rattle.ztx_answers.specs.Checks.{report_mark, Says, IsVerdict, IsDueToReport, IsDueToCheck}
+use Rattle.run_answers.specs.Checks.{report_mark, Says, IsVerdict, IsDueToReport, IsDueToCheck}
 use Rattle.answer_laws.specs.One.{IsOnly}
 use Rattle.answer_laws.proofs.Answered.{same_refusal}
 

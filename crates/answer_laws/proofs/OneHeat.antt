@@ -9,7 +9,7 @@ use Rattle.z_assemble.specs.Words.{fault_line}
 use Rattle.z_assemble.specs.declared.fault.ListingFault.{ListingFault}
 use Rattle.z_assemble.proofs.Says.{one_holds, both_fail, same_image}
 use Rattle.ztx_answers.specs.Heats.{heat_on, IsHeat, IsDueToHeat}
-use Rattle.ztx_answers.specs.Runs.{running}
+use Rattle.run_answers.specs.Runs.{running}
 use Rattle.ztx_answers.proofs.Heats.{same_status}
 use Rattle.answer_laws.specs.One.{IsSome, IsOnly}
 use Rattle.answer_laws.proofs.Answered.{same_refusal, refusal}

@@ -18,8 +18,8 @@ use Rattle.z_assemble.specs.Words.{fault_line}
 use Rattle.z_assemble.specs.declared.fault.ListingFault.{ListingFault}
 use Rattle.z_assemble.proofs.Images.{stands_for_image}
 use Rattle.z_assemble.proofs.Says.{one_holds, both_fail, same_image}
-use Rattle.ztx_answers.specs.Due.{long_fault}
-use Rattle.ztx_answers.specs.Runs.{running}
+use Rattle.listing_answers.specs.Due.{long_fault}
+use Rattle.run_answers.specs.Runs.{running}
 use Rattle.ztx_answers.specs.Steps.{run_of, step_mark, AreReplies, IsBadCommand, IsDueToParts, IsDueToStep}
 use Rattle.answer_laws.specs.One.{IsSome, IsOnly}
 use Rattle.answer_laws.proofs.Answered.{same_refusal, refusal}

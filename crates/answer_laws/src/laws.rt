@@ -4,10 +4,11 @@ ghost use Rattle.tx_journal.specs.declared.events.Event.{Event};
 ghost use Rattle.tx_meaning.specs.Views.{AreKnown};
 ghost use Rattle.tx_meaning.specs.Limits.{Setting};
 ghost use Rattle.tx_meaning.specs.Meaning.{IsSetting};
-ghost use Rattle.ztx_answers.specs.Due.{IsSummary, IsGenerated};
+ghost use Rattle.listing_answers.specs.Due.{IsGenerated};
+ghost use Rattle.run_answers.specs.Reports.{IsSummary};
 ghost use Rattle.answer_laws.specs.One.{IsSome, IsOnly};
 ghost use Rattle.ztx_answers.specs.Requests.{IsAllowed, IsDue};
-ghost use Rattle.ztx_answers.specs.Serial.{IsSerialRun};
+ghost use Rattle.run_answers.specs.Serial.{IsSerialRun};
 ghost use Rattle.ztx_answers.specs.declared.requests.Request.{Request};
 ghost use Rattle.ztx_answers.specs.declared.requests.Request.TheVariants.{Check};
 

@@ -1,5 +1,5 @@
--- The conflicts of a machine's run, and of a listing that is refused.
-use Rattle.std.proofs.Common.{◌≡◌, ℕ, Bool, List, Option, Result, Ok, Err, IfOk, ap, subst, ◌∙◌, inl}
+-- The conflicts of a machine's run.
+use Rattle.std.proofs.Common.{◌≡◌, ℕ, Bool, List, Option, ap, subst, ◌∙◌}
 use Rattle.std.specs.Prelude.{if◌then◌else◌}
 use Rattle.std.specs.List.{range_with_len}
 use Rattle.std.proofs.lemmas.List.Folds.{list_all-map}
@@ -18,13 +18,10 @@ use Rattle.tx_meaning.specs.State.{cpus_of}
 use Rattle.tx_report.specs.Report.{status_of}
 use Rattle.tx_report.specs.Shown.{cpu_shown}
 use Rattle.tx_schedule.specs.Ran.{HasRun}
-use Rattle.z_assemble.specs.Whole.{Stands, FirstFault}
-use Rattle.z_assemble.specs.Words.{fault_line}
-use Rattle.z_assemble.specs.declared.fault.ListingFault.{ListingFault}
-use Rattle.ztx_answers.specs.declared.answer.Answer.{Answer}
-use Rattle.ztx_answers.specs.Heats.{IsHeat, IsDueToHeat}
-use Rattle.ztx_answers.specs.Runs.{running}
-use Rattle.ztx_answers.proofs.Ran.{IsOpened, ran_status}
+use Rattle.z_assemble.specs.Whole.{Stands}
+use Rattle.ztx_answers.specs.Heats.{IsHeat}
+use Rattle.run_answers.specs.Runs.{running}
+use Rattle.run_answers.proofs.Ran.{IsOpened, ran_status}
 
 -- ---- statuses
 
@@ -57,14 +54,3 @@ heat_due image turns tick seed before after found input status text is ran h s t
       printed_is = status_is ∙ same_status m (planned m seed);
       text_is = t ∙ ap heat_text (h ∙ ran_heat m after (planned m seed) run.setting run.state);
     }
-
--- ---- of a listing that is refused
-
-module _ (turns tick : ℕ) (seed : Option ℕ) (input : List ℕ) where
-  -- the line of its first fault is due to a text that is no listing
-  pub heat_refused : {E : Type 0} (r : Result Answer E) (fault : ListingFault) → FirstFault input fault
-      → IfOk r (λ a. a.status ≡ 5) → IfOk r (λ a. a.text.items ≡ fault_line fault)
-      → IfOk r (λ a. IsDueToHeat turns tick seed input a.status a.text.items)
-  heat_refused (Ok a) fault first s t =
-      inl (record { fault = fault; first = first; status_is = s; text_is = t })
-  heat_refused (Err e) fault first s t = tt

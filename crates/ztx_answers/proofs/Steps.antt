@@ -15,14 +15,13 @@ use Rattle.tx_meaning.specs.State.{State}
 use Rattle.tx_report.specs.Report.{status_of}
 use Rattle.tx_schedule.specs.Ran.{HasRun}
 use Rattle.tx_step.specs.Traces.{Traced, at_start}
-use Rattle.z_assemble.specs.Whole.{Stands, FirstFault}
+use Rattle.z_assemble.specs.Whole.{Stands}
 use Rattle.z_assemble.specs.Words.{fault_line}
-use Rattle.z_assemble.specs.declared.fault.ListingFault.{ListingFault}
-use Rattle.ztx_answers.specs.declared.answer.Answer.{Answer}
-use Rattle.ztx_answers.specs.Due.{long_fault}
-use Rattle.ztx_answers.specs.Runs.{running}
+use Rattle.listing_answers.specs.declared.answer.Answer.{Answer}
+use Rattle.listing_answers.specs.Due.{IsRefusal, long_fault}
+use Rattle.run_answers.specs.Runs.{running}
 use Rattle.ztx_answers.specs.Steps.{step_mark, AreReplies, IsDueToParts, IsDueToStep}
-use Rattle.ztx_answers.proofs.Ran.{IsOpened, ran_status}
+use Rattle.run_answers.proofs.Ran.{IsOpened, ran_status}
 
 -- ---- what commands show
 
@@ -107,13 +106,10 @@ module _ {E : Type 0} (turns tick : ℕ) (seed : Option ℕ) where
         step_is turns tick seed input p short parted a.status a.text.items (due p.listing stands)
     step_answered (Err e) image stands due = tt
 
-    pub step_refused : (r : Result Answer E) (fault : ListingFault) → FirstFault p.listing fault
-        → IfOk r (λ a. a.status ≡ 5) → IfOk r (λ a. a.text.items ≡ fault_line fault)
+    pub step_refused : (r : Result Answer E) → IfOk r (λ a. IsRefusal p.listing a.status a.text.items)
         → IfOk r (λ a. IsDueToStep turns tick seed input a.status a.text.items)
-    step_refused (Ok a) fault first s t =
-        step_is turns tick seed input p short parted a.status a.text.items
-        (inl (record { fault = fault; first = first; status_is = s; text_is = t }))
-    step_refused (Err e) fault first s t = tt
+    step_refused (Ok a) refusal = step_is turns tick seed input p short parted a.status a.text.items (inl refusal)
+    step_refused (Err e) refusal = tt
 
   -- of an input with too many bytes
   pub long_step_ok : (r : Result Answer E) → IfOk r (λ a. a.status ≡ 5)

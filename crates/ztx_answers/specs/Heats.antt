@@ -7,8 +7,8 @@ use Rattle.tx_journal.specs.Content.{Content}
 use Rattle.tx_meaning.specs.Schedules.{planned}
 use Rattle.tx_report.specs.Report.{status_of}
 use Rattle.z_assemble.specs.Whole.{Stands}
-use Rattle.ztx_answers.specs.Due.{IsRefusal}
-use Rattle.ztx_answers.specs.Runs.{running}
+use Rattle.listing_answers.specs.Due.{IsRefusal}
+use Rattle.run_answers.specs.Runs.{running}
 
 -- the conflicts of the run of an image with its planned schedule
 abbrev pub heat_on : Content → ℕ → ℕ → Option ℕ → Heated

@@ -1,11 +1,4 @@
--- What is due for each command: a status and a text; and what holds of the events that a report tells.
-pub mod Replayed
-pub mod Serial
-pub mod Runs
-pub mod Due
-pub mod Decks
+-- What is due to each request: a status and a text.
 pub mod Steps
 pub mod Heats
-pub mod Checks
-pub mod Races
 pub mod Requests

@@ -2,11 +2,12 @@
 use Rattle.std.specs.Prelude.{ℕ, ◌≤◌, List}
 use Rattle.ztx_answers.specs.declared.requests.Request.{Request}
 use Rattle.ztx_answers.specs.declared.requests.Request.TheVariants as request
-use Rattle.ztx_answers.specs.Checks.{IsDueToCheck}
-use Rattle.ztx_answers.specs.Decks.{IsDueToDeck, IsDueToReadDeck}
-use Rattle.ztx_answers.specs.Due.{IsDueToList, IsDueToRun}
+use Rattle.run_answers.specs.Checks.{IsDueToCheck}
+use Rattle.listing_answers.specs.Decks.{IsDueToDeck, IsDueToReadDeck}
+use Rattle.listing_answers.specs.Due.{IsDueToList}
+use Rattle.run_answers.specs.Reports.{IsDueToRun}
 use Rattle.ztx_answers.specs.Heats.{IsDueToHeat}
-use Rattle.ztx_answers.specs.Runs.{AreLimits}
+use Rattle.run_answers.specs.Runs.{AreLimits}
 use Rattle.ztx_answers.specs.Steps.{IsDueToStep}
 
 -- how many bytes an input may have

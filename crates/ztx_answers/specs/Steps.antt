@@ -11,8 +11,8 @@ use Rattle.tx_report.specs.Report.{status_of}
 use Rattle.tx_step.specs.Traces.{Traced, at_start}
 use Rattle.z_assemble.specs.Whole.{Stands}
 use Rattle.z_assemble.specs.Words.{fault_line}
-use Rattle.ztx_answers.specs.Due.{IsRefusal, long_fault}
-use Rattle.ztx_answers.specs.Runs.{running}
+use Rattle.listing_answers.specs.Due.{IsRefusal, long_fault}
+use Rattle.run_answers.specs.Runs.{running}
 
 -- the line between a listing and the commands
 abbrev pub step_mark : List ℕ

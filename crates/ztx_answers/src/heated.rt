@@ -1,19 +1,18 @@
 //! What is due to a listing whose conflicts are counted, line by line.
 ghost use Rattle.std.specs.Prelude.{ℕ, List, IfOk};
 ghost use Rattle.z_assemble.specs.Whole.{Stands};
-ghost use Rattle.ztx_answers.specs.Due.{IsStatus};
+ghost use Rattle.listing_answers.specs.Due.{IsStatus};
+ghost use Rattle.run_answers.specs.Runs.{AreLimits};
 ghost use Rattle.ztx_answers.specs.Heats.{IsDueToHeat, IsHeat};
-ghost use Rattle.ztx_answers.specs.Runs.{AreLimits};
 
-use crate::answer::{Answer, NoMemory};
-use crate::listed::refuse;
-use crate::machine::open;
+use listing_answers::{Answer, NoMemory, refuse};
+use run_answers::open;
 use std::alloc::Global;
 use tx_heat::Counting;
 use tx_journal::Image;
 use tx_report::status;
 use tx_schedule::run_planned_on;
-use z_assemble::{AssembleFault, assemble};
+use z_assemble::assemble;
 
 /// The conflicts of an image that is run by its schedule, by one that is drawn, or in the round.
 fn heat_image(
@@ -56,7 +55,6 @@ pub fn heat_listing(
 {
     match assemble(alloc, input) {
         Ok(image) => heat_image(alloc, image, turns, tick, seed),
-        Err(AssembleFault::Memory) => Err(NoMemory),
-        Err(AssembleFault::Listing(fault)) => refuse(alloc, fault),
+        Err(fault) => refuse(alloc, fault),
     }
 }

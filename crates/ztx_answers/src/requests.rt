@@ -1,14 +1,14 @@
 //! What is asked of the bytes of an input.
 ghost use Rattle.std.specs.Prelude.{◌≡◌, ℕ, ◌<◌, ◌≤◌, List, IfOk, length};
-ghost use Rattle.ztx_answers.specs.Due.{IsAnyStatus};
+ghost use Rattle.listing_answers.specs.Due.{IsAnyStatus};
 ghost use Rattle.ztx_answers.specs.Requests.{IsAllowed, IsDue, most_of};
 
-use crate::answer::{Answer, NoMemory};
-use crate::checked::check_report;
-use crate::decks::{read_deck_of, refuse_long_deck, write_deck_of};
 use crate::heated::heat_listing;
-use crate::listed::{list, refuse_long_listing, run};
 use crate::stepped::step;
+use listing_answers::{
+    Answer, NoMemory, list, read_deck_of, refuse_long_deck, refuse_long_listing, write_deck_of,
+};
+use run_answers::{check_report, run};
 use std::alloc::Global;
 use z_assemble::MOST_BYTES;
 

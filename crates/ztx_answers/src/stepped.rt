@@ -1,17 +1,19 @@
 //! What is due to a listing with commands that look at its run.
 ghost use Rattle.std.specs.Prelude.{◌≡◌, ◌≤◌, ℕ, All, List, IfOk, length};
+ghost use Rattle.step_text.specs.Replies.{replies_from};
 ghost use Rattle.step_words.specs.Commands.{AreCommands, IsKnown};
 ghost use Rattle.step_words.specs.Words as words;
+ghost use Rattle.tx_machine.specs.Machine.{setting_of};
+ghost use Rattle.tx_report.specs.Report.{status_of};
 ghost use Rattle.tx_step.specs.Traces.{at_start};
 ghost use Rattle.z_assemble.specs.Whole.{Stands};
-ghost use Rattle.ztx_answers.specs.Due.{IsStatus};
-ghost use Rattle.ztx_answers.specs.Runs.{AreLimits};
+ghost use Rattle.listing_answers.specs.Due.{IsStatus};
+ghost use Rattle.run_answers.specs.Runs.{AreLimits};
 ghost use Rattle.ztx_answers.specs.Steps.{AreReplies, IsDueToParts, IsDueToStep};
 
-use crate::answer::{Answer, NoMemory};
-use crate::listed::refuse;
-use crate::machine::open;
 use input_parts::part;
+use listing_answers::{Answer, NoMemory, refuse};
+use run_answers::open;
 use std::alloc::Global;
 use step_text::replies;
 use step_words::{CommandFault, StepCommand, fault_line, read_commands};
@@ -20,7 +22,7 @@ use tx_machine::machine::Machine;
 use tx_report::status;
 use tx_schedule::run_planned;
 use tx_step::Trace;
-use z_assemble::{AssembleFault, assemble};
+use z_assemble::assemble;
 
 /// The line between a listing and the commands.
 const STEP_MARK: &[u8] = b"ZTX STEP";
@@ -52,6 +54,28 @@ fn trace_of(alloc: Global, machine: &Machine) -> Result<Trace, NoMemory>
     }
 }
 
+/// What commands show of the run that a machine has made, with the status of that.
+fn replies_of(
+    alloc: Global,
+    machine: &Machine,
+    commands: &[StepCommand],
+) -> Result<Answer, NoMemory>
+    requires known { All (IsKnown (length machine.now.image.cpus)) commands.now }
+    ensures status { IfOk result (λ answer.
+        answer.status ≡ status_of (setting_of machine.now) machine.now.events) }
+    ensures text { IfOk result (λ answer. answer.text.items
+        ≡ replies_from (at_start machine.now.image machine.now.limits machine.now.events) commands.now) }
+{
+    let mut trace = trace_of(alloc, machine)?;
+    match replies(alloc, &mut trace, commands) {
+        Ok(text) => Ok(Answer {
+            status: status(machine),
+            text,
+        }),
+        Err(_) => Err(NoMemory),
+    }
+}
+
 /// What commands show of the run of an image.
 fn reply_to(
     alloc: Global,
@@ -70,14 +94,7 @@ fn reply_to(
 {
     let mut machine = open(alloc, image, turns, tick)?;
     run_planned(&mut machine, seed);
-    let mut trace = trace_of(alloc, &machine)?;
-    match replies(alloc, &mut trace, commands) {
-        Ok(text) => Ok(Answer {
-            status: status(&machine),
-            text,
-        }),
-        Err(_) => Err(NoMemory),
-    }
+    replies_of(alloc, &machine, commands)
 }
 
 /// What is due to the text of commands behind the listing of an image.
@@ -120,7 +137,6 @@ pub fn step(
     let parts = part(input, STEP_MARK);
     match assemble(alloc, parts.listing) {
         Ok(image) => answer_commands(alloc, image, turns, tick, seed, parts.behind),
-        Err(AssembleFault::Memory) => Err(NoMemory),
-        Err(AssembleFault::Listing(fault)) => refuse(alloc, fault),
+        Err(fault) => refuse(alloc, fault),
     }
 }

@@ -1,10 +1,11 @@
 -- What the words of a command line ask for, and what is due then.
 use Rattle.std.specs.Prelude.{◌≡◌, ℕ, Bool, true, false, List, Option, Some, None, codes}
 use Rattle.clap.specs.Words.{Text}
-use Rattle.ztx_answers.specs.Due.{IsGenerated, IsSummary}
-use Rattle.ztx_answers.specs.Races.{IsDueToRace}
+use Rattle.listing_answers.specs.Due.{IsGenerated}
+use Rattle.run_answers.specs.Reports.{IsSummary}
+use Rattle.run_answers.specs.Races.{IsDueToRace}
 use Rattle.ztx_answers.specs.Requests.{IsAllowed, IsDue}
-use Rattle.ztx_answers.specs.Runs.{AreLimits}
+use Rattle.run_answers.specs.Runs.{AreLimits}
 use Rattle.ztx_answers.specs.declared.requests.Request.TheVariants as request
 use Rattle.ztx_words.specs.Words.{command_of}
 use Rattle.ztx_words.specs.declared.Command.{Command}

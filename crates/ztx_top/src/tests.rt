@@ -1,7 +1,9 @@
 //! The top call on its commands, and on sources and sinks that fail.
 use crate::{sure_top, ztx_top};
 use std::alloc::{AllocError, Global};
+use std::sync::Wait;
 use std::test::Fail;
+use std::thread::Threads;
 use tx_race::OpenGate;
 use ztx_io::{MemorySink, MemorySource, SureSink, SureSource};
 
@@ -118,12 +120,8 @@ SCHEDULE 2
 END
 ";
 
-/// The calls that a reading of the listing takes, and a writing of the report, in pieces of 16 bytes.
-const READS: u64 = 13;
-
-const WRITES: u64 = 81;
-
 /// A command line, an input, and what an independent model answers: a status and a text.
+#[derive(Clone, Copy)]
 struct Case {
     words: &'static str,
     input: &'static str,
@@ -131,7 +129,7 @@ struct Case {
     text: &'static str,
 }
 
-const CASES: [Case; 22] = [
+static CASES: [Case; 22] = [
     Case {
         words: "list",
         input: " CPU START\nSTART LGHI 1,5\n SVC 0\n",
@@ -266,6 +264,14 @@ const CASES: [Case; 22] = [
     },
 ];
 
+/// What came of a call: its status, how many bytes were written, and whether the text begins with them.
+type Told = (u8, usize, bool);
+
+/// What came of a call with this status that has written these bytes.
+fn told(status: u8, taken: &[u8], text: &str) -> Told {
+    (status, taken.len(), text.as_bytes().starts_with(taken))
+}
+
 fn words_of(alloc: Global, line: &str) -> Result<Vec<String>, AllocError> {
     let mut words = Vec::new(alloc);
     for word in line.split_whitespace() {
@@ -288,110 +294,169 @@ fn sink_of(alloc: Global, fails: u64) -> Result<MemorySink, AllocError> {
     Ok(MemorySink::new(alloc, 16, vec![in alloc; fails; 1]?))
 }
 
-#[test]
-fn commands_are_answered(rt: HostRuntime) -> Result<(), Fail> {
-    let alloc = rt.alloc();
-    for case in &CASES {
-        let mut source = source_of(alloc, case.input, 0)?;
-        let mut sink = sink_of(alloc, 0)?;
-        let words = words_of(alloc, case.words)?;
-        let status = ztx_top(
-            &rt,
-            alloc,
-            words.as_slice(),
-            &mut source,
-            &mut sink,
-            &OpenGate,
-        );
-        assert_eq!(rt; status, case.status, "{}", case.words);
-        assert_eq!(rt; sink.taken(), case.text.as_bytes(), "{}", case.words);
-    }
-    Ok(())
+/// What comes of these words over this source and this sink, beside a text.
+fn called<R: Threads + Wait + Sync>(
+    rt: &R,
+    alloc: Global,
+    words: &[String],
+    source: &mut MemorySource,
+    sink: &mut MemorySink,
+    text: &str,
+) -> Told {
+    let status = ztx_top(rt, alloc, words, source, sink, &OpenGate);
+    told(status, sink.taken(), text)
 }
 
-#[test]
-fn each_read_fails_in_turn(rt: HostRuntime) -> Result<(), Fail> {
-    let alloc = rt.alloc();
-    let words = words_of(alloc, "run --turns 20")?;
-    for call in 1..=READS {
-        let mut source = source_of(alloc, CONFLICT, call)?;
-        let mut sink = sink_of(alloc, 0)?;
-        let status = ztx_top(
-            &rt,
-            alloc,
-            words.as_slice(),
-            &mut source,
-            &mut sink,
-            &OpenGate,
-        );
-        assert_eq!(rt; status, 2, "call {call}");
-        assert!(rt; sink.taken().is_empty(), "call {call}");
-    }
-    Ok(())
+/// What comes of a case whose read and whose write with these numbers fail; 0 for none.
+fn call<R: Threads + Wait + Sync>(
+    rt: &R,
+    alloc: Global,
+    case: Case,
+    read: u64,
+    write: u64,
+) -> Result<Told, Fail> {
+    let words = words_of(alloc, case.words)?;
+    let mut source = source_of(alloc, case.input, read)?;
+    let mut sink = sink_of(alloc, write)?;
+    Ok(called(
+        rt,
+        alloc,
+        words.as_slice(),
+        &mut source,
+        &mut sink,
+        case.text,
+    ))
 }
 
-#[test]
-fn each_write_fails_in_turn(rt: HostRuntime) -> Result<(), Fail> {
-    let alloc = rt.alloc();
-    let words = words_of(alloc, "run --turns 20")?;
-    for call in 1..=WRITES {
-        let mut source = source_of(alloc, CONFLICT, 0)?;
-        let mut sink = sink_of(alloc, call)?;
-        let status = ztx_top(
-            &rt,
-            alloc,
-            words.as_slice(),
-            &mut source,
-            &mut sink,
-            &OpenGate,
-        );
-        let taken = (16 * (call - 1)) as usize;
-        assert_eq!(rt; status, 3, "call {call}");
-        assert_eq!(rt;
-            Some(sink.taken()),
-            REPORT.as_bytes().get(..taken),
-            "call {call}"
-        );
-    }
-    Ok(())
-}
-
-#[test]
-fn faults_of_texts_that_are_refused(rt: HostRuntime) -> Result<(), Fail> {
-    let alloc = rt.alloc();
-    for line in ["run", "frob"] {
-        let words = words_of(alloc, line)?;
-        let mut source = source_of(alloc, "", 0)?;
-        let mut sink = sink_of(alloc, 1)?;
-        let status = ztx_top(
-            &rt,
-            alloc,
-            words.as_slice(),
-            &mut source,
-            &mut sink,
-            &OpenGate,
-        );
-        assert_eq!(rt; status, 3, "{line}");
-        assert!(rt; sink.taken().is_empty(), "{line}");
-    }
-    Ok(())
-}
-
-#[test]
-fn a_source_and_a_sink_that_never_fail(rt: HostRuntime) -> Result<(), Fail> {
-    let alloc = rt.alloc();
-    let words = words_of(alloc, "run")?;
-    let mut source = SureSource::new(CONFLICT.as_bytes().to_vec(alloc)?, 7);
+/// What comes of a case over a source that gives 7 bytes at most, and a sink that takes 5; they never fail.
+fn sure_call<R: Threads + Wait + Sync>(rt: &R, alloc: Global, case: Case) -> Result<Told, Fail> {
+    let words = words_of(alloc, case.words)?;
+    let mut source = SureSource::new(case.input.as_bytes().to_vec(alloc)?, 7);
     let mut sink = SureSink::new(alloc, 5);
     let status = sure_top(
-        &rt,
+        rt,
         alloc,
         words.as_slice(),
         &mut source,
         &mut sink,
         &OpenGate,
     );
-    assert_eq!(rt; status, 0);
-    assert_eq!(rt; sink.taken(), REPORT.as_bytes());
+    Ok(told(status, sink.taken(), case.text))
+}
+
+#[test]
+fn commands_are_answered(rt: HostRuntime) -> Result<(), Fail> {
+    for case in &CASES {
+        let answer = call(&rt, rt.alloc(), *case, 0, 0)?;
+        assert_eq!(rt;
+            answer,
+            (case.status, case.text.len(), true),
+            "{}",
+            case.words
+        );
+    }
+    Ok(())
+}
+
+/// A case of which each read or each write fails in turn: how many these are, and how many bytes each brings to the sink
+/// where it does not fail.
+#[derive(Clone, Copy)]
+struct Failing {
+    case: Case,
+    is_read: bool,
+    calls: u64,
+    piece: u64,
+}
+
+static FAILING: [Failing; 4] = [
+    Failing {
+        case: Case {
+            words: "run --turns 20",
+            input: CONFLICT,
+            status: 2,
+            text: REPORT,
+        },
+        is_read: true,
+        calls: 13,
+        piece: 0,
+    },
+    Failing {
+        case: Case {
+            words: "run --turns 20",
+            input: CONFLICT,
+            status: 3,
+            text: REPORT,
+        },
+        is_read: false,
+        calls: 81,
+        piece: 16,
+    },
+    Failing {
+        case: Case {
+            words: "run",
+            input: "",
+            status: 3,
+            text: "ztx: line 0: no CPU\n",
+        },
+        is_read: false,
+        calls: 1,
+        piece: 16,
+    },
+    Failing {
+        case: Case {
+            words: "frob",
+            input: "",
+            status: 3,
+            text: "ztx: bad words\n",
+        },
+        is_read: false,
+        calls: 1,
+        piece: 16,
+    },
+];
+
+/// Of how many calls that fail in turn comes what has to: the status, and the bytes of those before it.
+fn right_calls<R: Threads + Wait + Sync>(
+    rt: &R,
+    alloc: Global,
+    failing: Failing,
+) -> Result<u64, Fail> {
+    let mut right = 0u64;
+    for number in 1..=failing.calls {
+        let (read, write) = if failing.is_read {
+            (number, 0)
+        } else {
+            (0, number)
+        };
+        let answer = call(rt, alloc, failing.case, read, write)?;
+        let written = failing.piece.saturating_mul(number - 1) as usize;
+        if answer == (failing.case.status, written, true) {
+            right = right.saturating_add(1);
+        }
+    }
+    Ok(right)
+}
+
+#[test]
+fn each_call_fails_in_turn(rt: HostRuntime) -> Result<(), Fail> {
+    for failing in &FAILING {
+        let right = right_calls(&rt, rt.alloc(), *failing)?;
+        assert_eq!(rt; right, failing.calls, "{}", failing.case.words);
+    }
+    Ok(())
+}
+
+/// A run, over a source and a sink that never fail.
+static SURE: Case = Case {
+    words: "run",
+    input: CONFLICT,
+    status: 0,
+    text: REPORT,
+};
+
+#[test]
+fn a_source_and_a_sink_that_never_fail(rt: HostRuntime) -> Result<(), Fail> {
+    let answer = sure_call(&rt, rt.alloc(), SURE)?;
+    assert_eq!(rt; answer, (0, REPORT.len(), true));
     Ok(())
 }

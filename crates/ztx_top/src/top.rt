@@ -1,7 +1,8 @@
 //! The top call.
 ghost use Rattle.std.specs.Prelude.{◌≡◌, ◌≢◌, ℕ, ◌≤◌, ◌⊎◌, List, Option, map, string_bytes, true, false};
 ghost use Rattle.std.specs.Io.KnownBytes.{IsAtEnd, Keeps};
-ghost use Rattle.ztx_answers.specs.Due.{IsGenerated, IsSummary};
+ghost use Rattle.listing_answers.specs.Due.{IsGenerated};
+ghost use Rattle.run_answers.specs.Reports.{IsSummary};
 ghost use Rattle.ztx_io.specs.Faults.{Rose};
 ghost use Rattle.ztx_top.specs.Answers.{IsDone, IsWhole, Wrote, WasCut};
 ghost use Rattle.ztx_top.specs.Asked.{IsBadWords, IsReady, asked, due, reads};
@@ -10,11 +11,12 @@ use crate::errand::{Errand, errand_of};
 use crate::input::answer_input;
 use crate::output::tell;
 use crate::race::race_input;
+use listing_answers::generate;
+use run_answers::summary;
 use std::alloc::Global;
 use std::sync::Wait;
 use std::thread::Threads;
 use tx_race::Gate;
-use ztx_answers::{generate, summary};
 use ztx_io::{Sink, Source};
 use ztx_words::read_words;
 

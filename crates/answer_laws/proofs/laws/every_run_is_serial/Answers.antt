@@ -1,4 +1,4 @@
-use Rattle.ztx_answers.proofs.Serials.{serial_run}
+use Rattle.run_answers.proofs.Serials.{serial_run}
 use Rattle.answer_laws.proofs.laws.every_run_is_serial.Goals as goal
 
 pub returns : goal.returns

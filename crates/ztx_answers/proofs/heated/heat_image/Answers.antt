@@ -5,7 +5,7 @@ use Rattle.tx_meaning.specs.Schedules.{planned}
 use Rattle.tx_report.specs.Report.{status_of}
 use Rattle.tx_schedule.specs.Ran.{HasRun}
 use Rattle.ztx_answers.proofs.Heats.{heat_due}
-use Rattle.ztx_answers.proofs.Ran.{is_status}
+use Rattle.run_answers.proofs.Ran.{is_status}
 use Rattle.ztx_answers.proofs.heated.heat_image.Goals as goal
 
 pub returns-in-Ok-text-clause-due : goal.returns-in-Ok-text-clause-due

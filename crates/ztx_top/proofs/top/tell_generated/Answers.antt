@@ -1,4 +1,4 @@
-use Rattle.ztx_answers.specs.Due.{IsGenerated}
+use Rattle.listing_answers.specs.Due.{IsGenerated}
 use Rattle.ztx_top.proofs.Inputs.{given, given_is}
 use Rattle.ztx_top.proofs.Told.{wrote, cut}
 use Rattle.ztx_top.proofs.top.tell_generated.Goals as goal

@@ -1,0 +1,4 @@
+-- Answers that are there, unless memory ran out, and what is due to an input that is too long.
+pub mod Given
+pub mod DecksGiven
+pub mod Long

@@ -1,0 +1,8 @@
+-- What is due where a listing runs, races or has a report that is judged; and what holds of the events that a report
+-- tells.
+pub mod Replayed
+pub mod Serial
+pub mod Runs
+pub mod Reports
+pub mod Races
+pub mod Checks

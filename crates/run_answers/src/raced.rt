@@ -1,0 +1,88 @@
+//! What is due to a listing whose CPUs race: what comes before the race, and what behind it.
+ghost use Rattle.std.specs.Prelude.{◌≡◌, ℕ, ◌<◌, [], List, length, IfOk, IfErr};
+ghost use Rattle.tx_machine.specs.Machine.{opened};
+ghost use Rattle.listing_answers.specs.Due.{IsStatus};
+ghost use Rattle.run_answers.specs.Races.{HasRaced, IsDueToRace, IsNoRace, MayRace, racing};
+ghost use Rattle.run_answers.specs.Runs.{AreLimits};
+
+use listing_answers::{Answer, NoMemory, refuse, refuse_long_listing};
+use std::alloc::Global;
+use std::sync::Arc;
+use tx_journal::Image;
+use tx_machine::machine::Machine;
+use tx_meaning::Limits;
+use tx_report::{report, status};
+use z_assemble::assemble;
+
+/// Why no race begins.
+#[derive(Drop)]
+pub enum NoRace {
+    /// There was no memory.
+    Memory,
+    /// The input is no listing. This is due to it.
+    Refused(Answer),
+}
+
+/// A machine of an image from which nothing has happened, and to which nothing comes from outside.
+fn open_for_race(alloc: Global, image: Image, turns: u32, tick: u32) -> Result<Machine, NoRace>
+    requires { AreLimits turns tick }
+    ensures machine { IfOk result (λ machine. machine ≡ opened image (racing image turns tick).limits) }
+    ensures memory { IfErr result (λ e. (input : List ℕ) → IsNoRace input e) }
+{
+    let limits = Limits {
+        turns,
+        tick,
+        externals: 0,
+    };
+    let Ok(shared) = Arc::new(alloc, image) else {
+        return Err(NoRace::Memory);
+    };
+    match Machine::open(alloc, shared, limits) {
+        Ok(machine) => Ok(machine),
+        Err(_) => Err(NoRace::Memory),
+    }
+}
+
+/// The machine of a listing whose CPUs are to race, from the listing's bytes; its schedule is passed over. Each
+/// CPU has at most `turns` counted turns, and a tick comes with each turn whose number is a multiple of `tick`,
+/// where that is not 0. Else the error says what is due, or that there was no memory.
+pub fn prepare_race(alloc: Global, input: &[u8], turns: u32, tick: u32) -> Result<Machine, NoRace>
+    requires { AreLimits turns tick }
+    ensures machine { IfOk result (λ machine. MayRace turns tick input.now machine) }
+    ensures unused { IfOk result (λ machine. machine.events ≡ []) }
+    ensures externals { IfOk result (λ machine. machine.limits.externals ≡ 0) }
+    ensures refused { IfErr result (λ e. IsNoRace input.now e) }
+{
+    match assemble(alloc, input) {
+        Ok(image) => open_for_race(alloc, image, turns, tick),
+        Err(fault) => match refuse(alloc, fault) {
+            Ok(answer) => Err(NoRace::Refused(answer)),
+            Err(_) => Err(NoRace::Memory),
+        },
+    }
+}
+
+/// What `race` answers to an input that has more bytes than a listing may have.
+pub fn refuse_long_race(alloc: Global) -> Result<Answer, NoMemory>
+    ensures due { IfOk result (λ answer. (turns tick : ℕ) (input : List ℕ) → 16777216 < length input
+        → IsDueToRace turns tick input answer.status answer.text.items) }
+    ensures status { IfOk result (λ answer. answer.status ≡ 5) }
+{
+    refuse_long_listing(alloc)
+}
+
+/// What `race` answers behind a race of a listing's machine: the report of the events that it has recorded.
+pub fn report_race(alloc: Global, machine: &Machine) -> Result<Answer, NoMemory>
+    ensures due { IfOk result (λ answer. (turns tick : ℕ) (input : List ℕ) → AreLimits turns tick
+        → HasRaced turns tick input machine.now → IsDueToRace turns tick input answer.status answer.text.items) }
+    ensures statuses { IfOk result (λ answer. IsStatus answer.status) }
+{
+    let _recorded = machine.events();
+    match report(alloc, machine) {
+        Ok(text) => Ok(Answer {
+            status: status(machine),
+            text,
+        }),
+        Err(_) => Err(NoMemory),
+    }
+}
