@@ -4,13 +4,25 @@ use std::alloc::{AllocError, Global};
 use std::test::Fail;
 use ztx_words::{Command, read_words};
 
-/// The words, which a bar parts.
-fn words(alloc: Global, line: &str) -> Result<Vec<String>, AllocError> {
-    let mut words = Vec::new(alloc);
+/// Adds the words, which a bar parts.
+fn add_words(words: &mut Vec<String>, alloc: Global, line: &str) -> Result<(), AllocError> {
     for word in line.split('|') {
         words.push(String::from_str(alloc, word)?)?;
     }
-    Ok(words)
+    Ok(())
+}
+
+/// What the words of a line ask for.
+fn asked(alloc: Global, line: &str) -> Result<Option<Command>, AllocError> {
+    let mut words = Vec::new(alloc);
+    add_words(&mut words, alloc, line)?;
+    read_words(alloc, words.as_slice())
+}
+
+/// What no words ask for.
+fn asked_by_none(alloc: Global) -> Result<Option<Command>, AllocError> {
+    let words = Vec::new(alloc);
+    read_words(alloc, words.as_slice())
 }
 
 /// Lists of words, and what they ask for.
@@ -78,13 +90,8 @@ const TAKEN: [(&str, Command); 11] = [
 
 #[test]
 fn takes_command_lines(rt: HostRuntime) -> Result<(), Fail> {
-    let alloc = rt.alloc();
     for (line, command) in &TAKEN {
-        let words = words(alloc, line)?;
-        assert!(&rt;
-            read_words(alloc, words.as_slice())? == Some(*command),
-            "{line}"
-        );
+        assert!(rt; asked(rt.alloc(), line)? == Some(*command), "{line}");
     }
     Ok(())
 }
@@ -135,12 +142,9 @@ const OTHERS: [&str; 40] = [
 
 #[test]
 fn refuses_other_words(rt: HostRuntime) -> Result<(), Fail> {
-    let alloc = rt.alloc();
     for line in &OTHERS {
-        let words = words(alloc, line)?;
-        assert!(&rt; read_words(alloc, words.as_slice())?.is_none(), "{line}");
+        assert!(rt; asked(rt.alloc(), line)?.is_none(), "{line}");
     }
-    let none = Vec::new(alloc);
-    assert!(&rt; read_words(alloc, none.as_slice())?.is_none());
+    assert!(rt; asked_by_none(rt.alloc())?.is_none());
     Ok(())
 }

@@ -638,11 +638,19 @@ fn first_ones() -> bool {
         .all(|&(value, found)| leftmost_one(value) == found)
 }
 
+/// The low bits of all ones in both widths, -1 as a doubleword, and two words.
+fn patterns() -> ([u64; 3], [u32; 2]) {
+    let wide = [low(Word, ONES), low(Double, ONES), doubleword(-1)];
+    (wide, [word(-1), word(0x1_0000_0007)])
+}
+
+/// The lowest number of a word, and the highest of a doubleword.
+fn numbers() -> [i64; 2] {
+    [number(Word, 0x8000_0000), number(Double, HIGHEST)]
+}
+
 #[test]
 fn patterns_and_numbers(rt: HostRuntime) {
-    let patterns = [low(Word, ONES), low(Double, ONES), doubleword(-1)];
-    assert_eq!(rt; patterns, [0xffff_ffff, ONES, ONES]);
-    let numbers = [number(Word, 0x8000_0000), number(Double, HIGHEST)];
-    assert_eq!(rt; numbers, [-0x8000_0000, i64::MAX]);
-    assert_eq!(rt; [word(-1), word(0x1_0000_0007)], [0xffff_ffff, 7]);
+    let wanted = ([0xffff_ffff, ONES, ONES], [0xffff_ffff, 7]);
+    assert_eq!(rt; (patterns(), numbers()), (wanted, [-0x8000_0000, i64::MAX]));
 }

@@ -4,8 +4,9 @@ use crate::machines::{Way, ran};
 use std::alloc::Global;
 use std::test::Fail;
 use tx_gen::generate;
+use tx_machine::machine::Machine;
 use tx_meaning::limits::MOST_TURNS;
-use tx_report::{report, status, summary};
+use tx_report::{NoMemory, report, status, summary};
 
 /// One CPU has committed and is rejected now, one has a block to store, and one is in a transaction.
 static UNFINISHED: &str = " CPU ADDS
@@ -90,22 +91,50 @@ ABORTS 394
 SUM 274
 ";
 
+/// Whether a text that was written is this one.
+fn is_text(written: Result<Vec<u8>, NoMemory>, text: &str) -> bool {
+    match written {
+        Ok(written) => written.as_slice() == text.as_bytes(),
+        Err(_) => false,
+    }
+}
+
+/// Whether a machine has this report and this status.
+fn has_report(alloc: Global, machine: &Machine, text: &str, number: u8) -> bool {
+    let number_too = status(machine) == number;
+    is_text(report(alloc, machine), text) && number_too
+}
+
 /// Whether the run of a listing by its own schedule has this report and this status.
 fn is_reported(alloc: Global, listing: &str, text: &str, number: u8) -> Result<bool, Fail> {
     let machine = ran(alloc, listing.as_bytes(), MOST_TURNS, Way::Given)?;
-    Ok(report(alloc, &machine)?.as_slice() == text.as_bytes() && status(&machine) == number)
+    Ok(has_report(alloc, &machine, text, number))
 }
 
-/// Whether the run in the round of the generator's listing for a number has this summary and this status.
-fn is_summed(alloc: Global, of: u64, text: &str, number: u8) -> Result<bool, Fail> {
+/// Whether a machine of the generator's listing for a number has this summary and this status.
+fn has_summary(alloc: Global, of: u64, machine: &Machine, text: &str, number: u8) -> bool {
+    let number_too = status(machine) == number;
+    is_text(summary(alloc, of, machine), text) && number_too
+}
+
+/// The machine of the generator's listing for a number behind its run in the round.
+fn ran_round(alloc: Global, of: u64) -> Result<Machine, Fail> {
     let listing = generate(alloc, of)?;
-    let machine = ran(alloc, listing.as_slice(), MOST_TURNS, Way::Round)?;
-    Ok(summary(alloc, of, &machine)?.as_slice() == text.as_bytes() && status(&machine) == number)
+    ran(alloc, listing.as_slice(), MOST_TURNS, Way::Round)
+}
+
+/// Whether that machine has this summary and this status.
+fn is_summed(alloc: Global, of: u64, text: &str, number: u8) -> Result<bool, Fail> {
+    let machine = ran_round(alloc, of)?;
+    Ok(has_summary(alloc, of, &machine, text, number))
 }
 
 #[test]
 fn reports_and_summaries(rt: HostRuntime) -> Result<(), Fail> {
-    assert!(rt; is_reported(rt.alloc(), UNFINISHED, UNFINISHED_REPORT, 6)?);
-    assert!(rt; is_summed(rt.alloc(), 0, FIRST_SUMMARY, 0)?);
+    let right = [
+        is_reported(rt.alloc(), UNFINISHED, UNFINISHED_REPORT, 6)?,
+        is_summed(rt.alloc(), 0, FIRST_SUMMARY, 0)?,
+    ];
+    assert_eq!(rt; right, [true; 2]);
     Ok(())
 }

@@ -28,15 +28,25 @@ fn may_count(cpu: &Cpu) -> bool
     }
 }
 
+/// The first CPU of an image.
+fn first_cpu(alloc: Global, image: &Image) -> Result<Cpu, Fail> {
+    let _count = image.cpu_count();
+    let start = image.cpus.first().ok_or("no CPU")?;
+    Ok(Cpu::open(alloc, *start)?)
+}
+
+/// The storage of an image.
+fn storage_of(alloc: Global, image: &Image) -> Result<Storage, Fail> {
+    let _count = image.cpu_count();
+    Ok(Storage::open(alloc, image.storage.as_slice())?)
+}
+
 impl Alone {
     /// The first CPU of an image, with its storage.
     fn open(alloc: Global, image: &Image) -> Result<Alone, Fail> {
-        let _count = image.cpu_count();
-        let start = image.cpus.first().ok_or("no CPU")?;
-        Ok(Alone {
-            cpu: Cpu::open(alloc, *start)?,
-            base: Storage::open(alloc, image.storage.as_slice())?,
-        })
+        let cpu = first_cpu(alloc, image)?;
+        let base = storage_of(alloc, image)?;
+        Ok(Alone { cpu, base })
     }
 
     /// Executes the next instruction, where it goes.
@@ -46,6 +56,13 @@ impl Alone {
             if may_count(&self.cpu) {
                 let _done = self.cpu.execute(&instr, &need, &mut self.base);
             }
+        }
+    }
+
+    /// Executes so many instructions.
+    fn walk(&mut self, program: &Program, count: u32) {
+        for _ in 0..count {
+            self.step(program);
         }
     }
 
@@ -76,14 +93,17 @@ impl Alone {
     }
 }
 
+/// The program of a listing.
+fn read(alloc: Global, listing: &str) -> Result<Program, Fail> {
+    let image = assemble(alloc, listing.as_bytes())?;
+    Ok(Program::open(alloc, Arc::new(alloc, image)?)?)
+}
+
 /// The CPU of a program after some instructions.
 fn after(alloc: Global, listing: &str, count: u32) -> Result<Alone, Fail> {
-    let image = assemble(alloc, listing.as_bytes())?;
-    let program = Program::open(alloc, Arc::new(alloc, image)?)?;
+    let program = read(alloc, listing)?;
     let mut alone = Alone::open(alloc, program.image())?;
-    for _ in 0..count {
-        alone.step(&program);
-    }
+    alone.walk(&program, count);
     Ok(alone)
 }
 
@@ -92,30 +112,45 @@ const STORES: &str =
     " CPU X'4000'\n TBEGIN 0,0\n STG 1,X'90FC'\n LG 2,X'90FC'\n LG 3,X'9200'\n SVC 0\n \
     REG 0,1,X'0102030405060708'\n END\n";
 
-#[test]
-fn what_an_attempt_sees_and_touches(rt: HostRuntime) -> Result<(), Fail> {
-    let mut alone = after(rt.alloc(), STORES, 4)?;
+/// What a CPU sees and has touched, and the same behind the abort of its attempt.
+fn inside_and_behind(alone: &mut Alone) -> [[u32; 8]; 2] {
     let inside = alone.seen_and_touched();
     alone.interrupt();
-    let behind = alone.seen_and_touched();
-    assert_eq!(rt; inside, [1, 8, 0, 0, 3, 2, 1, 1]);
-    assert_eq!(rt; behind, [0; 8]);
+    [inside, alone.seen_and_touched()]
+}
+
+/// The same of the transaction that stores.
+fn stored(alloc: Global) -> Result<[[u32; 8]; 2], Fail> {
+    let mut alone = after(alloc, STORES, 4)?;
+    Ok(inside_and_behind(&mut alone))
+}
+
+#[test]
+fn what_an_attempt_sees_and_touches(rt: HostRuntime) -> Result<(), Fail> {
+    let seen = stored(rt.alloc())?;
+    assert_eq!(rt; seen, [[1, 8, 0, 0, 3, 2, 1, 1], [0; 8]]);
     Ok(())
 }
 
-/// What a CPU in a constrained attempt sees and has touched once it is made equal to another, and its register 2.
+/// What a CPU sees and has touched once it is made equal to another, and its register 2.
+fn made_equal(second: &mut Alone, first: &Alone) -> ([u32; 8], u64) {
+    second.cpu.copy_from(&first.cpu);
+    let register = second.cpu.image().general[2];
+    (second.seen_and_touched(), register)
+}
+
+/// The same of a CPU in a constrained attempt.
 fn copied(alloc: Global) -> Result<([u32; 8], u64), Fail> {
     let first = after(alloc, STORES, 4)?;
     let mut second = after(alloc, LOADS, 3)?;
-    second.cpu.copy_from(&first.cpu);
-    Ok((second.seen_and_touched(), second.cpu.image().general[2]))
+    Ok(made_equal(&mut second, &first))
 }
 
 #[test]
 fn a_cpu_that_is_made_equal(rt: HostRuntime) -> Result<(), Fail> {
-    let (inside, register) = copied(rt.alloc())?;
-    assert_eq!(rt; inside, [1, 8, 0, 0, 3, 2, 1, 1]);
-    assert_eq!(rt; register, 0x0102_0304_0506_0708);
+    let seen = copied(rt.alloc())?;
+    let wanted = ([1, 8, 0, 0, 3, 2, 1, 1], 0x0102_0304_0506_0708);
+    assert_eq!(rt; seen, wanted);
     Ok(())
 }
 
@@ -159,11 +194,16 @@ static ATTEMPTS: [(&str, u32, &str, u32, bool); 12] = [
     (LOADS, 4, FREE_STORES, 4, true),
 ];
 
+/// Whether the attempts of two CPUs are the same.
+fn have_same(first: &Alone, second: &Alone) -> bool {
+    first.cpu.same_attempt(&second.cpu)
+}
+
 /// Whether both programs have the same attempt after their instructions.
 fn are_same(alloc: Global, one: &str, count: u32, other: &str, more: u32) -> Result<bool, Fail> {
     let first = after(alloc, one, count)?;
     let second = after(alloc, other, more)?;
-    Ok(first.cpu.same_attempt(&second.cpu))
+    Ok(have_same(&first, &second))
 }
 
 #[test]
@@ -199,24 +239,35 @@ static PLAIN: [(&str, [bool; 8]); 4] = [
     ),
 ];
 
-/// Which of the first eight instructions of a program are plain ones.
-fn plain_ones(alloc: Global, listing: &str) -> Result<Vec<bool>, Fail> {
-    let image = assemble(alloc, listing.as_bytes())?;
-    let program = Program::open(alloc, Arc::new(alloc, image)?)?;
-    let mut alone = Alone::open(alloc, program.image())?;
-    let mut found = Vec::new(alloc);
-    for _ in 0..8 {
-        found.push(alone.cpu.plain(&program).is_some())?;
-        alone.step(&program);
+impl Alone {
+    /// Whether the next instruction is a plain one.
+    fn is_plain(&self, program: &Program) -> bool {
+        self.cpu.plain(program).is_some()
     }
-    Ok(found)
+
+    /// Which of the next eight instructions are plain ones.
+    fn plain_ones(&mut self, program: &Program) -> [bool; 8] {
+        let mut found = [false; 8];
+        for plain in &mut found {
+            *plain = self.is_plain(program);
+            self.step(program);
+        }
+        found
+    }
+}
+
+/// Which of the first eight instructions of a program are plain ones.
+fn plain_ones(alloc: Global, listing: &str) -> Result<[bool; 8], Fail> {
+    let program = read(alloc, listing)?;
+    let mut alone = Alone::open(alloc, program.image())?;
+    Ok(alone.plain_ones(&program))
 }
 
 #[test]
 fn plain_instructions(rt: HostRuntime) -> Result<(), Fail> {
     for (listing, plain) in &PLAIN {
         let found = plain_ones(rt.alloc(), listing)?;
-        assert_eq!(rt; found.as_slice(), plain.as_slice(), "{listing}");
+        assert_eq!(rt; found, *plain, "{listing}");
     }
     Ok(())
 }

@@ -1,6 +1,6 @@
 //! Listings that an independent model of the machine gives for numbers.
 
-use std::alloc::Global;
+use std::alloc::{AllocError, Global};
 use std::test::Fail;
 use tx_gen::{counters, generate};
 
@@ -89,34 +89,46 @@ static LISTING: [&str; 38] = [
     " END",
 ];
 
-/// The text of a number's listing.
-fn text_of(alloc: Global, number: u64) -> Result<String, Fail> {
-    let text = generate(alloc, number)?;
-    let text = String::from_str(alloc, str::from_utf8(text.as_slice())?)?;
-    Ok(text)
+/// Adds what a line of a listing draws.
+fn add_drawn(drawn: &mut String, line: &str) -> Result<(), AllocError> {
+    if let Some((_, rounds)) = line.split_once(" LGHI 2,") {
+        return drawn.push_str(rounds);
+    }
+    if let Some(counter) = line.strip_prefix(" LG 1,") {
+        return write!(drawn, ":{counter} ");
+    }
+    match line.strip_prefix(" SHOW 65536,") {
+        Some(shown) => write!(drawn, "/ {shown}"),
+        None => Ok(()),
+    }
 }
 
-/// What is drawn for a listing, read from its lines.
-fn drawn_in(alloc: Global, listing: &str) -> Result<String, Fail> {
-    let mut drawn = String::new(alloc);
+/// Adds what is drawn for a listing, read from its lines.
+fn add_all_drawn(drawn: &mut String, listing: &str) -> Result<(), AllocError> {
     for line in listing.lines() {
-        if let Some((_, rounds)) = line.split_once(" LGHI 2,") {
-            drawn.push_str(rounds)?;
-        } else if let Some(counter) = line.strip_prefix(" LG 1,") {
-            write!(drawn, ":{counter} ")?;
-        } else if let Some(shown) = line.strip_prefix(" SHOW 65536,") {
-            write!(drawn, "/ {shown}")?;
-        }
+        add_drawn(drawn, line)?;
     }
-    Ok(drawn)
+    Ok(())
+}
+
+/// Whether a listing draws this.
+fn draws(alloc: Global, listing: &[u8], wanted: &str) -> Result<bool, Fail> {
+    let listing = str::from_utf8(listing)?;
+    let mut drawn = String::new(alloc);
+    add_all_drawn(&mut drawn, listing)?;
+    Ok(drawn.as_str() == wanted)
+}
+
+/// Whether this is drawn for a number.
+fn is_drawn(alloc: Global, number: u64, wanted: &str) -> Result<bool, Fail> {
+    let listing = generate(alloc, number)?;
+    draws(alloc, listing.as_slice(), wanted)
 }
 
 #[test]
 fn numbers_drawn(rt: HostRuntime) -> Result<(), Fail> {
-    for number in 0..16u64 {
-        let listing = text_of(rt.alloc(), number)?;
-        let drawn = drawn_in(rt.alloc(), listing.as_str())?;
-        assert_eq!(rt; drawn.as_str(), DRAWN[number as usize]);
+    for (number, wanted) in DRAWN.iter().enumerate() {
+        assert!(rt; is_drawn(rt.alloc(), number as u64, wanted)?, "{number}");
     }
     Ok(())
 }
@@ -130,30 +142,50 @@ fn sum_of(text: &[u8]) -> u64 {
     sum
 }
 
+/// The sum of a number's listing.
+fn listing_sum(alloc: Global, number: u64) -> Result<u64, Fail> {
+    let text = generate(alloc, number)?;
+    Ok(sum_of(text.as_slice()))
+}
+
 #[test]
 fn whole_listings(rt: HostRuntime) -> Result<(), Fail> {
-    for number in 0..16u64 {
-        let text = generate(rt.alloc(), number)?;
-        assert_eq!(rt; sum_of(text.as_slice()), SUMS[number as usize]);
+    for (number, sum) in SUMS.iter().enumerate() {
+        assert_eq!(rt; listing_sum(rt.alloc(), number as u64)?, *sum, "{number}");
     }
-    let last = generate(rt.alloc(), u64::MAX)?;
-    assert_eq!(rt; sum_of(last.as_slice()), GREATEST);
+    assert_eq!(rt; listing_sum(rt.alloc(), u64::MAX)?, GREATEST);
     Ok(())
+}
+
+/// Whether a text has these lines alone.
+fn has_lines(text: &str) -> bool {
+    for (i, line) in text.lines().enumerate() {
+        if line != LISTING.get(i).copied().unwrap_or("") {
+            return false;
+        }
+    }
+    text.len() == 421
+}
+
+/// Whether the listing of 0 is this one.
+fn is_whole(alloc: Global) -> Result<bool, Fail> {
+    let text = generate(alloc, 0)?;
+    Ok(has_lines(str::from_utf8(text.as_slice())?))
 }
 
 #[test]
 fn a_whole_listing(rt: HostRuntime) -> Result<(), Fail> {
-    let listing = text_of(rt.alloc(), 0)?;
-    for (i, line) in listing.as_str().lines().enumerate() {
-        let wanted = LISTING.get(i).copied().unwrap_or("");
-        assert_eq!(rt; line, wanted);
-    }
-    assert_eq!(rt; listing.len(), 421);
+    assert!(rt; is_whole(rt.alloc())?);
     Ok(())
+}
+
+/// The counters of a number's listing.
+fn places(number: u64) -> [u64; 4] {
+    counters(number)
 }
 
 #[test]
 fn counters_are_eight_or_256_bytes_apart(rt: HostRuntime) {
-    assert_eq!(rt; counters(0), [65536, 65544, 65552, 65560]);
-    assert_eq!(rt; counters(1), [65536, 65792, 66048, 66304]);
+    let wanted = [[65536, 65544, 65552, 65560], [65536, 65792, 66048, 66304]];
+    assert_eq!(rt; [places(0), places(1)], wanted);
 }

@@ -2,7 +2,6 @@
 ghost use Rattle.std.specs.Prelude.{◌≡◌, ◌↔◌, IsTrue};
 
 use std::alloc::Global;
-use std::process::Abort;
 use std::test::Fail;
 use tx_control::{Exception, Why};
 use tx_journal::{
@@ -22,18 +21,20 @@ fn told(kind: u8, cpu: u32, count: u32, code: u64, detail: u64) -> EntryText {
     }
 }
 
-/// An entry has this line, which is read as these numbers.
+/// Whether a line is read as these numbers.
+fn is_read(line: &[u8], numbers: EntryText) -> bool {
+    read_entry(line) == Some(numbers)
+}
+
+/// Whether an entry has this line, and whether this is read as these numbers.
 fn both_ways(
-    rt: &impl Abort,
     alloc: Global,
-    entry: Entry,
+    entry: &Entry,
     line: &[u8],
     numbers: EntryText,
-) -> Result<(), Fail> {
-    let text = entry_text(alloc, &entry)?;
-    assert!(rt; text.as_slice() == line);
-    assert!(rt; read_entry(line) == Some(numbers));
-    Ok(())
+) -> Result<[bool; 2], Fail> {
+    let text = entry_text(alloc, entry)?;
+    Ok([text.as_slice() == line, is_read(line, numbers)])
 }
 
 /// Entries with their lines, and what these are read as: kind, CPU, count.
@@ -47,13 +48,12 @@ static ENTRIES: [(Entry, &[u8], u8, u32, u32); 4] = [
 #[test]
 fn lines_of_entries(rt: HostRuntime) -> Result<(), Fail> {
     for (entry, line, kind, cpu, count) in &ENTRIES {
-        both_ways(
-            &rt,
-            rt.alloc(),
-            *entry,
-            line,
-            told(*kind, *cpu, *count, 0, 0),
-        )?;
+        let numbers = told(*kind, *cpu, *count, 0, 0);
+        assert_eq!(rt;
+            both_ways(rt.alloc(), entry, line, numbers)?,
+            [true; 2],
+            "{line:?}"
+        );
     }
     Ok(())
 }
@@ -94,49 +94,74 @@ static ABORTS: [(Why, &[u8], u64, u64); 11] = [
 fn lines_of_aborts(rt: HostRuntime) -> Result<(), Fail> {
     for (why, line, code, detail) in &ABORTS {
         let entry = Entry::Abort(1, 2, *why);
-        both_ways(
-            &rt,
-            rt.alloc(),
-            entry,
-            line,
-            told(b'A', 1, 2, *code, *detail),
-        )?;
+        let numbers = told(b'A', 1, 2, *code, *detail);
+        assert_eq!(rt;
+            both_ways(rt.alloc(), &entry, line, numbers)?,
+            [true; 2],
+            "{line:?}"
+        );
     }
     Ok(())
 }
+
+/// Whether a text is read as no entry.
+fn is_refused(text: &[u8]) -> bool {
+    read_entry(text).is_none()
+}
+
+/// Texts of no entry.
+static REFUSED: [&[u8]; 15] = [
+    b"S 0",
+    b"S 00\n",
+    b"S  0\n",
+    b"S 4294967296\n",
+    b"I 0 1\n",
+    b"i 0\n",
+    b"B 0\n",
+    b"C 0\n",
+    b"A 0 2 9 -\n",
+    b"A 0 2 9 0000000000009001\n",
+    b"A 0 2 9 0000000000009080\n",
+    b"A 0 2 10 0000000000100000\n",
+    b"A 0 2 9 000000000009000\n",
+    b"A 0 2 4 001A\n",
+    b"A 0 2 4 -\n",
+];
 
 #[test]
 fn other_texts_are_not_read(rt: HostRuntime) {
-    for text in [
-        b"S 0".as_slice(),
-        b"S 00\n",
-        b"S  0\n",
-        b"S 4294967296\n",
-        b"I 0 1\n",
-        b"i 0\n",
-        b"B 0\n",
-        b"C 0\n",
-        b"A 0 2 9 -\n",
-        b"A 0 2 9 0000000000009001\n",
-        b"A 0 2 9 0000000000009080\n",
-        b"A 0 2 10 0000000000100000\n",
-        b"A 0 2 9 000000000009000\n",
-        b"A 0 2 4 001A\n",
-        b"A 0 2 4 -\n",
-    ] {
-        assert!(rt; read_entry(text).is_none());
+    for text in &REFUSED {
+        assert!(rt; is_refused(text), "{text:?}");
     }
 }
 
+/// Whether the line of an abort with this code and this detail is refused.
+fn is_refused_with(alloc: Global, code: u64, detail: &str) -> Result<bool, Fail> {
+    let text = format!(in alloc; "A 0 2 {code} {detail}\n")?;
+    Ok(is_refused(text.as_bytes()))
+}
+
+/// Codes that no abort has.
+static NO_CODES: [u64; 7] = [0, 1, 3, 5, 6, 14, 254];
+
 #[test]
 fn codes_that_no_abort_has(rt: HostRuntime) -> Result<(), Fail> {
-    for code in [0u64, 1, 3, 5, 6, 14, 254] {
-        for detail in ["-", "0018", "0000000000009000"] {
-            let text = format!(in rt.alloc(); "A 0 2 {code} {detail}\n")?;
-            assert!(rt; read_entry(text.as_str().as_bytes()).is_none());
-        }
+    for code in &NO_CODES {
+        let refused = [
+            is_refused_with(rt.alloc(), *code, "-")?,
+            is_refused_with(rt.alloc(), *code, "0018")?,
+            is_refused_with(rt.alloc(), *code, "0000000000009000")?,
+        ];
+        assert_eq!(rt; refused, [true; 3], "{code}");
     }
     Ok(())
+}
+
+/// Whether a text with a history behind it is this one.
+fn is_history(alloc: Global, history: &[Entry], wanted: &[u8]) -> Result<bool, Fail> {
+    let mut text = Vec::from_slice(alloc, b"HISTORY 3\n")?;
+    add_history(&mut text, history)?;
+    Ok(text.as_slice() == wanted)
 }
 
 #[test]
@@ -146,22 +171,33 @@ fn a_history(rt: HostRuntime) -> Result<(), Fail> {
         Entry::Commit(1, 4),
         Entry::Step(1),
     ];
-    let mut text = Vec::from_slice(rt.alloc(), b"HISTORY 3\n")?;
-    add_history(&mut text, &history)?;
     let wanted = b"HISTORY 3\nA 0 3 10 0000000000009000\nC 1 4\nS 1\n";
-    assert_eq!(rt; text.as_slice(), wanted.as_slice());
+    assert!(rt; is_history(rt.alloc(), &history, wanted)?);
     Ok(())
+}
+
+/// Whether the text of a schedule is this one.
+fn is_schedule(alloc: Global, events: &[Event], wanted: &[u8]) -> Result<bool, Fail> {
+    let text = schedule_text(alloc, events)?;
+    Ok(text.as_slice() == wanted)
 }
 
 #[test]
 fn schedules_of_none_and_sixteen(rt: HostRuntime) -> Result<(), Fail> {
-    let none = schedule_text(rt.alloc(), &[])?;
-    assert_eq!(rt; none.len(), 0);
-    let turns = [Event::Turn(0); 16];
-    let text = schedule_text(rt.alloc(), &turns)?;
     let wanted = b" SCHED 0,0,0,0,0,0,0,0,0,0,0,0,0,0,0,0\n";
-    assert_eq!(rt; text.as_slice(), wanted.as_slice());
+    let right = [
+        is_schedule(rt.alloc(), &[], b"")?,
+        is_schedule(rt.alloc(), &[Event::Turn(0); 16], wanted)?,
+    ];
+    assert_eq!(rt; right, [true; 2]);
     Ok(())
+}
+
+/// Whether this is what a schedule adds to nothing.
+fn is_added(alloc: Global, events: &[Event], wanted: &[u8]) -> Result<bool, Fail> {
+    let mut text = Vec::new(alloc);
+    add_schedule(&mut text, events)?;
+    Ok(text.as_slice() == wanted)
 }
 
 #[test]
@@ -169,19 +205,25 @@ fn a_schedule_of_seventeen(rt: HostRuntime) -> Result<(), Fail> {
     let mut events = [Event::Turn(1); 17];
     events[2] = Event::External(0);
     events[16] = Event::External(15);
-    let mut text = Vec::new(rt.alloc());
-    add_schedule(&mut text, &events)?;
     let wanted = b" SCHED 1,1,X0,1,1,1,1,1,1,1,1,1,1,1,1,1\n SCHED X15\n";
-    assert_eq!(rt; text.as_slice(), wanted.as_slice());
+    assert!(rt; is_added(rt.alloc(), &events, wanted)?);
     Ok(())
+}
+
+/// What a text is read as.
+fn number(text: &[u8]) -> Option<u64> {
+    read_number(text)
 }
 
 #[test]
 fn numbers_have_one_spelling(rt: HostRuntime) {
-    assert!(rt; read_number(b"18446744073709551615") == Some(u64::MAX));
-    assert!(rt; read_number(b"18446744073709551616").is_none());
-    assert!(rt; read_number(b"+7").is_none());
-    assert!(rt; read_number(b"").is_none());
+    let read = [
+        number(b"18446744073709551615"),
+        number(b"18446744073709551616"),
+        number(b"+7"),
+        number(b""),
+    ];
+    assert_eq!(rt; read, [Some(u64::MAX), None, None, None]);
 }
 
 /// Listings whose images differ in one thing from that of the first.
@@ -196,18 +238,34 @@ const OTHERS: [&str; 6] = [
     " CPU 16384\n SHOW 8192,17\n SCHED 0,X0\n",
 ];
 
+/// How many CPUs the image of a listing has, and how many bytes.
+fn sizes(alloc: Global, listing: &str) -> Result<(u32, usize), Fail> {
+    let image = assemble(alloc, listing.as_bytes())?;
+    Ok((image.cpu_count(), image.storage.len()))
+}
+
+/// Whether an image is that of a listing.
+fn is_image(alloc: Global, image: &Image, listing: &str) -> Result<bool, Fail> {
+    let other = assemble(alloc, listing.as_bytes())?;
+    Ok(image.same(&other))
+}
+
+/// Whether a listing has the same image as the first.
+fn is_same(alloc: Global, listing: &str) -> Result<bool, Fail> {
+    let image = assemble(alloc, SCHEDULED.as_bytes())?;
+    is_image(alloc, &image, listing)
+}
+
 #[test]
 fn images_are_compared(rt: HostRuntime) -> Result<(), Fail> {
-    let image = assemble(rt.alloc(), SCHEDULED.as_bytes())?;
-    assert_eq!(rt; image.cpu_count(), 1);
-    assert_eq!(rt; image.storage.len(), 1048576);
-    assert!(rt; image.same(&assemble(rt.alloc(), SCHEDULED.as_bytes())?));
-    for other in OTHERS {
-        assert!(rt;
-            !image.same(&assemble(rt.alloc(), other.as_bytes())?),
-            "{other}"
-        );
+    for other in &OTHERS {
+        assert!(rt; !is_same(rt.alloc(), other)?, "{other}");
     }
+    let first = (
+        sizes(rt.alloc(), SCHEDULED)?,
+        is_same(rt.alloc(), SCHEDULED)?,
+    );
+    assert_eq!(rt; first, ((1, 1048576), true));
     Ok(())
 }
 
@@ -220,14 +278,15 @@ fn is_same_entry(one: Entry, other: Entry) -> bool
 
 #[test]
 fn entries_are_compared(rt: HostRuntime) {
-    assert!(rt; is_same_entry(Entry::Interrupt(1), Entry::Interrupt(1)));
-    assert!(rt; !is_same_entry(Entry::Interrupt(1), Entry::Tdb(1)));
-    assert!(rt;
-        !is_same_entry(
+    let same = [
+        is_same_entry(Entry::Interrupt(1), Entry::Interrupt(1)),
+        is_same_entry(Entry::Interrupt(1), Entry::Tdb(1)),
+        is_same_entry(
             Entry::Abort(1, 2, Why::Depth),
-            Entry::Abort(1, 2, Why::Starved)
-        )
-    );
+            Entry::Abort(1, 2, Why::Starved),
+        ),
+    ];
+    assert_eq!(rt; same, [true, false, false]);
 }
 
 /// Whether values of a type may move between threads and be shared by them.

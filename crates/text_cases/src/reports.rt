@@ -2,31 +2,37 @@
 
 use report_text::{Attempt, Counts, Processor, report, status, summary};
 use std::alloc::Global;
-use std::process::Abort;
 use std::test::Fail;
 use tx_control::{Exception, Why};
 use tx_journal::{Entry, Event, Show};
-use z_regs::{CpuImage, RunState, Storage};
+use z_regs::{Bytes, CpuImage, RunState, STORAGE_SIZE, Storage};
 
-/// Storage of zeros, but for some bytes from an address on.
-fn storage_with(
-    rt: &impl Abort,
-    alloc: Global,
-    first: usize,
-    bytes: &[u8],
-) -> Result<Storage, Fail> {
-    let mut all = Vec::new(alloc);
-    for at in 0..1_048_576_usize {
-        let byte = bytes.get(at.wrapping_sub(first)).copied().unwrap_or(0);
-        all.extend_from_slice(&[byte])?;
-    }
-    assert!(rt; all.len() == 1_048_576);
-    Ok(Storage::open(alloc, all.as_slice())?)
+/// Storage of zeros.
+fn zeros(alloc: Global) -> Result<Storage, Fail> {
+    let zeros = vec![in alloc; 0u8; 1_048_576]?;
+    Ok(Storage::open(alloc, zeros.as_slice())?)
 }
 
-/// The text is the expected one.
-fn compare(rt: &impl Abort, text: &[u8], expected: &str) {
-    assert!(rt; text == expected.as_bytes());
+/// Puts a byte where there is storage.
+fn put(storage: &mut Storage, address: u64, byte: u8) {
+    let _size = storage.as_slice();
+    if address < STORAGE_SIZE {
+        storage.put(address, byte);
+    }
+}
+
+/// Puts bytes from an address on.
+fn lay(storage: &mut Storage, first: u64, bytes: &[u8]) {
+    for (k, byte) in bytes.iter().enumerate() {
+        put(storage, first.wrapping_add(k as u64), *byte);
+    }
+}
+
+/// Storage of zeros, but for some bytes from an address on.
+fn storage_with(alloc: Global, first: u64, bytes: &[u8]) -> Result<Storage, Fail> {
+    let mut storage = zeros(alloc)?;
+    lay(&mut storage, first, bytes);
+    Ok(storage)
 }
 
 /// A CPU that has made so many turns and commits, and was aborted so often.
@@ -147,9 +153,20 @@ static UNFINISHED_EVENTS: [Event; 12] = [
     Event::Turn(2),
 ];
 
-#[test]
-fn a_report_in_mid_run(rt: HostRuntime) -> Result<(), Fail> {
-    let alloc = rt.alloc();
+/// The history of this report.
+fn unfinished_history() -> [Entry; 5] {
+    [
+        Entry::Step(0),
+        Entry::Step(0),
+        Entry::Abort(0, 3, program(6)),
+        Entry::Step(1),
+        Entry::Abort(2, 1, program(0x18)),
+    ]
+}
+
+/// Whether this is the report of these CPUs on storage.
+fn is_unfinished(alloc: Global, storage: &Storage) -> Result<bool, Fail> {
+    let _size = storage.as_slice();
     let shows = [
         Show {
             first: 0x9100,
@@ -162,23 +179,26 @@ fn a_report_in_mid_run(rt: HostRuntime) -> Result<(), Fail> {
             fields: true,
         },
     ];
-    let storage = storage_with(&rt, alloc, 0x9100, &[1, 2, 3, 4, 5, 6, 7, 8])?;
-    let history = [
-        Entry::Step(0),
-        Entry::Step(0),
-        Entry::Abort(0, 3, program(6)),
-        Entry::Step(1),
-        Entry::Abort(2, 1, program(0x18)),
-    ];
     let text = report(
         alloc,
         &unfinished_cpus(),
         &shows,
-        &storage,
-        &history,
+        storage,
+        &unfinished_history(),
         &UNFINISHED_EVENTS,
     )?;
-    compare(&rt, text.as_slice(), UNFINISHED);
+    Ok(text.as_slice() == UNFINISHED.as_bytes())
+}
+
+/// The same on storage with a doubleword.
+fn is_reported(alloc: Global) -> Result<bool, Fail> {
+    let storage = storage_with(alloc, 0x9100, &[1, 2, 3, 4, 5, 6, 7, 8])?;
+    is_unfinished(alloc, &storage)
+}
+
+#[test]
+fn a_report_in_mid_run(rt: HostRuntime) -> Result<(), Fail> {
+    assert!(rt; is_reported(rt.alloc())?);
     Ok(())
 }
 
@@ -213,19 +233,23 @@ static BLOCK: [u8; 40] = [
     0x40, 0x06, 0, 0, 0, 0, 0, 6, 0, 0x18,
 ];
 
-#[test]
-fn a_report_of_a_block(rt: HostRuntime) -> Result<(), Fail> {
-    let alloc = rt.alloc();
+/// The CPU of this report.
+fn halted_cpu() -> Processor {
     let mut image = CpuImage::entering(0x5002);
     image.state = RunState::Halted;
     let mut cpu = processor(image, 4, 0, 1);
     cpu.finished = true;
+    cpu
+}
+
+/// Whether this is the report of this CPU on storage.
+fn is_taken(alloc: Global, storage: &Storage) -> Result<bool, Fail> {
+    let _size = storage.as_slice();
     let shows = [Show {
         first: 0xb800,
         length: 256,
         fields: true,
     }];
-    let storage = storage_with(&rt, alloc, 0xb800, &BLOCK)?;
     let history = [
         Entry::Abort(0, 1, program(0x18)),
         Entry::Interrupt(0),
@@ -233,14 +257,32 @@ fn a_report_of_a_block(rt: HostRuntime) -> Result<(), Fail> {
     ];
     let text = report(
         alloc,
-        &[cpu],
+        &[halted_cpu()],
         &shows,
-        &storage,
+        storage,
         &history,
         &[Event::Turn(0); 4],
     )?;
-    compare(&rt, text.as_slice(), TAKEN);
-    assert!(&rt; status(&[cpu]) == 0);
+    Ok(text.as_slice() == TAKEN.as_bytes())
+}
+
+/// The same on storage with the block.
+fn is_block_reported(alloc: Global) -> Result<bool, Fail> {
+    let storage = storage_with(alloc, 0xb800, &BLOCK)?;
+    is_taken(alloc, &storage)
+}
+
+/// The status of that CPU.
+fn halted_status() -> u8 {
+    status(&[halted_cpu()])
+}
+
+#[test]
+fn a_report_of_a_block(rt: HostRuntime) -> Result<(), Fail> {
+    assert_eq!(rt;
+        (is_block_reported(rt.alloc())?, halted_status()),
+        (true, 0)
+    );
     Ok(())
 }
 
@@ -255,22 +297,43 @@ ABORTS 174
 SUM 382
 ";
 
-#[test]
-fn a_summary(rt: HostRuntime) -> Result<(), Fail> {
-    let alloc = rt.alloc();
-    let image = CpuImage::entering(0x4000);
-    let mut cpus = [processor(image, 1191, 76, 34); 5];
+/// The CPUs of this summary.
+fn summed_cpus() -> [Processor; 5] {
+    let mut cpus = [processor(CpuImage::entering(0x4000), 1191, 76, 34); 5];
     for cpu in &mut cpus {
         cpu.finished = true;
     }
     cpus[4].counts.turns = 1192;
     cpus[3].counts.commits = 78;
     cpus[0].counts.aborts = 38;
-    let text = summary(alloc, 3, &cpus, &[100, 101, 90, 91])?;
-    compare(&rt, text.as_slice(), SUMMARY);
-    let text = summary(alloc, 9, &[], &[u64::MAX, 0, u64::MAX, 2])?;
-    let high =
-        "SUMMARY 9\nCPUS 0\nSTATUS 0\nTURNS 0\nCOMMITS 0\nABORTS 0\nSUM 36893488147419103232\n";
-    compare(&rt, text.as_slice(), high);
+    cpus
+}
+
+/// The summary of 9 of no CPUs, whose counters have more than 64 bits in all.
+static HIGH: &str =
+    "SUMMARY 9\nCPUS 0\nSTATUS 0\nTURNS 0\nCOMMITS 0\nABORTS 0\nSUM 36893488147419103232\n";
+
+/// Whether a summary is this one; no more than sixteen CPUs have one.
+fn is_summary(
+    alloc: Global,
+    number: u64,
+    cpus: &[Processor],
+    counters: &[u64; 4],
+    wanted: &str,
+) -> Result<bool, Fail> {
+    if cpus.len() > 16 {
+        return Ok(false);
+    }
+    let text = summary(alloc, number, cpus, counters)?;
+    Ok(text.as_slice() == wanted.as_bytes())
+}
+
+#[test]
+fn a_summary(rt: HostRuntime) -> Result<(), Fail> {
+    let right = [
+        is_summary(rt.alloc(), 3, &summed_cpus(), &[100, 101, 90, 91], SUMMARY)?,
+        is_summary(rt.alloc(), 9, &[], &[u64::MAX, 0, u64::MAX, 2], HIGH)?,
+    ];
+    assert_eq!(rt; right, [true; 2]);
     Ok(())
 }
