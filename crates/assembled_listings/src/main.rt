@@ -12,13 +12,14 @@
 #![tactic(auto)]
 
 mod escape;
+mod fault;
 mod parts;
 
 use anyhow::{Context, Result, bail};
 use escape::listing_of;
+use fault::Fault;
 use parts::add_image;
-use std::alloc::Global;
-use std::fmt::Write;
+use std::alloc::{AllocError, Global};
 use std::io;
 use z_assemble::{AssembleFault, ListingFault, assemble, fault_line};
 use ztx_io::{ReaderSource, WriterSink, read_all, write_all};
@@ -27,34 +28,54 @@ use ztx_io::{ReaderSource, WriterSink, read_all, write_all};
 const LIMIT: usize = 16_777_216;
 
 /// Adds a fault: its line, its kind, and the line that is printed.
-fn add_fault(text: &mut String, alloc: Global, fault: ListingFault) -> Result<()> {
+fn add_fault(text: &mut String, alloc: Global, fault: ListingFault) -> Result<(), AllocError> {
     let line = fault.line;
     let kind = fault.kind;
+    write!(text, "{line} {kind} ")?;
     let printed = fault_line(alloc, fault)?;
-    write!(text, "{line} {kind} {printed}")?;
-    Ok(())
+    text.push_str(printed.as_str())
 }
 
 /// Adds what comes of a listing, in one line.
-fn add_assembled(text: &mut String, alloc: Global, listing: &[u8]) -> Result<()> {
+fn add_assembled(text: &mut String, alloc: Global, listing: &[u8]) -> Result<(), AllocError> {
     match assemble(alloc, listing) {
         Ok(image) => add_image(text, &image),
         Err(AssembleFault::Listing(fault)) => add_fault(text, alloc, fault),
-        Err(AssembleFault::Memory) => bail!("no memory"),
+        Err(AssembleFault::Memory) => Err(AllocError),
+    }
+}
+
+/// Adds the line for a line of the input.
+fn add_line(text: &mut String, alloc: Global, line: &str) -> Result<(), Fault> {
+    if line.starts_with('*') {
+        return Ok(writeln!(text, "{line}")?);
+    }
+    let listing = listing_of(alloc, line)?;
+    Ok(add_assembled(text, alloc, listing.as_slice())?)
+}
+
+/// Adds a line for each line of the input.
+fn add_lines(text: &mut String, alloc: Global, input: &str) -> Result<(), Fault> {
+    for line in input.lines() {
+        add_line(text, alloc, line)?;
+    }
+    Ok(())
+}
+
+/// The same, with faults in words.
+fn add_answer(text: &mut String, alloc: Global, input: &[u8]) -> Result<()> {
+    let input = str::from_utf8(input).ok().context("the input is no text")?;
+    match add_lines(text, alloc, input) {
+        Ok(()) => Ok(()),
+        Err(Fault::NoMemory) => bail!("no memory"),
+        Err(Fault::Wrong(words)) => bail!(words),
     }
 }
 
 /// A line for each line of the input.
 fn answer(alloc: Global, input: &[u8]) -> Result<String> {
-    let input = str::from_utf8(input).ok().context("the input is no text")?;
     let mut text = String::new(alloc);
-    for line in input.lines() {
-        if line.starts_with('*') {
-            writeln!(text, "{line}")?;
-        } else {
-            add_assembled(&mut text, alloc, &listing_of(alloc, line)?)?;
-        }
-    }
+    add_answer(&mut text, alloc, input)?;
     Ok(text)
 }
 

@@ -1,7 +1,6 @@
 //! The cases of the input.
 
-use anyhow::{Context, Result};
-use std::alloc::Global;
+use crate::fault::Fault;
 
 /// What happens in a case.
 #[derive(Clone, Copy)]
@@ -13,7 +12,7 @@ pub enum Course {
 }
 
 /// A listing, and how its machine runs.
-#[derive(Drop)]
+#[derive(Clone, Copy)]
 pub struct Case<'a> {
     /// What it shows.
     pub name: &'a str,
@@ -23,44 +22,47 @@ pub struct Case<'a> {
     pub tick: u32,
     /// What happens.
     pub course: Course,
-    /// The listing.
-    pub listing: String,
+    /// The listing, without the end of its last line.
+    pub listing: &'a str,
+}
+
+/// A number of the first line.
+fn number(word: &str) -> Result<u32, Fault> {
+    match word.parse::<u32>() {
+        Ok(number) => Ok(number),
+        Err(_) => Err(Fault::Wrong("a number is none")),
+    }
 }
 
 /// What happens, in a word: `round`, or a number of events.
-fn course_of(word: &str) -> Result<Course> {
+fn course_of(word: &str) -> Result<Course, Fault> {
     if word == "round" {
         return Ok(Course::Round);
     }
-    Ok(Course::Given(word.parse::<usize>()?))
-}
-
-/// The case that a line begins, by what stands behind its mark; the listing is still empty.
-fn begun<'a>(alloc: Global, heading: &'a str) -> Result<Case<'a>> {
-    let (turns, rest) = heading.split_once(' ').context("no turns")?;
-    let (tick, rest) = rest.split_once(' ').context("no tick")?;
-    let (events, name) = rest.split_once(' ').context("no events")?;
-    Ok(Case {
-        name,
-        turns: turns.parse::<u32>()?,
-        tick: tick.parse::<u32>()?,
-        course: course_of(events)?,
-        listing: String::new(alloc),
-    })
-}
-
-/// All cases of the input, in their order.
-pub fn cases<'a>(alloc: Global, input: &'a str) -> Result<Vec<Case<'a>>> {
-    let mut all: Vec<Case<'a>> = Vec::new(alloc);
-    for line in input.lines() {
-        match line.strip_prefix("* case ") {
-            Some(heading) => all.push(begun(alloc, heading)?)?,
-            None => {
-                let case = all.last_mut().context("a line before the first case")?;
-                case.listing.push_str(line)?;
-                case.listing.push('\n')?;
-            }
-        }
+    match word.parse::<usize>() {
+        Ok(count) => Ok(Course::Given(count)),
+        Err(_) => Err(Fault::Wrong("a number of events is none")),
     }
-    Ok(all)
+}
+
+/// What stands before a blank and behind it.
+fn cut<'a>(text: &'a str, wrong: &'static str) -> Result<(&'a str, &'a str), Fault> {
+    text.split_once(' ').ok_or(Fault::Wrong(wrong))
+}
+
+impl<'a> Case<'a> {
+    /// The case of what stands behind its mark.
+    pub fn read(text: &'a str) -> Result<Case<'a>, Fault> {
+        let (heading, listing) = text.split_once('\n').unwrap_or((text, ""));
+        let (turns, rest) = cut(heading, "no turns")?;
+        let (tick, rest) = cut(rest, "no tick")?;
+        let (events, name) = cut(rest, "no events")?;
+        Ok(Case {
+            name,
+            turns: number(turns)?,
+            tick: number(tick)?,
+            course: course_of(events)?,
+            listing,
+        })
+    }
 }

@@ -3,6 +3,7 @@ ghost use Rattle.std.specs.Prelude.{◌≡◌, length, slice_index, IfSome, IfNo
 ghost use Rattle.z_instr.specs.Layout.{length_by};
 
 use crate::fault::Fault;
+use crate::numbers::bytes_of;
 use std::alloc::Global;
 use z_decode::{decode, length_of};
 use z_instr::instr::Instr;
@@ -20,7 +21,7 @@ impl Code {
 
     /// The bytes that hexadecimal digits write.
     pub fn read(alloc: Global, text: &str) -> Result<Code, Fault> {
-        let bytes = hex::decode(alloc, text)?;
+        let bytes = bytes_of(alloc, text)?;
         match bytes.first() {
             Some(first) if bytes.len() == usize::from(length_of(*first)) => Ok(Code { bytes }),
             _ => Err(Fault::Malformed),

@@ -3,12 +3,11 @@
 use crate::compare::effect_difference;
 use crate::fault::Fault;
 use crate::kind::kind_difference;
-use crate::numbers::Words;
+use crate::numbers::first_word;
 use crate::reading::{bytes_difference, line_difference};
 use crate::report::Report;
 use crate::view::Watched;
-use anyhow::Result;
-use std::alloc::Global;
+use std::alloc::{AllocError, Global};
 
 /// What a line is about, and what differs in it; nothing where all is as it says.
 fn difference<'a>(
@@ -24,29 +23,51 @@ fn difference<'a>(
     }
     match line.split_once(" is ") {
         Some((name, kind)) => (name, kind_difference(alloc, name, kind)),
-        None => (
-            Words { rest: line }.next(),
-            effect_difference(alloc, line, view),
-        ),
+        None => (first_word(line).0, effect_difference(alloc, line, view)),
     }
 }
 
-/// Judges every line that does not begin with `#`.
-pub fn judge(alloc: Global, text: &str) -> Result<Report> {
-    let mut view = Watched::open(alloc)?;
-    let mut report = Report::new(alloc);
-    for (i, line) in text.lines().enumerate() {
-        if line.starts_with('#') {
-            continue;
-        }
-        match difference(alloc, line, &mut view) {
-            (name, Ok(text)) => report.count(name, text.as_str())?,
-            (_, Err(Fault::Malformed)) => report.count(
-                format_args!("line {}", i + 1),
-                "malformed",
-            )?,
-            (_, Err(Fault::NoMemory(error))) => return Err(error.into()),
+impl Report {
+    /// Judges a line, which has this number.
+    fn judge(
+        &mut self,
+        alloc: Global,
+        number: usize,
+        line: &str,
+        view: &mut Watched,
+    ) -> Result<(), AllocError> {
+        match difference(alloc, line, view) {
+            (name, Ok(text)) => self.count(name, text.as_str()),
+            (_, Err(Fault::Malformed)) => self.count_malformed(number),
+            (_, Err(Fault::NoMemory(error))) => Err(error),
         }
     }
+
+    /// Judges every line that does not begin with `#`.
+    fn judge_all(
+        &mut self,
+        alloc: Global,
+        text: &str,
+        view: &mut Watched,
+    ) -> Result<(), AllocError> {
+        for (i, line) in text.lines().enumerate() {
+            if !line.starts_with('#') {
+                self.judge(alloc, i + 1, line, view)?;
+            }
+        }
+        Ok(())
+    }
+}
+
+/// The report of all lines that do not begin with `#`.
+pub fn judge(alloc: Global, text: &str) -> Result<Report, AllocError> {
+    let mut view = Watched::open(alloc)?;
+    reported(alloc, text, &mut view)
+}
+
+/// The same, on storage that is zero.
+fn reported(alloc: Global, text: &str, view: &mut Watched) -> Result<Report, AllocError> {
+    let mut report = Report::new(alloc);
+    report.judge_all(alloc, text, view)?;
     Ok(report)
 }

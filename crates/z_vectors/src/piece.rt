@@ -2,8 +2,8 @@
 ghost use Rattle.std.specs.Prelude.{◌≡◌, ◌+◌, ◌-◌, ◌<◌, ◌≤◌, vec_len, slice_get, None};
 
 use crate::fault::Fault;
-use crate::numbers::hexadecimal;
-use std::alloc::Global;
+use crate::numbers::{bytes_of, hexadecimal};
+use std::alloc::{AllocError, Global};
 
 /// How many bytes storage has.
 pub const SIZE: u64 = z_regs::STORAGE_SIZE;
@@ -21,7 +21,7 @@ impl Piece {
     fn read(alloc: Global, text: &str) -> Result<Piece, Fault> {
         let (first, bytes) = text.split_once(':').ok_or(Fault::Malformed)?;
         let first = hexadecimal(first)?;
-        let bytes = hex::decode(alloc, bytes)?;
+        let bytes = bytes_of(alloc, bytes)?;
         if first > SIZE || bytes.len() as u64 > SIZE - first {
             return Err(Fault::Malformed);
         }
@@ -39,13 +39,20 @@ impl Piece {
     }
 }
 
-/// Pieces behind `m=`, with commas between them.
-pub fn pieces_of(alloc: Global, text: &str) -> Result<Vec<Piece>, Fault> {
-    let mut pieces = Vec::new(alloc);
-    for piece in text.split(',') {
-        pieces.push(Piece::read(alloc, piece)?)?;
+/// Adds a piece.
+fn add_piece(pieces: &mut Vec<Piece>, piece: Piece) -> Result<(), AllocError> {
+    Ok(pieces.push(piece)?)
+}
+
+/// Adds the pieces behind `m=`, with commas between them, where there are none yet; else malformed.
+pub fn add_pieces(pieces: &mut Vec<Piece>, alloc: Global, text: &str) -> Result<(), Fault> {
+    if !pieces.is_empty() {
+        return Err(Fault::Malformed);
     }
-    Ok(pieces)
+    for piece in text.split(',') {
+        add_piece(pieces, Piece::read(alloc, piece)?)?;
+    }
+    Ok(())
 }
 
 /// The byte that pieces have at an address, if any.

@@ -7,74 +7,82 @@ use z_instr::instr::Instr;
 use z_instr::lookup::row;
 use z_list::{Operand, operands};
 
-/// A mnemonic that stands for another one with this mask.
-struct Extended {
-    mnemonic: &'static str,
-    base: &'static str,
-    mask: i64,
-}
-
-macro_rules! extended {
-    ($mnemonic:literal $base:literal $mask:literal) => {
-        Extended {
-            mnemonic: $mnemonic,
-            base: $base,
-            mask: $mask,
-        }
-    };
-}
-
-static EXTENDED: [Extended; 14] = [
-    extended!("J" "BRC" 15),
-    extended!("JE" "BRC" 8),
-    extended!("JZ" "BRC" 8),
-    extended!("JNE" "BRC" 7),
-    extended!("JNZ" "BRC" 7),
-    extended!("JH" "BRC" 2),
-    extended!("JP" "BRC" 2),
-    extended!("JL" "BRC" 4),
-    extended!("JM" "BRC" 4),
-    extended!("JO" "BRC" 1),
-    extended!("JNH" "BRC" 13),
-    extended!("JNL" "BRC" 11),
-    extended!("JNO" "BRC" 14),
-    extended!("BR" "BCR" 15),
+/// Mnemonics that stand for BRC with this mask.
+static BRANCHES: [(&str, i64); 13] = [
+    ("J", 15),
+    ("JE", 8),
+    ("JZ", 8),
+    ("JNE", 7),
+    ("JNZ", 7),
+    ("JH", 2),
+    ("JP", 2),
+    ("JL", 4),
+    ("JM", 4),
+    ("JO", 1),
+    ("JNH", 13),
+    ("JNL", 11),
+    ("JNO", 14),
 ];
+
+/// The mask of one of these.
+fn mask_of(mnemonic: &str) -> Option<i64> {
+    for (name, mask) in &BRANCHES {
+        if *name == mnemonic {
+            return Some(*mask);
+        }
+    }
+    None
+}
 
 /// The mnemonic of the table, and the mask that is its first operand, where that is not written.
 fn base_of(mnemonic: &str) -> (&str, Option<i64>) {
-    for extended in &EXTENDED {
-        if extended.mnemonic == mnemonic {
-            return (extended.base, Some(extended.mask));
-        }
+    if mnemonic == "BR" {
+        return ("BCR", Some(15));
     }
-    (mnemonic, None)
+    match mask_of(mnemonic) {
+        Some(mask) => ("BRC", Some(mask)),
+        None => (mnemonic, None),
+    }
+}
+
+/// Whether a parenthesis opens before any comma.
+fn opens_first(text: &str) -> bool {
+    match (text.find('('), text.find(',')) {
+        (Some(open), Some(comma)) => open < comma,
+        (Some(_), None) => true,
+        (None, _) => false,
+    }
+}
+
+/// Where the first operand ends that others follow.
+fn end_of(text: &str) -> Option<usize> {
+    if opens_first(text) {
+        return Some(text.find("),")? + 1);
+    }
+    text.find(',')
 }
 
 /// The first operand, and what stands behind its comma.
 fn cut(text: &str) -> Result<(&str, &str), Fault> {
-    let end = match text.find('(') {
-        Some(open) if text.find(',').is_none_or(|comma| open < comma) => text
-            .find("),")
-            .map(|at| at + 1),
-        _ => text.find(','),
-    };
-    let Some(end) = end else {
+    let Some(end) = end_of(text) else {
         return Ok((text, ""));
     };
-    let (operand, rest) = text.split_at_checked(end).ok_or(Fault::Malformed)?;
-    let rest = rest.strip_prefix(',').ok_or(Fault::Malformed)?;
-    if rest.is_empty() {
+    let Some((operand, rest)) = text.split_at_checked(end) else {
         return Err(Fault::Malformed);
+    };
+    match rest.strip_prefix(',') {
+        Some("") | None => Err(Fault::Malformed),
+        Some(rest) => Ok((operand, rest)),
     }
-    Ok((operand, rest))
 }
 
 /// The displacement, and what stands in parentheses behind it, if they are there.
 fn parts(text: &str) -> Result<(i64, Option<&str>), Fault> {
     match text.split_once('(') {
         Some((displacement, inner)) => {
-            let inner = inner.strip_suffix(')').ok_or(Fault::Malformed)?;
+            let Some(inner) = inner.strip_suffix(')') else {
+                return Err(Fault::Malformed);
+            };
             Ok((listing_number(displacement)?, Some(inner)))
         }
         None => Ok((listing_number(text)?, None)),
@@ -138,10 +146,9 @@ fn are_written(operands: &[Operand], text: &str) -> Result<bool, Fault> {
     Ok(rest.is_empty())
 }
 
-/// Whether a line of the listing is a spelling of an instruction.
-pub fn is_spelling(alloc: Global, line: &str, instr: &Instr) -> Result<bool, Fault> {
-    let line = line.to_ascii_uppercase(alloc)?;
-    let (mnemonic, text) = line.as_str().split_once(' ').unwrap_or((line.as_str(), ""));
+/// Whether a line of the listing in capitals is a spelling of an instruction.
+fn is_spelling_in_capitals(line: &str, instr: &Instr) -> Result<bool, Fault> {
+    let (mnemonic, text) = line.split_once(' ').unwrap_or((line, ""));
     let (base, mask) = base_of(mnemonic);
     if row(instr.op).name.bytes() != base.as_bytes() {
         return Ok(false);
@@ -154,4 +161,10 @@ pub fn is_spelling(alloc: Global, line: &str, instr: &Instr) -> Result<bool, Fau
         ),
         (Some(_), []) => Ok(false),
     }
+}
+
+/// Whether a line of the listing is a spelling of an instruction.
+pub fn is_spelling(alloc: Global, line: &str, instr: &Instr) -> Result<bool, Fault> {
+    let line = line.to_ascii_uppercase(alloc)?;
+    is_spelling_in_capitals(line.as_str(), instr)
 }

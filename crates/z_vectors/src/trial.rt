@@ -8,7 +8,6 @@ ghost use Rattle.z_effect.specs.After.{AreInside, ranges_of};
 
 use crate::code::Code;
 use crate::view::Watched;
-use thiserror::Error;
 use tx_control::Exception;
 use tx_control::codes::{FIXED_POINT_OVERFLOW, OPERATION};
 use z_instr::instr::Instr;
@@ -23,8 +22,7 @@ pub struct Answer {
 }
 
 /// The instruction is for none of the crates: it is about transactions.
-#[derive(Clone, Copy, Debug, Error)]
-#[error("no crate executes it")]
+#[derive(Clone, Copy)]
 pub struct NobodysOperation;
 
 /// The pages that hold a byte of an instruction, as text pages.

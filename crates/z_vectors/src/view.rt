@@ -43,7 +43,9 @@ impl Watched {
     /// Storage of zeros.
     pub fn open(alloc: Global) -> Result<Watched, AllocError> {
         let zeros = vec![in alloc; 0u8; SIZE as usize]?;
-        let storage = Storage::open(alloc, zeros.as_slice()).map_err(|_| AllocError)?;
+        let Ok(storage) = Storage::open(alloc, zeros.as_slice()) else {
+            return Err(AllocError);
+        };
         Ok(Watched {
             storage,
             puts: Vec::new(alloc),
