@@ -143,7 +143,11 @@ fn is_right_race<R: Threads + Wait + Sync, G: Gate>(
 }
 
 /// Whether two workers that count a hundred times each meet, and their race is right.
-fn both_meet<R: Threads + Wait + Sync>(rt: &R, alloc: Global, gate: &Meeting) -> Result<bool, Fail> {
+fn both_meet<R: Threads + Wait + Sync>(
+    rt: &R,
+    alloc: Global,
+    gate: &Meeting,
+) -> Result<bool, Fail> {
     let image = Arc::new(alloc, image_of(alloc, 2, "GO LGHI 2,100\n")?)?;
     let counting = Counting {
         cpus: 2,
@@ -196,7 +200,12 @@ static CASES: [Case; 3] = [
 ];
 
 /// How many of the races of a case are right.
-fn right_races<R: Threads + Wait + Sync>(rt: &R, alloc: Global, case: &Case, image: &Arc<Image>) -> Result<u32, Fail> {
+fn right_races<R: Threads + Wait + Sync>(
+    rt: &R,
+    alloc: Global,
+    case: &Case,
+    image: &Arc<Image>,
+) -> Result<u32, Fail> {
     let counting = Counting {
         cpus: case.cpus,
         times: case.times,
@@ -212,7 +221,11 @@ fn right_races<R: Threads + Wait + Sync>(rt: &R, alloc: Global, case: &Case, ima
 }
 
 /// The same, with its image.
-fn right_races_of<R: Threads + Wait + Sync>(rt: &R, alloc: Global, case: &Case) -> Result<u32, Fail> {
+fn right_races_of<R: Threads + Wait + Sync>(
+    rt: &R,
+    alloc: Global,
+    case: &Case,
+) -> Result<u32, Fail> {
     let image = Arc::new(alloc, image_of(alloc, case.cpus, case.load)?)?;
     right_races(rt, alloc, case, &image)
 }
