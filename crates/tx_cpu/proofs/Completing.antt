@@ -16,12 +16,13 @@ use Rattle.tx_progress.specs.Progress.{resting}
 use Rattle.tx_progress.specs.Doing.{Executed, outside, done_outside, told_of}
 use Rattle.z_effect.specs.TransactionEffect.{delay_given}
 use Rattle.tx_progress.specs.declared.done.Done.{Done}
-use Rattle.tx_cpu.specs.declared.performing.Ended.{Ended}
-use Rattle.tx_cpu.specs.Performed.{ended_of, outcome_from, waiting_outside, storage_left, IsLeftOutside}
-use Rattle.tx_cpu.specs.Tracked.{progress}
-use Rattle.tx_cpu.specs.Parts.{Parts, local_of, beside, storage_of}
+use Rattle.tx_attempt.specs.declared.performing.Ended.{Ended}
+use Rattle.tx_attempt.specs.Performed.{ended_of, outcome_from, waiting_outside, storage_left, IsLeftOutside}
+use Rattle.tx_attempt.specs.Tracked.{progress}
+use Rattle.tx_cpu.specs.Parts.{Parts, local_of, beside}
+use Rattle.tx_attempt.specs.Storages.{storage_of}
 use Rattle.tx_cpu.proofs.Ends.{cpu-rests}
-use Rattle.tx_cpu.proofs.Resting.{local-rests}
+use Rattle.tx_cpu.proofs.Settling.{local-rests}
 
 -- ---- what is left and told
 

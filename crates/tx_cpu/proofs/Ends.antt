@@ -21,9 +21,10 @@ use Rattle.tx_progress.specs.Progress.{resting, seen_through}
 use Rattle.tx_progress.specs.Local.{aborted, cpu_left, block_stored, storage_with}
 use Rattle.tx_progress.specs.Local.{interruption_taken, taken_by}
 use Rattle.tx_progress.specs.Doing.{stopped}
-use Rattle.tx_cpu.specs.Tracked.{Tracked, progress}
-use Rattle.tx_cpu.specs.Parts.{Parts, local_of, beside, storage_of}
-use Rattle.tx_cpu.proofs.Resting.{local-rests}
+use Rattle.tx_attempt.specs.Tracked.{Tracked, progress}
+use Rattle.tx_cpu.specs.Parts.{Parts, local_of, beside}
+use Rattle.tx_attempt.specs.Storages.{storage_of}
+use Rattle.tx_cpu.proofs.Settling.{local-rests}
 
 pub none_of : (n : ℕ) → nat_lt 0 n ≡ false → n ≡ 0
 none_of n h = grind (arith, nat_tests)

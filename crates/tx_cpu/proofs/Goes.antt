@@ -45,10 +45,11 @@ use Rattle.tx_progress.specs.Progress.{Progress}
 use Rattle.tx_progress.specs.Trial.{at_hand, fetched, tried, tests_by, fate_by_progress, text_refusal_by}
 use Rattle.tx_progress.specs.Trial.{place_refusal_by, overflow_refusal_by, constraint_refusal, breach_refusal}
 use Rattle.tx_progress.proofs.Rows.{any_row, begins_are_barred}
-use Rattle.tx_cpu.specs.Going.{MayGo, IsStoredDoubleword}
-use Rattle.tx_cpu.specs.Tracked.{Tracked, IsSound, progress}
+use Rattle.tx_attempt.specs.Gathered.{IsStoredDoubleword}
+use Rattle.tx_cpu.specs.Going.{MayGo}
+use Rattle.tx_attempt.specs.Tracked.{Tracked, IsSound, progress}
 use Rattle.tx_cpu.proofs.Agreeing.{fetched_text, length_some}
-use Rattle.tx_cpu.proofs.Reached.{accessible_spans}
+use Rattle.tx_attempt.proofs.Reached.{accessible_spans}
 
 -- ---- no test has found anything
 

@@ -32,13 +32,14 @@ use Rattle.tx_progress.specs.Doing.{Executed, inside, closed_by, going_on}
 use Rattle.tx_progress.specs.Trial.{outcome_by}
 use Rattle.tx_progress.specs.declared.done.Done.{Done}
 use Rattle.tx_progress.specs.declared.done.Done.TheVariants as done
-use Rattle.tx_cpu.specs.declared.performing.Ended.TheVariants as ended
-use Rattle.tx_cpu.specs.Performed.{outcome_from, trimmed, first_size, StoresFirst}
-use Rattle.tx_cpu.specs.Tracked.{Tracked, progress}
-use Rattle.tx_cpu.specs.Parts.{Parts, local_of, beside, storage_of}
-use Rattle.tx_cpu.proofs.Laying.{stored_in}
-use Rattle.tx_cpu.proofs.Resting.{local-rests}
-use Rattle.tx_cpu.proofs.Stored.{trimmed-stores}
+use Rattle.tx_attempt.specs.declared.performing.Ended.TheVariants as ended
+use Rattle.tx_attempt.specs.Performed.{outcome_from, trimmed, first_size, StoresFirst}
+use Rattle.tx_attempt.specs.Tracked.{Tracked, progress}
+use Rattle.tx_cpu.specs.Parts.{Parts, local_of, beside}
+use Rattle.tx_attempt.specs.Storages.{storage_of}
+use Rattle.tx_attempt.proofs.Laying.{stored_in}
+use Rattle.tx_cpu.proofs.Settling.{local-rests}
+use Rattle.tx_attempt.proofs.Stored.{trimmed-stores}
 
 -- ---- what the table says of TEND
 

@@ -42,15 +42,15 @@ use Rattle.tx_progress.specs.Progress.{Progress, resting}
 use Rattle.tx_progress.specs.Trial.{at_hand, fate_by_progress, text_refusal_by, place_refusal_by}
 use Rattle.tx_progress.specs.Trial.{overflow_refusal_by, constraint_refusal}
 use Rattle.tx_cpu.specs.Admits.{Admits}
-use Rattle.tx_cpu.specs.declared.ready.Ready.{Ready}
-use Rattle.tx_cpu.specs.declared.ready.Shape.{Shape}
-use Rattle.tx_cpu.specs.declared.ready.Touch.{Touch}
-use Rattle.tx_cpu.specs.declared.ready.Touch.TheVariants as touch
-use Rattle.tx_cpu.specs.Parts.{storage_of}
-use Rattle.tx_cpu.specs.Plain.{IsPlain}
-use Rattle.tx_cpu.specs.Tracked.{Tracked, progress}
-use Rattle.tx_cpu.specs.Shapes.{shape_in, boundary_size, shape_by, is_other, IsReady, touched_by, is_in_line, is_open}
-use Rattle.tx_cpu.specs.Shapes.{is_reached, is_admitted, is_bare_begin, is_nothing, no_shape}
+use Rattle.tx_program.specs.declared.ready.Ready.{Ready}
+use Rattle.tx_program.specs.declared.ready.Shape.{Shape}
+use Rattle.tx_program.specs.declared.ready.Touch.{Touch}
+use Rattle.tx_program.specs.declared.ready.Touch.TheVariants as touch
+use Rattle.tx_attempt.specs.Storages.{storage_of}
+use Rattle.tx_attempt.specs.Plain.{IsPlain}
+use Rattle.tx_attempt.specs.Tracked.{Tracked, progress}
+use Rattle.tx_program.specs.Shapes.{shape_in, boundary_size, shape_by, is_other, IsReady, touched_by, is_in_line, is_open}
+use Rattle.tx_program.specs.Shapes.{is_reached, is_admitted, is_bare_begin, is_nothing, no_shape}
 use Rattle.tx_cpu.proofs.Goes.{read-touches}
 use Rattle.tx_cpu.proofs.Programs.{plain_length, plain_reading}
 use Rattle.tx_cpu.proofs.Tests.{heads, tails, planned-read, tried-goes}

@@ -8,7 +8,7 @@ use Rattle.tx_progress.specs.Progress.{Progress}
 use Rattle.tx_progress.specs.Trial.{fate_by_progress}
 use Rattle.tx_cpu.specs.Going.{MayGo}
 use Rattle.tx_cpu.specs.Plans.{fate_of, IsPrepared, IsPlanPrepared}
-use Rattle.tx_cpu.specs.Tracked.{Tracked, IsSound, progress}
+use Rattle.tx_attempt.specs.Tracked.{Tracked, IsSound, progress}
 use Rattle.tx_cpu.specs.declared.plan.Plan.{Plan}
 use Rattle.tx_cpu.specs.declared.plan.Plan.TheVariants as plan
 use Rattle.tx_cpu.proofs.Goes.{goes-so}

@@ -12,10 +12,10 @@ use Rattle.tx_footprint.specs.Sizes.{storage_blocks}
 use Rattle.tx_footprint.specs.Touched.{Sets, touching, line_count, block_count, fit_of}
 use Rattle.tx_footprint.proofs.Limits.{all_fit, nothing_more}
 use Rattle.tx_footprint.proofs.Spans.{address_of}
-use Rattle.tx_cpu.specs.declared.ready.Shape.{Shape}
-use Rattle.tx_cpu.specs.declared.ready.Touch.{Touch}
-use Rattle.tx_cpu.specs.declared.ready.Touch.TheVariants as touch
-use Rattle.tx_cpu.specs.Shapes.{touched_by, is_in_line, is_open, is_placed, is_reached}
+use Rattle.tx_program.specs.declared.ready.Shape.{Shape}
+use Rattle.tx_program.specs.declared.ready.Touch.{Touch}
+use Rattle.tx_program.specs.declared.ready.Touch.TheVariants as touch
+use Rattle.tx_program.specs.Shapes.{touched_by, is_in_line, is_open, is_placed, is_reached}
 use Rattle.tx_cpu.proofs.Plainly.{in-line}
 
 -- a number is in a list of numbers

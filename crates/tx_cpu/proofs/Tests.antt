@@ -22,7 +22,7 @@ use Rattle.tx_progress.specs.Progress.{Progress}
 use Rattle.tx_progress.specs.Trial.{at_hand, tried, fetched, fate_by_progress, tests_by, text_refusal_by}
 use Rattle.tx_progress.specs.Trial.{place_refusal_by, overflow_refusal_by}
 use Rattle.tx_serial.proofs.FreeOperands.{inside_operands}
-use Rattle.tx_cpu.proofs.Reached.{accessible_spans}
+use Rattle.tx_attempt.proofs.Reached.{accessible_spans}
 
 pub first-found : (xs ys : List (Option Refusal)) (r : Refusal) → Some r ≡ first_refusal xs
     → first_refusal (xs ++ ys) ≡ Some r
@@ -118,10 +118,6 @@ unfolding fate_by_progress
 planned-unfetched text storage q e h =
     unfetched-at text storage q e (fetch_refusal text (at_hand storage q)) (instruction_at (at_hand storage
     q)) h
-
-pub fetched-none : (o : Option ℕ) (u : Unit {0}) → Ok u ≡ fetch_answer o → o ≡ None
-fetched-none None u h = refl
-fetched-none (Some code) u h = absurd (cc)
 
 pub planned-read : (text : List ℕ) (storage : Storage) (q : Progress) (i : Instr) (f : Fate)
     → fetch_refusal text (at_hand storage q) ≡ None → instruction_at (at_hand storage q) ≡ Some i

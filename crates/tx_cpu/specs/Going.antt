@@ -1,6 +1,6 @@
 -- What holds of an instruction that goes.
-use Rattle.std.specs.Prelude.{◌≡◌, ℕ, ◌+◌, ◌<◌, ◌≤◌, ◌%◌, true, false}
-use Rattle.std.specs.Prelude.{◌&&◌, nat_eq, length, All, List, [], ◌∷◌, Some}
+use Rattle.std.specs.Prelude.{◌≡◌, ℕ, ◌+◌, ◌<◌, ◌≤◌, true, false}
+use Rattle.std.specs.Prelude.{◌&&◌, nat_eq, length, All, List, [], Some}
 use Rattle.z_regs.specs.Absolute.{IsAccessible}
 use Rattle.z_regs.specs.Cpu.{Cpu}
 use Rattle.z_regs.specs.Prefix.{storage_size}
@@ -10,14 +10,9 @@ use Rattle.z_instr.specs.Roles.{is_end, block_named}
 use Rattle.z_instr.specs.Table.{entry_at}
 use Rattle.tx_serial.specs.Fate.{operands}
 use Rattle.z_instr.specs.Roles.{stores_lastingly}
-use Rattle.tx_cpu.specs.Advancing.{MayAdvance}
-use Rattle.tx_cpu.specs.Tracked.{Tracked}
-
--- the only operand is a doubleword on its boundary
-pub record IsStoredDoubleword (need : List Range) : Type 0 where
-  pub first : ℕ
-  pub is : need ≡ record { first = first; length = 8; store = true } ∷ []
-  pub boundary : first % 8 ≡ 0
+use Rattle.tx_attempt.specs.Advancing.{MayAdvance}
+use Rattle.tx_attempt.specs.Gathered.{IsStoredDoubleword}
+use Rattle.tx_attempt.specs.Tracked.{Tracked}
 
 -- Its operands are those of the CPU, and accessible; the CPU is in storage, and so is the block that
 -- an outermost

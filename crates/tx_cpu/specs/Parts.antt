@@ -1,11 +1,14 @@
 -- One CPU as data, and what is kept of it by that.
-use Rattle.std.specs.Prelude.{◌≡◌, ℕ, ◌+◌, ◌≤◌, if◌then◌else◌, nat_lt, List, get_or, Option, Some}
+use Rattle.std.specs.Prelude.{◌≡◌, ℕ, ◌+◌, ◌≤◌, if◌then◌else◌, nat_lt, List, Option, Some}
 use Rattle.z_regs.specs.Cpu.{Cpu}
 use Rattle.z_regs.specs.Prefix.{storage_size}
 use Rattle.z_regs.specs.declared.waiting.Waiting.{Waiting}
-use Rattle.tx_serial.specs.Flat.{Storage, Pending}
+use Rattle.tx_serial.specs.Flat.{Pending}
 use Rattle.tx_progress.specs.Local.{Local, Beside}
-use Rattle.tx_cpu.specs.Tracked.{Tracked, progress}
+use Rattle.tx_progress.specs.Progress.{is_live}
+use Rattle.tx_attempt.specs.Storages.{storage_of}
+use Rattle.tx_attempt.specs.Tracked as tracked
+use Rattle.tx_attempt.specs.Tracked.{Tracked, progress}
 
 -- the CPU as it is now, as it was before the outermost begin while an attempt is live, the attempt, the block
 -- that is pending, and the interruption that waits
@@ -25,9 +28,13 @@ local_of p = record {
   waiting = p.waiting;
 }
 
--- a list of bytes as storage, with zeros behind its end
-abbrev pub storage_of : List ℕ → Storage
-storage_of bytes address = get_or bytes address 0
+-- what is kept of a CPU that goes on as another one: in its attempt, where one is live, and else as that one is outside
+abbrev pub goes_on_as : Local → Local → Local
+goes_on_as other own = record own {
+  cpu = if is_live other.attempt then own.cpu else other.cpu;
+  attempt =
+      if is_live other.attempt then tracked.goes_on_as other.attempt own.attempt else other.attempt;
+}
 
 -- a CPU and storage
 abbrev pub beside : Parts → List ℕ → Beside

@@ -8,11 +8,11 @@ ghost use Rattle.tx_serial.specs.Apply.{interruption_code, identified as identif
 ghost use Rattle.tx_serial.specs.Apply.{with_stored_interruption, with_new_psw};
 ghost use Rattle.tx_abort.specs.Causes.{cause_of};
 ghost use Rattle.tx_abort.specs.Registers.{with_restored};
-ghost use Rattle.tx_cpu.specs.Parts.{storage_of};
+ghost use Rattle.tx_attempt.specs.Storages.{storage_of};
 ghost use Rattle.tx_cpu.specs.Plans.{HasRoom};
 
-use crate::storing::{get_all, put_all};
 use tx_abort::{condition_of, restore};
+use tx_attempt::{get_all, put_all};
 use tx_control::Why;
 use z_regs::{Bytes, CpuImage, RunState, Waiting, load_psw, psw_of};
 

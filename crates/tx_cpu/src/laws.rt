@@ -9,7 +9,7 @@ ghost use Rattle.z_regs.specs.declared.ranges.Range.{Range};
 ghost use Rattle.z_instr.specs.declared.instr.Instr.{Instr};
 ghost use Rattle.tx_serial.specs.Fate.{Goes};
 ghost use Rattle.tx_cpu.specs.Going.{MayGo};
-ghost use Rattle.tx_cpu.specs.Tracked.{Tracked, IsSound, progress};
+ghost use Rattle.tx_attempt.specs.Tracked.{Tracked, IsSound, progress};
 ghost use Rattle.tx_progress.specs.Trial.{fate_by_progress};
 
 /// The fate of the next instruction is the same over two storages that have the same bytes of text: over the

@@ -1,7 +1,7 @@
 //! The CPU.
 ghost use Rattle.z_instr.specs.Roles.{begins as is_begun, is_end as is_ended, block_named};
 ghost use Rattle.z_instr.specs.Table.{entry_at};
-ghost use Rattle.tx_cpu.specs.Performed.{no_range};
+ghost use Rattle.tx_attempt.specs.Performed.{no_range};
 ghost use Rattle.std.specs.Prelude.{get_or, ℕ, List, [], Some, ◌+◌, ◌≤◌, ◌^◌, ◌&&◌, nat_eq};
 ghost use Rattle.std.specs.Prelude.{◌≡◌, ◌<◌, ◌↔◌, IsTrue, IfOk, is_some, length, true, false, All};
 ghost use Rattle.z_regs.specs.Cpu.{cpu_of};
@@ -16,35 +16,32 @@ ghost use Rattle.tx_progress.specs.Doing.{stopped, executed, executed_where, ins
 ghost use Rattle.tx_progress.specs.Trial.{fate_by_progress, outcome_by};
 ghost use Rattle.tx_serial.specs.Fate.{operands, Goes};
 ghost use Rattle.tx_cpu.specs.Quiet.{IsQuiet};
-ghost use Rattle.tx_cpu.specs.Shapes.{touched_by, is_reached};
-ghost use Rattle.std.specs.Prelude.{IfSome};
+ghost use Rattle.tx_program.specs.Shapes.{touched_by, is_reached};
+ghost use Rattle.std.specs.Prelude.{IfSome, ◌/◌};
 ghost use Rattle.z_regs.specs.Absolute.{IsAccessible};
 ghost use Rattle.std.specs.FinSet.{items};
-ghost use Rattle.tx_cpu.specs.Parts.{local_of, beside, storage_of};
+ghost use Rattle.tx_cpu.specs.Parts.{local_of, beside, goes_on_as};
+ghost use Rattle.store_cache.specs.Overlay.{has_block, with_one};
+ghost use Rattle.tx_attempt.specs.Storages.{storage_of};
 ghost use Rattle.tx_cpu.specs.Going.{MayGo};
 ghost use Rattle.tx_cpu.specs.Plans.{fate_of, levels_of, HasRoom, HasPlanRoom};
 ghost use Rattle.tx_serial.specs.Flat.{address_of};
 ghost use Rattle.tx_cpu.specs.Plans.{IsPrepared, IsPlanPrepared, HasDoneRoom};
-ghost use Rattle.tx_cpu.specs.Same.{AreSameAttempts};
+ghost use Rattle.tx_attempt.specs.Same.{AreSameAttempts};
 
-use crate::advancing::Before;
-use crate::attempt::Attempt;
 use crate::interruption::{leave, load, store, waiting_after, waiting_with};
-use crate::lending::operand;
 use crate::outside::{delay_after, end_outside, perform_outside, told, wait_outside};
 use crate::pending::{Block, pending_after};
-use crate::performing::{Ended, MOST_BYTES, perform};
 use crate::plain::{Plain, plain_next, touches_nothing};
 use crate::plan::{Plan, next_plan};
-use crate::program::Program;
-use crate::refusal::cause_in;
-use crate::storing::put_all;
 use std::alloc::Global;
 use std::marker::Model;
 use tx_abort::block_of;
+use tx_attempt::{Attempt, Before, Ended, MOST_BYTES, cause_in, operand, perform, put_all};
 use tx_control::codes::{FIXED_POINT_DIVIDE, FIXED_POINT_OVERFLOW};
 use tx_control::{Exception, Why};
 use tx_footprint::Footprint;
+use tx_program::Program;
 use tx_progress::done::Done;
 use z_effect::{exception, interrupt};
 use z_instr::format::length_in;
@@ -205,12 +202,14 @@ impl Cpu {
         self.attempt.same(&other.attempt)
     }
 
-    /// What holds of every CPU: where no attempt is live, nothing is left of an earlier one, so that no store waits; and where
-    /// one is, a begin is open.
+    /// What holds of every CPU: where no attempt is live, nothing is left of an earlier one, so that no store waits; where
+    /// one is, a begin is open; and stores that wait lie in blocks of the footprint.
     pub fn is_sound(&self)
         ensures rests { is_live (local_of self.now).attempt ≡ false
             → (local_of self.now).attempt ≡ resting (local_of self.now).attempt.cpu }
         ensures opens { is_live (local_of self.now).attempt ≡ true → 0 < length (local_of self.now).attempt.nest }
+        ensures blocks { (block : ℕ) → has_block (local_of self.now).attempt.overlay block ≡ true
+            → (local_of self.now).attempt.footprint.blocks block ≡ true }
     {
         self.attempt.is_sound();
     }
@@ -224,6 +223,46 @@ impl Cpu {
         self.attempt.copy_from(&other.attempt);
         self.pending = other.pending;
         self.waiting = other.waiting;
+    }
+
+    /// Goes on as the other CPU: inside a transaction with the same begins, footprint and constraints, as much completed, and
+    /// the other's registers; outside as the other CPU is. What this attempt has stored stays, in blocks that the other's footprint
+    /// has, and so does what an abort would leave, and what is left to do.
+    pub fn go_on_as(&mut self, other: &Cpu)
+        requires alike { is_live (local_of self.old).attempt ≡ is_live (local_of other.now).attempt }
+        requires covered { (block : ℕ) → has_block (local_of self.old).attempt.overlay block ≡ true
+            → (local_of other.now).attempt.footprint.blocks block ≡ true }
+        ensures { local_of self.new ≡ goes_on_as (local_of other.now) (local_of self.old) }
+    {
+        self.image = other.image;
+        self.attempt.is_sound();
+        other.attempt.is_sound();
+        if other.attempt.is_live() {
+            self.attempt.go_on_as(&other.attempt);
+        }
+    }
+
+    /// The last byte that the attempt has stored at an absolute address; None exactly where none was stored. It lies in storage,
+    /// in a block of the footprint.
+    pub fn stored(&self, address: u64) -> Option<u8>
+        ensures value { result ≡ (local_of self.now).attempt.overlay address }
+        ensures block { IfSome result (λ byte. (local_of self.now).attempt.footprint.blocks (address / 128) ≡ true) }
+        ensures within { IfSome result (λ byte. address < storage_size) }
+    {
+        self.attempt.stored(address)
+    }
+
+    /// The attempt stores one byte more at an absolute address, in a block that its footprint has.
+    pub fn add_store(&mut self, address: u64, byte: u8)
+        requires within { address < storage_size }
+        requires block { (local_of self.old).attempt.footprint.blocks (address / 128) ≡ true }
+        ensures { local_of self.new ≡ record (local_of self.old) {
+          attempt = record (local_of self.old).attempt {
+            overlay = with_one (local_of self.old).attempt.overlay address byte;
+          };
+        } }
+    {
+        self.attempt.add_store(address, byte);
     }
 
     /// Outside transactions, an exception stops the program before anything has changed.

@@ -7,22 +7,21 @@ ghost use Rattle.z_instr.specs.Table.{entry_at};
 ghost use Rattle.tx_control.specs.declared.causes.Why.TheVariants as why;
 ghost use Rattle.tx_serial.specs.Fate.{aborts_where, is_restricted, first_refusal, operands as operands_of};
 ghost use Rattle.tx_serial.specs.Fate.{restricted_refusal, specified_refusal, depth_refusal, operand_refusal};
-ghost use Rattle.tx_serial.specs.Fate.{Excepts, excepted, length_at, instruction_at};
+ghost use Rattle.tx_serial.specs.Fate.{Excepts, excepted, fate_after, length_at, instruction_at};
 ghost use Rattle.tx_progress.specs.Trial.{at_hand, text_refusal_by, place_refusal_by, overflow_refusal_by};
 ghost use Rattle.tx_progress.specs.Trial.{tests_by, tried as tried_by, fate_by_progress};
 ghost use Rattle.tx_serial.specs.Flat.{Storage};
-ghost use Rattle.tx_cpu.specs.Tracked.{progress};
-ghost use Rattle.tx_cpu.specs.Parts.{storage_of};
+ghost use Rattle.tx_attempt.specs.Tracked.{progress};
+ghost use Rattle.tx_attempt.specs.Storages.{storage_of};
 ghost use Rattle.tx_cpu.specs.Plans.{fate_of};
-ghost use Rattle.tx_cpu.specs.Refused.{refusal_of, found};
+ghost use Rattle.tx_attempt.specs.Refused.{refusal_of, found};
 ghost use Rattle.std.specs.Prelude.{◌&&◌, nat_le, false};
 ghost use Rattle.z_instr.specs.Roles.{begins as is_begun};
 
-use crate::attempt::Attempt;
-use crate::program::{Program, read};
-use crate::refusal::{Refusal, after_refusal};
+use tx_attempt::{Attempt, Refusal, cause_in};
 use tx_control::codes::OPERATION;
 use tx_control::{Exception, MOST_LEVELS, Nest, Why};
+use tx_program::{Program, read};
 use z_decode::length_of;
 use z_instr::instr::Instr;
 use z_instr::laws::operands_are_small;
@@ -46,6 +45,22 @@ pub enum Plan {
     Ends(Why),
     /// Outside transactions, it stops the program.
     Stops(Exception),
+}
+
+/// What a refusal means under these begins.
+fn after_refusal(nest: &Nest, refusal: Refusal) -> Plan
+    ensures { fate_of result ≡ fate_after nest.now (refusal_of refusal) }
+{
+    match refusal {
+        Refusal::Because(why) => Plan::Ends(why),
+        Refusal::Excepts(e) => {
+            if nest.depth() == 0 {
+                Plan::Stops(e)
+            } else {
+                Plan::Ends(cause_in(nest, e))
+            }
+        }
+    }
 }
 
 /// The exception of bytes, as many as the first of them says, that read as no instruction.

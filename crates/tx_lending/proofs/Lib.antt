@@ -7,6 +7,7 @@ pub mod Along
 pub mod Leaving
 mod OneTurn
 mod Turning
+mod Outside
 mod Strangers
 mod Waiting
 mod Homing

@@ -90,3 +90,7 @@ gone_on reached waits own = record own {
     resumes_at = own.attempt.resumes_at;
   };
 }
+
+-- outside transactions, a CPU that has become what another has; what is left to do for it is its own
+abbrev pub left_as : Local → Local → Local
+left_as reached own = record own { cpu = reached.cpu; attempt = reached.attempt }

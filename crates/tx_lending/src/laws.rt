@@ -1,5 +1,5 @@
 //! Laws of turns that are made away from the machine. Each law is the contract of a function that does nothing.
-ghost use Rattle.std.specs.Prelude.{◌≡◌, ℕ, suc, ◌<◌, true, List, Option, replicate};
+ghost use Rattle.std.specs.Prelude.{◌≡◌, ℕ, suc, ◌<◌, true, false, List, Option, replicate};
 ghost use Rattle.line_table.specs.declared.table.Mode.{Mode};
 ghost use Rattle.z_regs.specs.declared.ranges.Range.{Range};
 ghost use Rattle.z_instr.specs.declared.instr.Instr.{Instr};
@@ -19,7 +19,7 @@ ghost use Rattle.tx_keeping.specs.Keeping.{keeping, keeping_from};
 ghost use Rattle.tx_keeping.specs.Kept.{Kept, text_of, beside};
 ghost use Rattle.tx_keeping.specs.Turn.{k_happen, k_turned};
 ghost use Rattle.tx_lending.specs.Home.{MayComeHome, brought_home, MayBeTaken, with_taken, IsNow};
-ghost use Rattle.tx_lending.specs.Stranger.{GoesOnLike, SeeAlike, gone_on, upon, waiting, waits_at, only_at};
+ghost use Rattle.tx_lending.specs.Stranger.{GoesOnLike, SeeAlike, gone_on, left_as, upon, waiting, waits_at, only_at};
 ghost use Rattle.tx_lending.specs.Turns.{MayMake, with_turns};
 ghost use Rattle.tx_lending.specs.Away.{AreDoneAlike, IsClear, GoAway, ran, touched, stored};
 ghost use Rattle.tx_lending.specs.Places.{is_among, text_places, operand_places, LookAlike, over};
@@ -79,6 +79,18 @@ pub fn a_cpu_that_goes_on_alike_makes_the_same_turns()
     ensures waits { (text : List ℕ) (held : ℕ → Option Mode) (k a : ℕ) (b : Beside)
         → is_live b.local.attempt ≡ true → GoAway text held k b
         → waiting text k b a ≡ only_at (waits_at text k b) (ran text k b).local.attempt.overlay a }
+{}
+
+/// Outside transactions turns go by the CPU alone. A CPU that is as the first, for which something else is left to do,
+/// makes the same turns on the same storage, and that stays to be done.
+pub fn what_is_left_to_do_changes_no_turn_outside()
+    ensures { (text : List ℕ) (held : ℕ → Option Mode) (k : ℕ) (local own : Local) (s : Storage)
+        → is_live local.attempt ≡ false → own.cpu ≡ local.cpu → own.attempt ≡ local.attempt
+        → GoAway text held k record { local = local; storage = s }
+        → ran text k record { local = own; storage = s } ≡ record {
+          local = left_as (ran text k record { local = local; storage = s }).local own;
+          storage = (ran text k record { local = local; storage = s }).storage;
+        } }
 {}
 
 /// Turns that could be made away are turns of the machine. Where a CPU of the machine that keeps may have so many

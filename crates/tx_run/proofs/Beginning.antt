@@ -7,10 +7,10 @@ use Rattle.tx_progress.specs.Local.{Local, settled}
 use Rattle.std.specs.Prelude.{if◌then◌else◌}
 use Rattle.tx_cpu.specs.Parts.{local_of}
 use Rattle.tx_lending.specs.Away.{ran, touched}
-use Rattle.tx_run.specs.Own.{Own, given, is_touched, bytes_at}
-use Rattle.tx_run.specs.Marks.{mode_in}
+use Rattle.tx_marks.specs.Own.{Own, given, is_touched, bytes_at}
+use Rattle.tx_marks.specs.Marks.{mode_in}
 use Rattle.tx_run.specs.Made.{Made, from, needs_by, laid, paged, IsMade}
-use Rattle.tx_run.specs.Traces.{Traces, is_stored, is_paged}
+use Rattle.tx_marks.specs.Traces.{Traces, is_stored, is_paged}
 use Rattle.tx_run.specs.Lent.{IsLent}
 
 -- there are no traces

@@ -37,7 +37,7 @@ use Rattle.tx_progress.specs.Trial.{at_hand, fate_by_progress, outcome_by, text_
 use Rattle.tx_progress.specs.declared.done.Done.TheVariants.{Stepped}
 use Rattle.tx_cpu.proofs.Agreeing.{fetched_text, length_some}
 use Rattle.tx_cpu.proofs.Goes.{found-so, none-first, unexcepted}
-use Rattle.tx_cpu.proofs.Reached.{accessible_spans}
+use Rattle.tx_attempt.proofs.Reached.{accessible_spans}
 use Rattle.tx_lending.specs.Away.{is_plain}
 use Rattle.tx_lending.specs.Places.{operand_places, stored_places, is_among}
 use Rattle.tx_lending.proofs.Along.{not_true, no_begin}

@@ -1,8 +1,4 @@
 -- Lemmas of the bytes that a run touches, and of the lines that it has.
-pub mod BytesTouched
-pub mod MarksNeeded
-pub mod MarksEach
-pub mod MarksSmall
 pub mod Beginning
 pub mod Again
 pub mod Frame

@@ -8,10 +8,10 @@ use Rattle.z_instr.specs.Access.{lies_in}
 use Rattle.tx_progress.specs.Local.{Beside}
 use Rattle.tx_cpu.specs.Parts.{local_of}
 use Rattle.tx_lending.specs.Away.{ran, touched}
-use Rattle.tx_run.specs.Own.{is_touched, bytes_at}
-use Rattle.tx_run.specs.Marks.{mode_in}
+use Rattle.tx_marks.specs.Own.{is_touched, bytes_at}
+use Rattle.tx_marks.specs.Marks.{mode_in}
 use Rattle.tx_run.specs.Made.{Made, from, needs_by, laid, paged, IsMade}
-use Rattle.tx_run.specs.Traces.{is_stored, is_paged}
+use Rattle.tx_marks.specs.Traces.{is_stored, is_paged}
 use Rattle.tx_run.proofs.Beginning.{loaded-made}
 
 -- a byte of a text page lies in no line of another page

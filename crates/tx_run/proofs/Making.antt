@@ -20,12 +20,12 @@ use Rattle.tx_cpu.specs.Parts.{local_of}
 use Rattle.tx_lending.specs.Away.{ran, GoAway, GoesAway, touched, lent_turn, lent_by, is_plain, turn_places, fate_places}
 use Rattle.tx_lending.specs.Places.{is_among, text_places, operand_places, stored_places}
 use Rattle.tx_lending.proofs.Along.{go_by}
-use Rattle.tx_run.specs.Own.{is_touched, bytes_at}
-use Rattle.tx_run.specs.Traces.{is_stored, is_paged, has_page}
-use Rattle.tx_run.specs.Marks.{mode_in, with_needs}
+use Rattle.tx_marks.specs.Own.{is_touched, bytes_at}
+use Rattle.tx_marks.specs.Traces.{is_stored, is_paged, has_page}
+use Rattle.tx_marks.specs.Marks.{mode_in, with_needs}
 use Rattle.tx_run.specs.Made.{Made, from, now, needs_by, turn_needs, fate_needs, IsMade, StartsAlike, OneMade, next_fate}
 use Rattle.tx_run.specs.Made.{laid, turn_lays, fate_lays, paged, turn_traces}
-use Rattle.tx_run.proofs.MarksNeeded.{needs-there, there-stays}
+use Rattle.tx_marks.proofs.MarksNeeded.{needs-there, there-stays}
 use Rattle.tx_run.proofs.Frame.{keeps-text, counted}
 
 -- with more lines it still goes away

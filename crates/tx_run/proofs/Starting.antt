@@ -11,7 +11,7 @@ use Rattle.tx_progress.specs.Progress.{is_live}
 use Rattle.tx_cpu.specs.Parts.{local_of}
 use Rattle.tx_lending.specs.Away.{is_plain}
 use Rattle.tx_lending.specs.Places.{is_among, operand_places}
-use Rattle.tx_run.specs.Own.{is_touched, bytes_at}
+use Rattle.tx_marks.specs.Own.{is_touched, bytes_at}
 use Rattle.tx_run.specs.Made.{Made, now, StartsAlike}
 use Rattle.tx_run.proofs.Frame.{executed-elsewhere}
 

@@ -7,8 +7,8 @@ use Rattle.tx_serial.specs.Apply.{is_running}
 use Rattle.tx_serial.specs.Flat.{Storage}
 use Rattle.tx_progress.specs.Local.{Local}
 use Rattle.tx_cpu.specs.Parts.{local_of}
-use Rattle.tx_run.specs.Own.{bytes_at}
-use Rattle.tx_run.specs.Marks.{Marks, mode_in, with_need}
+use Rattle.tx_marks.specs.Own.{bytes_at}
+use Rattle.tx_marks.specs.Marks.{Marks, mode_in, with_need}
 use Rattle.tx_run.specs.Made.{Made, IsMade, step_by, next_fate}
 use Rattle.tx_run.specs.declared.reason.RunStep.{RunStep}
 use Rattle.tx_run.specs.declared.reason.RunStep.TheVariants as step

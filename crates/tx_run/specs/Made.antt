@@ -22,9 +22,9 @@ use Rattle.tx_progress.specs.declared.done.Done.TheVariants as done
 use Rattle.tx_cpu.specs.Parts.{Parts, local_of, beside}
 use Rattle.tx_lending.specs.Away.{ran, GoAway, GoesAway, touched, is_plain}
 use Rattle.tx_lending.specs.Places.{is_among, text_places, operand_places, stored_places}
-use Rattle.tx_run.specs.Own.{Own, given, is_touched, bytes_at}
-use Rattle.tx_run.specs.Traces.{Traces, is_stored, is_paged, has_page}
-use Rattle.tx_run.specs.Marks.{Marks, mode_in, with_needs, first_missing}
+use Rattle.tx_marks.specs.Own.{Own, given, is_touched, bytes_at}
+use Rattle.tx_marks.specs.Traces.{Traces, is_stored, is_paged, has_page}
+use Rattle.tx_marks.specs.Marks.{Marks, mode_in, with_needs, first_missing}
 use Rattle.tx_run.specs.declared.reason.Reason.TheVariants as reason
 use Rattle.tx_run.specs.declared.reason.RunStep.{RunStep}
 use Rattle.tx_run.specs.declared.reason.RunStep.TheVariants as step

@@ -1,12 +1,9 @@
 //! Runs: turns of a CPU that are made away from its machine, on storage of their own.
 #![tactic(auto)]
 
-mod bytes;
-mod marks;
 mod reason;
 mod run;
 mod steps;
-mod traces;
 
 pub use reason::{Reason, RunStep};
 pub use run::Run;

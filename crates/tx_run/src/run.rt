@@ -10,12 +10,11 @@ ghost use Rattle.tx_lending.specs.Away.{lent_turn};
 ghost use Rattle.tx_run.specs.Made.{now, StartsAlike};
 ghost use Rattle.z_regs.specs.Prefix.{storage_size};
 ghost use Rattle.line_table.specs.Sizes.{storage_lines};
-ghost use Rattle.tx_run.specs.Own.{bytes_at, given, is_touched};
-ghost use Rattle.tx_run.specs.Traces.{is_paged};
-ghost use Rattle.tx_run.specs.Marks.{mode_in};
+ghost use Rattle.tx_marks.specs.Own.{bytes_at, given, is_touched};
+ghost use Rattle.tx_marks.specs.Traces.{is_paged};
+ghost use Rattle.tx_marks.specs.Marks.{mode_in};
 ghost use Rattle.tx_run.specs.Lent.{IsLent, IsLoaded, IsSameLoan, HasOneMore, step_of, is_done};
 
-use crate::marks::LineMarks;
 use crate::reason::{Reason, RunStep};
 use crate::steps::Steps;
 use line_table::Mode;
@@ -23,6 +22,7 @@ use std::alloc::Global;
 use std::marker::Model;
 use std::sync::Arc;
 use tx_cpu::{Cpu, Program};
+use tx_marks::LineMarks;
 use tx_meaning::Need;
 use z_regs::{Bytes, NoMemory};
 

@@ -9,11 +9,11 @@ use Rattle.z_regs.specs.Absolute.{absolute_range, absolute_ranges}
 use Rattle.z_regs.specs.declared.ranges.Range.{Range}
 use Rattle.line_table.specs.declared.table.Mode.{Mode}
 use Rattle.line_table.specs.declared.table.Mode.TheVariants.{Shared, Exclusive}
-use Rattle.tx_cpu.specs.Shapes.{touched_by}
-use Rattle.tx_cpu.specs.declared.ready.Shape.{Shape}
-use Rattle.tx_cpu.specs.declared.ready.Touch.{Touch}
-use Rattle.tx_cpu.specs.declared.ready.Touch.TheVariants as touch
-use Rattle.tx_cpu.specs.Shapes.{is_in_line, is_open, is_reached}
+use Rattle.tx_program.specs.Shapes.{touched_by}
+use Rattle.tx_program.specs.declared.ready.Shape.{Shape}
+use Rattle.tx_program.specs.declared.ready.Touch.{Touch}
+use Rattle.tx_program.specs.declared.ready.Touch.TheVariants as touch
+use Rattle.tx_program.specs.Shapes.{is_in_line, is_open, is_reached}
 use Rattle.tx_cpu.proofs.Plainly.{in-line}
 use Rattle.std.proofs.lemmas.Bool.{and_parts}
 use Rattle.tx_lines.specs.Needs.{need_at}

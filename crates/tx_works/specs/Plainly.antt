@@ -2,10 +2,10 @@
 use Rattle.std.specs.Prelude.{◌≡◌, ℕ, Bool, true, false, Option}
 use Rattle.line_table.specs.declared.table.Mode.{Mode}
 use Rattle.line_table.specs.declared.table.Mode.TheVariants.{Shared, Exclusive}
-use Rattle.tx_cpu.specs.Shapes.{touched_by}
-use Rattle.tx_cpu.specs.declared.ready.Shape.{Shape}
-use Rattle.tx_cpu.specs.declared.ready.Touch.{Touch}
-use Rattle.tx_cpu.specs.declared.ready.Touch.TheVariants as touch
+use Rattle.tx_program.specs.Shapes.{touched_by}
+use Rattle.tx_program.specs.declared.ready.Shape.{Shape}
+use Rattle.tx_program.specs.declared.ready.Touch.{Touch}
+use Rattle.tx_program.specs.declared.ready.Touch.TheVariants as touch
 use Rattle.tx_meaning.specs.Asking.{is_there}
 use Rattle.tx_meaning.specs.Limits.{Setting}
 use Rattle.tx_meaning.specs.Needs.{operand_needs}

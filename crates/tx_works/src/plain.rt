@@ -7,7 +7,7 @@ ghost use Rattle.tx_serial.specs.Fate.{Goes};
 ghost use Rattle.tx_serial.specs.History.{start_of};
 ghost use Rattle.tx_progress.specs.Trial.{fate_by_progress};
 ghost use Rattle.tx_cpu.specs.Quiet.{IsQuiet};
-ghost use Rattle.tx_cpu.specs.Shapes.{touched_by, is_reached};
+ghost use Rattle.tx_program.specs.Shapes.{touched_by, is_reached};
 ghost use Rattle.tx_lines.specs.Owned.{holders_in};
 ghost use Rattle.tx_meaning.specs.Asking.{is_there};
 ghost use Rattle.tx_meaning.specs.Limits.{Setting, RunLimits};

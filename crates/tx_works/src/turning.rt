@@ -4,7 +4,7 @@ ghost use Rattle.z_regs.specs.Absolute.{absolute_ranges};
 ghost use Rattle.z_regs.specs.Prefix.{is_prefix, storage_size};
 ghost use Rattle.tx_cpu.specs.Plans.{IsPrepared, HasPlanRoom, fate_of};
 ghost use Rattle.tx_cpu.specs.Quiet.{IsQuiet};
-ghost use Rattle.tx_cpu.specs.Shapes.{touched_by, is_reached};
+ghost use Rattle.tx_program.specs.Shapes.{touched_by, is_reached};
 ghost use Rattle.tx_serial.specs.Fate.{Goes};
 ghost use Rattle.std.specs.FinSet.{items};
 ghost use Rattle.tx_serial.specs.Flat.{address_of};

@@ -4,10 +4,10 @@ use Rattle.z_regs.specs.Cpu.{cpu_of}
 use Rattle.z_effect.specs.After.{cpu_after}
 use Rattle.tx_progress.specs.Progress.{Progress, resting}
 use Rattle.tx_progress.specs.Trial.{outcome_by}
-use Rattle.tx_cpu.specs.Performed.{StoresFirst, first_size, trimmed, storage_outside}
-use Rattle.tx_cpu.specs.Parts.{storage_of}
-use Rattle.tx_cpu.proofs.Laying.{apart-left}
-use Rattle.tx_cpu.proofs.Stored.{operands-first}
+use Rattle.tx_attempt.specs.Performed.{StoresFirst, first_size, trimmed, storage_outside}
+use Rattle.tx_attempt.specs.Storages.{storage_of}
+use Rattle.tx_attempt.proofs.Laying.{apart-left}
+use Rattle.tx_attempt.proofs.Stored.{operands-first}
 use Rattle.tx_cpu.proofs.outside.perform_apart.Goals as goal
 
 pub store_outside-requires-clause-first : goal.store_outside-requires-clause-first

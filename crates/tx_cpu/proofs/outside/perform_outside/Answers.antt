@@ -1,11 +1,11 @@
 -- A CPU without a prefix sees storage as it is.
 use Rattle.std.proofs.Common.{refl, sym, subst, ◌∙◌}
 use Rattle.z_regs.specs.Cpu.{cpu_of}
-use Rattle.tx_cpu.specs.Performed.{StoresFirst}
-use Rattle.tx_cpu.proofs.Bare.{none-so}
-use Rattle.tx_cpu.proofs.Fetching.{all-inside}
-use Rattle.tx_cpu.proofs.Laying.{plain-left-outside}
-use Rattle.tx_cpu.proofs.Stored.{operands-first}
+use Rattle.tx_attempt.specs.Performed.{StoresFirst}
+use Rattle.tx_attempt.proofs.Bare.{none-so}
+use Rattle.tx_attempt.proofs.Fetching.{all-inside}
+use Rattle.tx_attempt.proofs.Laying.{plain-left-outside}
+use Rattle.tx_attempt.proofs.Stored.{operands-first}
 use Rattle.tx_cpu.proofs.outside.perform_outside.Goals as goal
 
 pub execute_plain-requires-clause-inside : goal.execute_plain-requires-clause-inside

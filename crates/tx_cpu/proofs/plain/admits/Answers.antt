@@ -2,7 +2,7 @@
 use Rattle.std.proofs.Common.{◌≡◌, sym, ◌∙◌}
 use Rattle.std.specs.Prelude.{nat_lt, false}
 use Rattle.z_regs.specs.Cpu.{cpu_of}
-use Rattle.tx_cpu.specs.Shapes.{touched_by}
+use Rattle.tx_program.specs.Shapes.{touched_by}
 use Rattle.tx_cpu.proofs.Ends.{none_of}
 use Rattle.tx_cpu.proofs.Plainly.{unbegun-admits}
 use Rattle.tx_cpu.proofs.plain.admits.Goals as goal

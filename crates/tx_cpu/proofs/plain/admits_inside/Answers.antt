@@ -1,8 +1,8 @@
 -- All of its tests say so.
 use Rattle.std.proofs.Common.{sym, ◌∙◌}
 use Rattle.z_regs.specs.Cpu.{cpu_of}
-use Rattle.tx_cpu.specs.Shapes.{touched_by}
-use Rattle.tx_cpu.specs.Tracked.{progress}
+use Rattle.tx_program.specs.Shapes.{touched_by}
+use Rattle.tx_attempt.specs.Tracked.{progress}
 use Rattle.tx_cpu.proofs.Plainly.{attempt-admits}
 use Rattle.tx_cpu.proofs.plain.admits_inside.Goals as goal
 

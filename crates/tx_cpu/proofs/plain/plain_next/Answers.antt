@@ -2,8 +2,8 @@
 use Rattle.std.proofs.Common.{rules, ◌≡◌, true}
 use Rattle.std.specs.FinSet.{items}
 use Rattle.z_regs.specs.Cpu.{cpu_of}
-use Rattle.tx_cpu.specs.Shapes.{is_reached}
-use Rattle.tx_cpu.specs.Tracked.{progress}
+use Rattle.tx_program.specs.Shapes.{is_reached}
+use Rattle.tx_attempt.specs.Tracked.{progress}
 use Rattle.tx_cpu.proofs.Plainly.{goes-at}
 use Rattle.tx_cpu.proofs.Room.{reached-placed}
 use Rattle.tx_cpu.proofs.plain.plain_next.Goals as goal

@@ -2,7 +2,7 @@
 use Rattle.std.proofs.Common.{rules, ◌≡◌, sym, ◌∙◌, None}
 use Rattle.std.specs.FinSet.{items}
 use Rattle.z_regs.specs.Cpu.{cpu_of}
-use Rattle.tx_cpu.specs.Tracked.{progress}
+use Rattle.tx_attempt.specs.Tracked.{progress}
 use Rattle.tx_cpu.proofs.Plainly.{goes-untouched}
 use Rattle.tx_cpu.proofs.plain.touches_nothing.Goals as goal
 

@@ -8,8 +8,8 @@ use Rattle.tx_serial.specs.Flat.{Storage, bytes_seen}
 use Rattle.tx_serial.specs.Fate.{length_at}
 use Rattle.tx_progress.specs.Progress.{seen_through}
 use Rattle.tx_progress.specs.Trial.{at_hand}
-use Rattle.tx_cpu.specs.Tracked.{progress}
-use Rattle.tx_cpu.specs.Parts.{storage_of}
+use Rattle.tx_attempt.specs.Tracked.{progress}
+use Rattle.tx_attempt.specs.Storages.{storage_of}
 use Rattle.tx_cpu.proofs.Tests.{bytes_seen-taken}
 use Rattle.tx_cpu.proofs.plan.next_instruction.Goals as goal
 

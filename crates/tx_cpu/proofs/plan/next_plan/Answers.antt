@@ -2,7 +2,7 @@
 use Rattle.std.proofs.Common.{List, ℕ, ap, sym, ◌∙◌, get_or}
 use Rattle.z_regs.specs.Cpu.{cpu_of}
 use Rattle.z_instr.specs.Layout.{length_by}
-use Rattle.tx_cpu.specs.Tracked.{progress}
+use Rattle.tx_attempt.specs.Tracked.{progress}
 use Rattle.tx_cpu.proofs.Programs.{plain_length, plain_reading}
 use Rattle.tx_cpu.proofs.plan.next_plan.Goals as goal
 

@@ -10,9 +10,10 @@ use Rattle.tx_control.specs.declared.begins.Begin.{Begin}
 use Rattle.tx_serial.specs.Flat.{Storage}
 use Rattle.tx_serial.specs.Fate.{fate_after, Excepts, fetch_refusal}
 use Rattle.tx_progress.specs.Trial.{at_hand, fate_by_progress}
-use Rattle.tx_cpu.specs.Tracked.{progress}
-use Rattle.tx_cpu.specs.Parts.{storage_of}
-use Rattle.tx_cpu.proofs.Tests.{planned-unfetched, planned-read, planned-unread, fetched-none}
+use Rattle.tx_attempt.specs.Tracked.{progress}
+use Rattle.tx_attempt.specs.Storages.{storage_of}
+use Rattle.tx_program.proofs.Fetches.{fetched-none}
+use Rattle.tx_cpu.proofs.Tests.{planned-unfetched, planned-read, planned-unread}
 use Rattle.tx_cpu.proofs.plan.next_unread.Goals as goal
 
 pub returns-in-Err : goal.returns-in-Err

@@ -2,8 +2,8 @@
 use Rattle.std.proofs.Common.{ℕ}
 use Rattle.std.specs.FinSet.{items}
 use Rattle.z_regs.specs.Cpu.{cpu_of}
-use Rattle.tx_cpu.specs.Tracked.{progress}
-use Rattle.tx_cpu.specs.Refused.{refusal_of}
+use Rattle.tx_attempt.specs.Tracked.{progress}
+use Rattle.tx_attempt.specs.Refused.{refusal_of}
 use Rattle.tx_cpu.proofs.Tests.{heads, tails, tried-first, tried-later, tried-goes}
 use Rattle.tx_cpu.proofs.Tests.{specified-heads}
 use Rattle.tx_cpu.proofs.plan.tried.Goals as goal

@@ -5,7 +5,7 @@ use Rattle.tx_progress.proofs.Moving.{executed_is, executed_live}
 use Rattle.tx_progress.specs.Doing.{Executed}
 use Rattle.tx_progress.specs.Progress.{Progress}
 use Rattle.tx_cpu.specs.Parts.{Parts, beside}
-use Rattle.tx_cpu.specs.Tracked.{IsSound}
+use Rattle.tx_attempt.specs.Tracked.{IsSound}
 use Rattle.tx_cpu.proofs.Ends.{none_of}
 use Rattle.tx_cpu.proofs.Preparing.{may-go}
 use Rattle.tx_cpu.proofs.SmallCodes.{executed-room}

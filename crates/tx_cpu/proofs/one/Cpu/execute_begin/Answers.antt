@@ -1,7 +1,7 @@
 -- What the outermost begin leaves and tells.
 use Rattle.std.proofs.Common.{◌≡◌, List, ap, ◌∙◌, arith, get_or}
 use Rattle.z_regs.specs.declared.ranges.Range.{Range}
-use Rattle.tx_cpu.specs.Performed.{no_range}
+use Rattle.tx_attempt.specs.Performed.{no_range}
 use Rattle.std.specs.Prelude.{nat_lt, false, true, ◌||◌}
 use Rattle.std.proofs.lemmas.Bool.{or_left}
 use Rattle.z_instr.specs.Roles.{begins, is_end}
@@ -9,8 +9,9 @@ use Rattle.z_instr.specs.Table.{entry_at}
 use Rattle.tx_progress.proofs.Rows.{role_done}
 use Rattle.tx_progress.specs.Trial.{outcome_by}
 use Rattle.tx_serial.proofs.FreeOperands.{begin_bare}
-use Rattle.tx_cpu.specs.Tracked.{progress}
-use Rattle.tx_cpu.specs.Parts.{Parts, local_of, storage_of}
+use Rattle.tx_attempt.specs.Tracked.{progress}
+use Rattle.tx_cpu.specs.Parts.{Parts, local_of}
+use Rattle.tx_attempt.specs.Storages.{storage_of}
 use Rattle.tx_cpu.specs.contracts.one.Cpu.{the_view}
 use Rattle.tx_cpu.proofs.Beginnings.{began-is}
 use Rattle.tx_cpu.proofs.Ends.{none_of}

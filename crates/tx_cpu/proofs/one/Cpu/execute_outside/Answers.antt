@@ -6,9 +6,10 @@ use Rattle.z_instr.specs.Table.{Entry}
 use Rattle.z_regs.specs.Cpu.{cpu_of}
 use Rattle.tx_progress.specs.Progress.{Progress}
 use Rattle.tx_progress.specs.Trial.{outcome_by}
-use Rattle.tx_cpu.specs.Performed.{IsLeftOutside}
-use Rattle.tx_cpu.specs.Tracked.{progress}
-use Rattle.tx_cpu.specs.Parts.{Parts, storage_of}
+use Rattle.tx_attempt.specs.Performed.{IsLeftOutside}
+use Rattle.tx_attempt.specs.Tracked.{progress}
+use Rattle.tx_cpu.specs.Parts.{Parts}
+use Rattle.tx_attempt.specs.Storages.{storage_of}
 use Rattle.tx_cpu.specs.contracts.one.Cpu.{the_view}
 use Rattle.tx_cpu.proofs.Ends.{none_of}
 use Rattle.tx_cpu.proofs.Completing.{outside-is}

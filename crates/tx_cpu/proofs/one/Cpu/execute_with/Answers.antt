@@ -14,15 +14,16 @@ use Rattle.tx_serial.specs.Fate.{cause_in, operands}
 use Rattle.store_cache.specs.Entries.{stores_of}
 use Rattle.tx_progress.specs.Progress.{seen_through}
 use Rattle.tx_progress.specs.Trial.{outcome_by}
-use Rattle.tx_cpu.specs.Advancing.{MayAdvance}
+use Rattle.tx_attempt.specs.Advancing.{MayAdvance}
 use Rattle.tx_cpu.specs.Going.{MayGo}
-use Rattle.tx_cpu.specs.Performed.{StoresFirst, first_size}
-use Rattle.tx_cpu.specs.Tracked.{progress}
-use Rattle.tx_cpu.specs.Parts.{Parts, storage_of}
+use Rattle.tx_attempt.specs.Performed.{StoresFirst, first_size}
+use Rattle.tx_attempt.specs.Tracked.{progress}
+use Rattle.tx_cpu.specs.Parts.{Parts}
+use Rattle.tx_attempt.specs.Storages.{storage_of}
 use Rattle.tx_cpu.specs.contracts.one.Cpu.{the_view}
 use Rattle.tx_cpu.proofs.Inside.{stepped-is, committed-is, exceeded-is, suppressed-is, aborting-is}
 use Rattle.tx_cpu.proofs.Inside.{exceeds-no-end, end-bare, equal-so, next-known}
-use Rattle.tx_cpu.proofs.Stored.{operands-first}
+use Rattle.tx_attempt.proofs.Stored.{operands-first}
 use Rattle.tx_cpu.proofs.one.Cpu.execute_with.Goals as goal
 
 pub advance-requires-clause-known : goal.advance-requires-clause-known

@@ -3,6 +3,7 @@ use Rattle.std.proofs.Common.{◌≡◌, ◌<◌, ℕ, true, false, arith, lengt
 use Rattle.std.specs.Prelude.{nat_lt}
 use Rattle.std.proofs.lemmas.Bool.Decides.{nat_tests}
 use Rattle.tx_progress.specs.Progress.{is_live, resting}
+use Rattle.store_cache.specs.Overlay.{has_block}
 use Rattle.tx_cpu.specs.Parts.{Parts, local_of}
 use Rattle.tx_cpu.proofs.Ends.{none_of}
 use Rattle.tx_cpu.proofs.one.Cpu.is_sound.Goals as goal
@@ -20,3 +21,9 @@ pub returns-clause-opens : goal.returns-clause-opens
 returns-clause-opens c =
     subst (λ (p : Parts). is_live (local_of p).attempt ≡ true → 0 < length (local_of p).attempt.nest)
     c.self.view_is (λ live. c.is_sound.ensures.opens (some_of _ live))
+
+pub returns-clause-blocks : goal.returns-clause-blocks
+returns-clause-blocks c =
+    subst (λ (p : Parts). (block : ℕ) → has_block (local_of p).attempt.overlay block ≡ true
+    → (local_of p).attempt.footprint.blocks block ≡ true) c.self.view_is
+    c.is_sound.ensures.sound.blocks

@@ -1,6 +1,6 @@
 -- Nothing is kept of a CPU that is opened but the CPU.
 use Rattle.z_regs.specs.Cpu.{cpu_of}
-use Rattle.tx_cpu.proofs.Resting.{settled-rests}
+use Rattle.tx_cpu.proofs.Settling.{settled-rests}
 use Rattle.tx_cpu.proofs.one.Cpu.open.Goals as goal
 
 pub returns : goal.returns

@@ -3,7 +3,7 @@ use Rattle.std.proofs.Common.{ap, ◌∙◌}
 use Rattle.z_regs.specs.Cpu.{Cpu}
 use Rattle.tx_serial.specs.Flat.{with_bytes_at}
 use Rattle.tx_cpu.specs.Blocks.{pending_of}
-use Rattle.tx_cpu.specs.Parts.{storage_of}
+use Rattle.tx_attempt.specs.Storages.{storage_of}
 use Rattle.tx_cpu.specs.contracts.one.Cpu.{the_view}
 use Rattle.tx_cpu.proofs.Ends.{stored-is, unstored-is}
 use Rattle.tx_cpu.proofs.one.Cpu.store_block.Goals as goal

@@ -1,6 +1,6 @@
 -- There is no step.
 use Rattle.std.proofs.Common.{refl, sym, ap, ◌∙◌}
-use Rattle.tx_run.specs.Own.{given}
+use Rattle.tx_marks.specs.Own.{given}
 use Rattle.tx_run.specs.Made.{Made}
 use Rattle.tx_run.proofs.Beginning.{begun-made}
 use Rattle.tx_run.proofs.steps.Steps.begin_again.Goals as goal

@@ -1,7 +1,7 @@
 -- No byte of text changes, and there is no step.
 use Rattle.std.proofs.Common.{ap, ◌∙◌, ◌/◌}
 use Rattle.std.specs.Prelude.{nat_eq, if◌then◌else◌}
-use Rattle.tx_run.specs.Own.{bytes_at}
+use Rattle.tx_marks.specs.Own.{bytes_at}
 use Rattle.tx_run.specs.Made.{Made}
 use Rattle.tx_run.proofs.Lined.{lined-made}
 use Rattle.tx_run.proofs.steps.Steps.copy_line.Goals as goal

@@ -4,7 +4,7 @@ use Rattle.std.specs.Prelude.{if◌then◌else◌}
 use Rattle.std.specs.FinSet.{items}
 use Rattle.tx_progress.specs.declared.done.Done.{Done}
 use Rattle.tx_cpu.specs.Parts.{local_of}
-use Rattle.tx_run.specs.Own.{bytes_at}
+use Rattle.tx_marks.specs.Own.{bytes_at}
 use Rattle.tx_run.specs.Made.{is_stepped}
 use Rattle.tx_run.proofs.Frame.{goes-reached}
 use Rattle.tx_run.proofs.Making.{one-more-made}

@@ -3,7 +3,7 @@ use Rattle.std.proofs.Common.{◌≡◌, suc, ◌+◌, sym, ap, ◌∙◌, arith
 use Rattle.std.specs.Prelude.{if◌then◌else◌}
 use Rattle.std.specs.FinSet.{items}
 use Rattle.tx_cpu.specs.Parts.{local_of}
-use Rattle.tx_run.specs.Own.{bytes_at}
+use Rattle.tx_marks.specs.Own.{bytes_at}
 use Rattle.tx_run.proofs.Again.{stays-again}
 use Rattle.tx_run.proofs.Frame.{goes-reached}
 use Rattle.tx_run.proofs.Making.{one-more-made}

@@ -2,7 +2,7 @@
 use Rattle.std.proofs.Common.{sym}
 use Rattle.std.specs.FinSet.{items}
 use Rattle.tx_cpu.specs.Parts.{local_of}
-use Rattle.tx_run.specs.Own.{bytes_at}
+use Rattle.tx_marks.specs.Own.{bytes_at}
 use Rattle.tx_run.proofs.Frame.{goes-reached}
 use Rattle.tx_run.proofs.steps.Steps.step.Goals as goal
 

@@ -5,7 +5,7 @@ use Rattle.std.specs.FinSet.{items}
 use Rattle.std.specs.FinSet as set
 use Rattle.std.specs.List.{list_any}
 use Rattle.z_touch.proofs.SmallRanges.{any-items}
-use Rattle.tx_run.specs.Own.{bytes_at}
+use Rattle.tx_marks.specs.Own.{bytes_at}
 use Rattle.tx_run.proofs.BytesLined.{kept-line, taken-line}
 use Rattle.tx_run.proofs.steps.Steps.take_line.Goals as goal
 

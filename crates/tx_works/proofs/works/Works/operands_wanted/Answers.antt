@@ -4,7 +4,7 @@ use Rattle.std.specs.Prelude.{All}
 use Rattle.z_regs.specs.Prefix.{storage_size}
 use Rattle.z_regs.specs.Absolute.{absolute_ranges, IsAccessible}
 use Rattle.z_regs.specs.declared.ranges.Range.{Range}
-use Rattle.tx_cpu.specs.Shapes.{touched_by}
+use Rattle.tx_program.specs.Shapes.{touched_by}
 use Rattle.tx_serial.specs.Fate.{Fate}
 use Rattle.tx_works.specs.Wanted.{operands_of}
 use Rattle.tx_works.specs.Works.{kept_by}

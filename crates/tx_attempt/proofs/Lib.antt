@@ -1,0 +1,20 @@
+-- Lemmas on storage as lists and functions, and on what is kept of an attempt.
+pub mod Storages
+pub mod Resting
+pub mod Begun
+pub mod Reached
+pub mod Fetching
+pub mod Effects
+pub mod Stored
+pub mod Returning
+pub mod Lent
+pub mod Pieces
+pub mod Bare
+pub mod Laying
+pub mod GatheredBlocks
+pub mod GatheredRuns
+pub mod LastingDoublewords
+pub mod GatheredStores
+pub mod Advances
+pub mod StoredMore
+pub mod LastingStores

@@ -1,0 +1,123 @@
+-- Places that an instruction reaches: those of accessible operands are in storage, and behind the end of
+-- storage
+-- there is nothing.
+use Rattle.std.proofs.Common.{◌≡◌, ℕ, ◌+◌, ◌-◌, ◌≤◌, true, List, [], ◌∷◌, Option, Some, None}
+use Rattle.std.proofs.Common.{sym, ap, subst, ◌∙◌, arith, length, get_or, inl, inr}
+use Rattle.std.specs.Prelude.{unwrap_or, map, All}
+use Rattle.std.specs.List.{list_all}
+use Rattle.std.proofs.lemmas.Bool.{cases_lt, and_parts}
+use Rattle.std.proofs.lemmas.List.{get_or_past}
+use Rattle.std.proofs.lemmas.List.Elements.{All-nil, All-cons, All-head, All-tail, All-append}
+use Rattle.z_regs.specs.Prefix.{storage_size, is_prefix, absolute_of, is_accessible}
+use Rattle.z_regs.specs.Absolute.{IsAccessible, absolute_range, absolute_ranges, to_edge, part_of}
+use Rattle.z_regs.specs.declared.ranges.Range.{Range}
+use Rattle.z_regs.proofs.Exchange.{IsArea, area, moves}
+use Rattle.z_regs.proofs.MovedBytes.{one_area, two_areas}
+use Rattle.z_instr.specs.Operands.{Span, IsSmall, is_inside}
+use Rattle.z_instr.specs.Access.{accessible_pages}
+use Rattle.z_touch.specs.Refusals.{range_of}
+use Rattle.z_touch.proofs.SmallRanges.{inside_ends}
+use Rattle.store_cache.specs.Overlay.{Overlay}
+use Rattle.tx_footprint.specs.Places.{IsInStorage}
+use Rattle.tx_serial.proofs.FreeOperands.{usable}
+use Rattle.tx_progress.specs.Progress.{seen_through}
+use Rattle.tx_attempt.specs.Storages.{storage_of}
+
+-- ---- behind the end
+
+absolute_beyond : (prefix : Option ℕ) (a : ℕ) → is_prefix prefix ≡ true → storage_size ≤ a
+    → storage_size ≤ absolute_of prefix a
+absolute_beyond None a ok h = h
+absolute_beyond (Some p) a ok h =
+    let r = area p ok in
+    let m = moves p a r.low in
+    let past : p + 8192 ≤ a = omega (arith, r.high, h) in
+    omega (arith, m.beyond past, h)
+
+pub nothing_beyond : (o : Overlay) (prefix : Option ℕ) (s : List ℕ) (a : ℕ) → is_prefix prefix ≡ true
+    → length s ≡ storage_size → ((x : ℕ) → storage_size ≤ x → o x ≡ None) → storage_size ≤ a
+    → 0 ≡ seen_through o (storage_of s) (absolute_of prefix a)
+nothing_beyond o prefix s a ok size none h =
+    let b = absolute_of prefix a in
+    let past = absolute_beyond prefix a ok h in
+    let end : length s ≤ b = omega (arith, past, size) in
+    sym (ap (λ v. unwrap_or v (get_or s b 0)) (none b past) ∙ get_or_past s b 0 end)
+
+-- ---- ranges in storage
+
+stays_inside : (p a n : ℕ) → IsArea p → a + n ≤ storage_size → n ≤ to_edge a
+    → absolute_of (Some p) a + n ≤ storage_size
+stays_inside p a n r h k =
+    let m = moves p a r.low in
+    elim (cases_lt a 8192) [
+      | inl low ↦ omega (arith, m.first low, r.aligned, r.high, k)
+      | inr high ↦ elim (cases_lt a p) [
+        | inl below ↦ omega (arith, m.between high below, h)
+        | inr from ↦ elim (cases_lt a (p + 8192)) [
+          | inl own ↦ omega (arith, m.own from own, r.aligned, r.high, k, h)
+          | inr past ↦ omega (arith, m.beyond past, h)
+        ]
+      ]
+    ]
+
+in_storage : (r : Range) → r.first + r.length ≤ storage_size → IsInStorage r
+in_storage r h a low high = omega (arith, h, low, high)
+
+range_in_storage : (prefix : Option ℕ) (r : Range) → is_prefix prefix ≡ true → IsAccessible prefix r
+    → All IsInStorage (absolute_range prefix r)
+unfolding absolute_range
+range_in_storage None r ok h = All-cons IsInStorage r [] (in_storage r h.end) (All-nil IsInStorage)
+range_in_storage (Some p) r ok h =
+    let q = area p ok in
+    elim (cases_lt (to_edge r.first) r.length) [
+      | inl across ↦
+          let here = to_edge r.first in
+          let there = r.first + here in
+          let left : here ≤ to_edge r.first = omega arith in
+          let first_end : r.first + here ≤ storage_size = omega (arith, h.end, across) in
+          let second_end : there + (r.length - here) ≤ storage_size = omega (arith, h.end, across) in
+          let whole : r.length - here ≤ to_edge there = omega (arith, h.most, across) in
+          let first = part_of r (absolute_of (Some p) r.first) here in
+          let second = part_of r (absolute_of (Some p) there) (r.length - here) in
+          subst (All IsInStorage) (sym (two_areas p r across))
+          (All-cons IsInStorage first (second ∷ []) (in_storage first (stays_inside p r.first here q first_end
+          left))
+          (All-cons IsInStorage second [] (in_storage second (stays_inside p there (r.length - here) q
+          second_end whole))
+          (All-nil IsInStorage)))
+      | inr one ↦
+          let whole = part_of r (absolute_of (Some p) r.first) r.length in
+          subst (All IsInStorage) (sym (one_area p r one))
+          (All-cons IsInStorage whole [] (in_storage whole (stays_inside p r.first r.length q h.end one))
+          (All-nil IsInStorage))
+    ]
+
+pub ranges_in_storage : (prefix : Option ℕ) (ranges : List Range) → is_prefix prefix ≡ true
+    → All (IsAccessible prefix) ranges → All IsInStorage (absolute_ranges prefix ranges)
+ranges_in_storage prefix [] ok h = All-nil IsInStorage
+ranges_in_storage prefix (r ∷ rs) ok h =
+    All-append IsInStorage (absolute_range prefix r) (absolute_ranges prefix rs)
+    (range_in_storage prefix r ok (All-head (IsAccessible prefix) r rs h))
+    (ranges_in_storage prefix rs ok (All-tail (IsAccessible prefix) r rs h))
+
+-- ---- operands that are inside
+
+accessible_span : (prefix : Option ℕ) (s : Span) → IsSmall s → is_inside (accessible_pages prefix) s ≡ true
+    → IsAccessible prefix (range_of s)
+accessible_span prefix s small inside =
+    let same : s.first + 0 ≡ s.first = omega arith in
+    record {
+      first = subst (λ a. is_accessible prefix a ≡ true) same (usable prefix s 0 small inside small.some);
+      end = inside_ends prefix s small inside;
+      most = small.most;
+    }
+
+pub accessible_spans : (prefix : Option ℕ) (ss : List Span) → All IsSmall ss
+    → list_all (is_inside (accessible_pages prefix)) ss ≡ true → All (IsAccessible prefix) (map range_of ss)
+accessible_spans prefix [] small inside = All-nil (IsAccessible prefix)
+accessible_spans prefix (s ∷ ss) small inside =
+    let parts = and_parts (is_inside (accessible_pages prefix) s)
+    (list_all (is_inside (accessible_pages prefix)) ss) inside in
+    All-cons (IsAccessible prefix) (range_of s) (map range_of ss)
+    (accessible_span prefix s (All-head IsSmall s ss small) parts.0)
+    (accessible_spans prefix ss (All-tail IsSmall s ss small) parts.1)

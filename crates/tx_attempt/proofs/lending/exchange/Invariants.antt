@@ -1,0 +1,16 @@
+-- The first doublewords have changed places, and the other bytes are as they were.
+use Rattle.std.proofs.Common.{◌≡◌, ◌*◌, length, take, drop}
+use Rattle.z_regs.specs.Prefix.{storage_size}
+use Rattle.z_effect.specs.After.{range_at, written}
+use Rattle.tx_attempt.proofs.lending.exchange.Given as goal
+
+abbrev pub invariant-loop-k : goal.invariant-loop-k
+invariant-loop-k g l =
+    record {
+      storage : g.V.Bytes.bytes l.base ≡ written (g.V.Bytes.bytes l.initial.base) l.first
+          (take (8 * l.k) l.initial.bytes);
+      taken : take (8 * l.k) l.bytes ≡ range_at (g.V.Bytes.bytes l.initial.base) l.first (8 * l.k);
+      left : drop (8 * l.k) l.bytes ≡ drop (8 * l.k) l.initial.bytes;
+      long : length l.bytes ≡ length l.initial.bytes;
+      size : length (g.V.Bytes.bytes l.base) ≡ storage_size;
+    }

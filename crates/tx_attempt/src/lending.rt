@@ -1,0 +1,172 @@
+//! Storage lends the places of operands to an attempt: while an instruction is performed, the bytes that the attempt
+//! sees there stand in storage, and then those of storage come back.
+ghost use Rattle.byteorder.specs.Endian.{big_bytes};
+ghost use Rattle.std.specs.Prelude.{◌++◌};
+ghost use Rattle.std.specs.Prelude.{List, ℕ, true, ◌≡◌, ◌≤◌, ◌+◌, length, take, drop, slice_get, get_or};
+ghost use Rattle.std.specs.Prelude.{IsTrue, All};
+ghost use Rattle.z_regs.specs.Prefix.{is_prefix, storage_size};
+ghost use Rattle.z_regs.specs.Absolute.{IsAccessible};
+ghost use Rattle.z_effect.specs.After.{range_at, written};
+ghost use Rattle.store_cache.specs.Entries.{stores_of};
+ghost use Rattle.tx_serial.specs.Flat.{bytes_seen};
+ghost use Rattle.tx_progress.specs.Progress.{seen_through};
+ghost use Rattle.tx_attempt.specs.Storages.{storage_of};
+ghost use Rattle.tx_attempt.specs.Performed.{no_range, IsFetched};
+
+use crate::attempt::Attempt;
+use byteorder::{BigEndian, ByteOrder};
+use z_regs::{Bytes, Range, Touches, place_of};
+
+/// The operand with that number; no bytes where there is none.
+pub fn operand(need: &Touches, number: u8) -> Range
+    ensures { result ≡ get_or need.now number no_range }
+{
+    if number < need.count() {
+        return need.at(number);
+    }
+    Range {
+        first: 0,
+        length: 0,
+        store: false,
+    }
+}
+
+/// Whether the CPU sees these operands, at most two, as they are in storage: there are none, or it has no prefix,
+/// and its attempt has stored nothing in their blocks.
+pub fn are_bare(attempt: &Attempt, need: &Touches, prefix: Option<u32>) -> bool
+    requires few { length need.now ≤ 2 }
+    requires accessible { All (IsAccessible prefix) need.now }
+    ensures { result ≡ true → (s : List ℕ) → All (IsFetched prefix
+        (seen_through (stores_of attempt.now.stores).overlay (storage_of s)) s) need.now }
+{
+    if need.count() == 0 {
+        return true;
+    }
+    if prefix.is_some() {
+        return false;
+    }
+    let first = operand(need, 0);
+    if !attempt.is_bare(first.first, first.length) {
+        return false;
+    }
+    let second = operand(need, 1);
+    attempt.is_bare(second.first, second.length)
+}
+
+/// The number in the eight bytes from a place on.
+fn doubleword_at(bytes: &[u8], at: usize) -> u64
+    requires { at + 8 ≤ length bytes.now }
+    ensures { big_bytes 8 result ≡ range_at bytes.now at 8 }
+{
+    u64::from_be_bytes([
+        bytes[at],
+        bytes[at + 1],
+        bytes[at + 2],
+        bytes[at + 3],
+        bytes[at + 4],
+        bytes[at + 5],
+        bytes[at + 6],
+        bytes[at + 7],
+    ])
+}
+
+/// The bytes of storage from an address on, got one by one.
+fn fetch_bytes<V: Bytes>(bytes: &mut [u8], first: u64, base: &V)
+    requires end { first + length bytes.old ≤ length (V.bytes base.now) }
+    requires size { length (V.bytes base.now) ≡ storage_size }
+    ensures { bytes.new ≡ range_at (V.bytes base.now) first (length bytes.old) }
+{
+    for k in 0..bytes.len() {
+        bytes[k] = base.get(first + k as u64);
+    }
+}
+
+/// The bytes of storage from an address on: eight at a time, and then the rest.
+pub fn fetch<V: Bytes>(bytes: &mut [u8], first: u64, base: &V)
+    requires end { first + length bytes.old ≤ length (V.bytes base.now) }
+    requires size { length (V.bytes base.now) ≡ storage_size }
+    ensures { bytes.new ≡ range_at (V.bytes base.now) first (length bytes.old) }
+{
+    let whole = bytes.len() / 8;
+    for k in 0..whole {
+        let item = base.word(first + 8 * k as u64, 8);
+        BigEndian::write_u64(&mut bytes[8 * k..], item);
+    }
+    fetch_bytes(&mut bytes[8 * whole..], first + 8 * whole as u64, base);
+}
+
+/// The bytes that the attempt sees from a real address on, looked up one by one.
+fn see_bytes<V: Bytes>(
+    attempt: &Attempt,
+    bytes: &mut [u8],
+    first: u64,
+    prefix: Option<u32>,
+    base: &V,
+)
+    requires prefix_in { IsTrue (is_prefix prefix) }
+    requires end { first + length bytes.old ≤ storage_size }
+    requires size { length (V.bytes base.now) ≡ storage_size }
+    ensures { bytes.new ≡ bytes_seen prefix (seen_through (stores_of attempt.now.stores).overlay
+        (storage_of (V.bytes base.now))) first (length bytes.old) }
+{
+    for k in 0..bytes.len() {
+        bytes[k] = attempt.seen(place_of(prefix, first + k as u64), base);
+    }
+}
+
+/// The bytes that the attempt sees from a real address on: those of storage where it has stored nothing
+/// in their blocks.
+pub fn see<V: Bytes>(attempt: &Attempt, bytes: &mut [u8], first: u64, prefix: Option<u32>, base: &V)
+    requires prefix_in { IsTrue (is_prefix prefix) }
+    requires end { first + length bytes.old ≤ storage_size }
+    requires size { length (V.bytes base.now) ≡ storage_size }
+    ensures { bytes.new ≡ bytes_seen prefix (seen_through (stores_of attempt.now.stores).overlay
+        (storage_of (V.bytes base.now))) first (length bytes.old) }
+{
+    if prefix.is_some() || !attempt.is_bare(first, bytes.len() as u32) {
+        return see_bytes(attempt, bytes, first, prefix, base);
+    }
+    fetch(bytes, first, base);
+}
+
+/// The bytes change places with those of storage from an address on, one by one.
+fn exchange_bytes<V: Bytes>(bytes: &mut [u8], first: u64, base: &mut V)
+    requires end { first + length bytes.old ≤ length (V.bytes base.old) }
+    requires size { length (V.bytes base.old) ≡ storage_size }
+    ensures bytes { bytes.new ≡ range_at (V.bytes base.old) first (length bytes.old) }
+    ensures storage { V.bytes base.new ≡ written (V.bytes base.old) first bytes.old }
+{
+    for k in 0..bytes.len() {
+        let address = first + k as u64;
+        let byte = base.get(address);
+        base.put(address, bytes[k]);
+        bytes[k] = byte;
+    }
+}
+
+/// The first eight bytes change places with those of storage from an address on.
+fn exchange_doubleword<V: Bytes>(bytes: &mut [u8], first: u64, base: &mut V)
+    requires eight { 8 ≤ length bytes.old }
+    requires end { first + 8 ≤ length (V.bytes base.old) }
+    ensures bytes { bytes.new ≡ range_at (V.bytes base.old) first 8 ++ drop 8 bytes.old }
+    ensures storage { V.bytes base.new ≡ written (V.bytes base.old) first (take 8 bytes.old) }
+{
+    let item = doubleword_at(bytes, 0);
+    let other = base.word(first, 8);
+    base.put_word(first, 8, item);
+    BigEndian::write_u64(bytes, other);
+}
+
+/// The bytes change places with those of storage from an address on: eight at a time, and then the rest.
+pub fn exchange<V: Bytes>(bytes: &mut [u8], first: u64, base: &mut V)
+    requires end { first + length bytes.old ≤ length (V.bytes base.old) }
+    requires size { length (V.bytes base.old) ≡ storage_size }
+    ensures bytes { bytes.new ≡ range_at (V.bytes base.old) first (length bytes.old) }
+    ensures storage { V.bytes base.new ≡ written (V.bytes base.old) first bytes.old }
+{
+    let whole = bytes.len() / 8;
+    for k in 0..whole {
+        exchange_doubleword(&mut bytes[8 * k..], first + 8 * k as u64, base);
+    }
+    exchange_bytes(&mut bytes[8 * whole..], first + 8 * whole as u64, base);
+}

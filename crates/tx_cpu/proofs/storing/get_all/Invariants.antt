@@ -1,9 +1,0 @@
--- The first bytes are fetched.
-use Rattle.std.proofs.Common.{◌≡◌, take}
-use Rattle.tx_serial.specs.Flat.{bytes_seen}
-use Rattle.tx_cpu.specs.Parts.{storage_of}
-use Rattle.tx_cpu.proofs.storing.get_all.Given as goal
-
-abbrev pub invariant-loop-k : goal.invariant-loop-k
-invariant-loop-k g l =
-    take l.k l.bytes ≡ bytes_seen l.prefix (storage_of (g.V.Bytes.bytes l.base)) l.first l.k

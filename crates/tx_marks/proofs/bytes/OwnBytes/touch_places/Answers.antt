@@ -1,0 +1,16 @@
+use Rattle.std.proofs.Common.{◌+◌, ◌∙◌, ap}
+use Rattle.std.specs.Prelude.{◌||◌, nat_eq}
+use Rattle.z_regs.specs.Prefix.{absolute_of}
+use Rattle.tx_marks.specs.Own.{is_touched}
+use Rattle.tx_marks.proofs.BytesTouched.{up_marked}
+use Rattle.tx_marks.proofs.bytes.OwnBytes.touch_places.Goals as goal
+
+pub loop-k-preserved : goal.loop-k-preserved
+loop-k-preserved c = record {
+  bytes = c.touch.ensures.now ∙ c.loop-k.invariant.bytes;
+  before = λ a. c.touch.ensures.given a ∙ c.loop-k.invariant.before a;
+  marks = λ a. up_marked (nat_eq a) c.args.prefix c.args.first c.loop-k.k (is_touched c.args.self.now a)
+      (is_touched c.loop-k.self a) (is_touched c.touch.new.self a) (c.loop-k.invariant.marks a)
+      (c.touch.ensures.touched a ∙ ap (λ p. is_touched c.loop-k.self a || nat_eq a p) (c.place_of.ensures
+      ∙ ap (λ k. absolute_of c.args.prefix (c.args.first + k)) c.from.ensures));
+}

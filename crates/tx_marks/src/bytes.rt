@@ -1,0 +1,190 @@
+//! The bytes of a run: storage as the run has made it, and each byte that it has touched as it was before.
+ghost use Rattle.std.specs.Prelude.{◌≡◌, ℕ, ◌+◌, ◌*◌, ◌/◌, ◌<◌, ◌≤◌, true, false, ◌||◌, nat_eq, All, length, IsTrue};
+ghost use Rattle.std.specs.Prelude.{IfOk, IfSome, None, if◌then◌else◌};
+ghost use Rattle.std.specs.List.{flat_map, slice_index_or};
+ghost use Rattle.z_regs.specs.Prefix.{storage_size, is_prefix};
+ghost use Rattle.line_table.specs.Sizes.{storage_lines};
+ghost use Rattle.tx_lending.specs.Places.{is_among, places_from};
+ghost use Rattle.tx_marks.specs.Own.{bytes_at, is_touched, given};
+
+use bit_set::BitSet;
+use std::alloc::Global;
+use std::marker::Model;
+use z_regs::{Bytes, NoMemory, STORAGE_SIZE, Storage, Touches, place_of};
+
+/// The bytes of a line.
+const LINE_SIZE: u64 = 256;
+
+/// The bytes of a run, and which of them it has touched, each of these with its value before.
+#[derive(Drop)]
+pub struct OwnBytes {
+    /// Storage as it is now.
+    pub now: Storage,
+    before: Storage,
+    touched: BitSet,
+}
+
+impl Model for OwnBytes {
+    ghost use Rattle.std.specs.Prelude.{◌≡◌, length};
+    ghost use Rattle.tx_marks.specs.Own.{Own};
+
+    ghost Value = { Own };
+
+    ghost view = { λ b. record { now = b.now; before = b.before; touched = b.touched } };
+
+    ghost invariant = { λ b. (length b.before ≡ 1048576) × (length b.touched ≡ 1048576) };
+}
+
+/// A set with room for so many words of 64 numbers, and none in it.
+pub(crate) fn open_set(alloc: Global, words: usize) -> Result<BitSet, NoMemory>
+    ensures size { IfOk result (λ set. length set ≡ 64 * words) }
+    ensures none { IfOk result (λ set. (k : ℕ) → slice_index_or set k false ≡ false) }
+{
+    match BitSet::open(alloc, words) {
+        Ok(set) => Ok(set),
+        Err(_) => Err(NoMemory),
+    }
+}
+
+/// Takes all numbers out of a set.
+pub(crate) fn clear_set(set: &mut BitSet)
+    ensures size { length set.new ≡ length set.old }
+    ensures none { (k : ℕ) → slice_index_or set.new k false ≡ false }
+{
+    set.clear();
+}
+
+/// Puts the bytes of other storage at all places of a set.
+fn lay(now: &mut Storage, before: &Storage, places: &BitSet)
+    requires size { length places.now ≡ storage_size }
+    ensures { (a : ℕ) → bytes_at now.new a ≡
+        (if slice_index_or places.now a false then bytes_at before.now a else bytes_at now.old a) }
+{
+    let bytes = before.as_slice();
+    let _size = now.as_slice();
+    let mut from = 0;
+    while let Some(at) = places.next(from, STORAGE_SIZE as usize) {
+        now.put(at as u64, bytes[at]);
+        from = at + 1;
+    }
+}
+
+/// The bytes from a place on and below another one are those of other storage.
+fn copy_bytes<V: Bytes>(now: &mut Storage, first: u64, end: u64, from: &V)
+    requires order { first ≤ end }
+    requires inside { end ≤ storage_size }
+    requires size { length (V.bytes from.now) ≡ storage_size }
+    ensures there { (a : ℕ) → first ≤ a → a < end → bytes_at now.new a ≡ bytes_at (V.bytes from.now) a }
+    ensures below { (a : ℕ) → a < first → bytes_at now.new a ≡ bytes_at now.old a }
+    ensures above { (a : ℕ) → end ≤ a → bytes_at now.new a ≡ bytes_at now.old a }
+{
+    let _size = now.as_slice();
+    for at in first..end {
+        now.put(at, from.get(at));
+    }
+}
+
+impl OwnBytes {
+    /// A run's storage with these bytes, which are 1,048,576, none of them touched. The error is want of memory.
+    pub fn open(alloc: Global, bytes: &[u8]) -> Result<OwnBytes, NoMemory>
+        requires { length bytes.now ≡ storage_size }
+        ensures bytes { IfOk result (λ o. o.now ≡ bytes.now) }
+        ensures untouched { IfOk result (λ o. (a : ℕ) → is_touched o a ≡ false) }
+    {
+        let now = Storage::open(alloc, bytes)?;
+        let before = Storage::open(alloc, bytes)?;
+        let touched = open_set(alloc, STORAGE_SIZE as usize / 64)?;
+        Ok(OwnBytes {
+            now,
+            before,
+            touched,
+        })
+    }
+
+    /// Marks the byte at a place as touched; where it was not, its value is kept.
+    pub fn touch(&mut self, place: u64)
+        requires { place < storage_size }
+        ensures now { self.new.now ≡ self.old.now }
+        ensures given { (a : ℕ) → given self.new a ≡ given self.old a }
+        ensures touched { (a : ℕ) → is_touched self.new a ≡ (is_touched self.old a || nat_eq a place) }
+    {
+        let at = place as usize;
+        if self.touched.has(at) {
+            return;
+        }
+        self.before.put(place, self.now.as_slice()[at]);
+        self.touched.insert(at);
+    }
+
+    /// Marks so many bytes from a real address on as touched, for a CPU with this prefix.
+    pub fn touch_places(&mut self, prefix: Option<u32>, first: u64, length: u32)
+        requires prefix_in { IsTrue (is_prefix prefix) }
+        requires inside { first + length ≤ storage_size }
+        ensures now { self.new.now ≡ self.old.now }
+        ensures given { (a : ℕ) → given self.new a ≡ given self.old a }
+        ensures touched { (a : ℕ) → is_touched self.new a
+            ≡ (is_touched self.old a || is_among (places_from prefix first length) a) }
+    {
+        for k in 0..length {
+            self.touch(place_of(prefix, first + u64::from(k)));
+        }
+    }
+
+    /// Marks the bytes of operands, by real addresses, as touched.
+    pub fn touch_operands(&mut self, prefix: Option<u32>, need: &Touches)
+        requires prefix_in { IsTrue (is_prefix prefix) }
+        requires inside { All (λ r. r.first + r.length ≤ storage_size) need.now }
+        ensures now { self.new.now ≡ self.old.now }
+        ensures given { (a : ℕ) → given self.new a ≡ given self.old a }
+        ensures touched { (a : ℕ) → is_touched self.new a ≡ (is_touched self.old a
+            || is_among (flat_map (λ r. places_from prefix r.first r.length) need.now) a) }
+    {
+        for i in 0..need.count() {
+            let range = need.at(i);
+            self.touch_places(prefix, range.first, range.length);
+        }
+    }
+
+    /// The bytes of a line are those of other storage. None is touched yet.
+    pub fn copy_line<V: Bytes>(&mut self, line: u32, from: &V)
+        requires line { line < storage_lines }
+        requires size { length (V.bytes from.now) ≡ storage_size }
+        ensures now { (a : ℕ) → bytes_at self.new.now a ≡
+            (if nat_eq (a / 256) line then bytes_at (V.bytes from.now) a else bytes_at self.old.now a) }
+        ensures touched { self.new.touched ≡ self.old.touched }
+    {
+        let first = u64::from(line) * LINE_SIZE;
+        copy_bytes(&mut self.now, first, first + LINE_SIZE, from);
+    }
+
+    /// Every touched byte is again as it was before, and none is touched any more.
+    pub fn put_back(&mut self)
+        ensures given { (a : ℕ) → given self.new a ≡ given self.old a }
+        ensures now { (a : ℕ) → bytes_at self.new.now a ≡ given self.old a }
+        ensures untouched { (a : ℕ) → is_touched self.new a ≡ false }
+    {
+        lay(&mut self.now, &self.before, &self.touched);
+        clear_set(&mut self.touched);
+    }
+
+    /// The bytes stay as they are, and none is touched any more.
+    pub fn forget(&mut self)
+        ensures now { self.new.now ≡ self.old.now }
+        ensures untouched { (a : ℕ) → is_touched self.new a ≡ false }
+    {
+        clear_set(&mut self.touched);
+    }
+
+    /// The lowest touched place from this one on, and its byte before it was touched; None exactly where there
+    /// is none.
+    pub fn next(&self, from: u64) -> Option<(u64, u8)>
+        ensures found { IfSome result (λ p. (from ≤ p.0)
+            × ((is_touched self.entry.now p.0 ≡ true) × (p.1 ≡ given self.entry.now p.0))) }
+        ensures inside { IfSome result (λ p. p.0 < storage_size) }
+        ensures first { IfSome result (λ p. (a : ℕ) → from ≤ a → a < p.0 → is_touched self.entry.now a ≡ false) }
+        ensures none { result ≡ None → (a : ℕ) → from ≤ a → is_touched self.entry.now a ≡ false }
+    {
+        let at = self.touched.next(from as usize, STORAGE_SIZE as usize)?;
+        Some((at as u64, self.before.as_slice()[at]))
+    }
+}

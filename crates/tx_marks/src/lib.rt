@@ -1,0 +1,11 @@
+//! What a run keeps of storage: its bytes, with what was there before it touched them, the bytes that it has stored and their
+//! pages, and lines with modes.
+#![tactic(auto)]
+
+mod bytes;
+mod marks;
+mod traces;
+
+pub use bytes::OwnBytes;
+pub use marks::LineMarks;
+pub use traces::Traces;

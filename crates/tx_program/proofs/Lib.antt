@@ -1,0 +1,3 @@
+-- Lemmas on instructions that have been read.
+pub mod Fetches
+pub mod Numbers
