@@ -6,9 +6,9 @@ mod OneMore
 pub mod Along
 pub mod Leaving
 mod OneTurn
-mod Turning
-mod Outside
-mod Strangers
-mod Waiting
+pub mod Turning
+pub mod Outside
+pub mod Strangers
+pub mod Waiting
 mod Homing
 mod Examples

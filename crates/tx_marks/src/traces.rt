@@ -132,6 +132,17 @@ impl Traces {
         }
     }
 
+    /// The lowest place from this one on whose byte was stored; None exactly where there is none.
+    pub fn next_stored(&self, from: u64) -> Option<u64>
+        ensures found { IfSome result (λ at. (from ≤ at) × (is_stored self.now at ≡ true)) }
+        ensures inside { IfSome result (λ at. at < storage_size) }
+        ensures first { IfSome result (λ at. (a : ℕ) → from ≤ a → a < at → is_stored self.now a ≡ false) }
+        ensures none { result ≡ None → (a : ℕ) → from ≤ a → is_stored self.now a ≡ false }
+    {
+        let at = self.stored.next(from as usize, STORAGE_SIZE as usize)?;
+        Some(at as u64)
+    }
+
     /// The lowest marked page from this one on; None exactly where there is none.
     pub fn next_page(&self, from: u32) -> Option<u32>
         ensures found { IfSome result (λ page. (from ≤ page) × (is_paged self.now page ≡ true)) }

@@ -7,3 +7,5 @@ pub mod Starting
 pub mod Nexts
 pub mod BytesLined
 pub mod Lined
+pub mod Laid
+pub mod Giving

@@ -1,6 +1,7 @@
 //! Runs: turns of a CPU that are made away from its machine, on storage of their own.
 #![tactic(auto)]
 
+mod giving;
 mod reason;
 mod run;
 mod steps;

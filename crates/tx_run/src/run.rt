@@ -5,8 +5,9 @@ ghost use Rattle.std.specs.List.{list_any};
 ghost use Rattle.std.specs.FinSet.{items};
 ghost use Rattle.std.specs.Arc.{arc_value};
 ghost use Rattle.tx_serial.specs.Apply.{is_running};
-ghost use Rattle.tx_cpu.specs.Parts.{local_of};
-ghost use Rattle.tx_lending.specs.Away.{lent_turn};
+ghost use Rattle.tx_cpu.specs.Parts.{local_of, beside};
+ghost use Rattle.tx_lending.specs.Away.{lent_turn, ran};
+ghost use Rattle.tx_lending.specs.Stranger.{GoesOnLike, SeeAlike};
 ghost use Rattle.tx_run.specs.Made.{now, StartsAlike};
 ghost use Rattle.z_regs.specs.Prefix.{storage_size};
 ghost use Rattle.line_table.specs.Sizes.{storage_lines};
@@ -15,6 +16,7 @@ ghost use Rattle.tx_marks.specs.Traces.{is_paged};
 ghost use Rattle.tx_marks.specs.Marks.{mode_in};
 ghost use Rattle.tx_run.specs.Lent.{IsLent, IsLoaded, IsSameLoan, HasOneMore, step_of, is_done};
 
+use crate::giving::{add_stores, lay_stored};
 use crate::reason::{Reason, RunStep};
 use crate::steps::Steps;
 use line_table::Mode;
@@ -194,6 +196,30 @@ impl Run {
         let _allowance = self.allowance;
         self.steps.take_line(need.line, &self.program, from);
         self.held.add(need);
+    }
+
+    /// Gives what its steps have made to another CPU and other storage. The CPU goes on like the one that was lent: the registers,
+    /// the open begins, the footprint, what constraints ask and the number of completed instructions are the same; and each byte
+    /// of `next_byte` is the one that it sees over that storage. Then it has made as many turns as the run has steps.
+    pub fn give<V: Bytes>(&self, into: &mut Cpu, base: &mut V)
+        requires like { GoesOnLike (local_of self.now.made.start).attempt (local_of into.old).attempt }
+        requires alike { SeeAlike (is_touched self.now.made.own) (local_of self.now.made.start).attempt.overlay
+            (given self.now.made.own) (local_of into.old).attempt.overlay (bytes_at (V.bytes base.old)) }
+        requires size { length (V.bytes base.old) ≡ storage_size }
+        ensures given { beside into.new (V.bytes base.new)
+            ≡ ran self.now.text self.now.made.steps (beside into.old (V.bytes base.old)) }
+        ensures size { length (V.bytes base.new) ≡ storage_size }
+    {
+        let _allowance = self.allowance;
+        self.steps.start.is_sound();
+        into.is_sound();
+        let reached = &self.steps.reached;
+        into.go_on_as(reached);
+        if reached.live().is_some() {
+            add_stores(&self.steps.traces, reached, into);
+        } else {
+            lay_stored(&self.steps.traces, &self.steps.own.now, base);
+        }
     }
 
     /// What the next instruction comes to, where the run may make a step more.

@@ -1,0 +1,172 @@
+-- What another CPU and other storage are once they are given what steps have made.
+use Rattle.std.proofs.Common.{◌≡◌, ℕ, Bool, true, false, List, refl, sym, ap, ◌∙◌}
+use Rattle.std.specs.Prelude.{if◌then◌else◌}
+use Rattle.std.proofs.lemmas.Bool.{true≢false}
+use Rattle.z_regs.specs.Cpu.{Cpu}
+use Rattle.store_cache.specs.Overlay.{Overlay, has_block}
+use Rattle.store_cache.proofs.Blocks.{has_block-nothing}
+use Rattle.tx_footprint.specs.Touched.{Sets}
+use Rattle.tx_serial.specs.Flat.{Storage}
+use Rattle.tx_progress.specs.Local.{Local, Beside}
+use Rattle.tx_progress.specs.Progress.{Progress, is_live, resting, seen_through}
+use Rattle.tx_cpu.specs.Parts.{local_of, goes_on_as}
+use Rattle.tx_lending.specs.Away.{ran, touched, stored, IsClear}
+use Rattle.tx_lending.specs.Places.{over, LookAlike}
+use Rattle.tx_lending.specs.Stranger.{GoesOnLike, SeeAlike, gone_on, left_as, upon, waiting, only_at}
+use Rattle.tx_lending.proofs.Along.{makes, go_too}
+use Rattle.tx_lending.proofs.Outside.{own_turns}
+use Rattle.tx_lending.proofs.Strangers.{stranger_makes}
+use Rattle.tx_lending.proofs.Turning.{all_left}
+use Rattle.tx_lending.proofs.Waiting.{waits_so}
+use Rattle.tx_marks.specs.Marks.{mode_in}
+use Rattle.tx_marks.specs.Own.{given, is_touched, bytes_at}
+use Rattle.tx_marks.specs.Traces.{is_stored}
+use Rattle.tx_run.specs.Made.{Made, IsMade, from}
+use Rattle.tx_run.proofs.Laid.{laid-stored, laid-waits, turns-have}
+
+module _ (text image : List ℕ) (m : Made) (made : IsMade text image m) (own : Local)
+    (like : GoesOnLike (local_of m.start).attempt own.attempt)
+  where
+    abbrev start : Local
+    start = local_of m.start
+
+    abbrev reached : Local
+    reached = local_of m.reached
+
+    -- the steps neither begin nor end a transaction
+    pub stays : is_live reached.attempt ≡ is_live start.attempt
+    stays =
+        sym (ap (λ (b : Beside). is_live b.local.attempt) made.makes)
+        ∙ (all_left text (mode_in m.needed) m.steps (from m) made.away).live
+
+    pub alike-live : is_live own.attempt ≡ is_live reached.attempt
+    alike-live = ap (λ n. is_live (record own.attempt { count = n })) like.count ∙ sym stays
+
+    -- ---- blocks of what the other CPU has stored
+
+    covered-by : (live : Bool) → is_live start.attempt ≡ live
+        → (is_live own.attempt ≡ false → own.attempt ≡ resting own.attempt.cpu)
+        → ((block : ℕ) → has_block own.attempt.overlay block ≡ true → own.attempt.footprint.blocks block ≡ true)
+        → (block : ℕ) → has_block own.attempt.overlay block ≡ true → reached.attempt.footprint.blocks block ≡ true
+    covered-by true is rests blocks block h =
+        sym (ap (λ (b : Beside). b.local.attempt.footprint.blocks block) made.makes)
+        ∙ turns-have text (mode_in m.needed) m.steps (from m) block is made.away
+        (sym (ap (λ (s : Sets). s.blocks block) like.footprint) ∙ blocks block h)
+    covered-by false is rests blocks block h =
+        let bare = rests (alike-live ∙ stays ∙ is) in
+        absurd (true≢false (sym h ∙ ap (λ (q : Progress). has_block q.overlay block) bare ∙ has_block-nothing block))
+
+    pub covered : (is_live own.attempt ≡ false → own.attempt ≡ resting own.attempt.cpu)
+        → ((block : ℕ) → has_block own.attempt.overlay block ≡ true → own.attempt.footprint.blocks block ≡ true)
+        → (block : ℕ) → has_block own.attempt.overlay block ≡ true → reached.attempt.footprint.blocks block ≡ true
+    covered rests blocks = covered-by (is_live start.attempt) refl rests blocks
+
+module _ (text image : List ℕ) (m : Made) (made : IsMade text image m) (own : Local) (t : Storage)
+    (like : GoesOnLike (local_of m.start).attempt own.attempt)
+    (alike : SeeAlike (is_touched m.own) (local_of m.start).attempt.overlay (given m.own) own.attempt.overlay t)
+  where
+    abbrev start : Local
+    start = local_of m.start
+
+    abbrev reached : Local
+    reached = local_of m.reached
+
+    abbrev made_of : Beside
+    made_of = ran text m.steps (from m)
+
+    local-is : made_of.local ≡ reached
+    local-is = ap (λ (b : Beside). b.local) made.makes
+
+    storage-is : made_of.storage ≡ bytes_at m.own.now
+    storage-is = ap (λ (b : Beside). b.storage) made.makes
+
+    looks : SeeAlike (touched text m.steps (from m)) start.attempt.overlay (given m.own) own.attempt.overlay t
+    looks a h = alike a (made.marks a ∙ h)
+
+    -- ---- inside a transaction
+
+    goes-live : is_live reached.attempt ≡ true → goes_on_as reached own ≡ gone_on reached own.attempt.overlay own
+    goes-live live = ap (λ b. record own {
+      cpu = if b then own.cpu else reached.cpu;
+      attempt =
+          if b then (record reached.attempt {
+            overlay = own.attempt.overlay;
+            lasting = own.attempt.lasting;
+            resumes_at = own.attempt.resumes_at;
+          }) else reached.attempt;
+    }) live
+
+    waits-are : is_live start.attempt ≡ true
+        → waiting text m.steps (from m) ≡ only_at (is_stored m.traces) reached.attempt.overlay
+    waits-are live i a =
+        (waits_so text (mode_in m.needed) m.steps (from m) a live made.away
+        ∙ ap (λ b. only_at (λ x. b) made_of.local.attempt.overlay a)
+        (sym (laid-waits text (mode_in m.needed) m.steps (from m) a made.away live) ∙ sym (made.stored a))
+        ∙ ap (λ (l : Local). only_at (is_stored m.traces) l.attempt.overlay a) local-is) i
+
+    -- with the stores of the steps over its own
+    abbrev pub with_stores : Local → Local
+    with_stores l = record l {
+      attempt = record l.attempt {
+        overlay = upon (only_at (is_stored m.traces) reached.attempt.overlay) l.attempt.overlay;
+      };
+    }
+
+    pub given-live : is_live reached.attempt ≡ true → is_live start.attempt ≡ true
+        → ◌≡◌ {A = Beside} (record { local = with_stores (goes_on_as reached own); storage = t })
+        (ran text m.steps record { local = own; storage = t })
+    given-live live began =
+        let all : ran text m.steps record { local = own; storage = t } ≡ record {
+          local = gone_on made_of.local (upon (waiting text m.steps (from m)) own.attempt.overlay) own;
+          storage = t;
+        } = stranger_makes text (mode_in m.needed) start own (given m.own) t like began m.steps made.away looks in
+        ap (λ (l : Local). record { local = with_stores l; storage = t }) (goes-live live)
+        ∙ sym (all ∙ (λ i. record {
+          local = gone_on (local-is i) (upon (waits-are began i) own.attempt.overlay) own;
+          storage = t;
+        }))
+
+    -- ---- outside
+
+    goes-rest : is_live reached.attempt ≡ false → goes_on_as reached own ≡ left_as reached own
+    goes-rest rests = ap (λ b. record own {
+      cpu = if b then own.cpu else reached.cpu;
+      attempt =
+          if b then (record reached.attempt {
+            overlay = own.attempt.overlay;
+            lasting = own.attempt.lasting;
+            resumes_at = own.attempt.resumes_at;
+          }) else reached.attempt;
+    }) rests
+
+    stores-are : is_live start.attempt ≡ false → (s : Storage) → ((a : ℕ) → s a
+        ≡ over (is_stored m.traces) (bytes_at m.own.now) t a)
+        → s ≡ over (stored text m.steps (from m)) made_of.storage t
+    stores-are rests s laid i a =
+        (laid a
+        ∙ ap (λ b. if b then bytes_at m.own.now a else t a)
+        (made.stored a ∙ laid-stored text (mode_in m.needed) m.steps (from m) a made.away rests)
+        ∙ sym (ap (λ (x : Storage). over (stored text m.steps (from m)) x t a) storage-is)) i
+
+    pub given-outside : is_live reached.attempt ≡ false → is_live start.attempt ≡ false
+        → start.attempt ≡ resting start.attempt.cpu → own.attempt ≡ resting own.attempt.cpu
+        → start.cpu ≡ start.attempt.cpu → own.cpu ≡ own.attempt.cpu
+        → (s : Storage) → ((a : ℕ) → s a ≡ over (is_stored m.traces) (bytes_at m.own.now) t a)
+        → ◌≡◌ {A = Beside} (record { local = goes_on_as reached own; storage = s })
+        (ran text m.steps record { local = own; storage = t })
+    given-outside rests began none others settled own_settled s laid =
+        let held = mode_in m.needed in
+        let same : own.attempt ≡ start.attempt = others ∙ ap resting like.cpu ∙ sym none in
+        let cpu : own.cpu ≡ start.cpu = own_settled ∙ like.cpu ∙ sym settled in
+        let clear : IsClear start.attempt = λ h a. ap (λ (q : Progress). q.overlay a) none in
+        let seen : LookAlike (touched text m.steps (from m)) start.attempt.overlay (given m.own) t =
+        λ a h. sym (ap (λ (q : Progress). seen_through q.overlay t a) same) ∙ looks a h in
+        let first = makes text held m.steps start (given m.own) t clear made.away seen in
+        let away = go_too text held m.steps start (given m.own) t clear made.away seen in
+        let all = own_turns text held start own t began cpu same m.steps away in
+        (λ i. record { local = goes-rest rests i; storage = stores-are began s laid i })
+        ∙ sym (all ∙ (λ i. record { local = left_as (first i).local own; storage = (first i).storage })
+        ∙ (λ i. record {
+          local = left_as (local-is i) own;
+          storage = over (stored text m.steps (from m)) made_of.storage t;
+        }))
