@@ -8,4 +8,5 @@ pub mod Nexts
 pub mod BytesLined
 pub mod Lined
 pub mod Laid
-pub mod Giving
+pub mod Adding
+pub mod Taking

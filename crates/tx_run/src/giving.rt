@@ -1,18 +1,22 @@
 //! What the steps of a run have stored, for another CPU and other storage.
 ghost use Rattle.std.specs.Prelude.{◌≡◌, ℕ, ◌<◌, ◌≤◌, length, None, Some};
 ghost use Rattle.z_regs.specs.Prefix.{storage_size};
-ghost use Rattle.tx_cpu.specs.Parts.{local_of};
+ghost use Rattle.std.specs.FinSet.{items};
+ghost use Rattle.tx_cpu.specs.Parts.{local_of, beside};
+ghost use Rattle.tx_lending.specs.Away.{ran};
 ghost use Rattle.tx_lending.specs.Places.{over};
-ghost use Rattle.tx_lending.specs.Stranger.{upon, only_at};
-ghost use Rattle.tx_marks.specs.Own.{bytes_at};
+ghost use Rattle.tx_lending.specs.Stranger.{GoesOnLike, SeeAlike, upon, only_at};
+ghost use Rattle.tx_marks.specs.Own.{bytes_at, is_touched, given};
 ghost use Rattle.tx_marks.specs.Traces.{is_stored};
+ghost use Rattle.tx_run.specs.Made.{IsMade};
 
-use tx_cpu::Cpu;
+use crate::steps::Steps;
+use tx_cpu::{Cpu, Program};
 use tx_marks::Traces;
 use z_regs::{Bytes, Storage};
 
 /// The bytes of all marked places are those of other storage.
-pub fn lay_stored<V: Bytes>(traces: &Traces, own: &Storage, base: &mut V)
+fn lay_stored<V: Bytes>(traces: &Traces, own: &Storage, base: &mut V)
     requires { length (V.bytes base.old) ≡ storage_size }
     ensures value { (a : ℕ) → bytes_at (V.bytes base.new) a
         ≡ over (is_stored traces.now) (bytes_at own.now) (bytes_at (V.bytes base.old)) a }
@@ -27,7 +31,7 @@ pub fn lay_stored<V: Bytes>(traces: &Traces, own: &Storage, base: &mut V)
 }
 
 /// The attempt stores what another one has stored at all marked places; both have touched the same.
-pub fn add_stores(traces: &Traces, from: &Cpu, into: &mut Cpu)
+fn add_stores(traces: &Traces, from: &Cpu, into: &mut Cpu)
     requires { (local_of into.old).attempt.footprint ≡ (local_of from.now).attempt.footprint }
     ensures { local_of into.new ≡ record (local_of into.old) {
       attempt = record (local_of into.old).attempt {
@@ -42,5 +46,27 @@ pub fn add_stores(traces: &Traces, from: &Cpu, into: &mut Cpu)
             into.add_store(at, byte);
         }
         next = at + 1;
+    }
+}
+
+/// Gives what steps have made to another CPU and other storage. The CPU goes on like the one that was lent, and sees the same
+/// over that storage wherever the steps have looked.
+pub(crate) fn give<V: Bytes>(steps: &Steps, program: &Program, into: &mut Cpu, base: &mut V)
+    requires made { IsMade (items program.now.guard) program.now.storage steps.now }
+    requires like { GoesOnLike (local_of steps.now.start).attempt (local_of into.old).attempt }
+    requires alike { SeeAlike (is_touched steps.now.own) (local_of steps.now.start).attempt.overlay (given steps.now.own)
+        (local_of into.old).attempt.overlay (bytes_at (V.bytes base.old)) }
+    requires size { length (V.bytes base.old) ≡ storage_size }
+    ensures given { beside into.new (V.bytes base.new)
+        ≡ ran (items program.now.guard) steps.now.steps (beside into.old (V.bytes base.old)) }
+    ensures size { length (V.bytes base.new) ≡ storage_size }
+{
+    steps.start.is_sound();
+    into.is_sound();
+    into.go_on_as(&steps.reached);
+    if steps.reached.live().is_some() {
+        add_stores(&steps.traces, &steps.reached, into);
+    } else {
+        lay_stored(&steps.traces, &steps.own.now, base);
     }
 }

@@ -16,7 +16,7 @@ ghost use Rattle.tx_marks.specs.Traces.{is_paged};
 ghost use Rattle.tx_marks.specs.Marks.{mode_in};
 ghost use Rattle.tx_run.specs.Lent.{IsLent, IsLoaded, IsSameLoan, HasOneMore, step_of, is_done};
 
-use crate::giving::{add_stores, lay_stored};
+use crate::giving::give;
 use crate::reason::{Reason, RunStep};
 use crate::steps::Steps;
 use line_table::Mode;
@@ -211,15 +211,7 @@ impl Run {
         ensures size { length (V.bytes base.new) ≡ storage_size }
     {
         let _allowance = self.allowance;
-        self.steps.start.is_sound();
-        into.is_sound();
-        let reached = &self.steps.reached;
-        into.go_on_as(reached);
-        if reached.live().is_some() {
-            add_stores(&self.steps.traces, reached, into);
-        } else {
-            lay_stored(&self.steps.traces, &self.steps.own.now, base);
-        }
+        give(&self.steps, &self.program, into, base);
     }
 
     /// What the next instruction comes to, where the run may make a step more.

@@ -2,8 +2,7 @@
 use Rattle.std.proofs.Common.{◌≡◌, ℕ, Bool, true, false, List, refl, sym, ap, ◌∙◌}
 use Rattle.std.specs.Prelude.{if◌then◌else◌}
 use Rattle.std.proofs.lemmas.Bool.{true≢false}
-use Rattle.z_regs.specs.Cpu.{Cpu}
-use Rattle.store_cache.specs.Overlay.{Overlay, has_block}
+use Rattle.store_cache.specs.Overlay.{has_block}
 use Rattle.store_cache.proofs.Blocks.{has_block-nothing}
 use Rattle.tx_footprint.specs.Touched.{Sets}
 use Rattle.tx_serial.specs.Flat.{Storage}
@@ -24,30 +23,31 @@ use Rattle.tx_marks.specs.Traces.{is_stored}
 use Rattle.tx_run.specs.Made.{Made, IsMade, from}
 use Rattle.tx_run.proofs.Laid.{laid-stored, laid-waits, turns-have}
 
+-- the CPU before the first step, and behind the last
+abbrev start : Made → Local
+start m = local_of m.start
+
+abbrev reached : Made → Local
+reached m = local_of m.reached
+
 module _ (text image : List ℕ) (m : Made) (made : IsMade text image m) (own : Local)
     (like : GoesOnLike (local_of m.start).attempt own.attempt)
   where
-    abbrev start : Local
-    start = local_of m.start
-
-    abbrev reached : Local
-    reached = local_of m.reached
-
     -- the steps neither begin nor end a transaction
-    pub stays : is_live reached.attempt ≡ is_live start.attempt
+    pub stays : is_live (reached m).attempt ≡ is_live (start m).attempt
     stays =
         sym (ap (λ (b : Beside). is_live b.local.attempt) made.makes)
         ∙ (all_left text (mode_in m.needed) m.steps (from m) made.away).live
 
-    pub alike-live : is_live own.attempt ≡ is_live reached.attempt
+    pub alike-live : is_live own.attempt ≡ is_live (reached m).attempt
     alike-live = ap (λ n. is_live (record own.attempt { count = n })) like.count ∙ sym stays
 
     -- ---- blocks of what the other CPU has stored
 
-    covered-by : (live : Bool) → is_live start.attempt ≡ live
+    covered-by : (live : Bool) → is_live (start m).attempt ≡ live
         → (is_live own.attempt ≡ false → own.attempt ≡ resting own.attempt.cpu)
         → ((block : ℕ) → has_block own.attempt.overlay block ≡ true → own.attempt.footprint.blocks block ≡ true)
-        → (block : ℕ) → has_block own.attempt.overlay block ≡ true → reached.attempt.footprint.blocks block ≡ true
+        → (block : ℕ) → has_block own.attempt.overlay block ≡ true → (reached m).attempt.footprint.blocks block ≡ true
     covered-by true is rests blocks block h =
         sym (ap (λ (b : Beside). b.local.attempt.footprint.blocks block) made.makes)
         ∙ turns-have text (mode_in m.needed) m.steps (from m) block is made.away
@@ -58,46 +58,40 @@ module _ (text image : List ℕ) (m : Made) (made : IsMade text image m) (own : 
 
     pub covered : (is_live own.attempt ≡ false → own.attempt ≡ resting own.attempt.cpu)
         → ((block : ℕ) → has_block own.attempt.overlay block ≡ true → own.attempt.footprint.blocks block ≡ true)
-        → (block : ℕ) → has_block own.attempt.overlay block ≡ true → reached.attempt.footprint.blocks block ≡ true
-    covered rests blocks = covered-by (is_live start.attempt) refl rests blocks
+        → (block : ℕ) → has_block own.attempt.overlay block ≡ true → (reached m).attempt.footprint.blocks block ≡ true
+    covered rests blocks = covered-by (is_live (start m).attempt) refl rests blocks
 
 module _ (text image : List ℕ) (m : Made) (made : IsMade text image m) (own : Local) (t : Storage)
     (like : GoesOnLike (local_of m.start).attempt own.attempt)
     (alike : SeeAlike (is_touched m.own) (local_of m.start).attempt.overlay (given m.own) own.attempt.overlay t)
   where
-    abbrev start : Local
-    start = local_of m.start
-
-    abbrev reached : Local
-    reached = local_of m.reached
-
     abbrev made_of : Beside
     made_of = ran text m.steps (from m)
 
-    local-is : made_of.local ≡ reached
+    local-is : made_of.local ≡ reached m
     local-is = ap (λ (b : Beside). b.local) made.makes
 
     storage-is : made_of.storage ≡ bytes_at m.own.now
     storage-is = ap (λ (b : Beside). b.storage) made.makes
 
-    looks : SeeAlike (touched text m.steps (from m)) start.attempt.overlay (given m.own) own.attempt.overlay t
+    looks : SeeAlike (touched text m.steps (from m)) (start m).attempt.overlay (given m.own) own.attempt.overlay t
     looks a h = alike a (made.marks a ∙ h)
 
     -- ---- inside a transaction
 
-    goes-live : is_live reached.attempt ≡ true → goes_on_as reached own ≡ gone_on reached own.attempt.overlay own
+    goes-live : is_live (reached m).attempt ≡ true → goes_on_as (reached m) own ≡ gone_on (reached m) own.attempt.overlay own
     goes-live live = ap (λ b. record own {
-      cpu = if b then own.cpu else reached.cpu;
+      cpu = if b then own.cpu else (reached m).cpu;
       attempt =
-          if b then (record reached.attempt {
+          if b then (record (reached m).attempt {
             overlay = own.attempt.overlay;
             lasting = own.attempt.lasting;
             resumes_at = own.attempt.resumes_at;
-          }) else reached.attempt;
+          }) else (reached m).attempt;
     }) live
 
-    waits-are : is_live start.attempt ≡ true
-        → waiting text m.steps (from m) ≡ only_at (is_stored m.traces) reached.attempt.overlay
+    waits-are : is_live (start m).attempt ≡ true
+        → waiting text m.steps (from m) ≡ only_at (is_stored m.traces) (reached m).attempt.overlay
     waits-are live i a =
         (waits_so text (mode_in m.needed) m.steps (from m) a live made.away
         ∙ ap (λ b. only_at (λ x. b) made_of.local.attempt.overlay a)
@@ -108,18 +102,18 @@ module _ (text image : List ℕ) (m : Made) (made : IsMade text image m) (own : 
     abbrev pub with_stores : Local → Local
     with_stores l = record l {
       attempt = record l.attempt {
-        overlay = upon (only_at (is_stored m.traces) reached.attempt.overlay) l.attempt.overlay;
+        overlay = upon (only_at (is_stored m.traces) (reached m).attempt.overlay) l.attempt.overlay;
       };
     }
 
-    pub given-live : is_live reached.attempt ≡ true → is_live start.attempt ≡ true
-        → ◌≡◌ {A = Beside} (record { local = with_stores (goes_on_as reached own); storage = t })
+    pub given-live : is_live (reached m).attempt ≡ true → is_live (start m).attempt ≡ true
+        → ◌≡◌ {A = Beside} (record { local = with_stores (goes_on_as (reached m) own); storage = t })
         (ran text m.steps record { local = own; storage = t })
     given-live live began =
         let all : ran text m.steps record { local = own; storage = t } ≡ record {
           local = gone_on made_of.local (upon (waiting text m.steps (from m)) own.attempt.overlay) own;
           storage = t;
-        } = stranger_makes text (mode_in m.needed) start own (given m.own) t like began m.steps made.away looks in
+        } = stranger_makes text (mode_in m.needed) (start m) own (given m.own) t like began m.steps made.away looks in
         ap (λ (l : Local). record { local = with_stores l; storage = t }) (goes-live live)
         ∙ sym (all ∙ (λ i. record {
           local = gone_on (local-is i) (upon (waits-are began i) own.attempt.overlay) own;
@@ -128,18 +122,18 @@ module _ (text image : List ℕ) (m : Made) (made : IsMade text image m) (own : 
 
     -- ---- outside
 
-    goes-rest : is_live reached.attempt ≡ false → goes_on_as reached own ≡ left_as reached own
+    goes-rest : is_live (reached m).attempt ≡ false → goes_on_as (reached m) own ≡ left_as (reached m) own
     goes-rest rests = ap (λ b. record own {
-      cpu = if b then own.cpu else reached.cpu;
+      cpu = if b then own.cpu else (reached m).cpu;
       attempt =
-          if b then (record reached.attempt {
+          if b then (record (reached m).attempt {
             overlay = own.attempt.overlay;
             lasting = own.attempt.lasting;
             resumes_at = own.attempt.resumes_at;
-          }) else reached.attempt;
+          }) else (reached m).attempt;
     }) rests
 
-    stores-are : is_live start.attempt ≡ false → (s : Storage) → ((a : ℕ) → s a
+    stores-are : is_live (start m).attempt ≡ false → (s : Storage) → ((a : ℕ) → s a
         ≡ over (is_stored m.traces) (bytes_at m.own.now) t a)
         → s ≡ over (stored text m.steps (from m)) made_of.storage t
     stores-are rests s laid i a =
@@ -148,22 +142,22 @@ module _ (text image : List ℕ) (m : Made) (made : IsMade text image m) (own : 
         (made.stored a ∙ laid-stored text (mode_in m.needed) m.steps (from m) a made.away rests)
         ∙ sym (ap (λ (x : Storage). over (stored text m.steps (from m)) x t a) storage-is)) i
 
-    pub given-outside : is_live reached.attempt ≡ false → is_live start.attempt ≡ false
-        → start.attempt ≡ resting start.attempt.cpu → own.attempt ≡ resting own.attempt.cpu
-        → start.cpu ≡ start.attempt.cpu → own.cpu ≡ own.attempt.cpu
+    pub given-outside : is_live (reached m).attempt ≡ false → is_live (start m).attempt ≡ false
+        → (start m).attempt ≡ resting (start m).attempt.cpu → own.attempt ≡ resting own.attempt.cpu
+        → (start m).cpu ≡ (start m).attempt.cpu → own.cpu ≡ own.attempt.cpu
         → (s : Storage) → ((a : ℕ) → s a ≡ over (is_stored m.traces) (bytes_at m.own.now) t a)
-        → ◌≡◌ {A = Beside} (record { local = goes_on_as reached own; storage = s })
+        → ◌≡◌ {A = Beside} (record { local = goes_on_as (reached m) own; storage = s })
         (ran text m.steps record { local = own; storage = t })
     given-outside rests began none others settled own_settled s laid =
         let held = mode_in m.needed in
-        let same : own.attempt ≡ start.attempt = others ∙ ap resting like.cpu ∙ sym none in
-        let cpu : own.cpu ≡ start.cpu = own_settled ∙ like.cpu ∙ sym settled in
-        let clear : IsClear start.attempt = λ h a. ap (λ (q : Progress). q.overlay a) none in
-        let seen : LookAlike (touched text m.steps (from m)) start.attempt.overlay (given m.own) t =
+        let same : own.attempt ≡ (start m).attempt = others ∙ ap resting like.cpu ∙ sym none in
+        let cpu : own.cpu ≡ (start m).cpu = own_settled ∙ like.cpu ∙ sym settled in
+        let clear : IsClear (start m).attempt = λ h a. ap (λ (q : Progress). q.overlay a) none in
+        let seen : LookAlike (touched text m.steps (from m)) (start m).attempt.overlay (given m.own) t =
         λ a h. sym (ap (λ (q : Progress). seen_through q.overlay t a) same) ∙ looks a h in
-        let first = makes text held m.steps start (given m.own) t clear made.away seen in
-        let away = go_too text held m.steps start (given m.own) t clear made.away seen in
-        let all = own_turns text held start own t began cpu same m.steps away in
+        let first = makes text held m.steps (start m) (given m.own) t clear made.away seen in
+        let away = go_too text held m.steps (start m) (given m.own) t clear made.away seen in
+        let all = own_turns text held (start m) own t began cpu same m.steps away in
         (λ i. record { local = goes-rest rests i; storage = stores-are began s laid i })
         ∙ sym (all ∙ (λ i. record { local = left_as (first i).local own; storage = (first i).storage })
         ∙ (λ i. record {
