@@ -14,7 +14,7 @@ use z_assemble::assemble;
 use z_regs::{Bytes, RunState, Storage};
 
 /// Whether a CPU runs, and its attempt may count so many instructions more.
-fn may_be_lent(cpu: &Cpu) -> bool
+pub(crate) fn may_be_lent(cpu: &Cpu) -> bool
     ensures counted { IsTrue result → (local_of cpu.now).attempt.count + 64 < 2 ^ 32 }
     ensures runs { IsTrue result → is_running (local_of cpu.now).attempt.cpu.state ≡ true }
 {
@@ -26,13 +26,13 @@ fn may_be_lent(cpu: &Cpu) -> bool
 }
 
 /// The program of a listing.
-fn read(alloc: Global, listing: &str) -> Result<Program, Fail> {
+pub(crate) fn read(alloc: Global, listing: &str) -> Result<Program, Fail> {
     let image = assemble(alloc, listing.as_bytes())?;
     Ok(Program::open(alloc, Arc::new(alloc, image)?)?)
 }
 
 /// Its first CPU.
-fn first_cpu(alloc: Global, program: &Program) -> Result<Cpu, Fail> {
+pub(crate) fn first_cpu(alloc: Global, program: &Program) -> Result<Cpu, Fail> {
     let image = program.image();
     let _count = image.cpu_count();
     let start = image.cpus.first().ok_or("no CPU")?;
@@ -40,14 +40,14 @@ fn first_cpu(alloc: Global, program: &Program) -> Result<Cpu, Fail> {
 }
 
 /// Storage with its bytes, but for 41 in the doubleword at X'9000'.
-fn changed(alloc: Global, program: &Program) -> Result<Storage, Fail> {
+pub(crate) fn changed(alloc: Global, program: &Program) -> Result<Storage, Fail> {
     let mut storage = Storage::open(alloc, program.bytes())?;
     storage.put(0x9007, 41);
     Ok(storage)
 }
 
 /// The CPU is lent, with the line at X'9000' exclusively.
-fn lend(run: &mut Run, cpu: &Cpu, storage: &Storage, allowance: u32) {
+pub(crate) fn lend(run: &mut Run, cpu: &Cpu, storage: &Storage, allowance: u32) {
     let _size = storage.as_slice();
     if allowance > 64 || !may_be_lent(cpu) {
         return;

@@ -8,10 +8,7 @@ use Rattle.store_cache.specs.Overlay.{Overlay, with_one}
 use Rattle.store_cache.proofs.Overlays.{with_one-here, with_one-other}
 use Rattle.tx_progress.specs.Local.{Local}
 use Rattle.tx_lending.specs.Stranger.{else_by, upon, only_at}
-
--- the marks below a place
-abbrev pub below : (ℕ → Bool) → ℕ → ℕ → Bool
-below marks n a = nat_lt a n && marks a
+use Rattle.tx_marks.specs.Traces.{below}
 
 -- a CPU with other stores that wait
 abbrev pub with_waits : Overlay → Local → Local

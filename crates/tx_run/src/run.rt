@@ -14,6 +14,9 @@ ghost use Rattle.line_table.specs.Sizes.{storage_lines};
 ghost use Rattle.tx_marks.specs.Own.{bytes_at, given, is_touched};
 ghost use Rattle.tx_marks.specs.Traces.{is_paged};
 ghost use Rattle.tx_marks.specs.Marks.{mode_in};
+ghost use Rattle.std.specs.Prelude.{◌≢◌};
+ghost use Rattle.tx_progress.specs.Progress.{seen_through};
+ghost use Rattle.tx_marks.specs.Traces.{below};
 ghost use Rattle.tx_run.specs.Lent.{IsLent, IsLoaded, IsSameLoan, HasOneMore, step_of, is_done};
 
 use crate::giving::give;
@@ -27,6 +30,17 @@ use tx_cpu::{Cpu, Program};
 use tx_marks::LineMarks;
 use tx_meaning::Need;
 use z_regs::{Bytes, NoMemory};
+
+/// A byte that two CPUs see otherwise.
+#[derive(Clone, Copy, Debug, PartialEq, Eq)]
+pub struct Difference {
+    /// Its absolute address.
+    pub address: u64,
+    /// What the CPU that is asked sees there.
+    pub kept: u8,
+    /// What the CPU that was lent has seen there.
+    pub given: u8,
+}
 
 /// A CPU that is lent, with the lines that it holds. Its steps are turns of that CPU on storage of the run's own. Contracts
 /// see the text pages and the bytes of the image that it runs, what it was given, and what its steps have made.
@@ -150,10 +164,44 @@ impl Run {
     pub fn next_byte(&self, from: u64) -> Option<(u64, u8)>
         ensures found { IfSome result (λ p. (from ≤ p.0)
             × ((is_touched self.now.made.own p.0 ≡ true) × (p.1 ≡ given self.now.made.own p.0))) }
+        ensures inside { IfSome result (λ p. p.0 < storage_size) }
         ensures first { IfSome result (λ p. (a : ℕ) → from ≤ a → a < p.0 → is_touched self.now.made.own a ≡ false) }
         ensures none { result ≡ None → (a : ℕ) → from ≤ a → is_touched self.now.made.own a ≡ false }
     {
         self.steps.own.next(from)
+    }
+
+    /// The lowest byte of `next_byte` that another CPU sees otherwise over other storage than the CPU that was lent has seen it
+    /// before the first step; None exactly where it sees all of them alike.
+    pub fn first_difference<V: Bytes>(&self, other: &Cpu, base: &V) -> Option<Difference>
+        requires size { length (V.bytes base.now) ≡ storage_size }
+        ensures touched { IfSome result (λ d. is_touched self.now.made.own d.address ≡ true) }
+        ensures kept { IfSome result (λ d. d.kept ≡ seen_through (local_of other.now).attempt.overlay
+            (bytes_at (V.bytes base.now)) d.address) }
+        ensures given { IfSome result (λ d. d.given ≡ seen_through (local_of self.now.made.start).attempt.overlay
+            (given self.now.made.own) d.address) }
+        ensures differs { IfSome result (λ d. d.kept ≢ d.given) }
+        ensures first { IfSome result (λ d. SeeAlike (below (is_touched self.now.made.own) d.address)
+            (local_of self.now.made.start).attempt.overlay (given self.now.made.own)
+            (local_of other.now).attempt.overlay (bytes_at (V.bytes base.now))) }
+        ensures none { result ≡ None → SeeAlike (is_touched self.now.made.own)
+            (local_of self.now.made.start).attempt.overlay (given self.now.made.own)
+            (local_of other.now).attempt.overlay (bytes_at (V.bytes base.now)) }
+    {
+        let mut from = 0;
+        while let Some((address, before)) = self.next_byte(from) {
+            let given = self.start().stored(address).unwrap_or(before);
+            let kept = other.seen(address, base);
+            if kept != given {
+                return Some(Difference {
+                    address,
+                    kept,
+                    given,
+                });
+            }
+            from = address + 1;
+        }
+        None
     }
 
     /// The lowest page at or above `from` that holds a byte of the instructions of its steps or of what these have stored, and
