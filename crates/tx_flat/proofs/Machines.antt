@@ -22,7 +22,7 @@ use Rattle.tx_serial.specs.History.{start_of, cpu_at, no_cpu}
 use Rattle.tx_serial.specs.Text.{IsKept}
 use Rattle.tx_serial.proofs.Starting.{start_kept}
 use Rattle.tx_serial.proofs.TextKept.{entry_keeps}
-use Rattle.tx_attempt.specs.Bytes.{function_of}
+use Rattle.tx_private.specs.Bytes.{function_of}
 use Rattle.tx_flat.specs.declared.slot.ApplyFault.{ApplyFault}
 use Rattle.tx_flat.specs.declared.slot.ApplyFault.TheVariants.{Memory, Misfit}
 use Rattle.tx_flat.specs.declared.slot.Block.{Block}

@@ -7,7 +7,7 @@ ghost use Rattle.tx_serial.specs.Changes.{cpu_of_entry as cpu_in};
 ghost use Rattle.tx_serial.specs.History.{start_of};
 ghost use Rattle.tx_flat.specs.Machine.{state_of, slot_parts, fresh, code_waiting, Applies};
 ghost use Rattle.tx_flat.specs.Open.{IsOpen};
-ghost use Rattle.tx_attempt.specs.Ready.{IsReady};
+ghost use Rattle.tx_private.specs.Ready.{IsReady};
 ghost use Rattle.tx_serial.specs.Attempt.{Open};
 ghost use Rattle.tx_serial.specs.Ending.{ending};
 ghost use Rattle.tx_serial.specs.Flat.{address_of, bytes_of};
@@ -20,10 +20,10 @@ use crate::showing::{OpenRun, open_run};
 use crate::slot::{ApplyFault, Slot};
 use std::alloc::Global;
 use std::marker::Model;
-use tx_attempt::attempt::Attempt;
-use tx_attempt::copying::is_whole;
-use tx_attempt::known::Readings;
-use tx_attempt::running::fresh;
+use tx_private::attempt::Attempt;
+use tx_private::copying::is_whole;
+use tx_private::known::Readings;
+use tx_private::running::fresh;
 use tx_control::Why;
 use tx_journal::{Entry, Image};
 use z_regs::{CpuImage, Guard, NoMemory, PAGES, Storage};
@@ -51,7 +51,7 @@ impl Model for Flat {
     ghost Value = { Parts };
 
     ghost use Rattle.tx_flat.specs.Machine.{IsSound};
-    ghost use Rattle.tx_attempt.specs.Ready.{IsReady};
+    ghost use Rattle.tx_private.specs.Ready.{IsReady};
 
     ghost view = { λ f. parts_of f.storage f.guard f.slots.items };
 
@@ -233,7 +233,7 @@ impl Flat {
     }
 
     /// All of storage.
-    #[tactic(auto, using(tx_attempt::proofs::Laid::listed))]
+    #[tactic(auto, using(tx_private::proofs::Laid::listed))]
     pub fn storage(&self) -> &Storage
         ensures { result.now ≡ bytes_of (state_of self.now).storage }
     {

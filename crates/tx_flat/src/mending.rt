@@ -5,17 +5,17 @@ ghost use Rattle.tx_serial.specs.Flat.{with_bytes_at};
 ghost use Rattle.tx_footprint.specs.Places.{IsInStorage, has_place, stores};
 ghost use Rattle.tx_footprint.specs.Sizes.{line_size};
 ghost use Rattle.tx_footprint.specs.Touched.{sets_of};
-ghost use Rattle.tx_attempt.specs.Bytes.{function_of};
+ghost use Rattle.tx_private.specs.Bytes.{function_of};
 ghost use Rattle.z_regs.specs.Prefix.{is_prefix, storage_size};
 ghost use Rattle.z_regs.specs.Seen.{seen_by};
-ghost use Rattle.tx_attempt.specs.Ready.{IsReady, IsTurned};
+ghost use Rattle.tx_private.specs.Ready.{IsReady, IsTurned};
 ghost use Rattle.tx_flat.specs.Near.{Near, AreKept};
 ghost use Rattle.bit_set.specs.Counts.{but_at};
 
 use line_table::LINES;
-use tx_attempt::attempt::Attempt;
-use tx_attempt::copying::{LINE_SIZE, copy_line, is_whole, line_seen, refresh_lines};
-use tx_attempt::storing::store_bytes;
+use tx_private::attempt::Attempt;
+use tx_private::copying::{LINE_SIZE, copy_line, is_whole, line_seen, refresh_lines};
+use tx_private::storing::store_bytes;
 use z_regs::{Range, Storage, Touches};
 
 /// The copies are storage again, whatever they are.

@@ -7,13 +7,13 @@ ghost use Rattle.tx_serial.specs.Attempt as run;
 ghost use Rattle.tx_serial.specs.Attempt.{Run};
 ghost use Rattle.tx_serial.specs.Flat.{FlatState, Storage as Bytes};
 ghost use Rattle.tx_serial.specs.Run.{run as run_of};
-ghost use Rattle.tx_attempt.specs.Bytes.{function_of};
+ghost use Rattle.tx_private.specs.Bytes.{function_of};
 ghost use Rattle.tx_flat.specs.Open.{IsOpen};
-ghost use Rattle.tx_attempt.specs.Shows.{IsRun};
+ghost use Rattle.tx_private.specs.Shows.{IsRun};
 
 use std::alloc::Global;
-use tx_attempt::attempt::{Attempt, Mark};
-use tx_attempt::running::run_apart;
+use tx_private::attempt::{Attempt, Mark};
+use tx_private::running::run_apart;
 use z_regs::{CpuImage, Guard, NoMemory, Storage};
 
 /// A run that is open: the CPU as its program sees it, and how many begins are open.
