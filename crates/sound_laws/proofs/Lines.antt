@@ -22,7 +22,7 @@ use Rattle.tx_serial.specs.Run.{run, more, more_of, after_fate, after_where, aft
 use Rattle.tx_serial.proofs.FreeOperands.{no_operand_refusal}
 use Rattle.tx_serial.proofs.Passing.{passes}
 use Rattle.tx_serial.proofs.TextStays.{has_prefix}
-use Rattle.tx_flat.proofs.Inside.{in_storage}
+use Rattle.tx_private.proofs.Inside.{in_storage}
 
 -- ---- what a run has touched
 

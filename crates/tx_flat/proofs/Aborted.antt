@@ -29,15 +29,15 @@ use Rattle.tx_serial.proofs.Copies.{run_prefix}
 use Rattle.tx_serial.proofs.SameCauses.{same_cause}
 use Rattle.tx_flat.specs.Left.{HasRoom, told_in, told_by, resumed_by, block_by, cpu_left, pending_left}
 use Rattle.tx_flat.specs.Left.{waiting_left}
-use Rattle.tx_flat.specs.Shows.{Shows, IsRun, IsRunOf, mark_of, begin_at, begin_length}
+use Rattle.tx_private.specs.Shows.{Shows, IsRun, IsRunOf, mark_of, begin_at, begin_length}
 use Rattle.tx_flat.specs.Slots.{Holds, holding, pending_of}
-use Rattle.tx_flat.specs.declared.attempt.Attempt.{Attempt}
-use Rattle.tx_flat.specs.declared.attempt.Mark.{Mark}
-use Rattle.tx_flat.specs.declared.attempt.Mark.TheVariants.{Open, Committed, Overflowed, Missing}
+use Rattle.tx_private.specs.declared.attempt.Attempt.{Attempt}
+use Rattle.tx_private.specs.declared.attempt.Mark.{Mark}
+use Rattle.tx_private.specs.declared.attempt.Mark.TheVariants.{Open, Committed, Overflowed, Missing}
 use Rattle.tx_flat.specs.declared.slot.Slot.{Slot}
 use Rattle.tx_flat.proofs.Applied.{held, seen_back}
 use Rattle.tx_flat.proofs.Begun.{HasBegin, begun, begins_inside}
-use Rattle.tx_flat.proofs.Resting.{some_state}
+use Rattle.tx_private.proofs.Resting.{some_state}
 use Rattle.tx_flat.proofs.Room.{RoomIn, own_room}
 
 -- ---- where a cause fits

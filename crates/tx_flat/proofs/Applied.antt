@@ -16,13 +16,13 @@ use Rattle.tx_serial.specs.Run.{run as runs}
 use Rattle.tx_serial.specs.Apply.{apply, only_where, may_act, is_running, after_commit, after_block}
 use Rattle.tx_serial.specs.Apply.{after_interruption, with_stored_interruption, with_new_psw}
 use Rattle.tx_serial.proofs.Copies.{run_prefix}
-use Rattle.tx_flat.specs.Bytes.{function_of}
-use Rattle.tx_flat.specs.declared.attempt.Attempt.{Attempt}
+use Rattle.tx_private.specs.Bytes.{function_of}
+use Rattle.tx_private.specs.declared.attempt.Attempt.{Attempt}
 use Rattle.tx_flat.specs.declared.slot.Slot.{Slot}
 use Rattle.tx_flat.specs.declared.slot.Block.{Block}
-use Rattle.tx_flat.specs.Shows.{Shows, IsRunOf, EndsInTime, mark_of}
+use Rattle.tx_private.specs.Shows.{Shows, IsRunOf, EndsInTime, mark_of}
 use Rattle.tx_flat.specs.Slots.{Holds, holding, pending_of, acts, commits}
-use Rattle.tx_flat.proofs.Laid.{read_as, length-bytes}
+use Rattle.tx_private.proofs.Laid.{read_as, length-bytes}
 
 -- ---- tables
 

@@ -30,8 +30,8 @@ use Rattle.tx_serial.specs.Fate.{Fate, Goes, Ends, Stops, fate, length_at, step_
 use Rattle.tx_serial.specs.Run.{run, more, more_of, after_fate, after_where, after, may_follow, outcome_of}
 use Rattle.tx_serial.specs.Run.{mark_in, nest_after}
 use Rattle.tx_serial.proofs.Passing.{passes}
-use Rattle.tx_flat.specs.Shows.{begin_at}
-use Rattle.tx_flat.proofs.Fetched.{fetched_inside, some_length}
+use Rattle.tx_private.specs.Shows.{begin_at}
+use Rattle.tx_private.proofs.Fetched.{fetched_inside, some_length}
 
 -- ---- the begin lies in storage
 

@@ -13,9 +13,10 @@ use Rattle.z_regs.proofs.Exchange.{absolute_within, absolute_twice}
 use Rattle.tx_footprint.specs.Places.{has_place, stores, lies_in}
 use Rattle.tx_footprint.specs.Sizes.{line_size}
 use Rattle.tx_footprint.proofs.Spans.{span_is, no_bytes}
-use Rattle.tx_flat.specs.declared.attempt.Attempt.{Attempt}
-use Rattle.tx_flat.specs.Ready.{AreKept, Near, IsReady}
-use Rattle.tx_flat.proofs.Mended.{seen_so}
+use Rattle.tx_private.specs.declared.attempt.Attempt.{Attempt}
+use Rattle.tx_private.specs.Ready.{IsReady}
+use Rattle.tx_flat.specs.Near.{AreKept, Near}
+use Rattle.tx_private.proofs.Turned.{seen_so}
 
 -- ---- tests of lines
 

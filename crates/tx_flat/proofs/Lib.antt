@@ -1,16 +1,4 @@
--- Storage as a list and as a function, and what calls that execute leave.
-pub mod Laid
-pub mod Executed
-pub mod Fetched
-pub mod Tested
-pub mod Inside
-pub mod Settled
-pub mod Refusing
-pub mod Moving
-pub mod Going
-pub mod Ready
-pub mod Resting
-pub mod Ended
+-- What entries leave of storage, of the slot of their CPU, and of the copies.
 pub mod Applied
 pub mod Begun
 pub mod Room
@@ -18,6 +6,4 @@ pub mod Aborted
 pub mod Stepping
 pub mod Machines
 pub mod Near
-pub mod Mended
-pub mod OwnCauses
 pub mod Kept

@@ -22,7 +22,7 @@ use Rattle.tx_serial.specs.History.{start_of, cpu_at, no_cpu}
 use Rattle.tx_serial.specs.Text.{IsKept}
 use Rattle.tx_serial.proofs.Starting.{start_kept}
 use Rattle.tx_serial.proofs.TextKept.{entry_keeps}
-use Rattle.tx_flat.specs.Bytes.{function_of}
+use Rattle.tx_private.specs.Bytes.{function_of}
 use Rattle.tx_flat.specs.declared.slot.ApplyFault.{ApplyFault}
 use Rattle.tx_flat.specs.declared.slot.ApplyFault.TheVariants.{Memory, Misfit}
 use Rattle.tx_flat.specs.declared.slot.Block.{Block}
@@ -289,10 +289,6 @@ sound_there s t g xs i x y e (Ok u) inside is at all sound =
     sound_after s t g xs i y e sound (applied_there s t g xs i x y e inside is at all)
 sound_there s t g xs i x y e (Err fault) inside is at h sound =
     subst IsSound (sym (unchanged_there s t g xs i x y e fault is h)) sound
-
-pub sound_still : (s t : List ℕ) (g : FinSet nat_cmp) (xs : List Slot) → parts_of t g xs ≡ parts_of s g xs
-    → IsSound (parts_of s g xs) → IsSound (parts_of t g xs)
-sound_still s t g xs same sound = subst IsSound (sym same) sound
 
 -- ---- the start
 

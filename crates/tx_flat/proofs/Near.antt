@@ -28,18 +28,18 @@ use Rattle.tx_serial.proofs.Copies.{run_copy, run_lasting, run_prefix}
 use Rattle.tx_serial.proofs.Listed.{bytes_below_at}
 use Rattle.tx_serial.proofs.StoredBytes.{stored_size, Fills}
 use Rattle.tx_serial.proofs.StoredPlaces.{stored_places, operands_there, small_operands, filled}
-use Rattle.tx_flat.specs.Bytes.{function_of}
-use Rattle.tx_flat.specs.Done.{IsExecuted, outcome_at}
-use Rattle.tx_flat.specs.declared.attempt.Attempt.{Attempt}
-use Rattle.tx_flat.specs.declared.execution.Completion.{Completion}
-use Rattle.tx_flat.specs.Ready.{Near}
-use Rattle.tx_flat.specs.Shows.{Shows, IsRunOf, mark_of}
-use Rattle.tx_flat.proofs.Fetched.{copy_size}
-use Rattle.tx_flat.proofs.Inside.{inside, in_storage}
-use Rattle.tx_flat.proofs.Laid.{length-bytes}
-use Rattle.tx_flat.proofs.Moving.{none_refuses}
-use Rattle.tx_flat.proofs.Resting.{some_state}
-use Rattle.tx_flat.proofs.Settled.{same_outcome, stored_copy}
+use Rattle.tx_private.specs.Bytes.{function_of}
+use Rattle.tx_private.specs.Done.{IsExecuted, outcome_at}
+use Rattle.tx_private.specs.declared.attempt.Attempt.{Attempt}
+use Rattle.tx_private.specs.declared.execution.Completion.{Completion}
+use Rattle.tx_flat.specs.Near.{Near}
+use Rattle.tx_private.specs.Shows.{Shows, IsRunOf, mark_of}
+use Rattle.tx_private.proofs.Fetched.{copy_size}
+use Rattle.tx_private.proofs.Inside.{inside, in_storage}
+use Rattle.tx_private.proofs.Laid.{length-bytes}
+use Rattle.tx_private.proofs.Moving.{none_refuses}
+use Rattle.tx_private.proofs.Resting.{some_state}
+use Rattle.tx_private.proofs.Settled.{same_outcome, stored_copy}
 
 -- ---- stores to other lines
 

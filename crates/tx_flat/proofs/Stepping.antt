@@ -23,22 +23,22 @@ use Rattle.tx_serial.specs.Flat.{Storage, FlatState, at_put, bytes_of, laid_over
 use Rattle.tx_serial.specs.Remains.{waiting_with}
 use Rattle.tx_serial.specs.Run.{run as runs, outcome_of}
 use Rattle.tx_serial.proofs.Passing.{goes_where_passes}
-use Rattle.tx_flat.specs.declared.attempt.Attempt.{Attempt}
-use Rattle.tx_flat.specs.declared.execution.Completion.{Completion}
-use Rattle.tx_flat.specs.declared.execution.Completion.TheVariants as completion
+use Rattle.tx_private.specs.declared.attempt.Attempt.{Attempt}
+use Rattle.tx_private.specs.declared.execution.Completion.{Completion}
+use Rattle.tx_private.specs.declared.execution.Completion.TheVariants as completion
 use Rattle.tx_flat.specs.declared.slot.ApplyFault.{ApplyFault}
 use Rattle.tx_flat.specs.declared.slot.ApplyFault.TheVariants.{Memory, Misfit}
 use Rattle.tx_flat.specs.declared.slot.Slot.{Slot}
-use Rattle.tx_flat.specs.Bytes.{function_of}
-use Rattle.tx_flat.specs.Done.{IsExecuted, completion_of, outcome_at}
+use Rattle.tx_private.specs.Bytes.{function_of}
+use Rattle.tx_private.specs.Done.{IsExecuted, completion_of, outcome_at}
 use Rattle.tx_flat.specs.Outside.{HasStopped, HasEnded, IsPerformed, cpu_ended, waiting_ended}
-use Rattle.tx_flat.specs.Shows.{Shows}
+use Rattle.tx_private.specs.Shows.{Shows}
 use Rattle.tx_flat.specs.Slots.{Holds, holding, pending_of, IsApplied}
 use Rattle.tx_flat.proofs.Applied.{held, put_back, seen_back}
-use Rattle.tx_flat.proofs.Inside.{inside}
-use Rattle.tx_flat.proofs.Fetched.{copy_size}
-use Rattle.tx_flat.proofs.Laid.{listed, ends}
-use Rattle.tx_flat.proofs.Settled.{same_outcome, stored_copy, ends_still}
+use Rattle.tx_private.proofs.Inside.{inside}
+use Rattle.tx_private.proofs.Fetched.{copy_size}
+use Rattle.tx_private.proofs.Laid.{listed, ends}
+use Rattle.tx_private.proofs.Settled.{same_outcome, stored_copy, ends_still}
 
 -- ---- what an instruction leaves
 

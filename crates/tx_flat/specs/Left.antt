@@ -10,9 +10,9 @@ use Rattle.tx_abort.specs.Block.{block}
 use Rattle.tx_abort.specs.Registers.{with_restored}
 use Rattle.tx_serial.specs.Flat.{Pending}
 use Rattle.tx_serial.specs.Remains.{aborted_bit, interrupted_after, pending_after, waiting_after}
-use Rattle.tx_flat.specs.declared.attempt.Attempt.{Attempt}
-use Rattle.tx_flat.specs.declared.attempt.Mark.{Mark}
-use Rattle.tx_flat.specs.declared.attempt.Mark.TheVariants.{Open, Committed, Overflowed, Missing}
+use Rattle.tx_private.specs.declared.attempt.Attempt.{Attempt}
+use Rattle.tx_private.specs.declared.attempt.Mark.{Mark}
+use Rattle.tx_private.specs.declared.attempt.Mark.TheVariants.{Open, Committed, Overflowed, Missing}
 
 -- the interruption code has room for the bit that tells of an aborted transaction
 abbrev pub HasRoom : Why → Type 0

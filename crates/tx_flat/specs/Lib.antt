@@ -1,14 +1,7 @@
--- What the machine's parts show.
-pub mod Bytes
-pub mod Done
-pub mod Reading
-pub mod Shows
-pub mod Refused
-pub mod Coming
-pub mod Moved
+-- What the machine's parts show, and what entries leave of them.
+pub mod Near
 pub mod Slots
 pub mod Left
 pub mod Outside
 pub mod Machine
 pub mod Open
-pub mod Ready

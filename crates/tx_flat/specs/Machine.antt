@@ -10,7 +10,7 @@ use Rattle.tx_serial.specs.Apply.{apply, interruption_code}
 use Rattle.tx_serial.specs.Flat.{FlatState, Pending}
 use Rattle.tx_serial.specs.History.{no_cpu}
 use Rattle.tx_serial.specs.Text.{IsKept}
-use Rattle.tx_flat.specs.Bytes.{function_of}
+use Rattle.tx_private.specs.Bytes.{function_of}
 use Rattle.tx_flat.specs.declared.slot.ApplyFault.{ApplyFault}
 use Rattle.tx_flat.specs.declared.slot.ApplyFault.TheVariants.{Memory, Misfit}
 use Rattle.tx_flat.specs.declared.slot.Slot.{Slot}

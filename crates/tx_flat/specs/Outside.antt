@@ -13,8 +13,8 @@ use Rattle.tx_serial.specs.Fate.{operands}
 use Rattle.tx_serial.specs.Flat.{FlatState}
 use Rattle.tx_serial.specs.Remains.{waiting_with}
 use Rattle.tx_serial.specs.Run.{outcome_of}
-use Rattle.tx_flat.specs.declared.execution.Completion.{Completion}
-use Rattle.tx_flat.specs.declared.execution.Completion.TheVariants.{Completed, Overflowed, Divides, Aborts}
+use Rattle.tx_private.specs.declared.execution.Completion.{Completion}
+use Rattle.tx_private.specs.declared.execution.Completion.TheVariants.{Completed, Overflowed, Divides, Aborts}
 use Rattle.tx_flat.specs.declared.slot.ApplyFault.{ApplyFault}
 use Rattle.tx_flat.specs.declared.slot.ApplyFault.TheVariants.{Memory, Misfit}
 use Rattle.tx_flat.specs.declared.slot.Slot.{Slot}

@@ -6,7 +6,7 @@ use Rattle.z_regs.specs.declared.image.RunState.{RunState}
 use Rattle.tx_serial.specs.Apply.{is_running}
 use Rattle.tx_serial.specs.Attempt as run
 use Rattle.tx_serial.specs.Flat.{FlatState, Pending, at_put}
-use Rattle.tx_flat.specs.Bytes.{function_of}
+use Rattle.tx_private.specs.Bytes.{function_of}
 use Rattle.tx_flat.specs.declared.slot.Slot.{Slot}
 use Rattle.tx_flat.specs.declared.slot.Block.{Block}
 use Rattle.tx_flat.specs.declared.slot.ApplyFault.{ApplyFault}

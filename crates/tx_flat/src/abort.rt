@@ -8,16 +8,16 @@ ghost use Rattle.tx_serial.specs.Apply.{apply};
 ghost use Rattle.tx_serial.specs.Remains.{pending_after, waiting_after as waits_after};
 ghost use Rattle.tx_flat.specs.Left.{HasRoom, told_by, resumed_by, cpu_left, pending_left, waiting_left};
 ghost use Rattle.tx_flat.specs.Slots.{IsApplied, pending_of};
-ghost use Rattle.tx_flat.specs.Ready.{IsReady};
+ghost use Rattle.tx_private.specs.Ready.{IsReady};
 
-use crate::attempt::{Attempt, Mark};
-use crate::ending::fits;
 use crate::entries::may_act;
 use crate::mending::{forget_plain_stores, give_up, keep_stored};
-use crate::refusals::constrains;
-use crate::running::run;
 use crate::slot::{ApplyFault, Block, Slot};
 use tx_abort::{block_of, condition_of, restore};
+use tx_private::attempt::{Attempt, Mark};
+use tx_private::ending::fits;
+use tx_private::refusals::constrains;
+use tx_private::running::run;
 use tx_control::Why;
 use z_regs::{CpuImage, Guard, RunState, Storage, Waiting};
 

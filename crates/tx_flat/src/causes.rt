@@ -6,16 +6,17 @@ ghost use Rattle.z_regs.specs.Prefix.{storage_size, is_prefix};
 ghost use Rattle.tx_serial.specs.Ending.{ending as ending_of};
 ghost use Rattle.tx_serial.specs.Flat.{FlatState};
 ghost use Rattle.tx_serial.specs.Run.{run as run_of};
-ghost use Rattle.tx_flat.specs.Bytes.{function_of};
-ghost use Rattle.tx_flat.specs.Ready.{IsReady, Near};
-ghost use Rattle.tx_flat.specs.Shows.{mark_of};
+ghost use Rattle.tx_private.specs.Bytes.{function_of};
+ghost use Rattle.tx_private.specs.Ready.{IsReady};
+ghost use Rattle.tx_flat.specs.Near.{Near};
+ghost use Rattle.tx_private.specs.Shows.{mark_of};
 ghost use Rattle.tx_serial.specs.Attempt.{Missing};
 ghost use Rattle.tx_footprint.specs.Touched.{sets_of};
 
-use crate::attempt::{Attempt, Mark};
-use crate::ending::ending;
 use crate::mending::{give_up, restore};
-use crate::running::run;
+use tx_private::attempt::{Attempt, Mark};
+use tx_private::ending::ending;
+use tx_private::running::run;
 use tx_control::Why;
 use z_regs::{CpuImage, Guard, Storage};
 

@@ -4,16 +4,16 @@ ghost use Rattle.std.specs.FinSet.{items};
 ghost use Rattle.z_regs.specs.Prefix.{storage_size};
 ghost use Rattle.tx_serial.specs.Apply.{apply};
 ghost use Rattle.tx_flat.specs.Machine.{of_cpu};
-ghost use Rattle.tx_flat.specs.Ready.{IsReady};
+ghost use Rattle.tx_private.specs.Ready.{IsReady};
 ghost use Rattle.tx_flat.specs.Slots.{IsApplied};
 ghost use Rattle.tx_flat.specs.declared.slot.Block.{Block};
 
 use crate::abort::{Ended, abort};
-use crate::attempt::Attempt;
 use crate::entries::{commit, store_block};
 use crate::interruption::take;
 use crate::outside::step;
 use crate::slot::{ApplyFault, Slot};
+use tx_private::attempt::Attempt;
 use tx_journal::Entry;
 use z_regs::{Guard, Storage};
 

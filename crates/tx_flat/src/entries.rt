@@ -7,14 +7,15 @@ ghost use Rattle.tx_serial.specs.Apply.{apply};
 ghost use Rattle.tx_journal.specs.declared.entries.Entry.TheVariants as entry;
 ghost use Rattle.tx_flat.specs.Slots.{IsApplied, acts, commits, pending_of};
 ghost use Rattle.tx_flat.specs.declared.slot.Block.{Block};
-ghost use Rattle.tx_flat.specs.Shows.{mark_of};
-ghost use Rattle.tx_flat.specs.Ready.{IsReady};
+ghost use Rattle.tx_private.specs.Shows.{mark_of};
+ghost use Rattle.tx_private.specs.Ready.{IsReady};
 
-use crate::attempt::{Attempt, Mark};
-use crate::mending::{follow_bytes, give_up, keep_stored, turn};
-use crate::running::run;
+use crate::mending::{follow_bytes, give_up, keep_stored};
 use crate::slot::{ApplyFault, Slot};
-use crate::storing::store_bytes;
+use tx_private::attempt::{Attempt, Mark};
+use tx_private::running::run;
+use tx_private::storing::store_bytes;
+use tx_private::turning::turn;
 use z_regs::{Guard, RunState, Storage};
 
 /// Whether a CPU runs, and nothing is pending for it.

@@ -7,22 +7,23 @@ ghost use Rattle.tx_serial.specs.Changes.{cpu_of_entry as cpu_in};
 ghost use Rattle.tx_serial.specs.History.{start_of};
 ghost use Rattle.tx_flat.specs.Machine.{state_of, slot_parts, fresh, code_waiting, Applies};
 ghost use Rattle.tx_flat.specs.Open.{IsOpen};
+ghost use Rattle.tx_private.specs.Ready.{IsReady};
 ghost use Rattle.tx_serial.specs.Attempt.{Open};
 ghost use Rattle.tx_serial.specs.Ending.{ending};
 ghost use Rattle.tx_serial.specs.Flat.{address_of, bytes_of};
 ghost use Rattle.tx_serial.specs.Run.{run};
 
-use crate::attempt::Attempt;
 use crate::causes::own_cause;
 use crate::dispatch::apply_to;
 use crate::interruption::code_of;
-use crate::known::Readings;
-use crate::mending::is_whole;
-use crate::running::fresh;
 use crate::showing::{OpenRun, open_run};
 use crate::slot::{ApplyFault, Slot};
 use std::alloc::Global;
 use std::marker::Model;
+use tx_private::attempt::Attempt;
+use tx_private::copying::is_whole;
+use tx_private::known::Readings;
+use tx_private::running::fresh;
 use tx_control::Why;
 use tx_journal::{Entry, Image};
 use z_regs::{CpuImage, Guard, NoMemory, PAGES, Storage};
@@ -50,7 +51,7 @@ impl Model for Flat {
     ghost Value = { Parts };
 
     ghost use Rattle.tx_flat.specs.Machine.{IsSound};
-    ghost use Rattle.tx_flat.specs.Ready.{IsReady};
+    ghost use Rattle.tx_private.specs.Ready.{IsReady};
 
     ghost view = { λ f. parts_of f.storage f.guard f.slots.items };
 
@@ -112,6 +113,15 @@ fn fresh_slots(alloc: Global, cpus: &[CpuImage]) -> Result<Vec<Slot>, NoMemory>
     Ok(slots)
 }
 
+/// Copies of storage to work on, with the instructions of an image.
+fn copies_of(alloc: Global, storage: &Storage, image: &Image) -> Result<Attempt, NoMemory>
+    requires { length storage.now ≡ storage_size }
+    ensures { IfOk result (λ work. IsReady storage.now work) }
+{
+    let readings = Readings::open(alloc, image)?;
+    fresh(alloc, storage, readings)
+}
+
 /// The address of the block that is pending.
 fn block_address(slot: &Slot) -> Option<u64>
     ensures { result ≡ address_of (slot_parts slot.now).pending }
@@ -151,8 +161,7 @@ impl Flat {
         let guard = same_pages(&image.guard);
         let slots = fresh_slots(alloc, image.cpus.as_slice())?;
         is_whole(&storage);
-        let readings = Readings::open(alloc, image)?;
-        let work = fresh(alloc, &storage, readings)?;
+        let work = copies_of(alloc, &storage, image)?;
         Ok(Flat {
             storage,
             guard,
@@ -224,7 +233,7 @@ impl Flat {
     }
 
     /// All of storage.
-    #[tactic(auto, using(crate::proofs::Laid::listed))]
+    #[tactic(auto, using(tx_private::proofs::Laid::listed))]
     pub fn storage(&self) -> &Storage
         ensures { result.now ≡ bytes_of (state_of self.now).storage }
     {

@@ -6,14 +6,15 @@ ghost use Rattle.tx_serial.specs.Apply.{apply, interruption_code, new_psw, with_
 ghost use Rattle.tx_serial.specs.Apply.{with_stored_interruption};
 ghost use Rattle.tx_serial.specs.Flat.{bytes_seen};
 ghost use Rattle.tx_journal.specs.declared.entries.Entry.TheVariants as entry;
-ghost use Rattle.tx_flat.specs.Bytes.{function_of};
+ghost use Rattle.tx_private.specs.Bytes.{function_of};
 ghost use Rattle.tx_flat.specs.Slots.{IsApplied};
-ghost use Rattle.tx_flat.specs.Ready.{IsReady, IsTurned};
+ghost use Rattle.tx_private.specs.Ready.{IsReady, IsTurned};
 
-use crate::attempt::Attempt;
-use crate::mending::{is_whole, turn};
 use crate::slot::{ApplyFault, Slot};
-use crate::storing::store_bytes;
+use tx_private::attempt::Attempt;
+use tx_private::copying::is_whole;
+use tx_private::storing::store_bytes;
+use tx_private::turning::turn;
 use z_regs::{Bytes, CpuImage, RunState, Storage, Waiting, load_psw, place_of, psw_of};
 
 /// The real addresses of the length and the code, of the old program status word, of the new one, and of the

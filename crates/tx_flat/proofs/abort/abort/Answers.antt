@@ -1,7 +1,7 @@
 use Rattle.std.proofs.Common.{refl, sym, ap, ◌∙◌, subst, false, true}
 use Rattle.z_regs.specs.Seen.{seen_by}
-use Rattle.tx_flat.specs.declared.attempt.Attempt.{Attempt}
-use Rattle.tx_flat.specs.Ready.{Near}
+use Rattle.tx_private.specs.declared.attempt.Attempt.{Attempt}
+use Rattle.tx_flat.specs.Near.{Near}
 use Rattle.tx_flat.proofs.Near.{near_seen, near_lasting}
 use Rattle.tx_footprint.specs.Touched.{sets_of}
 use Rattle.z_regs.specs.Prefix.{is_prefix}
@@ -9,7 +9,7 @@ use Rattle.std.specs.FinSet.{items}
 use Rattle.z_regs.specs.Cpu.{cpu_of}
 use Rattle.tx_flat.proofs.Aborted.{is_begun, is_inside, has_room, aborted, is_there_where_it_fits, may_not_abort, none_aborted, unfit}
 use Rattle.tx_flat.proofs.Applied.{may}
-use Rattle.tx_flat.proofs.Resting.{some_run}
+use Rattle.tx_private.proofs.Resting.{some_run}
 use Rattle.tx_flat.proofs.abort.abort.Goals as goal
 
 pub returns-then-not-may_act-clause-applied : goal.returns-then-not-may_act-clause-applied

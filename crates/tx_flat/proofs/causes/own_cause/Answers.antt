@@ -3,11 +3,11 @@ use Rattle.std.specs.FinSet.{items}
 use Rattle.z_regs.specs.Cpu.{cpu_of}
 use Rattle.z_regs.specs.Prefix.{is_prefix}
 use Rattle.tx_footprint.specs.Touched.{sets_of}
-use Rattle.tx_flat.specs.declared.attempt.Attempt.{Attempt}
-use Rattle.tx_flat.specs.Ready.{Near}
-use Rattle.tx_flat.specs.Shows.{mark_of}
+use Rattle.tx_private.specs.declared.attempt.Attempt.{Attempt}
+use Rattle.tx_flat.specs.Near.{Near}
+use Rattle.tx_private.specs.Shows.{mark_of}
 use Rattle.tx_flat.proofs.Near.{near_seen, near_lasting}
-use Rattle.tx_flat.proofs.Resting.{some_run}
+use Rattle.tx_private.proofs.Resting.{some_run}
 use Rattle.tx_flat.proofs.causes.own_cause.Goals as goal
 
 pub ending-why-requires : goal.ending-why-requires

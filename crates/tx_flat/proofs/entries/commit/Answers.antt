@@ -3,7 +3,7 @@ use Rattle.z_regs.specs.Prefix.{is_prefix}
 use Rattle.z_regs.specs.Seen.{seen_by}
 use Rattle.std.specs.FinSet.{items}
 use Rattle.z_regs.specs.Cpu.{cpu_of}
-use Rattle.tx_flat.specs.Shows.{mark_of}
+use Rattle.tx_private.specs.Shows.{mark_of}
 use Rattle.tx_flat.proofs.Applied.{may, may_not, committed, not_committed, is_committed, is_not}
 use Rattle.tx_flat.proofs.Near.{near_seen, near_lasting, committed_there}
 use Rattle.tx_flat.proofs.entries.commit.Goals as goal

@@ -2,8 +2,8 @@ use Rattle.std.proofs.Common.{sym, ap, refl, None, ◌∙◌}
 use Rattle.z_regs.specs.Prefix.{is_prefix}
 use Rattle.z_regs.specs.Cpu.{cpu_of}
 use Rattle.tx_serial.specs.Apply.{with_stored_interruption}
-use Rattle.tx_flat.specs.Bytes.{function_of}
-use Rattle.tx_flat.proofs.Mended.{same_storage, unprefixed}
+use Rattle.tx_private.specs.Bytes.{function_of}
+use Rattle.tx_private.proofs.Turned.{same_storage, unprefixed}
 use Rattle.tx_flat.proofs.interruption.follow_interruption.Goals as goal
 
 pub returns : goal.returns

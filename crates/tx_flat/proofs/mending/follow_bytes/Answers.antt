@@ -1,8 +1,8 @@
 use Rattle.std.proofs.Common.{refl, sym, ap, ◌∙◌, None}
 use Rattle.z_regs.specs.Prefix.{is_prefix}
 use Rattle.tx_serial.specs.Flat.{with_bytes_at}
-use Rattle.tx_flat.specs.Bytes.{function_of}
-use Rattle.tx_flat.proofs.Mended.{same_storage, unprefixed}
+use Rattle.tx_private.specs.Bytes.{function_of}
+use Rattle.tx_private.proofs.Turned.{same_storage, unprefixed}
 use Rattle.tx_flat.proofs.mending.follow_bytes.Goals as goal
 
 pub returns : goal.returns

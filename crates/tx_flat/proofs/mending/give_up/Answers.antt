@@ -1,5 +1,5 @@
 use Rattle.std.proofs.Common.{refl, None, arith}
-use Rattle.tx_flat.proofs.Mended.{seen_so}
+use Rattle.tx_private.proofs.Turned.{seen_so}
 use Rattle.tx_flat.proofs.mending.give_up.Goals as goal
 
 pub returns : goal.returns

@@ -1,6 +1,6 @@
 use Rattle.std.proofs.Common.{refl, ap, ◌∙◌, ◌+◌, ◌-◌, ◌/◌, ◌≡◌, false, true, arith}
 use Rattle.bit_set.specs.Counts.{but_at}
-use Rattle.tx_flat.specs.declared.attempt.Attempt.{Attempt}
+use Rattle.tx_private.specs.declared.attempt.Attempt.{Attempt}
 use Rattle.tx_flat.proofs.Kept.{fewer_kept, without, outside, outside_none, outside_more, no_store, no_length, whole_range, kept_with, kept_before, not_not}
 use Rattle.tx_flat.proofs.mending.keep_range.Goals as goal
 

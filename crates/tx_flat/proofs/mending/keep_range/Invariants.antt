@@ -1,6 +1,6 @@
 use Rattle.std.proofs.Common.{◌≡◌, ℕ, Bool, length}
 use Rattle.z_regs.specs.Prefix.{storage_size}
-use Rattle.tx_flat.specs.Ready.{AreKept}
+use Rattle.tx_flat.specs.Near.{AreKept}
 use Rattle.tx_flat.proofs.Kept.{outside}
 use Rattle.tx_flat.proofs.mending.keep_range.Given as goal
 

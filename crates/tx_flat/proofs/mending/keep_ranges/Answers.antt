@@ -1,7 +1,7 @@
 use Rattle.std.proofs.Common.{refl, ap, ◌∙◌, ◌+◌, drop, arith}
 use Rattle.tx_footprint.specs.Places.{stores}
 use Rattle.tx_footprint.proofs.Marking.{storage_at}
-use Rattle.tx_flat.specs.declared.attempt.Attempt.{Attempt}
+use Rattle.tx_private.specs.declared.attempt.Attempt.{Attempt}
 use Rattle.tx_flat.proofs.Kept.{kept_at_first, fewer_kept, without, next_range, rest_of, none_left, kept_with, kept_before, all_kept, all_ready}
 use Rattle.tx_flat.proofs.mending.keep_ranges.Goals as goal
 

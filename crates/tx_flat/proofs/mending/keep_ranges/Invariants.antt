@@ -1,7 +1,7 @@
 use Rattle.std.proofs.Common.{◌≡◌, length, drop}
 use Rattle.z_regs.specs.Prefix.{storage_size}
 use Rattle.tx_footprint.specs.Places.{stores}
-use Rattle.tx_flat.specs.Ready.{AreKept}
+use Rattle.tx_flat.specs.Near.{AreKept}
 use Rattle.tx_flat.proofs.mending.keep_ranges.Given as goal
 
 abbrev pub invariant-loop-i : goal.invariant-loop-i

@@ -2,7 +2,7 @@ use Rattle.std.proofs.Common.{refl, ap, ◌∙◌, ◌+◌, false, subst}
 use Rattle.bit_set.specs.Counts.{but_at}
 use Rattle.bit_set.specs.Bits.{IsNext, NoneMarked}
 use Rattle.tx_footprint.specs.Touched.{sets_of}
-use Rattle.tx_flat.specs.declared.attempt.Attempt.{Attempt}
+use Rattle.tx_private.specs.declared.attempt.Attempt.{Attempt}
 use Rattle.tx_flat.proofs.Kept.{kept_at_first, fewer_kept, later, later_all, later_next, later_none, kept_with, kept_before, all_kept, all_ready}
 use Rattle.tx_flat.proofs.mending.keep_stored.Goals as goal
 

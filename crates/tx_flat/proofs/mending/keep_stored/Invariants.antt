@@ -1,7 +1,7 @@
 use Rattle.std.proofs.Common.{◌≡◌, ◌-◌, length}
 use Rattle.z_regs.specs.Prefix.{storage_size}
 use Rattle.tx_footprint.specs.Touched.{sets_of}
-use Rattle.tx_flat.specs.Ready.{AreKept}
+use Rattle.tx_flat.specs.Near.{AreKept}
 use Rattle.tx_flat.proofs.Kept.{later}
 use Rattle.tx_flat.proofs.mending.keep_stored.Given as goal
 

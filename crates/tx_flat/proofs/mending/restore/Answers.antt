@@ -4,7 +4,7 @@ use Rattle.bit_set.specs.Bits.{IsNext, NoneMarked}
 use Rattle.z_regs.specs.Prefix.{is_prefix}
 use Rattle.z_regs.specs.Seen.{seen_by}
 use Rattle.tx_footprint.specs.Touched.{sets_of}
-use Rattle.tx_flat.specs.declared.attempt.Attempt.{Attempt}
+use Rattle.tx_private.specs.declared.attempt.Attempt.{Attempt}
 use Rattle.tx_flat.proofs.Kept.{fewer_near, later, later_all, later_next, later_none, near_with, near_before, all_near}
 use Rattle.tx_flat.proofs.mending.restore.Goals as goal
 

@@ -1,6 +1,6 @@
 use Rattle.std.proofs.Common.{◌≡◌, ◌-◌}
 use Rattle.tx_footprint.specs.Touched.{sets_of}
-use Rattle.tx_flat.specs.Ready.{Near}
+use Rattle.tx_flat.specs.Near.{Near}
 use Rattle.tx_flat.proofs.Kept.{later}
 use Rattle.tx_flat.proofs.mending.restore.Given as goal
 

@@ -6,8 +6,8 @@ use Rattle.z_regs.specs.Prefix.{is_prefix}
 use Rattle.z_regs.specs.Seen.{seen_by}
 use Rattle.tx_footprint.specs.Places.{stores}
 use Rattle.tx_serial.specs.Attempt.{at_rest}
-use Rattle.tx_flat.specs.Bytes.{function_of}
-use Rattle.tx_flat.proofs.Ended.{inside_by}
+use Rattle.tx_private.specs.Bytes.{function_of}
+use Rattle.tx_private.proofs.Ended.{inside_by}
 use Rattle.tx_flat.proofs.Near.{step_inside, step_lasting, near_step}
 use Rattle.tx_flat.proofs.Stepping.{performed, performs}
 use Rattle.tx_flat.proofs.outside.perform.Goals as goal

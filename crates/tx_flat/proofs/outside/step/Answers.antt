@@ -2,7 +2,7 @@ use Rattle.std.proofs.Common.{refl, sym, ◌∙◌, true, false}
 use Rattle.std.specs.FinSet.{items}
 use Rattle.std.specs.Prelude.{Ok}
 use Rattle.tx_serial.specs.Fate.{Ends}
-use Rattle.tx_flat.specs.Bytes.{function_of}
+use Rattle.tx_private.specs.Bytes.{function_of}
 use Rattle.tx_flat.proofs.Applied.{may}
 use Rattle.tx_flat.proofs.Stepping.{no_step, step_by, begun, interrupted, stepped_as}
 use Rattle.tx_flat.proofs.outside.step.Goals as goal

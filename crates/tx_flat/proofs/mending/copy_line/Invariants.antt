@@ -1,6 +1,0 @@
-use Rattle.std.proofs.Common.{◌*◌}
-use Rattle.tx_flat.proofs.Mended.{Copied}
-use Rattle.tx_flat.proofs.mending.copy_line.Given as goal
-
-abbrev pub invariant-loop-item : goal.invariant-loop-item
-invariant-loop-item l = Copied l.from l.initial.to l.to (256 * l.line) (256 * l.from_line) (8 * l.item)
