@@ -20,8 +20,8 @@ use Rattle.z_fields.specs.declared.fault.Kind.TheVariants.{OutOfRange, BadDirect
 use Rattle.z_operands.specs.declared.operand.Operand.{Operand}
 use Rattle.z_operands.specs.declared.operation.Operation.TheVariants as operations
 use Rattle.z_reading.specs.Listing.{Plan, Task, line_gives, operation_line, cpu_line, end_line, tasked, operands_in}
-use Rattle.z_reading.specs.Machine.{Machine, Known, task_gives, read_again, tokens_in, tokens_or, directive_line}
-use Rattle.z_reading.specs.Machine.{entry_line, with_address, change_at}
+use Rattle.z_setup.specs.Machine.{Machine, Known, task_gives, read_again, tokens_in, tokens_or, directive_line}
+use Rattle.z_setup.specs.Machine.{entry_line, with_address, change_at}
 use Rattle.z_reading.specs.Text.{copies, lines_of}
 use Rattle.z_assemble.specs.Whole.{blank, ready, ready_for, known_in, image_of, First, Second, Stands}
 use Rattle.z_deck.specs.Listing.{listing_of, placing_lines, block_lines, org_line, data_line, block_at}

@@ -13,9 +13,9 @@ use Rattle.z_operands.specs.declared.operand.Operand.{Operand}
 use Rattle.z_operands.specs.declared.operation.Operation.{Operation}
 use Rattle.z_operands.specs.declared.operation.Operation.TheVariants as operations
 use Rattle.z_reading.specs.Listing.{Task, operands_in}
-use Rattle.z_reading.specs.Machine.{Machine, Known, task_gives, read_again, tokens_in, tokens_or, code_line}
-use Rattle.z_reading.specs.Machine.{directive_line, entry_line, show_line, shown, with_address, change_at}
-use Rattle.z_reading.specs.Machine.{size_of_show, show}
+use Rattle.z_setup.specs.Machine.{Machine, Known, task_gives, read_again, tokens_in, tokens_or, code_line}
+use Rattle.z_setup.specs.Machine.{directive_line, entry_line, show_line, shown, with_address, change_at}
+use Rattle.z_setup.specs.Machine.{size_of_show, show}
 use Rattle.z_reading.specs.Text.{write_at}
 use Rattle.listing_laws.proofs.Words.{Word, tokens_for}
 use Rattle.listing_laws.proofs.Lines.{line_with, IsSaid, words_at}

@@ -19,8 +19,8 @@ use Rattle.z_operands.specs.declared.operation.Operation.{Operation}
 use Rattle.z_operands.specs.declared.operation.Operation.TheVariants.{Instruction}
 use Rattle.z_reading.specs.Listing.{Plan, line_gives, instruction_line, operation_line, by_kind}
 use Rattle.z_reading.specs.Listing.{said_line, operation_in, named_line, operands_in}
-use Rattle.z_reading.specs.Machine.{Machine, Known, task_gives, read_again, tokens_in, tokens_or}
-use Rattle.z_reading.specs.Machine.{code_line}
+use Rattle.z_setup.specs.Machine.{Machine, Known, task_gives, read_again, tokens_in, tokens_or}
+use Rattle.z_setup.specs.Machine.{code_line}
 use Rattle.z_reading.specs.Text.{write_at}
 use Rattle.listing_laws.specs.Printed.{TakesAgain, GivesBack}
 use Rattle.listing_laws.proofs.Words.{tokens_for}

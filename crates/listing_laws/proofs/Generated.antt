@@ -12,7 +12,7 @@ use Rattle.z_operands.specs.Operations.{operation_named, size_of_row}
 use Rattle.z_operands.specs.Values.{Table}
 use Rattle.z_operands.specs.declared.operation.Operation.TheVariants.{Instruction}
 use Rattle.z_reading.specs.Listing.{Plan, Task, line_gives, table_with, is_defined}
-use Rattle.z_reading.specs.Machine.{Known}
+use Rattle.z_setup.specs.Machine.{Known}
 use Rattle.listing_laws.proofs.Words.{Word, AreCut}
 use Rattle.listing_laws.proofs.Lines.{field, IsSaid, is_label}
 use Rattle.listing_laws.proofs.Numbers.{number, comma, number_cut, comma_cut}

@@ -12,7 +12,7 @@ use Rattle.z_fields.specs.declared.fault.Kind.TheVariants.{BadDirective, OutOfRa
 use Rattle.z_operands.specs.declared.operation.Operation.TheVariants as operations
 use Rattle.z_reading.specs.Listing.{Plan, Task, line_gives, operation_line, cpu_line, end_line, tasked}
 use Rattle.z_reading.specs.Listing.{table_with}
-use Rattle.z_reading.specs.Machine.{Machine, Known}
+use Rattle.z_setup.specs.Machine.{Machine, Known}
 use Rattle.z_reading.specs.Text.{copies}
 use Rattle.z_assemble.specs.Whole.{blank, ready, ready_for, known_in, image_of, First, Second, Stands}
 use Rattle.listing_laws.proofs.Lines.{words_at, words_lie}

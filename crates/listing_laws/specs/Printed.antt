@@ -5,7 +5,7 @@ use Rattle.z_instr.specs.Reading.{Reads}
 use Rattle.z_regs.specs.Prefix.{storage_size}
 use Rattle.z_operands.specs.declared.operation.Operation.TheVariants.{Instruction}
 use Rattle.z_reading.specs.Listing.{Plan, Task, line_gives, instruction_line}
-use Rattle.z_reading.specs.Machine.{Machine, Known, task_gives}
+use Rattle.z_setup.specs.Machine.{Machine, Known, task_gives}
 use Rattle.z_reading.specs.Text.{write_at}
 use Rattle.z_list.specs.Operands.{instruction_text}
 

@@ -16,13 +16,13 @@ use Rattle.z_operands.specs.declared.operation.Operation.{Operation}
 use Rattle.z_operands.specs.declared.operation.Operation.TheVariants as operations
 use Rattle.tx_journal.specs.declared.events.Event.{Event}
 use Rattle.z_reading.specs.Listing.{Task, operands_in, heads_in, is_below, to_nat}
-use Rattle.z_reading.specs.Machine.{Machine, Known, task_gives, read_again, tokens_in, operands_for, code_line}
-use Rattle.z_reading.specs.Machine.{directive_line, entry_line, register_line, show_line, block_line, shown}
-use Rattle.z_reading.specs.Machine.{parameter_line, named_parameter, parameter_in, prefix_line, is_register_value}
-use Rattle.z_reading.specs.Machine.{is_prefix_for, task_places_in, is_area, is_free, is_accessible, has_room_for}
-use Rattle.z_reading.specs.Machine.{is_choice, change_at, with_prefix}
+use Rattle.z_setup.specs.Machine.{Machine, Known, task_gives, read_again, tokens_in, operands_for, code_line}
+use Rattle.z_setup.specs.Machine.{directive_line, entry_line, register_line, show_line, block_line, shown}
+use Rattle.z_setup.specs.Machine.{parameter_line, named_parameter, parameter_in, prefix_line, is_register_value}
+use Rattle.z_setup.specs.Machine.{is_prefix_for, task_places_in, is_area, is_free, is_accessible, has_room_for}
+use Rattle.z_setup.specs.Machine.{is_choice, change_at, with_prefix}
 use Rattle.z_assemble.specs.Whole.{Second}
-use Rattle.z_reading.specs.declared.parameter.Parameter.{Parameter}
+use Rattle.z_setup.specs.declared.parameter.Parameter.{Parameter}
 use Rattle.statement_laws.proofs.Effects.{Effect, task_effect}
 use Rattle.schedule_laws.proofs.Moved.{later}
 

@@ -28,8 +28,8 @@ use Rattle.z_operands.specs.declared.operation.Operation.{Operation}
 use Rattle.z_operands.specs.declared.operation.Operation.TheVariants.{Sched}
 use Rattle.z_reading.specs.Listing.{Plan, Task, line_gives, by_kind, said_line, operation_in, operation_line}
 use Rattle.z_reading.specs.Listing.{field_behind, tasked, named_line}
-use Rattle.z_reading.specs.Machine.{Machine, Known, task_gives, read_again, schedule_line, tokens_in, tokens_or}
-use Rattle.z_reading.specs.Machine.{end_of}
+use Rattle.z_setup.specs.Machine.{Machine, Known, task_gives, read_again, schedule_line, tokens_in, tokens_or}
+use Rattle.z_setup.specs.Machine.{end_of}
 use Rattle.deck_laws.proofs.Rows.{Row}
 use Rattle.deck_laws.proofs.Data.{all_take, prefix_all}
 use Rattle.schedule_laws.proofs.Marks.{AreBelow, events_pass, events_capital, events_short}

@@ -15,7 +15,7 @@ use Rattle.tx_journal.specs.declared.events.Event.{Event}
 use Rattle.z_fields.specs.Pieces.{pieces_by, without_end}
 use Rattle.z_operands.specs.declared.operation.Operation.TheVariants.{Sched}
 use Rattle.z_reading.specs.Listing.{Plan, Task, line_gives}
-use Rattle.z_reading.specs.Machine.{Machine, Known, task_gives}
+use Rattle.z_setup.specs.Machine.{Machine, Known, task_gives}
 use Rattle.z_reading.specs.Text.{lines_of}
 use Rattle.z_assemble.specs.Whole.{blank, ready, ready_for, known_in, image_of, First, Second, Stands}
 use Rattle.z_assemble.proofs.Images.{AreRead, are_read}

@@ -14,7 +14,7 @@ use Rattle.z_fields.specs.declared.fault.Kind.TheVariants.{BadDirective, DoubleL
 use Rattle.z_operands.specs.declared.operation.Operation.{Operation}
 use Rattle.z_reading.specs.Listing.{Plan, by_kind, said_line, named_line, operation_line, line_gives}
 use Rattle.z_reading.specs.Listing.{is_bad_label, is_defined, label_in, operands_in, operation_in}
-use Rattle.z_reading.specs.Machine.{tokens_in, tokens_or, end_of}
+use Rattle.z_setup.specs.Machine.{tokens_in, tokens_or, end_of}
 use Rattle.statement_laws.specs.Statements.{Statement, said_by, said_with, said_on, said_from, behind}
 use Rattle.z_assemble.specs.Whole.{First}
 use Rattle.z_assemble.proofs.Passed.{unless_ok, same_ok}

@@ -14,13 +14,13 @@ use Rattle.z_operands.specs.declared.operation.Operation.{Operation}
 use Rattle.z_operands.specs.declared.operation.Operation.TheVariants as operations
 use Rattle.tx_journal.specs.declared.events.Event.{Event}
 use Rattle.z_reading.specs.Listing.{Task, operands_in, operation_in, field_behind, heads_in, to_nat}
-use Rattle.z_reading.specs.Machine.{Machine, Known, entry_line, register_line, shown, show_line, block_line}
-use Rattle.z_reading.specs.Machine.{parameter_line, prefix_line, schedule_line, code_line, named_parameter}
-use Rattle.z_reading.specs.Machine.{parameter_in, directive_line, read_again, task_gives, tokens_in}
-use Rattle.z_reading.specs.Machine.{operands_for, end_of, change_at, with_address, with_general, with_prefix}
-use Rattle.z_reading.specs.Machine.{with_parameter, is_prefix_for, show}
+use Rattle.z_setup.specs.Machine.{Machine, Known, entry_line, register_line, shown, show_line, block_line}
+use Rattle.z_setup.specs.Machine.{parameter_line, prefix_line, schedule_line, code_line, named_parameter}
+use Rattle.z_setup.specs.Machine.{parameter_in, directive_line, read_again, task_gives, tokens_in}
+use Rattle.z_setup.specs.Machine.{operands_for, end_of, change_at, with_address, with_general, with_prefix}
+use Rattle.z_setup.specs.Machine.{with_parameter, is_prefix_for, show}
 use Rattle.z_reading.specs.Text.{write_at}
-use Rattle.z_reading.specs.declared.parameter.Parameter.{Parameter}
+use Rattle.z_setup.specs.declared.parameter.Parameter.{Parameter}
 use Rattle.z_assemble.proofs.Passed.{then_ok, where_ok, same_ok}
 
 -- the next CPU has its entry

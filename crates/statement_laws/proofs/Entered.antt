@@ -11,7 +11,7 @@ use Rattle.z_operands.specs.declared.operation.Operation.{Operation}
 use Rattle.z_operands.specs.declared.operation.Operation.TheVariants as operations
 use Rattle.z_regs.specs.Cpu.{Cpu}
 use Rattle.z_reading.specs.Listing.{Plan, Task, operands_in, to_nat}
-use Rattle.z_reading.specs.Machine.{Machine, Known, tokens_in, operands_for, change_at, with_address}
+use Rattle.z_setup.specs.Machine.{Machine, Known, tokens_in, operands_for, change_at, with_address}
 use Rattle.statement_laws.specs.Statements.{Statement, value_or_none, entry_with, entry_of}
 use Rattle.z_assemble.specs.Whole.{Second}
 use Rattle.statement_laws.proofs.Acted.{Walk}

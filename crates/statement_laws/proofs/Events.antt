@@ -11,7 +11,7 @@ use Rattle.z_operands.specs.declared.operation.Operation.TheVariants as operatio
 use Rattle.z_fields.specs.declared.schedule.Run.{Run}
 use Rattle.tx_journal.specs.declared.events.Event.{Event}
 use Rattle.z_reading.specs.Listing.{Plan, Task, operation_in, field_behind}
-use Rattle.z_reading.specs.Machine.{Machine, Known, tokens_in, end_of}
+use Rattle.z_setup.specs.Machine.{Machine, Known, tokens_in, end_of}
 use Rattle.statement_laws.specs.Statements.{Statement, events_of_run, events_of_item, events_of_field}
 use Rattle.statement_laws.specs.Statements.{events_with}
 use Rattle.statement_laws.specs.Statements.{events_of}

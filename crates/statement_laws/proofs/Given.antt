@@ -16,9 +16,9 @@ use Rattle.z_operands.specs.declared.operation.Operation.{Operation}
 use Rattle.z_operands.specs.declared.operation.Operation.TheVariants as operations
 use Rattle.z_regs.specs.Cpu.{Cpu}
 use Rattle.z_reading.specs.Listing.{Plan, Task, operands_in, to_nat}
-use Rattle.z_reading.specs.Machine.{Machine, Known, tokens_in, operands_for, change_at, with_address}
-use Rattle.z_reading.specs.Machine.{with_general}
-use Rattle.z_reading.specs.Machine.{with_prefix}
+use Rattle.z_setup.specs.Machine.{Machine, Known, tokens_in, operands_for, change_at, with_address}
+use Rattle.z_setup.specs.Machine.{with_general}
+use Rattle.z_setup.specs.Machine.{with_prefix}
 use Rattle.statement_laws.specs.Statements.{Statement, value_for, values_with, values_of, last_or}
 use Rattle.z_assemble.specs.Whole.{Second}
 use Rattle.statement_laws.proofs.Acted.{Walk}

@@ -10,13 +10,13 @@ use Rattle.std.proofs.lemmas.List.{get_or_default}
 use Rattle.std.proofs.lemmas.List.Elements.{All-cons, All-nil, All-contains, All-contains_itself}
 use Rattle.tx_journal.specs.Content.{Content}
 use Rattle.tx_ladder.specs.Parameters.{usual}
-use Rattle.z_reading.specs.declared.parameter.Parameter.{Parameter}
+use Rattle.z_setup.specs.declared.parameter.Parameter.{Parameter}
 use Rattle.z_operands.specs.Operations.{size_of_row}
 use Rattle.z_operands.specs.Values.{Table}
 use Rattle.z_operands.specs.declared.operation.Operation.{Operation}
 use Rattle.z_operands.specs.declared.operation.Operation.TheVariants.{Instruction}
 use Rattle.z_reading.specs.Listing.{Plan, operands_in}
-use Rattle.z_reading.specs.Machine.{Known, tokens_in}
+use Rattle.z_setup.specs.Machine.{Known, tokens_in}
 use Rattle.statement_laws.specs.Statements.{Statement, statements_of, IsNamed, HaveOtherLabels, Stand, IsPlaced}
 use Rattle.statement_laws.specs.Statements.{events_of, values_of, last_or, entry_of, shows_of, prefixes_of}
 use Rattle.statement_laws.specs.Statements.{as_list, numbers_of, number_in}

@@ -11,12 +11,12 @@ use Rattle.z_operands.specs.declared.operation.Operation.{Operation}
 use Rattle.z_operands.specs.declared.operation.Operation.TheVariants as operations
 use Rattle.tx_ladder.specs.Parameters.{Parameters}
 use Rattle.z_reading.specs.Listing.{Plan, Task, operands_in, to_nat}
-use Rattle.z_reading.specs.Machine.{Machine, Known, tokens_in, operands_for, parameter_in, with_parameter}
+use Rattle.z_setup.specs.Machine.{Machine, Known, tokens_in, operands_for, parameter_in, with_parameter}
 use Rattle.statement_laws.specs.Statements.{Statement, number_in, number_for, numbers_with, numbers_of, last_or}
 use Rattle.statement_laws.specs.Statements.{is_same}
 use Rattle.z_assemble.specs.Whole.{Second}
-use Rattle.z_reading.specs.declared.parameter.Parameter.{Parameter}
-use Rattle.z_reading.specs.declared.parameter.Parameter.TheVariants.{Reject, Firm, Late, Starve, Stop, Delay}
+use Rattle.z_setup.specs.declared.parameter.Parameter.{Parameter}
+use Rattle.z_setup.specs.declared.parameter.Parameter.TheVariants.{Reject, Firm, Late, Starve, Stop, Delay}
 use Rattle.statement_laws.proofs.Acted.{Walk}
 use Rattle.statement_laws.proofs.Effects.{Effect, task_effect}
 use Rattle.statement_laws.proofs.Gathered.{gathered, last_join}

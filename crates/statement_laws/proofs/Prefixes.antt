@@ -14,9 +14,9 @@ use Rattle.z_operands.specs.declared.operation.Operation.{Operation}
 use Rattle.z_operands.specs.declared.operation.Operation.TheVariants as operations
 use Rattle.z_regs.specs.Cpu.{Cpu, started}
 use Rattle.z_reading.specs.Listing.{Plan, Task, operands_in, to_nat}
-use Rattle.z_reading.specs.Machine.{Machine, Known, tokens_in, operands_for, change_at, with_address}
-use Rattle.z_reading.specs.Machine.{with_general, with_prefix, is_free, is_prefix_for, is_area}
-use Rattle.z_reading.specs.Machine.{task_places_in}
+use Rattle.z_setup.specs.Machine.{Machine, Known, tokens_in, operands_for, change_at, with_address}
+use Rattle.z_setup.specs.Machine.{with_general, with_prefix, is_free, is_prefix_for, is_area}
+use Rattle.z_setup.specs.Machine.{task_places_in}
 use Rattle.statement_laws.specs.Statements.{Statement, prefix_for, prefixes_with, prefixes_of, as_list}
 use Rattle.z_assemble.specs.Whole.{Second}
 use Rattle.statement_laws.proofs.Acted.{Walk}

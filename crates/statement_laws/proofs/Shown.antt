@@ -9,7 +9,7 @@ use Rattle.z_operands.specs.declared.operation.Operation.{Operation}
 use Rattle.z_operands.specs.declared.operation.Operation.TheVariants as operations
 use Rattle.tx_journal.specs.declared.image.Show.{Show}
 use Rattle.z_reading.specs.Listing.{Plan, Task, operands_in}
-use Rattle.z_reading.specs.Machine.{Machine, Known, tokens_in, operands_for}
+use Rattle.z_setup.specs.Machine.{Machine, Known, tokens_in, operands_for}
 use Rattle.statement_laws.specs.Statements.{Statement, range_or_none, block_or_none, shows_with, shows_of}
 use Rattle.z_assemble.specs.Whole.{Second}
 use Rattle.statement_laws.proofs.Acted.{Walk}

@@ -29,8 +29,8 @@ use Rattle.z_reading.specs.Listing.{operands_in}
 use Rattle.z_reading.specs.Listing.{org_line, equ_line, ds_line, dc_line, instruction_line, cpu_line}
 use Rattle.z_reading.specs.Listing.{end_line}
 use Rattle.z_reading.specs.Listing.{operation_line, is_doubleword, is_below, to_nat, field_behind}
-use Rattle.z_reading.specs.Machine.{Machine, Known, task_gives, read_again, code_line, tokens_in}
-use Rattle.z_reading.specs.Machine.{operands_for}
+use Rattle.z_setup.specs.Machine.{Machine, Known, task_gives, read_again, code_line, tokens_in}
+use Rattle.z_setup.specs.Machine.{operands_for}
 use Rattle.statement_laws.specs.Statements.{Statement, Stand}
 use Rattle.z_reading.specs.Text.{write_at}
 use Rattle.z_assemble.specs.Whole.{Second}

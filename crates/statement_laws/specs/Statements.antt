@@ -25,11 +25,11 @@ use Rattle.tx_ladder.specs.Parameters.{Parameters}
 use Rattle.z_operands.specs.declared.operation.Operation.TheVariants.{Instruction, Equ, Ds, Dc, Cpu, Reg}
 use Rattle.z_operands.specs.declared.operation.Operation.TheVariants.{Sched, Parm, Prefix}
 use Rattle.z_operands.specs.declared.operation.Operation.TheVariants as operations
-use Rattle.z_reading.specs.declared.parameter.Parameter.{Parameter}
-use Rattle.z_reading.specs.declared.parameter.Parameter.TheVariants.{Reject, Firm, Late, Starve, Stop, Delay}
+use Rattle.z_setup.specs.declared.parameter.Parameter.{Parameter}
+use Rattle.z_setup.specs.declared.parameter.Parameter.TheVariants.{Reject, Firm, Late, Starve, Stop, Delay}
 use Rattle.z_reading.specs.Listing.{Plan, line_gives, label_in, operands_in, operation_in, field_behind}
 use Rattle.z_reading.specs.Listing.{to_nat}
-use Rattle.z_reading.specs.Machine.{tokens_in, parameter_in, show}
+use Rattle.z_setup.specs.Machine.{tokens_in, parameter_in, show}
 use Rattle.z_reading.specs.Text.{lines_of, copies}
 use Rattle.z_assemble.specs.Whole.{blank}
 

@@ -6,7 +6,7 @@ ghost use Rattle.tx_journal.specs.Content.{Content};
 ghost use Rattle.tx_ladder.specs.Parameters.{usual};
 ghost use Rattle.z_regs.specs.Cpu.{Cpu};
 ghost use Rattle.z_assemble.specs.Whole.{Stands};
-ghost use Rattle.z_reading.specs.declared.parameter.Parameter.{Parameter};
+ghost use Rattle.z_setup.specs.declared.parameter.Parameter.{Parameter};
 ghost use Rattle.statement_laws.specs.Statements.{statements_of, IsNamed, HaveOtherLabels, IsPlaced, AreApart};
 ghost use Rattle.statement_laws.specs.Statements.{Covers, IsStarted, events_of, values_of, last_or, entry_of};
 ghost use Rattle.statement_laws.specs.Statements.{shows_of, prefixes_of, as_list, numbers_of, number_in};

@@ -15,10 +15,10 @@ use Rattle.z_instr.specs.declared.table.TheConstants.{ROWS}
 use Rattle.z_text.specs.declared.token.Token.{Token}
 use Rattle.z_operands.specs.Code.{code_of, code_for}
 use Rattle.z_reading.specs.Listing.{Task, operands_in, operation_in, field_behind, heads_in}
-use Rattle.z_reading.specs.Machine.{Machine, Known, entry_line, register_line, shown, show_line, block_line}
-use Rattle.z_reading.specs.Machine.{parameter_line, prefix_line, schedule_line, code_line, named_parameter}
-use Rattle.z_reading.specs.Machine.{parameter_in, directive_line, read_again, task_gives, tokens_in}
-use Rattle.z_reading.specs.Machine.{operands_for, end_of}
+use Rattle.z_setup.specs.Machine.{Machine, Known, entry_line, register_line, shown, show_line, block_line}
+use Rattle.z_setup.specs.Machine.{parameter_line, prefix_line, schedule_line, code_line, named_parameter}
+use Rattle.z_setup.specs.Machine.{parameter_in, directive_line, read_again, task_gives, tokens_in}
+use Rattle.z_setup.specs.Machine.{operands_for, end_of}
 use Rattle.z_operands.specs.Operands.{instruction_in, has_form, slots_for, lacks_value, allowed, are_allowed}
 use Rattle.z_operands.specs.Operands.{fields_from, fields_for}
 use Rattle.z_operands.specs.Operations.{size_of_row}
@@ -31,7 +31,7 @@ use Rattle.z_fields.specs.declared.fault.Kind.TheVariants.{UnknownLabel}
 use Rattle.z_operands.specs.declared.operand.Operand.{Operand}
 use Rattle.z_operands.specs.declared.operation.Operation.{Operation}
 use Rattle.z_operands.specs.declared.operation.Operation.TheVariants as operations
-use Rattle.z_reading.specs.declared.parameter.Parameter.{Parameter}
+use Rattle.z_setup.specs.declared.parameter.Parameter.{Parameter}
 use Rattle.z_assemble.proofs.Over.{write_size, write_other, write_inside}
 use Rattle.z_assemble.proofs.Passed.{then_ok, where_ok, unless_ok, same_ok, is_true}
 use Rattle.z_assemble.proofs.Plans.{Places, PlacesAt, AreApart, IsWithin, IsInTable, IsInRoom}

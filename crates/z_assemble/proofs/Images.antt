@@ -14,7 +14,7 @@ use Rattle.tx_journal.specs.Image.{IsImage, IsStarting, AreApart, IsShown, HasRe
 use Rattle.tx_journal.specs.Image.{length_at, cpu_of_event}
 use Rattle.tx_ladder.specs.Parameters.{IsAllowed, usual}
 use Rattle.z_reading.specs.Listing.{Plan, Task}
-use Rattle.z_reading.specs.Machine.{Machine}
+use Rattle.z_setup.specs.Machine.{Machine}
 use Rattle.z_reading.specs.Text.{lines_of}
 use Rattle.z_assemble.specs.Whole.{Stands, ready, ready_for, known_in, image_of, places_from, pages_with}
 use Rattle.z_assemble.specs.Whole.{Second}

@@ -5,7 +5,7 @@ use Rattle.z_fields.specs.Pieces.{pieces_by}
 use Rattle.z_fields.proofs.Loops.{goes_on, fails_here, is_over}
 use Rattle.z_fields.proofs.Pieces.{pieces_none}
 use Rattle.z_reading.specs.Listing.{Plan, task_in}
-use Rattle.z_reading.specs.Machine.{Machine, Known}
+use Rattle.z_setup.specs.Machine.{Machine, Known}
 use Rattle.z_assemble.specs.Steps.{Passes}
 use Rattle.z_assemble.specs.Whole.{first_on, first_over, second_on, second_over, ◌>>=◌}
 use Rattle.z_reading.specs.declared.kept.Kept.{Kept}

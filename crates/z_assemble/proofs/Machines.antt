@@ -20,13 +20,13 @@ use Rattle.z_operands.specs.Code.{code_for}
 use Rattle.z_instr.specs.Table.{entry_at}
 use Rattle.z_reading.specs.Listing.{Task, is_below, to_nat, field_behind, operation_in, operands_in}
 use Rattle.z_reading.specs.Listing.{heads_in}
-use Rattle.z_reading.specs.Machine.{Machine, Known, change_at, with_address, with_general, with_prefix}
-use Rattle.z_reading.specs.Machine.{entry_line, register_line, size_of_show, is_accessible, has_room_for}
-use Rattle.z_reading.specs.Machine.{show, shown, show_line, block_line, parameter_line, is_between}
-use Rattle.z_reading.specs.Machine.{is_choice, with_parameter, is_area, has_prefix, is_same_prefix}
-use Rattle.z_reading.specs.Machine.{task_places_in, prefix_line, schedule_line, code_line, named_parameter}
-use Rattle.z_reading.specs.Machine.{parameter_in, directive_line, read_again, task_gives, tokens_in}
-use Rattle.z_reading.specs.Machine.{operands_for, end_of}
+use Rattle.z_setup.specs.Machine.{Machine, Known, change_at, with_address, with_general, with_prefix}
+use Rattle.z_setup.specs.Machine.{entry_line, register_line, size_of_show, is_accessible, has_room_for}
+use Rattle.z_setup.specs.Machine.{show, shown, show_line, block_line, parameter_line, is_between}
+use Rattle.z_setup.specs.Machine.{is_choice, with_parameter, is_area, has_prefix, is_same_prefix}
+use Rattle.z_setup.specs.Machine.{task_places_in, prefix_line, schedule_line, code_line, named_parameter}
+use Rattle.z_setup.specs.Machine.{parameter_in, directive_line, read_again, task_gives, tokens_in}
+use Rattle.z_setup.specs.Machine.{operands_for, end_of}
 use Rattle.z_fields.specs.Schedule.{event_of, with_run, with_item, with_items, scheduled, run_of}
 use Rattle.z_fields.specs.Pieces.{shortened, pieces_by}
 use Rattle.z_operands.specs.Values.{one_in, two_in, three_in}
@@ -36,8 +36,8 @@ use Rattle.z_fields.specs.declared.fault.Kind.TheVariants.{BadSchedule}
 use Rattle.z_operands.specs.declared.operand.Operand.{Operand}
 use Rattle.z_operands.specs.declared.operation.Operation.{Operation}
 use Rattle.z_operands.specs.declared.operation.Operation.TheVariants as operations
-use Rattle.z_reading.specs.declared.parameter.Parameter.{Parameter}
-use Rattle.z_reading.specs.declared.parameter.Parameter.TheVariants.{Reject, Firm, Late, Starve, Stop, Delay}
+use Rattle.z_setup.specs.declared.parameter.Parameter.{Parameter}
+use Rattle.z_setup.specs.declared.parameter.Parameter.TheVariants.{Reject, Firm, Late, Starve, Stop, Delay}
 use Rattle.z_fields.specs.declared.schedule.Run.{Run}
 use Rattle.z_text.specs.declared.token.Token.{Token}
 use Rattle.z_assemble.proofs.Passed.{then_ok, where_ok, same_ok, not_true, is_true}

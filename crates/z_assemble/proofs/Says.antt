@@ -4,7 +4,7 @@ use Rattle.std.proofs.Common.{inl, inr, refl, sym, ap, ◌∙◌, subst, nat_lt,
 use Rattle.std.specs.Prelude.{IfOk, IfErr}
 use Rattle.tx_journal.specs.Content.{Content}
 use Rattle.z_reading.specs.Listing.{Plan, Task, line_gives}
-use Rattle.z_reading.specs.Machine.{Machine, Known, task_gives}
+use Rattle.z_setup.specs.Machine.{Machine, Known, task_gives}
 use Rattle.z_fields.specs.Pieces.{without_end}
 use Rattle.z_reading.specs.Text.{lines_of}
 use Rattle.z_assemble.specs.Whole.{◌>>=◌, on, fault_at, blank, ready, known_in, image_of, first_over}

@@ -22,7 +22,7 @@ use Rattle.z_instr.specs.Table.{entry_at}
 use Rattle.z_instr.specs.declared.instr.Instr.{Instr}
 use Rattle.tx_journal.specs.Image.{length_at, instruction_at, HasReading, HoldsText, IsRising}
 use Rattle.z_reading.specs.Listing.{Task}
-use Rattle.z_reading.specs.Machine.{places_in, task_places_in}
+use Rattle.z_setup.specs.Machine.{places_in, task_places_in}
 use Rattle.z_operands.specs.Operations.{size_of_row}
 use Rattle.z_assemble.specs.Whole.{places_from, pages_with, with_pages, with_page, Pages}
 use Rattle.z_operands.specs.declared.operation.Operation.{Operation}

@@ -9,7 +9,7 @@ use Rattle.tx_journal.specs.Image.{length_at}
 use Rattle.tx_ladder.specs.Parameters.{usual}
 use Rattle.z_fields.specs.Kinds.{number_of}
 use Rattle.z_reading.specs.Listing.{Plan, Task, line_gives}
-use Rattle.z_reading.specs.Machine.{Machine, Known, task_gives}
+use Rattle.z_setup.specs.Machine.{Machine, Known, task_gives}
 use Rattle.z_fields.specs.Pieces.{without_end}
 use Rattle.z_reading.specs.Text.{lines_of, copies}
 use Rattle.z_operands.specs.Values.{Table}

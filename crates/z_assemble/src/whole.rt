@@ -10,7 +10,7 @@ ghost use Rattle.tx_journal.specs.Image.{length_at};
 ghost use Rattle.z_fields.specs.Pieces.{pieces_by};
 ghost use Rattle.z_reading.specs.Listing.{plan_of, task_of, tasks_of, line_gives};
 ghost use Rattle.z_reading.specs.Kept.{IsThere};
-ghost use Rattle.z_reading.specs.Setup.{machine_of, known_of};
+ghost use Rattle.z_setup.specs.Setup.{machine_of, known_of};
 ghost use Rattle.z_assemble.specs.Steps.{Passes, on_line};
 ghost use Rattle.z_reading.specs.Text.{lines_of, copies};
 ghost use Rattle.z_assemble.specs.Whole.{on, first_on, first_over, second_on, second_over, blank, no_label};
@@ -26,10 +26,9 @@ use tx_journal::Image;
 use tx_ladder::Parms;
 use z_decode::length_of;
 use z_fields::{Kind, LineFault, all_events, count_pieces, first_piece, without_end};
-use z_reading::{
-    Draft, FIRST_LOCATION, Reading, SIZE, Setup, TextLine, Work, Works, read_first, read_second,
-};
+use z_reading::{Draft, FIRST_LOCATION, Reading, SIZE, TextLine, Work, Works, read_first};
 use z_regs::{CpuImage, Guard};
+use z_setup::{Setup, read_second};
 use z_text::{Labels, key_in_front};
 
 /// The most bytes of a listing.

@@ -1,16 +1,12 @@
 //! The first reading of the lines: labels, the location, and what is placed.
-ghost use Rattle.std.specs.Prelude.{◌≡◌, ℕ, ◌≤◌, ◌<◌, ◌+◌, ◌^◌, length, drop, pos, negsuc, IfSome, Ok};
-ghost use Rattle.std.specs.Prelude.{IsTrue, All, false, ◌≤ℤ◌};
-ghost use Rattle.std.specs.List.{prefix_len};
+ghost use Rattle.std.specs.Prelude.{◌≡◌, ◌≤◌, ◌<◌, length, pos, Ok, IsTrue, false};
 ghost use Rattle.z_instr.specs.declared.table.TheConstants.{ROWS};
 ghost use Rattle.z_text.specs.Labels.{value_in};
-ghost use Rattle.z_text.specs.Line.{is_blank, is_inked, past};
-ghost use Rattle.z_text.specs.Tokens.{AreTokensIn, LiesIn};
-ghost use Rattle.z_reading.specs.Listing.{plan_of, label_in, operation_in, heads_in, operands_in};
-ghost use Rattle.z_reading.specs.Listing.{field_behind, table_with, is_bad_label, is_defined, value_on};
+ghost use Rattle.z_text.specs.Tokens.{AreTokensIn};
+ghost use Rattle.z_reading.specs.Listing.{plan_of, operands_in, table_with, is_bad_label, is_defined, value_on};
 ghost use Rattle.z_reading.specs.Listing.{org_line, equ_line, ds_line, dc_line, instruction_line, cpu_line};
 ghost use Rattle.z_reading.specs.Listing.{end_line, operation_line, line_gives, tasked, labelled};
-ghost use Rattle.z_reading.specs.Listing.{first_token, is_nil, is_doubleword, is_below};
+ghost use Rattle.z_reading.specs.Listing.{is_nil, is_doubleword};
 ghost use Rattle.z_operands.specs.Sizes.{IsKnown, IsMask};
 ghost use Rattle.z_reading.specs.Kept.{IsThere};
 ghost use Rattle.z_reading.specs.Sizes.{IsPlaced};
@@ -18,91 +14,13 @@ ghost use Rattle.z_fields.specs.Steps.{Gives, Answers};
 
 use crate::draft::{Draft, MOST_CPUS, SIZE};
 use crate::kept::TextLine;
+use crate::parts::{behind, field_behind, heads_in, label_in, operation_in};
 use crate::place::{place, start, write};
 use crate::reading::Reading;
 use std::alloc::Global;
 use z_fields::{Kind, LineFault, data_of};
 use z_operands::{Operation, Room, one_in, operation_named, read_operands, size_of_row};
 use z_text::{Labels, Token, read_tokens};
-
-// ---- the parts of a line
-
-/// The label of a line, empty where there is none.
-fn label_in<'a>(line: &'a [u8], tokens: &[Token]) -> &'a [u8]
-    requires { All (LiesIn (length line.now)) tokens.now }
-    ensures { result.now ≡ label_in line.now tokens.now }
-{
-    match tokens {
-        [label, ..] => {
-            if label.first == 0 {
-                return &line[label.first..label.end];
-            }
-            &[]
-        }
-        [] => &[],
-    }
-}
-
-/// The operation of a line, if it says something.
-pub(crate) fn operation_in(tokens: &[Token]) -> Option<Token>
-    ensures is { result ≡ operation_in tokens.now }
-    ensures inside { (n : ℕ) → All (LiesIn n) tokens.now → IfSome result (LiesIn n) }
-{
-    match tokens {
-        [] => None,
-        [head, rest @ ..] => {
-            if head.first == 0 {
-                return first_token(rest);
-            }
-            Some(*head)
-        }
-    }
-}
-
-fn first_token(tokens: &[Token]) -> Option<Token>
-    ensures is { result ≡ first_token tokens.now }
-    ensures inside { (n : ℕ) → All (LiesIn n) tokens.now → IfSome result (LiesIn n) }
-{
-    match tokens {
-        [] => None,
-        [token, ..] => Some(*token),
-    }
-}
-
-/// How many tokens stand before the operands.
-pub(crate) fn heads_in(tokens: &[Token]) -> usize
-    ensures { result ≡ heads_in tokens.now }
-{
-    match tokens {
-        [] => 0,
-        [head, ..] => { if head.first == 0 { 2 } else { 1 } }
-    }
-}
-
-fn count_blanks(line: &[u8]) -> usize
-    ensures is { result ≡ prefix_len is_blank line.now }
-    ensures within { result ≤ length line.now }
-{
-    line.iter().take_while(|b| **b == b' ').count()
-}
-
-fn count_inked(line: &[u8]) -> usize
-    ensures is { result ≡ prefix_len is_inked line.now }
-    ensures within { result ≤ length line.now }
-{
-    line.iter().take_while(|b| **b != b' ').count()
-}
-
-/// The operands as they stand behind the end of the operation.
-#[tactic(auto, using(std::proofs::lemmas::List::take_rest))]
-pub(crate) fn field_behind(end: usize, line: &[u8]) -> &[u8]
-    requires { end ≤ length line.now }
-    ensures { result.now ≡ field_behind end line.now }
-{
-    let first = end + count_blanks(&line[end..]);
-    let last = first + count_inked(&line[first..]);
-    &line[first..last]
-}
 
 // ---- labels
 
@@ -212,7 +130,7 @@ fn equ(
 }
 
 /// Whether it is from -2^63 to 2^64 - 1.
-pub(crate) fn is_doubleword(value: i128) -> bool
+pub fn is_doubleword(value: i128) -> bool
     ensures { result ≡ is_doubleword value }
 {
     -0x8000_0000_0000_0000 <= value && value <= 0xFFFF_FFFF_FFFF_FFFF
@@ -307,17 +225,6 @@ fn cpu(draft: &mut Draft, line: TextLine) -> Result<(), LineFault>
     leave(draft, line, Operation::Cpu)
 }
 
-/// The tokens without so many at the front.
-pub(crate) fn behind(tokens: &[Token], count: usize) -> &[Token]
-    ensures is { result.now ≡ drop count tokens.now }
-    ensures inside { (n : ℕ) → All (LiesIn n) tokens.now → All (LiesIn n) result.now }
-{
-    if count <= tokens.len() {
-        return &tokens[count..];
-    }
-    &[]
-}
-
 fn is_nil(tokens: &[Token]) -> bool
     ensures { result ≡ is_nil tokens.now }
 {
@@ -366,13 +273,8 @@ fn run(
         Operation::Ds => ds(room, draft, label, line.bytes, tokens),
         Operation::Dc => dc(alloc, draft, label, field_behind(behind, line.bytes)),
         Operation::Cpu => cpu(draft, line),
-        Operation::Reg => leave(draft, line, Operation::Reg),
-        Operation::Show => leave(draft, line, Operation::Show),
-        Operation::Tdb => leave(draft, line, Operation::Tdb),
-        Operation::Sched => leave(draft, line, Operation::Sched),
-        Operation::Parm => leave(draft, line, Operation::Parm),
-        Operation::Prefix => leave(draft, line, Operation::Prefix),
         Operation::End => end(draft, tokens),
+        _ => leave(draft, line, operation),
     }
 }
 

@@ -1,24 +1,19 @@
-//! Both readings of a line of a listing: what it says of labels and of what is placed, and, when all labels are
-//! known, of instructions and of what the machine starts from.
+//! The first reading of a line of a listing, what it says of labels and of what is placed, and the lines that it
+//! leaves to the second one.
 #![tactic(auto)]
 
 mod draft;
 mod first;
 mod kept;
-mod parameter;
+mod parts;
 mod place;
 mod reading;
-mod second;
-mod setup;
-mod showing;
 mod works;
 
 pub use draft::{Draft, FIRST_BYTE, FIRST_LOCATION, MOST_CPUS, SIZE};
-pub use first::read_first;
+pub use first::{is_doubleword, read_first};
 pub use kept::{Kept, TextLine, Work};
-pub use parameter::Parameter;
+pub use parts::{behind, field_behind, heads_in, operation_in};
+pub use place::write_bytes;
 pub use reading::Reading;
-pub use second::read_second;
-pub use setup::Setup;
-pub use showing::Showing;
 pub use works::Works;

@@ -16,7 +16,7 @@ fn is_any(marks: &[bool]) -> bool
 
 /// Writes bytes over those from a place on.
 #[tactic(auto, unfolding(crate::specs::Text::write_at))]
-pub(crate) fn write_bytes(storage: &mut Vec<u8>, at: usize, bytes: &[u8])
+pub fn write_bytes(storage: &mut Vec<u8>, at: usize, bytes: &[u8])
     requires { at + length bytes.now ≤ length storage.old.items }
     ensures is { storage.new.items ≡ write_at at bytes.now storage.old.items }
     ensures length { length storage.new.items ≡ length storage.old.items }

@@ -1,12 +1,12 @@
 //! What differs between what an instruction leaves and what a vector says.
-ghost use Rattle.std.specs.Prelude.{◌<◌, ◌≤◌};
+ghost use Rattle.std.specs.Prelude.{◌<◌};
+ghost use Rattle.z_regs.specs.Prefix.{storage_size};
 
-use crate::case::Case;
-use crate::fault::Fault;
-use crate::piece::{Piece, byte_in};
 use crate::trial::{Answer, NobodysOperation, attempt};
 use crate::view::Watched;
-use std::alloc::{AllocError, Global};
+use crate::words::Words;
+use std::alloc::Global;
+use vector_lines::{Case, Fault, Piece, byte_in};
 use z_regs::{Bytes, CpuImage, RunState};
 
 /// A number for each state: 0 running, 1 halted.
@@ -32,51 +32,51 @@ enum Place {
 }
 
 /// Adds the name of a place.
-fn add_place(text: &mut String, place: Place) -> Result<(), AllocError> {
+fn add_place(words: &mut Words, place: Place) {
     match place {
-        Place::Named(name) => text.push_str(name),
-        Place::General(r) => write!(text, "r{r}"),
-        Place::Access(r) => write!(text, "a{r}"),
-        Place::Byte(address) => write!(text, "m{address:x}"),
+        Place::Named(name) => words.add(name),
+        Place::General(r) => {
+            words.add("r");
+            words.add_decimal(r as u64);
+        }
+        Place::Access(r) => {
+            words.add("a");
+            words.add_decimal(r as u64);
+        }
+        Place::Byte(address) => {
+            words.add("m");
+            words.add_hexadecimal(address);
+        }
     }
 }
 
 /// Adds a difference behind what is there.
-fn add_difference(
-    text: &mut String,
-    place: Place,
-    ours: u64,
-    theirs: u64,
-) -> Result<(), AllocError> {
-    if !text.is_empty() {
-        text.push_str("; ")?;
+fn add_difference(words: &mut Words, place: Place, ours: u64, theirs: u64) {
+    if !words.as_str().is_empty() {
+        words.add("; ");
     }
-    add_place(text, place)?;
-    write!(text, " is {ours:x}, not {theirs:x}")
+    add_place(words, place);
+    words.add(" is ");
+    words.add_hexadecimal(ours);
+    words.add(", not ");
+    words.add_hexadecimal(theirs);
 }
 
 /// Adds a difference where the numbers are not the same.
-fn add_where_not(
-    text: &mut String,
-    place: Place,
-    ours: u64,
-    theirs: u64,
-) -> Result<(), AllocError> {
-    if ours == theirs {
-        return Ok(());
+fn add_where_not(words: &mut Words, place: Place, ours: u64, theirs: u64) {
+    if ours != theirs {
+        add_difference(words, place, ours, theirs);
     }
-    add_difference(text, place, ours, theirs)
 }
 
-fn add_registers(text: &mut String, ours: &CpuImage, theirs: &CpuImage) -> Result<(), AllocError> {
+fn add_registers(words: &mut Words, ours: &CpuImage, theirs: &CpuImage) {
     for r in 0..16usize {
-        add_where_not(text, Place::General(r), ours.general[r], theirs.general[r])?;
+        add_where_not(words, Place::General(r), ours.general[r], theirs.general[r]);
     }
     for r in 0..16usize {
         let (ours, theirs) = (u64::from(ours.access[r]), u64::from(theirs.access[r]));
-        add_where_not(text, Place::Access(r), ours, theirs)?;
+        add_where_not(words, Place::Access(r), ours, theirs);
     }
-    Ok(())
 }
 
 /// Address, code, mask, state and exception as numbers, in this order.
@@ -93,98 +93,89 @@ fn numbers_of(image: &CpuImage, exception: Option<u16>) -> [u64; 5] {
 /// The names of these numbers.
 const NAMES: [&str; 5] = ["at", "cc", "pm", "state", "x"];
 
-fn add_numbers(text: &mut String, ours: &[u64; 5], theirs: &[u64; 5]) -> Result<(), AllocError> {
+fn add_numbers(words: &mut Words, ours: &[u64; 5], theirs: &[u64; 5]) {
     for k in 0..5usize {
-        add_where_not(text, Place::Named(NAMES[k]), ours[k], theirs[k])?;
+        add_where_not(words, Place::Named(NAMES[k]), ours[k], theirs[k]);
     }
-    Ok(())
+}
+
+/// Adds a difference where a byte of storage is not this one.
+fn add_byte(words: &mut Words, view: &Watched, address: u64, theirs: u8)
+    requires { address < storage_size }
+{
+    let ours = view.get(address);
+    add_where_not(
+        words,
+        Place::Byte(address),
+        u64::from(ours),
+        u64::from(theirs),
+    );
 }
 
 /// Bytes that were put, and that should be what they were before.
-fn add_strays(
-    text: &mut String,
-    view: &Watched,
-    before: &[Piece],
-    after: &[Piece],
-) -> Result<(), AllocError> {
-    for address in view.puts()? {
+fn add_strays(words: &mut Words, view: &Watched, before: &[Piece], after: &[Piece]) {
+    for address in view.puts() {
         if byte_in(after, *address).is_none() {
-            let kept = byte_in(before, *address).unwrap_or(0);
-            let ours = view.get(*address);
-            add_where_not(
-                text,
-                Place::Byte(*address),
-                u64::from(ours),
-                u64::from(kept),
-            )?;
+            add_byte(
+                words,
+                view,
+                *address,
+                byte_in(before, *address).unwrap_or(0),
+            );
         }
     }
-    Ok(())
 }
 
 /// Bytes of a piece that should be new.
-fn add_piece(text: &mut String, view: &Watched, piece: &Piece) -> Result<(), AllocError> {
+fn add_piece(words: &mut Words, view: &Watched, piece: &Piece) {
     for (k, byte) in piece.bytes.iter().enumerate() {
-        let address = piece.first + k as u64;
-        let ours = view.get(address);
-        add_where_not(
-            text,
-            Place::Byte(address),
-            u64::from(ours),
-            u64::from(*byte),
-        )?;
+        add_byte(words, view, piece.first + k as u64, *byte);
     }
-    Ok(())
 }
 
 /// Bytes that should be new.
-fn add_pieces(text: &mut String, view: &Watched, pieces: &[Piece]) -> Result<(), AllocError> {
+fn add_pieces(words: &mut Words, view: &Watched, pieces: &[Piece]) {
     for piece in pieces {
-        add_piece(text, view, piece)?;
+        add_piece(words, view, piece);
     }
-    Ok(())
 }
 
 /// Adds what differs, in words; nothing where all is as the case says.
-fn add_differences(
-    text: &mut String,
-    answer: &Answer,
-    case: &Case,
-    view: &Watched,
-) -> Result<(), AllocError> {
+fn add_differences(words: &mut Words, answer: &Answer, case: &Case, view: &Watched) {
     let ours = numbers_of(&answer.image, answer.exception);
     let theirs = numbers_of(&case.after.image, case.exception);
-    add_numbers(text, &ours, &theirs)?;
-    add_registers(text, &answer.image, &case.after.image)?;
-    add_strays(text, view, &case.before.pieces, &case.after.pieces)?;
-    add_pieces(text, view, &case.after.pieces)
+    add_numbers(words, &ours, &theirs);
+    add_registers(words, &answer.image, &case.after.image);
+    if view.has_forgotten() {
+        words.cut_off();
+    }
+    add_strays(words, view, &case.before.pieces, &case.after.pieces);
+    add_pieces(words, view, &case.after.pieces);
 }
 
 /// Executes the instruction of a case, and adds what differs.
-fn add_attempt(text: &mut String, case: &Case, view: &mut Watched) -> Result<(), AllocError> {
+fn add_attempt(words: &mut Words, case: &Case, view: &mut Watched) {
     match attempt(&case.code, case.before.image, view) {
-        Ok(answer) => add_differences(text, &answer, case, view),
-        Err(NobodysOperation) => text.push_str("no crate executes it"),
+        Ok(answer) => add_differences(words, &answer, case, view),
+        Err(NobodysOperation) => words.add("no crate executes it"),
     }
 }
 
 /// Adds what differs in a case; nothing where all is as it says.
-fn add_case(text: &mut String, case: &Case, view: &mut Watched) -> Result<(), AllocError> {
+fn add_case(words: &mut Words, case: &Case, view: &mut Watched) {
     view.lay(&case.before.pieces);
-    add_attempt(text, case, view)?;
+    add_attempt(words, case, view);
     view.undo();
-    Ok(())
 }
 
-/// What differs in a case; nothing where all is as it says.
-fn case_difference(alloc: Global, case: &Case, view: &mut Watched) -> Result<String, AllocError> {
-    let mut text = String::new(alloc);
-    add_case(&mut text, case, view)?;
-    Ok(text)
-}
-
-/// What differs in a line that tells the effect of an instruction; nothing where all is as it says.
-pub fn effect_difference(alloc: Global, line: &str, view: &mut Watched) -> Result<String, Fault> {
+/// Adds what differs in a line that tells the effect of an instruction; nothing where all is as it says.
+pub fn add_effect(
+    words: &mut Words,
+    alloc: Global,
+    line: &str,
+    view: &mut Watched,
+) -> Result<(), Fault> {
     let case = Case::read(alloc, line)?;
-    Ok(case_difference(alloc, &case, view)?)
+    add_case(words, &case, view);
+    Ok(())
 }

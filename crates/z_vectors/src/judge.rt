@@ -1,73 +1,75 @@
 //! Lines, one after the other.
 
-use crate::compare::effect_difference;
-use crate::fault::Fault;
-use crate::kind::kind_difference;
-use crate::numbers::first_word;
-use crate::reading::{bytes_difference, line_difference};
-use crate::report::Report;
+use crate::compare::add_effect;
+use crate::kind::add_kind;
+use crate::reading::{add_bytes, add_line};
+use crate::report::{Counts, Report};
 use crate::view::Watched;
-use std::alloc::{AllocError, Global};
+use crate::words::Words;
+use std::alloc::Global;
+use vector_lines::{Fault, first_word};
 
-/// What a line is about, and what differs in it; nothing where all is as it says.
-fn difference<'a>(
-    alloc: Global,
-    line: &'a str,
-    view: &mut Watched,
-) -> (&'a str, Result<String, Fault>) {
+/// What a line is about.
+#[derive(Clone, Copy)]
+enum Form {
+    /// A line of the listing and its bytes.
+    Line,
+    /// Bytes and the line they read as.
+    Bytes,
+    /// Whose an operation is.
+    Kind,
+    /// What an instruction does.
+    Effect,
+}
+
+/// What a line is about, its name, and what it says of that.
+fn parts_of<'a>(line: &'a str) -> (Form, &'a str, &'a str) {
     if let Some((name, rest)) = line.split_once(" | ") {
         return match rest.split_once(" | ") {
-            Some((reading, _)) => (name, bytes_difference(alloc, name, reading)),
-            None => (name, line_difference(alloc, name, rest)),
+            Some((reading, _)) => (Form::Bytes, name, reading),
+            None => (Form::Line, name, rest),
         };
     }
     match line.split_once(" is ") {
-        Some((name, kind)) => (name, kind_difference(alloc, name, kind)),
-        None => (first_word(line).0, effect_difference(alloc, line, view)),
+        Some((name, kind)) => (Form::Kind, name, kind),
+        None => (Form::Effect, first_word(line).0, line),
+    }
+}
+
+/// Adds what differs in a line; nothing where all is as it says.
+fn add_difference(
+    words: &mut Words,
+    alloc: Global,
+    (form, name, said): (Form, &str, &str),
+    view: &mut Watched,
+) -> Result<(), Fault> {
+    match form {
+        Form::Line => add_line(words, alloc, name, said),
+        Form::Bytes => add_bytes(words, alloc, name, said),
+        Form::Kind => add_kind(words, name, said),
+        Form::Effect => add_effect(words, alloc, said, view),
     }
 }
 
 impl Report {
     /// Judges a line, which has this number.
-    fn judge(
-        &mut self,
-        alloc: Global,
-        number: usize,
-        line: &str,
-        view: &mut Watched,
-    ) -> Result<(), AllocError> {
-        match difference(alloc, line, view) {
-            (name, Ok(text)) => self.count(name, text.as_str()),
-            (_, Err(Fault::Malformed)) => self.count_malformed(number),
-            (_, Err(Fault::NoMemory(error))) => Err(error),
+    fn judge(&mut self, alloc: Global, number: usize, line: &str, view: &mut Watched) {
+        let parts = parts_of(line);
+        self.difference.clear();
+        match add_difference(&mut self.difference, alloc, parts, view) {
+            Ok(()) => self.count(parts.1),
+            Err(Fault::Malformed) => self.count_malformed(number),
+            Err(Fault::NoMemory(_)) => self.cut_off(),
         }
     }
 
-    /// Judges every line that does not begin with `#`.
-    fn judge_all(
-        &mut self,
-        alloc: Global,
-        text: &str,
-        view: &mut Watched,
-    ) -> Result<(), AllocError> {
+    /// Judges every line that does not begin with `#`, and counts these.
+    pub fn judge_all(&mut self, alloc: Global, text: &str, view: &mut Watched) -> Counts {
         for (i, line) in text.lines().enumerate() {
             if !line.starts_with('#') {
-                self.judge(alloc, i + 1, line, view)?;
+                self.judge(alloc, i + 1, line, view);
             }
         }
-        Ok(())
+        self.take_counts()
     }
-}
-
-/// The report of all lines that do not begin with `#`.
-pub fn judge(alloc: Global, text: &str) -> Result<Report, AllocError> {
-    let mut view = Watched::open(alloc)?;
-    reported(alloc, text, &mut view)
-}
-
-/// The same, on storage that is zero.
-fn reported(alloc: Global, text: &str, view: &mut Watched) -> Result<Report, AllocError> {
-    let mut report = Report::new(alloc);
-    report.judge_all(alloc, text, view)?;
-    Ok(report)
 }

@@ -1,7 +1,7 @@
 //! Lines that tell whose an operation is.
 
-use crate::fault::Fault;
-use std::alloc::{AllocError, Global};
+use crate::words::Words;
+use vector_lines::Fault;
 use z_instr::kind::{Kind, Transaction};
 use z_instr::lookup::{find, kind_of};
 use z_instr::op::Op;
@@ -27,41 +27,46 @@ fn role_of(kind: Kind) -> &'static str {
     }
 }
 
-/// Adds words where they hold.
-fn add_where(text: &mut String, holds: bool, words: &str) -> Result<(), AllocError> {
-    if holds {
-        return text.push_str(words);
-    }
-    Ok(())
-}
-
-/// Adds every crate that takes an operation for its own, and what the operation is, if it is about
-/// transactions.
-fn add_owners(text: &mut String, op: Op) -> Result<(), AllocError> {
-    add_where(text, z_general::is_mine(op), "of z_general")?;
-    add_where(text, z_branch::is_mine(op), "of z_branch")?;
-    add_where(text, z_storage::is_mine(op), "of z_storage")?;
-    text.push_str(role_of(kind_of(op)))
+/// Words where they hold, and else none.
+fn where_so(holds: bool, words: &'static str) -> &'static str {
+    if holds { words } else { "" }
 }
 
 /// Every crate that takes an operation for its own, and what the operation is, if it is about transactions.
-fn owners(alloc: Global, op: Op) -> Result<String, AllocError> {
-    let mut text = String::new(alloc);
-    add_owners(&mut text, op)?;
-    Ok(text)
+fn owners(op: Op) -> [&'static str; 4] {
+    [
+        where_so(z_general::is_mine(op), "of z_general"),
+        where_so(z_branch::is_mine(op), "of z_branch"),
+        where_so(z_storage::is_mine(op), "of z_storage"),
+        role_of(kind_of(op)),
+    ]
 }
 
-/// What differs between owners and what an operation should be; nothing where it is just this.
-fn owners_difference(alloc: Global, ours: &str, kind: &str) -> Result<String, AllocError> {
-    if ours == kind {
-        return Ok(String::new(alloc));
+/// Whether a text is just these words.
+fn are_all(words: &[&str; 4], text: &str) -> bool {
+    let mut rest = text;
+    for word in words {
+        match rest.strip_prefix(*word) {
+            Some(further) => rest = further,
+            None => return false,
+        }
     }
-    format!(in alloc; "is {ours}, not {kind}")
+    rest.is_empty()
 }
 
-/// What differs where an operation is not just this; nothing where it is.
-pub fn kind_difference(alloc: Global, name: &str, kind: &str) -> Result<String, Fault> {
-    let op = find(name.as_bytes()).ok_or(Fault::Malformed)?;
-    let ours = owners(alloc, op)?;
-    Ok(owners_difference(alloc, ours.as_str(), kind)?)
+/// Adds what differs where an operation is not just this; nothing where it is.
+pub fn add_kind(words: &mut Words, name: &str, kind: &str) -> Result<(), Fault> {
+    let Some(op) = find(name.as_bytes()) else {
+        return Err(Fault::Malformed);
+    };
+    let ours = owners(op);
+    if !are_all(&ours, kind) {
+        words.add("is ");
+        for word in &ours {
+            words.add(*word);
+        }
+        words.add(", not ");
+        words.add(kind);
+    }
+    Ok(())
 }

@@ -10,25 +10,20 @@
 //! written on them. The exit status is 0 where no line before it differs, and every one behind it does.
 #![tactic(auto)]
 
-mod case;
-mod code;
 mod compare;
-mod fault;
 mod judge;
 mod kind;
-mod numbers;
-mod piece;
 mod reading;
 mod report;
-mod spelling;
 mod trial;
 mod view;
+mod words;
 
 use anyhow::{Context, Result, ensure};
-use judge::judge;
 use report::Report;
-use std::alloc::{AllocError, Global};
+use std::alloc::Global;
 use std::io;
+use view::Watched;
 use ztx_io::{ReaderSource, WriterSink, read_all, write_all};
 
 /// The most bytes of input.
@@ -37,44 +32,31 @@ const LIMIT: usize = 16_777_216;
 /// The line between the vectors and the changed lines.
 const CHANGED: &str = "\nCHANGED\n";
 
-/// The reports of the vectors and of the changed lines.
-fn reports(alloc: Global, input: &[u8]) -> Result<(Report, Report)> {
-    let text = str::from_utf8(input).ok().context("the input is no text")?;
-    let (vectors, changed) = text.split_once(CHANGED).unwrap_or((text, ""));
-    let vectors = judge(alloc, vectors)?;
-    let changed = judge(alloc, changed)?;
-    Ok((vectors, changed))
-}
-
-/// Adds the report of the vectors, and that of the changed lines, if there are any.
-fn add_reports(text: &mut String, vectors: &Report, changed: &Report) -> Result<(), AllocError> {
-    vectors.add_to(text)?;
-    if changed.cases() > 0 {
-        return changed.add_to(text);
+/// The vectors, and the changed lines, if there are any.
+fn halves(text: &str) -> (&str, &str) {
+    match text.split_once(CHANGED) {
+        Some((vectors, changed)) => (vectors, changed),
+        None => (text, ""),
     }
-    Ok(())
 }
 
-/// What is written of both.
-fn written(alloc: Global, vectors: &Report, changed: &Report) -> Result<String, AllocError> {
-    let mut text = String::new(alloc);
-    add_reports(&mut text, vectors, changed)?;
-    Ok(text)
+/// Judges the input on storage that is zero: whether no vector differs, and whether every changed line does.
+fn judge_both(report: &mut Report, alloc: Global, text: &str, view: &mut Watched) -> [bool; 2] {
+    let (vectors, changed) = halves(text);
+    let vectors = report.judge_all(alloc, vectors, view);
+    report.add_counts(vectors);
+    let changed = report.judge_all(alloc, changed, view);
+    if changed.cases > 0 {
+        report.add_counts(changed);
+    }
+    [vectors.mismatches == 0, changed.mismatches == changed.cases]
 }
 
-/// Whether no vector differs, and whether every changed line does.
-fn verdict(vectors: &Report, changed: &Report) -> [bool; 2] {
-    [
-        vectors.mismatches() == 0,
-        changed.mismatches() == changed.cases(),
-    ]
-}
-
-/// What is written of the input, and whether no vector differs and every changed line does.
-fn answer(alloc: Global, input: &[u8]) -> Result<(String, [bool; 2])> {
-    let (vectors, changed) = reports(alloc, input)?;
-    let text = written(alloc, &vectors, &changed)?;
-    Ok((text, verdict(&vectors, &changed)))
+/// Whether no vector of the input differs, and whether every changed line does.
+fn verdict(report: &mut Report, alloc: Global, input: &[u8]) -> Result<[bool; 2]> {
+    let text = str::from_utf8(input).ok().context("the input is no text")?;
+    let mut view = Watched::open(alloc)?;
+    Ok(judge_both(report, alloc, text, &mut view))
 }
 
 /// The program ends with a fault where a vector differs, or a changed line does not.
@@ -87,8 +69,9 @@ fn ended(verdict: [bool; 2]) -> Result<()> {
 fn main(rt: HostRuntime) -> Result<()> {
     let mut source = ReaderSource::new(rt.reader());
     let input = read_all(rt.alloc(), &mut source, LIMIT)?;
-    let (text, verdict) = answer(rt.alloc(), input.as_slice())?;
+    let mut report = Report::new(rt.alloc());
+    let verdict = verdict(&mut report, rt.alloc(), input.as_slice())?;
     let mut sink = WriterSink::new(io::writer(&rt));
-    write_all(&mut sink, text.as_bytes())?;
+    write_all(&mut sink, report.text()?.as_bytes())?;
     ended(verdict)
 }

@@ -1,89 +1,93 @@
 //! Bytes and the line of the listing that they read as.
 
-use crate::code::Code;
-use crate::fault::Fault;
-use crate::spelling::is_spelling;
-use std::alloc::{AllocError, Global};
+use crate::words::Words;
+use std::alloc::Global;
+use vector_lines::{Code, Fault, is_spelling};
 use z_decode::encode;
 use z_instr::instr::Instr;
 use z_list::instruction_text;
 
 /// Adds the instruction as the listing prints it.
-fn add_listing(text: &mut String, alloc: Global, instr: &Instr) -> Result<(), Fault> {
+fn add_listing(words: &mut Words, alloc: Global, instr: &Instr) {
     let Ok(line) = instruction_text(alloc, instr) else {
-        return Err(Fault::NoMemory(AllocError));
+        return words.cut_off();
     };
-    match str::from_utf8(line.as_slice()) {
-        Ok(line) => Ok(text.push_str(line)?),
-        Err(_) => Err(Fault::Malformed),
+    if let Ok(line) = str::from_utf8(line.as_slice()) {
+        words.add(line);
     }
 }
 
-/// Whether the listing prints an instruction as this line.
-fn is_listing(alloc: Global, line: &str, instr: &Instr) -> Result<bool, Fault> {
-    let Ok(ours) = instruction_text(alloc, instr) else {
-        return Err(Fault::NoMemory(AllocError));
-    };
-    Ok(ours.as_slice() == line.as_bytes())
+/// Whether the listing prints an instruction as this line; none where there was no memory.
+fn is_listing(alloc: Global, line: &str, instr: &Instr) -> Option<bool> {
+    match instruction_text(alloc, instr) {
+        Ok(ours) => Some(ours.as_slice() == line.as_bytes()),
+        Err(_) => None,
+    }
 }
 
 /// Adds what differs where an instruction does not have just these bytes; nothing where it does.
-fn add_encoding(text: &mut String, alloc: Global, instr: &Instr, code: &Code) -> Result<(), Fault> {
+fn add_encoding(words: &mut Words, instr: &Instr, bytes: &[u8]) {
     let ours = encode(instr);
-    let bytes = &ours.bytes[..usize::from(ours.length)];
-    if bytes == code.as_slice() {
-        return Ok(());
+    let ours = &ours.bytes[..usize::from(ours.length)];
+    if ours != bytes {
+        words.add("encoded as ");
+        words.add_bytes(ours);
     }
-    let digits = hex::encode(alloc, bytes)?;
-    Ok(write!(text, "encoded as {digits}")?)
 }
 
 /// Adds what differs between the reading of bytes, which are given as they are written too, and a line of the
 /// listing in any spelling; nothing where all is the same.
-fn add_line(
-    text: &mut String,
+fn add_spelling(
+    words: &mut Words,
     alloc: Global,
     (line, bytes): (&str, &str),
     code: &Code,
 ) -> Result<(), Fault> {
     let Some(instr) = code.instr() else {
-        return Ok(write!(text, "{bytes} has no reading")?);
+        words.add(bytes);
+        words.add(" has no reading");
+        return Ok(());
     };
     if is_spelling(alloc, line, &instr)? {
-        return add_encoding(text, alloc, &instr, code);
+        add_encoding(words, &instr, code.as_slice());
+    } else {
+        words.add(bytes);
+        words.add(" reads as ");
+        add_listing(words, alloc, &instr);
     }
-    write!(text, "{bytes} reads as ")?;
-    add_listing(text, alloc, &instr)
+    Ok(())
 }
 
-/// What differs between the reading of bytes and a line of the listing in any spelling; nothing where all is
+/// Adds what differs between the reading of bytes and a line of the listing in any spelling; nothing where all is
 /// the same.
-pub fn line_difference(alloc: Global, line: &str, bytes: &str) -> Result<String, Fault> {
+pub fn add_line(words: &mut Words, alloc: Global, line: &str, bytes: &str) -> Result<(), Fault> {
     let code = Code::read(alloc, bytes)?;
-    let mut text = String::new(alloc);
-    add_line(&mut text, alloc, (line, bytes), &code)?;
-    Ok(text)
+    add_spelling(words, alloc, (line, bytes), &code)
 }
 
 /// Adds what differs between the reading of bytes and a line as the listing is printed, `-` for none; nothing
 /// where all is the same.
-fn add_bytes(text: &mut String, alloc: Global, line: &str, code: &Code) -> Result<(), Fault> {
+fn add_reading(words: &mut Words, alloc: Global, line: &str, code: &Code) {
     let Some(instr) = code.instr() else {
-        let words = if line == "-" { "" } else { "no reading" };
-        return Ok(text.push_str(words)?);
+        if line != "-" {
+            words.add("no reading");
+        }
+        return;
     };
-    if is_listing(alloc, line, &instr)? {
-        return add_encoding(text, alloc, &instr, code);
+    match is_listing(alloc, line, &instr) {
+        Some(true) => add_encoding(words, &instr, code.as_slice()),
+        Some(false) => {
+            words.add("reads as ");
+            add_listing(words, alloc, &instr);
+        }
+        None => words.cut_off(),
     }
-    text.push_str("reads as ")?;
-    add_listing(text, alloc, &instr)
 }
 
-/// What differs between the reading of bytes and a line as the listing is printed, `-` for none; nothing
+/// Adds what differs between the reading of bytes and a line as the listing is printed, `-` for none; nothing
 /// where all is the same.
-pub fn bytes_difference(alloc: Global, bytes: &str, line: &str) -> Result<String, Fault> {
+pub fn add_bytes(words: &mut Words, alloc: Global, bytes: &str, line: &str) -> Result<(), Fault> {
     let code = Code::read(alloc, bytes)?;
-    let mut text = String::new(alloc);
-    add_bytes(&mut text, alloc, line, &code)?;
-    Ok(text)
+    add_reading(words, alloc, line, &code);
+    Ok(())
 }

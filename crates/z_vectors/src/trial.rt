@@ -6,10 +6,10 @@ ghost use Rattle.z_instr.specs.Table.{kind_at};
 ghost use Rattle.z_effect.specs.Facts.{is_storage};
 ghost use Rattle.z_effect.specs.After.{AreInside, ranges_of};
 
-use crate::code::Code;
 use crate::view::Watched;
 use tx_control::Exception;
 use tx_control::codes::{FIXED_POINT_OVERFLOW, OPERATION};
+use vector_lines::Code;
 use z_instr::instr::Instr;
 use z_regs::{CpuImage, Guard, PAGES};
 use z_touch::touches;
@@ -30,9 +30,9 @@ fn pages_of(address: u64, code: &Code) -> Guard {
     let mut guard = Guard::none();
     let last = address.wrapping_add(u64::from(code.length() - 1));
     for byte in [address, last] {
-        match u32::try_from(byte / 4096) {
-            Ok(page) if (page as usize) < PAGES => guard.add(page),
-            _ => {}
+        let page = byte / 4096;
+        if page < PAGES as u64 {
+            guard.add(page as u32);
         }
     }
     guard

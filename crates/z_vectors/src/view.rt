@@ -1,10 +1,10 @@
 //! Storage that remembers where bytes were put.
-ghost use Rattle.std.specs.Prelude.{◌≡◌, ◌<◌, ◌≤◌, ◌+◌, All, IfOk, length, replicate};
+ghost use Rattle.std.specs.Prelude.{◌≡◌, ◌<◌, ◌≤◌, ◌+◌, All, length};
 ghost use Rattle.z_regs.specs.Prefix.{storage_size};
 
-use crate::piece::{Piece, SIZE};
 use std::alloc::{AllocError, Global};
-use z_regs::{Bytes, Storage};
+use vector_lines::Piece;
+use z_regs::{Bytes, STORAGE_SIZE, Storage};
 
 /// Storage, and the addresses at which bytes were put since all was zero.
 #[derive(Drop)]
@@ -42,7 +42,7 @@ impl Bytes for Watched {
 impl Watched {
     /// Storage of zeros.
     pub fn open(alloc: Global) -> Result<Watched, AllocError> {
-        let zeros = vec![in alloc; 0u8; SIZE as usize]?;
+        let zeros = vec![in alloc; 0u8; STORAGE_SIZE as usize]?;
         let Ok(storage) = Storage::open(alloc, zeros.as_slice()) else {
             return Err(AllocError);
         };
@@ -86,14 +86,16 @@ impl Watched {
         }
     }
 
-    /// The addresses at which bytes were put, in order; an error where there was no memory for one.
-    pub fn puts(&self) -> Result<&[u64], AllocError>
-        ensures { IfOk result (λ puts. All (λ a. a < storage_size) puts.now) }
+    /// The addresses at which bytes were put, in order, but for those that were forgotten.
+    pub fn puts(&self) -> &[u64]
+        ensures { All (λ a. a < storage_size) result.now }
     {
-        if self.has_forgotten {
-            return Err(AllocError);
-        }
-        Ok(self.puts.as_slice())
+        self.puts.as_slice()
+    }
+
+    /// Whether there was no memory for some address.
+    pub fn has_forgotten(&self) -> bool {
+        self.has_forgotten
     }
 
     /// Makes the bytes zero again that were put.

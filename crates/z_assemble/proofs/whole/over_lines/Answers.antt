@@ -1,7 +1,7 @@
 use Rattle.std.proofs.Common.{◌≡◌, ◌==◌, false, Ok, subst, arith}
 use Rattle.std.proofs.lemmas.Bool.Decides.{nat_tests}
 use Rattle.z_reading.specs.Listing.{plan_of}
-use Rattle.z_reading.specs.Setup.{machine_of}
+use Rattle.z_setup.specs.Setup.{machine_of}
 use Rattle.z_fields.specs.Pieces.{pieces_by}
 use Rattle.z_assemble.specs.Whole.{first_over}
 use Rattle.z_assemble.proofs.Says.{lines_stand}

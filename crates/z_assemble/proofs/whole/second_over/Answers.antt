@@ -2,7 +2,7 @@ use Rattle.std.proofs.Common.{◌≡◌, ◌<◌, ◌≤◌, Ok, Err, arith, len
 use Rattle.std.proofs.lemmas.List.Elements.{All-get_or}
 use Rattle.std.proofs.lemmas.Result.{err_from_is_err_and}
 use Rattle.z_reading.specs.Kept.{LiesIn}
-use Rattle.z_reading.specs.Setup.{machine_of, known_of}
+use Rattle.z_setup.specs.Setup.{machine_of, known_of}
 use Rattle.z_assemble.specs.Steps.{Passes}
 use Rattle.z_assemble.specs.Whole.{second_on}
 use Rattle.z_assemble.proofs.Loops.{works_go, works_fail, works_over}

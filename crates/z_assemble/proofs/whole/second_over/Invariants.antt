@@ -1,6 +1,6 @@
 use Rattle.std.proofs.Common.{◌≡◌, ◌≤◌, map, drop}
 use Rattle.z_reading.specs.Listing.{task_in, tasks_of}
-use Rattle.z_reading.specs.Setup.{machine_of, known_of}
+use Rattle.z_setup.specs.Setup.{machine_of, known_of}
 use Rattle.z_assemble.specs.Whole.{second_over}
 use Rattle.z_assemble.proofs.whole.second_over.Given as goal
 

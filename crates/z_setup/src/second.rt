@@ -1,6 +1,6 @@
 //! The second reading of the lines, when all labels are known.
-ghost use Rattle.std.specs.Prelude.{◌≡◌, ℕ, IfOk, Ok, OnOk, ◌≤◌, ◌<◌, ◌+◌, ◌-◌, ◌*◌, ◌^◌, length, drop, map};
-ghost use Rattle.std.specs.Prelude.{pos, sum_by, IsTrue, All, Option, Some, true, false};
+ghost use Rattle.std.specs.Prelude.{◌≡◌, ℕ, Ok, OnOk, ◌≤◌, ◌<◌, ◌+◌, ◌-◌, ◌*◌, ◌^◌, length, drop, map};
+ghost use Rattle.std.specs.Prelude.{sum_by, IsTrue, All, Some};
 ghost use Rattle.std.specs.List.{list_any};
 ghost use Rattle.z_instr.specs.Reading.{modulo};
 ghost use Rattle.z_regs.specs.Cpu.{cpu_of};
@@ -8,33 +8,31 @@ ghost use Rattle.z_regs.specs.Prefix.{is_prefix};
 ghost use Rattle.z_text.specs.Labels.{value_in};
 ghost use Rattle.z_text.specs.Tokens.{AreTokensIn, LiesIn};
 ghost use Rattle.z_reading.specs.Listing.{task_of, tasks_of, heads_in, operands_in, operation_in, is_below};
-ghost use Rattle.z_reading.specs.Listing.{is_doubleword, field_behind};
-ghost use Rattle.z_reading.specs.Machine.{change_at, with_address, with_general, entry_line};
-ghost use Rattle.z_reading.specs.Machine.{is_register_value, register_line, size_of_show, is_accessible};
-ghost use Rattle.z_reading.specs.Machine.{has_room_for, shown, has_fields, show_line, block_line, is_comma};
-ghost use Rattle.z_reading.specs.Machine.{parameter_in, parameter_line, named_parameter, is_area};
-ghost use Rattle.z_reading.specs.Machine.{is_same_prefix, has_prefix, is_free, places_in, task_places_in};
-ghost use Rattle.z_reading.specs.Machine.{is_prefix_for, with_prefix, area_given, prefix_line, schedule_line, code_line};
-ghost use Rattle.z_reading.specs.Machine.{tokens_in, end_of, directive_line, read_again, task_gives};
-ghost use Rattle.z_reading.specs.Setup.{machine_of, known_of};
+ghost use Rattle.z_reading.specs.Listing.{is_doubleword, to_nat};
+ghost use Rattle.z_setup.specs.Machine.{change_at, with_address, with_general, entry_line};
+ghost use Rattle.z_setup.specs.Machine.{is_register_value, register_line, size_of_show, is_accessible};
+ghost use Rattle.z_setup.specs.Machine.{has_room_for, shown, has_fields, show_line, block_line, is_comma};
+ghost use Rattle.z_setup.specs.Machine.{parameter_in, parameter_line, named_parameter, is_area};
+ghost use Rattle.z_setup.specs.Machine.{is_same_prefix, has_prefix, is_free, places_in, task_places_in};
+ghost use Rattle.z_setup.specs.Machine.{is_prefix_for, with_prefix, prefix_line, schedule_line, code_line};
+ghost use Rattle.z_setup.specs.Machine.{tokens_in, end_of, directive_line, read_again, task_gives};
+ghost use Rattle.z_setup.specs.Setup.{machine_of, known_of};
 ghost use Rattle.z_reading.specs.Sizes.{IsPlaced};
 ghost use Rattle.z_fields.specs.Steps.{Gives, Answers};
 ghost use Rattle.z_operands.specs.Values.{operands_on};
 
-use crate::draft::{FIRST_BYTE, SIZE};
-use crate::first::{behind, field_behind, heads_in, is_doubleword, operation_in};
-use crate::kept::Work;
 use crate::parameter::{Parameter, is_choice, parameter_named, set_parameter};
-use crate::place::write_bytes;
-use crate::reading::Reading;
 use crate::setup::Setup;
 use crate::showing::{Showing, has_fields};
-use crate::works::Works;
 use std::alloc::Global;
 use tx_journal::Show;
 use z_fields::{Kind, LineFault, push_events};
 use z_operands::{
     Operand, Operation, Room, code_for, one_in, read_operands, size_of_row, three_in, two_in,
+};
+use z_reading::{
+    FIRST_BYTE, Reading, SIZE, Work, Works, behind, field_behind, heads_in, is_doubleword,
+    operation_in, write_bytes,
 };
 use z_regs::CpuImage;
 use z_text::{Labels, TextFault, Token, TokenKind, read_tokens};
@@ -108,21 +106,33 @@ fn doubleword(value: i128) -> u64
     value as u64
 }
 
+/// Whether a register of one of so many CPUs can have this value.
+fn is_register_value(cpus: usize, cpu: i128, register: i128, value: i128) -> bool
+    ensures { result ≡ is_register_value cpus (cpu, register, value) }
+{
+    is_below(cpus, cpu) && is_below(16, register) && is_doubleword(value)
+}
+
+/// Gives a register of a CPU a value that it can have.
+fn set_register(cpus: &mut Vec<CpuImage>, cpu: i128, register: i128, value: i128)
+    requires { IsTrue (is_register_value (length cpus.old.items) (cpu, register, value)) }
+    ensures is { map cpu_of cpus.new.items ≡ change_at (to_nat cpu) (with_general (to_nat register)
+        (modulo 64 value)) (map cpu_of cpus.old.items) }
+    ensures count { length cpus.new.items ≡ length cpus.old.items }
+{
+    set_general(cpus, cpu as usize, register as usize, doubleword(value));
+}
+
 #[tactic(auto, unfolding(crate::specs::Machine::register_line))]
 fn fill_register(setup: &mut Setup, operands: &[Operand]) -> Result<(), LineFault>
     ensures gives { Gives result (register_line operands.now (machine_of setup.old)) (machine_of setup.new) }
     ensures entered { setup.new.entered ≡ setup.old.entered }
 {
     let (cpu, register, value) = three_in(operands)?;
-    if !is_below(setup.cpus.len(), cpu) || !is_below(16, register) || !is_doubleword(value) {
+    if !is_register_value(setup.cpus.len(), cpu, register, value) {
         return Err(LineFault::Failed(Kind::OutOfRange));
     }
-    set_general(
-        &mut setup.cpus,
-        cpu as usize,
-        register as usize,
-        doubleword(value),
-    );
+    set_register(&mut setup.cpus, cpu, register, value);
     Ok(())
 }
 
@@ -301,19 +311,25 @@ fn is_text_in(area: u32, works: &Works) -> bool
     false
 }
 
-/// A CPU gets an area as its prefix, where it has none yet, no other one has this, and no instruction lies there.
-fn give_area(setup: &mut Setup, works: &Works, cpu: usize, area: u32) -> Result<(), LineFault>
-    requires below { cpu < length (machine_of setup.old).cpus }
-    requires area { IsTrue (is_prefix (Some area)) }
-    ensures gives { Gives result (area_given (tasks_of works.now) cpu area (machine_of setup.old))
-        (machine_of setup.new) }
-    ensures entered { setup.new.entered ≡ setup.old.entered }
+/// Whether a CPU is one of these and has no prefix, and the area is one that none has and where no instruction lies.
+fn is_prefix_for(works: &Works, cpus: &[CpuImage], cpu: i128, area: i128) -> bool
+    ensures { result ≡ is_prefix_for (tasks_of works.now) (map cpu_of cpus.now) (cpu, area) }
 {
-    if !is_free(cpu, area, &setup.cpus) || is_text_in(area, works) {
-        return Err(LineFault::Failed(Kind::OutOfRange));
-    }
-    set_prefix(&mut setup.cpus, cpu, area);
-    Ok(())
+    is_below(cpus.len(), cpu)
+        && is_area(area)
+        && is_free(cpu as usize, area as u32, cpus)
+        && !is_text_in(area as u32, works)
+}
+
+/// Gives a CPU an area as its prefix.
+fn give_area(cpus: &mut Vec<CpuImage>, cpu: i128, area: i128)
+    requires below { IsTrue (is_below (length cpus.old.items) cpu) }
+    requires area { IsTrue (is_area area) }
+    ensures is { map cpu_of cpus.new.items ≡ change_at (to_nat cpu) (with_prefix (to_nat area))
+        (map cpu_of cpus.old.items) }
+    ensures count { length cpus.new.items ≡ length cpus.old.items }
+{
+    set_prefix(cpus, cpu as usize, area as u32);
 }
 
 #[tactic(auto, unfolding(crate::specs::Machine::prefix_line))]
@@ -323,10 +339,11 @@ fn give_prefix(setup: &mut Setup, works: &Works, operands: &[Operand]) -> Result
     ensures entered { setup.new.entered ≡ setup.old.entered }
 {
     let (cpu, area) = two_in(operands)?;
-    if !is_below(setup.cpus.len(), cpu) || !is_area(area) {
+    if !is_prefix_for(works, &setup.cpus, cpu, area) {
         return Err(LineFault::Failed(Kind::OutOfRange));
     }
-    give_area(setup, works, cpu as usize, area as u32)
+    give_area(&mut setup.cpus, cpu, area);
+    Ok(())
 }
 
 // ---- the schedule, and instructions

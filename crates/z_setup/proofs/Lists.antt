@@ -7,7 +7,7 @@ use Rattle.std.proofs.lemmas.List.{drop_all}
 use Rattle.std.specs.List.{list_any}
 use Rattle.z_regs.specs.Cpu.{Cpu, cpu_of}
 use Rattle.z_regs.specs.declared.image.CpuImage.{CpuImage}
-use Rattle.z_reading.specs.Machine.{change_at}
+use Rattle.z_setup.specs.Machine.{change_at}
 use Rattle.z_fields.proofs.Loops.{drop_here}
 
 pub any_true : {X : Type 0} (q : X → Bool) (xs : List X) (i : ℕ) (d : X) → i < length xs →

@@ -1,6 +1,6 @@
 //! What a line shows of storage.
 ghost use Rattle.std.specs.Prelude.{◌≡◌};
-ghost use Rattle.z_reading.specs.Machine.{has_fields};
+ghost use Rattle.z_setup.specs.Machine.{has_fields};
 
 /// What a line shows of storage.
 #[derive(Clone, Copy, Debug, PartialEq, Eq)]

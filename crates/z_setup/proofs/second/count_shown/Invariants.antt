@@ -1,7 +1,7 @@
 use Rattle.std.proofs.Common.{◌≡◌, ◌≤◌, ◌*◌, take}
 use Rattle.std.specs.Prelude.{sum_by}
-use Rattle.z_reading.specs.Machine.{size_of_show}
-use Rattle.z_reading.proofs.second.count_shown.Given as goal
+use Rattle.z_setup.specs.Machine.{size_of_show}
+use Rattle.z_setup.proofs.second.count_shown.Given as goal
 
 abbrev pub invariant-loop-show : goal.invariant-loop-show
 invariant-loop-show l = record {

@@ -1,8 +1,8 @@
 use Rattle.std.proofs.Common.{◌≡◌, ◌<◌, ◌≤◌, ◌∙◌, length, get_or, sym, subst}
 use Rattle.z_reading.specs.Listing.{task_in}
-use Rattle.z_reading.specs.Machine.{task_places_in}
-use Rattle.z_reading.proofs.Lists.{any_here, any_over, any_map}
-use Rattle.z_reading.proofs.second.is_text_in.Goals as goal
+use Rattle.z_setup.specs.Machine.{task_places_in}
+use Rattle.z_setup.proofs.Lists.{any_here, any_over, any_map}
+use Rattle.z_setup.proofs.second.is_text_in.Goals as goal
 
 pub returns-then-places_in : goal.returns-then-places_in
 returns-then-places_in c =

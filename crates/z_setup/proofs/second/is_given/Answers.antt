@@ -1,8 +1,8 @@
 use Rattle.std.proofs.Common.{◌∙◌, sym}
 use Rattle.z_regs.specs.Cpu.{cpu_of}
-use Rattle.z_reading.specs.Machine.{has_prefix}
-use Rattle.z_reading.proofs.Lists.{any_here, any_over, any_map}
-use Rattle.z_reading.proofs.second.is_given.Goals as goal
+use Rattle.z_setup.specs.Machine.{has_prefix}
+use Rattle.z_setup.proofs.Lists.{any_here, any_over, any_map}
+use Rattle.z_setup.proofs.second.is_given.Goals as goal
 
 pub returns-then-is_same_prefix : goal.returns-then-is_same_prefix
 returns-then-is_same_prefix c =

@@ -4,25 +4,32 @@ ghost use Rattle.std.specs.Prelude.{◌≡◌, ◌+◌, ◌-◌, ◌<◌, ◌≤
 use crate::fault::Fault;
 use crate::numbers::{bytes_of, hexadecimal};
 use std::alloc::{AllocError, Global};
-
-/// How many bytes storage has.
-pub const SIZE: u64 = z_regs::STORAGE_SIZE;
+use z_regs::STORAGE_SIZE;
 
 /// Bytes of storage from an address on, all inside.
 #[derive(Drop)]
 pub struct Piece {
+    /// The address of the first byte.
     pub first: u64,
+    /// The bytes.
     pub bytes: Vec<u8>,
     ghost inside: { first + vec_len bytes ≤ 1048576 },
+}
+
+/// The address and the digits of a piece.
+fn parts_of<'a>(text: &'a str) -> Option<(u64, &'a str)> {
+    let (first, digits) = text.split_once(':')?;
+    Some((hexadecimal(first)?, digits))
 }
 
 impl Piece {
     /// A piece as `ADDRESS:BYTES`, both hexadecimal.
     fn read(alloc: Global, text: &str) -> Result<Piece, Fault> {
-        let (first, bytes) = text.split_once(':').ok_or(Fault::Malformed)?;
-        let first = hexadecimal(first)?;
-        let bytes = bytes_of(alloc, bytes)?;
-        if first > SIZE || bytes.len() as u64 > SIZE - first {
+        let Some((first, digits)) = parts_of(text) else {
+            return Err(Fault::Malformed);
+        };
+        let bytes = bytes_of(alloc, digits)?;
+        if first > STORAGE_SIZE || bytes.len() as u64 > STORAGE_SIZE - first {
             return Err(Fault::Malformed);
         }
         Ok(Piece { first, bytes })
@@ -45,7 +52,7 @@ fn add_piece(pieces: &mut Vec<Piece>, piece: Piece) -> Result<(), AllocError> {
 }
 
 /// Adds the pieces behind `m=`, with commas between them, where there are none yet; else malformed.
-pub fn add_pieces(pieces: &mut Vec<Piece>, alloc: Global, text: &str) -> Result<(), Fault> {
+pub(crate) fn add_pieces(pieces: &mut Vec<Piece>, alloc: Global, text: &str) -> Result<(), Fault> {
     if !pieces.is_empty() {
         return Err(Fault::Malformed);
     }

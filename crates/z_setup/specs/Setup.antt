@@ -5,9 +5,9 @@ use Rattle.z_fields.specs.SmallEvent.{event_in}
 use Rattle.z_text.specs.Labels.{value_in}
 use Rattle.z_text.specs.declared.labels.Labels.{Labels}
 use Rattle.z_reading.specs.Listing.{tasks_of}
-use Rattle.z_reading.specs.Machine.{Machine, Known}
+use Rattle.z_setup.specs.Machine.{Machine, Known}
 use Rattle.z_reading.specs.declared.works.Works.{Works}
-use Rattle.z_reading.specs.declared.setup.Setup.{Setup}
+use Rattle.z_setup.specs.declared.setup.Setup.{Setup}
 
 abbrev pub machine_of : Setup → Machine
 machine_of s = record {

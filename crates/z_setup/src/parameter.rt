@@ -1,7 +1,7 @@
 //! The numbers of the retry ladder, by their names.
 ghost use Rattle.std.specs.Prelude.{◌≡◌, IsTrue};
 ghost use Rattle.z_reading.specs.Listing.{to_nat};
-ghost use Rattle.z_reading.specs.Machine.{parameter_named, is_between, is_choice, with_parameter};
+ghost use Rattle.z_setup.specs.Machine.{parameter_named, is_between, is_choice, with_parameter};
 
 use tx_ladder::{Choice, DELAY, FIRM, LATE, Parms, REJECT, STARVE, STOP};
 

@@ -32,10 +32,10 @@ use Rattle.z_fields.specs.declared.fault.Kind.TheVariants.{OutOfRange, BadDirect
 use Rattle.z_operands.specs.declared.operand.Operand.{Operand}
 use Rattle.z_operands.specs.declared.operation.Operation.{Operation}
 use Rattle.z_operands.specs.declared.operation.Operation.TheVariants as operations
-use Rattle.z_reading.specs.declared.parameter.Parameter.{Parameter}
-use Rattle.z_reading.specs.declared.showing.Showing.{Showing}
-use Rattle.z_reading.specs.declared.showing.Showing.TheVariants.{Bytes, Block}
-use Rattle.z_reading.specs.declared.parameter.Parameter.TheVariants.{Reject, Firm, Late, Starve, Stop, Delay}
+use Rattle.z_setup.specs.declared.parameter.Parameter.{Parameter}
+use Rattle.z_setup.specs.declared.showing.Showing.{Showing}
+use Rattle.z_setup.specs.declared.showing.Showing.TheVariants.{Bytes, Block}
+use Rattle.z_setup.specs.declared.parameter.Parameter.TheVariants.{Reject, Firm, Late, Starve, Stop, Delay}
 
 -- what the lines so far have made of the machine: storage, the CPUs and how many of them have their entries,
 -- what is shown, the schedule and whether there is one, and the numbers of the retry ladder
@@ -196,13 +196,6 @@ is_prefix_for tasks cpus x =
 
 abbrev pub with_prefix : ℕ → Cpu → Cpu
 with_prefix n c = record c { prefix = Some n }
-
--- what comes of it where the CPU and the area are some, by the other tests
-abbrev pub area_given : List Task → ℕ → ℕ → Machine → Result Machine Kind
-area_given tasks cpu area m =
-    if is_free cpu area m.cpus && not (list_any (task_places_in area) tasks)
-    then Ok (record m { cpus = change_at cpu (with_prefix area) m.cpus })
-    else Err OutOfRange
 
 unfoldable pub prefix_line : List Task → List Operand → Machine → Result Machine Kind
 prefix_line tasks os m =
