@@ -14,11 +14,11 @@ use crate::entries::may_act;
 use crate::mending::{forget_plain_stores, give_up, keep_stored};
 use crate::slot::{ApplyFault, Block, Slot};
 use tx_abort::{block_of, condition_of, restore};
+use tx_control::Why;
 use tx_private::attempt::{Attempt, Mark};
 use tx_private::ending::fits;
 use tx_private::refusals::constrains;
 use tx_private::running::run;
-use tx_control::Why;
 use z_regs::{CpuImage, Guard, RunState, Storage, Waiting};
 
 /// After how many instructions an attempt ended, and by which cause.

@@ -14,10 +14,10 @@ ghost use Rattle.tx_serial.specs.Attempt.{Missing};
 ghost use Rattle.tx_footprint.specs.Touched.{sets_of};
 
 use crate::mending::{give_up, restore};
+use tx_control::Why;
 use tx_private::attempt::{Attempt, Mark};
 use tx_private::ending::ending;
 use tx_private::running::run;
-use tx_control::Why;
 use z_regs::{CpuImage, Guard, Storage};
 
 /// Whether there is no run of so many instructions.

@@ -13,8 +13,8 @@ use crate::entries::{commit, store_block};
 use crate::interruption::take;
 use crate::outside::step;
 use crate::slot::{ApplyFault, Slot};
-use tx_private::attempt::Attempt;
 use tx_journal::Entry;
+use tx_private::attempt::Attempt;
 use z_regs::{Guard, Storage};
 
 /// An entry of the CPU whose slot this is; its number is not looked at. A block that is pending lies in

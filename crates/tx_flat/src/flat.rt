@@ -20,12 +20,12 @@ use crate::showing::{OpenRun, open_run};
 use crate::slot::{ApplyFault, Slot};
 use std::alloc::Global;
 use std::marker::Model;
+use tx_control::Why;
+use tx_journal::{Entry, Image};
 use tx_private::attempt::Attempt;
 use tx_private::copying::is_whole;
 use tx_private::known::Readings;
 use tx_private::running::fresh;
-use tx_control::Why;
-use tx_journal::{Entry, Image};
 use z_regs::{CpuImage, Guard, NoMemory, PAGES, Storage};
 
 /// Storage and its text pages, and of each CPU its registers and its state, the diagnostic block that is
