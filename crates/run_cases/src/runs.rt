@@ -3,13 +3,14 @@ ghost use Rattle.std.specs.Prelude.{◌≡◌, ◌<◌, ◌^◌, ◌+◌, IsTrue
 ghost use Rattle.tx_serial.specs.Apply.{is_running};
 ghost use Rattle.tx_cpu.specs.Parts.{local_of};
 
+use crate::given::{Given, given_by, walk};
 use line_table::Mode;
 use std::alloc::Global;
 use std::sync::Arc;
 use std::test::Fail;
 use tx_cpu::{Cpu, Program};
 use tx_meaning::Need;
-use tx_run::{Reason, Run, RunStep};
+use tx_run::{Difference, Reason, Run, RunStep};
 use z_assemble::assemble;
 use z_regs::{Bytes, RunState, Storage};
 
@@ -26,13 +27,13 @@ pub(crate) fn may_be_lent(cpu: &Cpu) -> bool
 }
 
 /// The program of a listing.
-pub(crate) fn read(alloc: Global, listing: &str) -> Result<Program, Fail> {
+fn read(alloc: Global, listing: &str) -> Result<Program, Fail> {
     let image = assemble(alloc, listing.as_bytes())?;
     Ok(Program::open(alloc, Arc::new(alloc, image)?)?)
 }
 
 /// Its first CPU.
-pub(crate) fn first_cpu(alloc: Global, program: &Program) -> Result<Cpu, Fail> {
+fn first_cpu(alloc: Global, program: &Program) -> Result<Cpu, Fail> {
     let image = program.image();
     let _count = image.cpu_count();
     let start = image.cpus.first().ok_or("no CPU")?;
@@ -40,14 +41,14 @@ pub(crate) fn first_cpu(alloc: Global, program: &Program) -> Result<Cpu, Fail> {
 }
 
 /// Storage with its bytes, but for 41 in the doubleword at X'9000'.
-pub(crate) fn changed(alloc: Global, program: &Program) -> Result<Storage, Fail> {
+fn changed(alloc: Global, program: &Program) -> Result<Storage, Fail> {
     let mut storage = Storage::open(alloc, program.bytes())?;
     storage.put(0x9007, 41);
     Ok(storage)
 }
 
 /// The CPU is lent, with the line at X'9000' exclusively.
-pub(crate) fn lend(run: &mut Run, cpu: &Cpu, storage: &Storage, allowance: u32) {
+fn lend(run: &mut Run, cpu: &Cpu, storage: &Storage, allowance: u32) {
     let _size = storage.as_slice();
     if allowance > 64 || !may_be_lent(cpu) {
         return;
@@ -92,30 +93,62 @@ fn seen(run: &mut Run) -> Seen {
     (outcome, loan(run), run.step(true))
 }
 
-/// What comes of a CPU that is lent.
-fn seen_of(
+/// What comes of a CPU that is lent, and what another one and storage come to by it.
+fn lent(
     alloc: Global,
     program: Arc<Program>,
     cpu: &Cpu,
-    storage: &Storage,
+    into: &mut Cpu,
+    base: &mut Storage,
     allowance: u32,
-) -> Result<Seen, Fail> {
+) -> Result<(Seen, Given), Fail> {
     let mut run = Run::open(alloc, program, 0)?;
-    lend(&mut run, cpu, storage, allowance);
-    Ok(seen(&mut run))
+    lend(&mut run, cpu, base, allowance);
+    let seen = seen(&mut run);
+    Ok((seen, given_by(&run, into, base)))
 }
 
-/// What comes of a program whose first CPU is lent.
-fn seen_in(alloc: Global, program: Arc<Program>, allowance: u32) -> Result<Seen, Fail> {
-    let cpu = first_cpu(alloc, &program)?;
-    let storage = changed(alloc, &program)?;
-    seen_of(alloc, program, &cpu, &storage, allowance)
+/// The same of a CPU behind so many instructions, beside another one.
+fn beside(
+    alloc: Global,
+    program: Arc<Program>,
+    cpu: &mut Cpu,
+    base: &mut Storage,
+    before: u32,
+    allowance: u32,
+) -> Result<(Seen, Given), Fail> {
+    let mut into = first_cpu(alloc, &program)?;
+    walk(cpu, &program, before, base);
+    lent(alloc, program, cpu, &mut into, base, allowance)
+}
+
+/// The same of a program whose first CPU is lent.
+fn first_lent(
+    alloc: Global,
+    program: Arc<Program>,
+    base: &mut Storage,
+    before: u32,
+    allowance: u32,
+) -> Result<(Seen, Given), Fail> {
+    let mut cpu = first_cpu(alloc, &program)?;
+    beside(alloc, program, &mut cpu, base, before, allowance)
+}
+
+/// The same over storage of its own.
+fn made_of(
+    alloc: Global,
+    program: Arc<Program>,
+    before: u32,
+    allowance: u32,
+) -> Result<(Seen, Given), Fail> {
+    let mut base = changed(alloc, &program)?;
+    first_lent(alloc, program, &mut base, before, allowance)
 }
 
 /// The same of the program of a listing.
-fn made(alloc: Global, listing: &str, allowance: u32) -> Result<Seen, Fail> {
+fn made(alloc: Global, listing: &str, before: u32, allowance: u32) -> Result<(Seen, Given), Fail> {
     let program = Arc::new(alloc, read(alloc, listing)?)?;
-    seen_in(alloc, program, allowance)
+    made_of(alloc, program, before, allowance)
 }
 
 const DONE: RunStep = RunStep::Done;
@@ -140,31 +173,65 @@ const TEXT: Option<(u32, bool)> = Some((4, true));
 
 const DATA: Option<(u32, bool)> = Some((9, false));
 
+/// The first program inside a transaction that has stored before.
+const INSIDE: &str =
+    " CPU X'4000'\n TBEGIN 0,0\n STG 2,X'9008'\n LG 1,X'9000'\n AGHI 1,1\n STG 1,X'9000'\n TEND\n \
+                      SVC 0\n REG 0,2,X'0000000000000005'\n END\n";
+
+/// Where 40 stands in place of 41.
+const OTHERWISE: Option<Difference> = Some(Difference {
+    address: 0x9007,
+    kept: 40,
+    given: 41,
+});
+
+const STORED: Option<(u32, Mode)> = Some((0x90, Mode::Exclusive));
+
+const FETCHED: Option<(u32, Mode)> = Some((0x90, Mode::Shared));
+
+/// The byte of the first operand, as it was.
+const BYTE: Option<(u64, u8)> = Some((0x9007, 41));
+
 #[test]
-fn what_steps_answer_and_leave(rt: HostRuntime) -> Result<(), Fail> {
-    let divides = made(rt.alloc(), DIVIDES, 64)?;
-    let spent = made(rt.alloc(), DIVIDES, 2)?;
-    let elsewhere = made(rt.alloc(), ELSEWHERE, 64)?;
-    let byte = Some((0x9007, 41));
-    let stored = Some((0x90, Mode::Exclusive));
-    let fetched = Some((0x90, Mode::Shared));
+fn what_steps_answer_leave_and_give(rt: HostRuntime) -> Result<(), Fail> {
+    let divides = made(rt.alloc(), DIVIDES, 0, 64)?;
+    let spent = made(rt.alloc(), DIVIDES, 0, 2)?;
+    let elsewhere = made(rt.alloc(), ELSEWHERE, 0, 64)?;
+    let inside = made(rt.alloc(), INSIDE, 2, 64)?;
     let wanted = (
         (
-            ([DONE, DONE, DONE, AT_HOME, AT_HOME], 3, 42, byte),
-            ([0, 7, 0], 0, stored, [TEXT, DATA]),
-            CALLED,
+            (
+                ([DONE, DONE, DONE, AT_HOME, AT_HOME], 3, 42, BYTE),
+                ([0, 7, 0], 0, STORED, [TEXT, DATA]),
+                CALLED,
+            ),
+            (OTHERWISE, ([42, 0, 0x4010], None, [42, 0, 42, 0])),
         ),
         (
-            ([DONE, DONE, SPENT, SPENT, SPENT], 2, 42, byte),
-            ([0, 7, 0], 0, fetched, [TEXT, None]),
-            CALLED,
+            (
+                ([DONE, DONE, SPENT, SPENT, SPENT], 2, 42, BYTE),
+                ([0, 7, 0], 0, FETCHED, [TEXT, None]),
+                CALLED,
+            ),
+            (OTHERWISE, ([42, 0, 0x400A], None, [41, 0, 41, 0])),
         ),
         (
-            ([DONE, MISSING, MISSING, MISSING, MISSING], 1, 3, None),
-            ([0, 7, 0], 0, None, [TEXT, None]),
-            CALLED,
+            (
+                ([DONE, MISSING, MISSING, MISSING, MISSING], 1, 3, None),
+                ([0, 7, 0], 0, None, [TEXT, None]),
+                CALLED,
+            ),
+            (None, ([3, 0, 0x4004], None, [41, 0, 41, 0])),
+        ),
+        (
+            (
+                ([DONE, DONE, DONE, AT_HOME, AT_HOME], 3, 42, BYTE),
+                ([0, 7, 0], 0, STORED, [TEXT, DATA]),
+                CALLED,
+            ),
+            (OTHERWISE, ([42, 5, 0x401C], Some((1, 5)), [42, 5, 41, 0])),
         ),
     );
-    assert_eq!(rt; (divides, spent, elsewhere), wanted);
+    assert_eq!(rt; (divides, spent, elsewhere, inside), wanted);
     Ok(())
 }
