@@ -28,11 +28,11 @@ fn report_run(
 {
     let mut machine = open(alloc, image, turns, tick)?;
     run_planned(&mut machine, seed);
-    match report(alloc, &machine) {
-        Ok(text) => Ok(Answer {
-            status: status(&machine),
-            text,
-        }),
+    let written = report(alloc, &machine);
+    let status = status(&machine);
+    drop(machine);
+    match written {
+        Ok(text) => Ok(Answer { status, text }),
         Err(_) => Err(NoMemory),
     }
 }

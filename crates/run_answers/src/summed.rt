@@ -19,11 +19,11 @@ pub fn summary(alloc: Global, number: u64) -> Result<Answer, NoMemory>
     let image = image_for(alloc, number)?;
     let mut machine = open(alloc, image, MOST_TURNS, 0)?;
     run_round(&mut machine);
-    match summary_text(alloc, number, &machine) {
-        Ok(text) => Ok(Answer {
-            status: status(&machine),
-            text,
-        }),
+    let written = summary_text(alloc, number, &machine);
+    let status = status(&machine);
+    drop(machine);
+    match written {
+        Ok(text) => Ok(Answer { status, text }),
         Err(_) => Err(NoMemory),
     }
 }

@@ -65,17 +65,20 @@ pub fn open_works(alloc: Global, image: &Image, most: usize) -> Result<Works, No
     ensures events_room { IfOk result (λ w. most ≤ w.events_room) }
 {
     let cpus = image.cpu_count();
-    let Ok(lines) = Lines::open(alloc, image.storage.as_slice(), cpus) else {
-        return Err(NoMemory);
-    };
     let Ok(queue) = StopQueue::open(alloc, cpus) else {
         return Err(NoMemory);
     };
+    let slots = slots_of(alloc, image.cpus.as_slice(), image.parms)?;
+    let history = Vec::with_capacity(alloc, most)?;
+    let events = Vec::with_capacity(alloc, most)?;
+    let Ok(lines) = Lines::open(alloc, image.storage.as_slice(), cpus) else {
+        return Err(NoMemory);
+    };
     Ok(Works {
-        slots: slots_of(alloc, image.cpus.as_slice(), image.parms)?,
+        slots,
         lines,
         queue,
-        history: Vec::with_capacity(alloc, most)?,
-        events: Vec::with_capacity(alloc, most)?,
+        history,
+        events,
     })
 }

@@ -7,11 +7,11 @@ use Rattle.tx_journal.specs.Content.{Content}
 use Rattle.tx_machine.proofs.Opened.{fitted}
 use Rattle.tx_machine.proofs.opening.open_works.Goals as goal
 
-pub invariant_of-result-3 : goal.invariant_of-result-3
-invariant_of-result-3 c =
-    let counted : c.cpu_count-cpus.result ≡ length (map cpu_of c.as_slice-2.result.now) =
+pub invariant_of-result : goal.invariant_of-result
+invariant_of-result c =
+    let counted : c.cpu_count-cpus.result ≡ length (map cpu_of c.as_slice.result.now) =
     c.cpu_count-cpus.ensures.count ∙ sym (ap (λ (i : Content). length i.cpus) c.image.view_is)
-    ∙ sym (ap (λ (xs : List CpuImage). length (map cpu_of xs)) c.as_slice-2.ensures.value) in
-    fitted c.as_slice-2.result.now c.cpu_count-cpus.result (vec_len c.in_ok-slots_of.field-0)
-    c.lines.inside.table.cpus c.queue.inside.waiting.len c.in_ok-slots_of.ensures (search rules) counted
+    ∙ sym (ap (λ (xs : List CpuImage). length (map cpu_of xs)) c.as_slice.ensures.value) in
+    fitted c.as_slice.result.now c.cpu_count-cpus.result (vec_len c.in_ok-slots.slots)
+    c.in-Ok-open.lines.cpus c.in-Ok.queue.cpus c.in_ok-slots.ensures (search rules) counted
     (search rules) (search rules) (search rules)
