@@ -1,5 +1,5 @@
 -- What is shown of a state of a machine, as data.
-use Rattle.std.specs.Prelude.{ℕ, List}
+use Rattle.std.specs.Prelude.{ℕ}
 use Rattle.tx_serial.specs.Flat.{address_of}
 use Rattle.tx_meaning.specs.Limits.{Setting}
 use Rattle.tx_meaning.specs.State.{State, flat_of, cpu_of, cpus_of}

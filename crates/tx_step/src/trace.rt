@@ -11,7 +11,8 @@ ghost use Rattle.tx_meaning.specs.Meaning.{IsSetting, is_external};
 ghost use Rattle.tx_meaning.specs.Views.{GoesOnWith, KeepsViews};
 ghost use Rattle.step_changes.specs.Stored.{has, may_be_live};
 ghost use Rattle.tx_meaning.specs.State as meant;
-ghost use Rattle.tx_machine.specs.Machine.{setting_of, state_of, event_of, after};
+ghost use Rattle.tx_machine.specs.Machine.{setting_of, state_of, event_of, after, opened};
+ghost use Rattle.tx_meaning.specs.Meaning.{meaning};
 ghost use Rattle.tx_meaning.specs.Shown.{levels_at};
 ghost use Rattle.tx_step.specs.Traces.{Traced, IsTraced, setting_in, state_at, at_start, moved_to};
 ghost use Rattle.tx_step.specs.Traces.{forward_from, back_from};
@@ -141,6 +142,31 @@ fn follow(
     Ok(())
 }
 
+/// What a machine from which nothing has happened shows, which is then led over events, with a step for each that is recorded.
+fn seen_along(
+    alloc: Global,
+    machine: &mut Machine,
+    steps: &mut Vec<Step>,
+    events: &[Event],
+) -> Result<View, AllocError>
+    requires opened { machine.old ≡ opened machine.old.image machine.old.limits }
+    requires setting { IsSetting (setting_of machine.old) }
+    requires known { All (λ e. cpu_of_event e < length machine.old.image.cpus) events.now }
+    requires externals { count_by is_external events.now ≤ machine.old.limits.externals }
+    requires none { steps.old.items ≡ [] }
+    ensures setting { IfOk result (λ _. setting_of machine.new ≡ setting_of machine.old) }
+    ensures events { IfOk result (λ _. machine.new.events ≡ (meaning (setting_of machine.old) events.now).events) }
+    ensures traced { IfOk result (λ view. IsTraced machine.new view steps.new.items 0) }
+{
+    let first = View::of(alloc, &MachineSight { machine })?;
+    let mut view = View::of(alloc, &MachineSight { machine })?;
+    let mut stored = StoredLines::none(alloc);
+    for event in events {
+        follow(alloc, machine, &mut view, &mut stored, steps, *event)?;
+    }
+    Ok(first)
+}
+
 impl Trace {
     /// The run of a machine of an image over events of CPUs that there are, of which at most as many are
     /// external as the limits say. It stands before the first of them. The error is want of memory.
@@ -155,24 +181,12 @@ impl Trace {
         ensures { IfOk result (λ trace. trace ≡ at_start (arc_value image) limits events.now) }
     {
         let most = image.cpu_count() as usize * limits.turns as usize + limits.externals as usize;
-        let mut machine = Machine::open(alloc, image, limits)?;
-        let first = View::of(alloc, &MachineSight { machine: &machine })?;
-        let mut view = View::of(alloc, &MachineSight { machine: &machine })?;
-        let mut stored = StoredLines::none(alloc);
         let mut steps = Vec::with_capacity(alloc, most.min(events.len()))?;
-        for event in events {
-            follow(
-                alloc,
-                &mut machine,
-                &mut view,
-                &mut stored,
-                &mut steps,
-                *event,
-            )?;
-        }
+        let mut machine = Machine::open(alloc, image, limits)?;
+        let view = seen_along(alloc, &mut machine, &mut steps, events)?;
         Ok(Trace {
             machine,
-            view: first,
+            view,
             steps,
             position: 0,
         })

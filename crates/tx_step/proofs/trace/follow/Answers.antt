@@ -1,5 +1,5 @@
 -- What the machine shows is followed, and a step is more.
-use Rattle.std.proofs.Common.{◌≡◌, ℕ, ◌<◌, true, [], ◌∷◌, ◌++◌, All, length, sym, ap, subst, ◌∙◌, rules}
+use Rattle.std.proofs.Common.{◌≡◌, ℕ, ◌<◌, true, [], ◌∷◌, ◌++◌, All, length, ap, subst, ◌∙◌, rules}
 use Rattle.tx_footprint.specs.Places.{stores}
 use Rattle.tx_journal.specs.Image.{cpu_of_event}
 use Rattle.tx_meaning.specs.Views.{AreKnown}
