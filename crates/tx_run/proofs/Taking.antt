@@ -21,6 +21,7 @@ use Rattle.tx_marks.specs.Marks.{mode_in}
 use Rattle.tx_marks.specs.Own.{given, is_touched, bytes_at}
 use Rattle.tx_marks.specs.Traces.{is_stored}
 use Rattle.tx_run.specs.Made.{Made, IsMade, from}
+use Rattle.tx_run.proofs.Adding.{with_stores}
 use Rattle.tx_run.proofs.Laid.{laid-stored, laid-waits, turns-have}
 
 -- the CPU before the first step, and behind the last
@@ -98,23 +99,15 @@ module _ (text image : List ℕ) (m : Made) (made : IsMade text image m) (own : 
         (sym (laid-waits text (mode_in m.needed) m.steps (from m) a made.away live) ∙ sym (made.stored a))
         ∙ ap (λ (l : Local). only_at (is_stored m.traces) l.attempt.overlay a) local-is) i
 
-    -- with the stores of the steps over its own
-    abbrev pub with_stores : Local → Local
-    with_stores l = record l {
-      attempt = record l.attempt {
-        overlay = upon (only_at (is_stored m.traces) (reached m).attempt.overlay) l.attempt.overlay;
-      };
-    }
-
     pub given-live : is_live (reached m).attempt ≡ true → is_live (start m).attempt ≡ true
-        → ◌≡◌ {A = Beside} (record { local = with_stores (goes_on_as (reached m) own); storage = t })
+        → ◌≡◌ {A = Beside} (record { local = with_stores m.traces (reached m) (goes_on_as (reached m) own); storage = t })
         (ran text m.steps record { local = own; storage = t })
     given-live live began =
         let all : ran text m.steps record { local = own; storage = t } ≡ record {
           local = gone_on made_of.local (upon (waiting text m.steps (from m)) own.attempt.overlay) own;
           storage = t;
         } = stranger_makes text (mode_in m.needed) (start m) own (given m.own) t like began m.steps made.away looks in
-        ap (λ (l : Local). record { local = with_stores l; storage = t }) (goes-live live)
+        ap (λ (l : Local). record { local = with_stores m.traces (reached m) l; storage = t }) (goes-live live)
         ∙ sym (all ∙ (λ i. record {
           local = gone_on (local-is i) (upon (waits-are began i) own.attempt.overlay) own;
           storage = t;

@@ -8,25 +8,17 @@ use Rattle.tx_attempt.specs.Storages.{storage_of}
 use Rattle.tx_cpu.specs.Parts.{local_of, goes_on_as}
 use Rattle.tx_cpu.proofs.Ends.{cpu-rests}
 use Rattle.tx_lending.specs.Places.{over}
-use Rattle.tx_lending.specs.Stranger.{upon, only_at}
 use Rattle.tx_marks.specs.Own.{bytes_at}
-use Rattle.tx_marks.specs.Traces.{Traces, is_stored}
+use Rattle.tx_marks.specs.Traces.{is_stored}
 use Rattle.tx_run.specs.Made.{Made}
 use Rattle.tx_run.specs.contracts.steps.Steps.{the_view}
+use Rattle.tx_run.proofs.Adding.{with_stores}
 use Rattle.tx_run.proofs.Taking.{alike-live, covered, stays, given-live, given-outside}
 use Rattle.tx_run.proofs.giving.give.Goals as goal
 
 some-live : (b : Bool) (x : ℕ × ℕ) → is_some (if b then Some x else None) ≡ b
 some-live true x = refl
 some-live false x = refl
-
--- a CPU with what waits at marked places over its own stores
-abbrev with_stores : Traces → Local → Local → Local
-with_stores traces reached l = record l {
-  attempt = record l.attempt {
-    overlay = upon (only_at (is_stored traces) reached.attempt.overlay) l.attempt.overlay;
-  };
-}
 
 pub go_on_as-requires-clause-alike : goal.go_on_as-requires-clause-alike
 go_on_as-requires-clause-alike g c =
