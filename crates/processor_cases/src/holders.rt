@@ -6,8 +6,9 @@ use line_table::Mode;
 use std::alloc::Global;
 use std::test::Fail;
 use tx_footprint::Footprint;
-use tx_lines::{Lines, lines_needed, need_for};
+use tx_lines::Lines;
 use tx_meaning::Need;
+use tx_needs::{lines_needed, need_for};
 use z_regs::{Range, STORAGE_SIZE, Touches};
 
 const SHARED: Need = Need {

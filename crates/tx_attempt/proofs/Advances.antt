@@ -222,6 +222,15 @@ grown-few need (Some j) k few h =
     let count : j.count + 1 ≡ k.count = ap (λ (x : Kept). x.count) same in
     omega (arith, less, count)
 
+grown-counted : (need : List Range) (o : Option Kept) (k : Kept) (n : ℕ)
+    → ((j : Kept) → o ≡ Some j → j.count + 1 ≡ n) → grown need o ≡ Some k → k.count + 1 ≡ n + 1
+grown-counted need None k n counted h = absurd (cc)
+grown-counted need (Some j) k n counted h =
+    let same : added j need ≡ k = cc in
+    let so = counted j refl in
+    let count : j.count + 1 ≡ k.count = ap (λ (x : Kept). x.count) same in
+    omega (arith, so, count)
+
 -- ---- the attempt
 
 pub advanced-sound : (t : Tracked) (i : Instr) (general : List ℕ) (prefix : Option ℕ) (need : List Range)
@@ -278,6 +287,7 @@ advanced-sound t i general prefix need bytes nest f k s sound live may ok access
           ap (λ (n : List Begin). length n) en
           ∙ nest-single b e level t.nest (sound.single old) (may.plain old) may.leaves;
       few = λ kept h. grown-few need t.constraint kept may.few (sym ek ∙ h);
+      counted = λ kept h. grown-counted need t.constraint kept t.count sound.counted (sym ek ∙ h);
       block = λ a h. sound.block a (sym (ap outermost_block en
           ∙ nest-block b e level t.nest some may.leaves) ∙ h);
     }

@@ -67,5 +67,6 @@ rested-sound n f s en ef es = record {
       lasting_bytes-nothing;
   single = λ h. absurd (true≢false (sym h));
   few = λ k h. absurd (cc);
+  counted = λ k h. absurd (cc);
   block = λ a h. let n : None ≡ Some a = sym (ap outermost_block en) ∙ h in absurd (cc);
 }

@@ -56,5 +56,6 @@ more-sound t s address byte sound within here is =
       lasts = λ a past. ap (λ (x : Stores). lasting_bytes x.lasting a) is ∙ sound.lasts a past;
       single = sound.single;
       few = sound.few;
+      counted = sound.counted;
       block = sound.block;
     }

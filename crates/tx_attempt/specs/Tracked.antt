@@ -43,9 +43,9 @@ pub record IsAtRest (t : Tracked) : Type 0 where
   pub resumes_at : t.resumes_at ≡ 0
 
 -- An attempt that has completed an instruction has an open begin, and before that there is nothing. Stores
--- lie in storage, in blocks of the footprint. A constrained transaction has no other inside it, and at most
--- 32
--- instructions. The block that the outermost begin names lies in storage.
+-- lie in storage, in blocks of the footprint. A constrained transaction has no other inside it, and at most 32
+-- instructions, one less than the attempt has completed, since TBEGINC is none of them. The block that the outermost
+-- begin names lies in storage.
 pub record IsSound (t : Tracked) : Type 0 where
   pub rests : t.count ≡ 0 → IsAtRest t
   pub opens : 0 < t.count → 0 < length t.nest
@@ -55,6 +55,7 @@ pub record IsSound (t : Tracked) : Type 0 where
   pub lasts : (a : ℕ) → storage_size ≤ a → lasting_bytes (stores_of t.stores).lasting a ≡ None
   pub single : is_some t.constraint ≡ true → length t.nest ≡ 1
   pub few : (k : Kept) → t.constraint ≡ Some k → k.count ≤ 32
+  pub counted : (k : Kept) → t.constraint ≡ Some k → k.count + 1 ≡ t.count
   pub block : (a : ℕ) → outermost_block t.nest ≡ Some a → a + 256 ≤ storage_size
 
 -- the progress of an attempt that goes on as another: what it has stored, and where the program goes on after an abort, are

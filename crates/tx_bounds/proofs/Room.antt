@@ -30,6 +30,7 @@ use Rattle.tx_constraint.specs.Bytes.{pieces}
 use Rattle.tx_constraint.specs.Constraints.{Step, first_of}
 use Rattle.tx_constraint.specs.Kept.{Kept, kept, next_operand_breach}
 use Rattle.tx_constraint.specs.Octowords.{with_octoword, with_octowords}
+use Rattle.tx_constraint.proofs.Whole.{any_all}
 use Rattle.tx_footprint.specs.Places.{has_place, fetches, stores, stores_block}
 use Rattle.tx_footprint.specs.Touched.{Sets, touching, untouched, line_count, block_count, fit_of}
 use Rattle.tx_footprint.specs.declared.footprint.Overflow.TheVariants.{Fetch, Store}
@@ -56,46 +57,9 @@ use Rattle.tx_progress.proofs.Standing.{Stands, run_stands}
 
 -- ---- octowords that are piled up
 
-passes_by : (p : ℕ → Bool) (x y : ℕ) (rest : List ℕ) (b : Bool) → nat_eq x y ≡ b
-    → (b || list_any (nat_eq x) rest) ≡ true → p x ≡ true
-    → (list_any (nat_eq x) rest ≡ true → list_any p rest ≡ true) → (p y || list_any p rest) ≡ true
-passes_by p x y rest true e h holds more =
-    or_left (p y) (list_any p rest) (ap p (sym (eqb-true x y e)) ∙ holds)
-passes_by p x y rest false e h holds more = or_right (p y) (list_any p rest) (more h)
-
-some_passes : (p : ℕ → Bool) (x : ℕ) (xs : List ℕ) → list_any (nat_eq x) xs ≡ true → p x ≡ true
-    → list_any p xs ≡ true
-some_passes p x [] h holds = absurd (true≢false (sym h))
-some_passes p x (y ∷ rest) h holds =
-    passes_by p x y rest (nat_eq x y) refl h holds (λ g. some_passes p x rest g holds)
-
-one_more_by : (p : ℕ → Bool) (found : List ℕ) (x : ℕ) (b : Bool) → list_any (nat_eq x) found ≡ b
-    → (list_any p found || p x) ≡ true → list_any p (if b then found else found ++ x ∷ []) ≡ true
-one_more_by p found x true e h =
-    by_way (or_cases (list_any p found) (p x) h) (λ was. was) (λ now. some_passes p x found e now)
-one_more_by p found x false e h =
-    list_any-append p found (x ∷ [])
-    ∙ by_way (or_cases (list_any p found) (p x) h)
-    (λ was. or_left (list_any p found) (p x || false) was)
-    (λ now. or_right (list_any p found) (p x || false) (or_left (p x) false now))
-
-one_more : (p : ℕ → Bool) (found : List ℕ) (x : ℕ) → (list_any p found || p x) ≡ true
-    → list_any p (with_octoword found x) ≡ true
-one_more p found x h = one_more_by p found x (list_any (nat_eq x) found) refl h
-
 piled : (p : ℕ → Bool) (found xs : List ℕ) → (list_any p found || list_any p xs) ≡ true
     → list_any p (fold with_octoword found xs) ≡ true
-piled p found [] h =
-    by_way (or_cases (list_any p found) false h) (λ was. was) (λ none. absurd (true≢false (sym none)))
-piled p found (x ∷ xs) h =
-    piled p (with_octoword found x) xs
-    (by_way (or_cases (list_any p found) (p x || list_any p xs) h)
-    (λ was. or_left (list_any p (with_octoword found x)) (list_any p xs)
-    (one_more p found x (or_left (list_any p found) (p x) was)))
-    (λ new. by_way (or_cases (p x) (list_any p xs) new)
-    (λ now. or_left (list_any p (with_octoword found x)) (list_any p xs)
-    (one_more p found x (or_right (list_any p found) (p x) now)))
-    (λ later. or_right (list_any p (with_octoword found x)) (list_any p xs) later)))
+piled p found xs h = any_all p found xs ∙ h
 
 -- ---- a place of storage holds whole octowords
 

@@ -24,8 +24,8 @@ branches : map (λ (e : Entry). e.name) (filter is_relative_branch table) ≡ co
 unfolding table
 branches = refl
 
--- a doubleword on its boundary, and across the boundary of an octoword; the second octoword comes once
-octowords : with_octowords [] (operand 0x9000 8 ∷ operand 0x901C 8 ∷ operand 0x9020 32 ∷ []) ≡ 0x480 ∷
+-- a doubleword across the boundary of an octoword, and one before it; the second octoword comes once
+octowords : with_octowords [] (operand 0x901C 8 ∷ operand 0x8FF8 8 ∷ operand 0x9020 32 ∷ []) ≡ 0x47F ∷ 0x480 ∷
     0x481 ∷ []
 unfolding with_octowords
 octowords = refl

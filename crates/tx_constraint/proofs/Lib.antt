@@ -1,8 +1,8 @@
--- Lemmas on lists, on pieces of storage, on octowords each once, on attempts, and on all bytes of operands.
+-- Lemmas on lists, on pieces of storage, on octowords in their places, on attempts, and on all bytes of operands.
 pub mod Lists
 pub mod Between
 pub mod Piling
 pub mod Attempts
-pub mod Sameness
+pub mod Places
 pub mod Whole
 mod Examples

@@ -1,8 +1,8 @@
 -- Tests of lists, and lists of numbers one after the other.
-use Rattle.std.proofs.Common.{◌≡◌, ℕ, zero, suc, ◌+◌, ◌<◌, Bool, true, false, ◌||◌, eqb, List, [], ◌∷◌, ◌++◌, length, get_or, take, Some, refl, sym, ap, ◌∙◌, arith}
+use Rattle.std.proofs.Common.{◌≡◌, ℕ, zero, suc, ◌+◌, ◌<◌, Bool, true, false, ◌||◌, List, ◌∷◌, ◌++◌, length, get_or, take, Some, sym, ap, ◌∙◌, arith}
 use Rattle.std.specs.Prelude.{slice_get}
-use Rattle.std.specs.List.{list_any, list_all, range_with_len}
-use Rattle.std.proofs.lemmas.Bool.{cases_Bool, false_from_ne_true, and_parts, and_from, or_cases, or_left, or_right, eqb-true, eq-eqb}
+use Rattle.std.specs.List.{list_any, range_with_len}
+use Rattle.std.proofs.lemmas.Bool.{cases_Bool, false_from_ne_true}
 use Rattle.std.proofs.lemmas.List.Folds.{list_any_at, list_any_more}
 use Rattle.std.proofs.lemmas.Option.{get_or_from_slice_get, slice_get_cases}
 use borrow.Enum.Arm.{by_way}
@@ -12,27 +12,6 @@ pub same_tests : (a b : Bool) → (a ≡ true → b ≡ true) → (b ≡ true �
 same_tests a b to from = by_way (cases_Bool b)
     (λ yes. from yes ∙ sym yes)
     (λ no. false_from_ne_true a (λ h. let e : false ≡ true = sym no ∙ to h in cc) ∙ sym no)
-
-abbrev pub among : List ℕ → ℕ → Bool
-among xs x = list_any (eqb x) xs
-
--- one list has each member of another
-pub among_all : (xs ys : List ℕ) (x : ℕ) → list_all (among ys) xs ≡ true → among xs x ≡ true →
-    among ys x ≡ true
-among_all [] ys x all there = let e : false ≡ true = there in cc
-among_all (z ∷ xs) ys x all there =
-    let parts = and_parts (among ys z) (list_all (among ys) xs) all in
-    by_way (or_cases (eqb x z) (among xs x) there)
-    (λ here. ap (among ys) (eqb-true x z here) ∙ parts.0)
-    (λ later. among_all xs ys x parts.1 later)
-
-pub all_among : (xs ys : List ℕ) → ((x : ℕ) → among xs x ≡ true → among ys x ≡ true) →
-    list_all (among ys) xs ≡ true
-all_among [] ys each = refl
-all_among (z ∷ xs) ys each =
-    and_from (among ys z) (list_all (among ys) xs)
-    (each z (or_left (eqb z z) (among xs z) (eq-eqb z z refl)))
-    (all_among xs ys (λ x there. each x (or_right (eqb x z) (among xs x) there)))
 
 -- ---- steps of a loop that tests the elements of a list in turn
 

@@ -1,13 +1,13 @@
 -- Octowords that are added one after the other, each once.
-use Rattle.std.proofs.Common.{◌≡◌, ℕ, zero, suc, ◌+◌, ◌-◌, ◌/◌, ◌<◌, ◌≤◌, true, false, ◌||◌, cond, eqb, leb, List, [], ◌∷◌, ◌++◌, length, take, drop, map, Some, refl, sym, ap, ◌∙◌, arith}
+use Rattle.std.proofs.Common.{◌≡◌, ℕ, zero, suc, ◌+◌, ◌-◌, ◌/◌, ◌<◌, ◌≤◌, Bool, true, false, cond, eqb, ltb, leb, List, [], ◌∷◌, ◌++◌, length, take, drop, map, Some, refl, sym, ap, ◌∙◌, arith}
 use Rattle.std.specs.Prelude.{slice_get}
-use Rattle.std.specs.List.{list_any, flat_map, fold, range_with_len}
-use Rattle.std.proofs.lemmas.List.{length_push, length-take, take_more, take-append-drop, append-nil}
+use Rattle.std.specs.List.{flat_map, fold, range_with_len}
+use Rattle.std.proofs.lemmas.List.{take_more, take-append-drop, append-nil}
 use Rattle.std.proofs.lemmas.List.Sums.{fold-append}
 use Rattle.std.proofs.lemmas.Grind.{flat_map-append}
 use Rattle.std.proofs.lemmas.List.FromFn.{map-range_with_len_more}
-use Rattle.std.proofs.lemmas.List.Folds.{list_any-append}
-use Rattle.std.proofs.lemmas.Bool.{cases_eq, cases_Bool, or_left, or_right, eq-eqb, ne_eqb, leb-false, lt-leb}
+use Rattle.std.proofs.lemmas.Bool.{cases_eq, eq-eqb, ne_eqb, leb-false, lt-leb, le-ltb}
+use Rattle.std.proofs.lemmas.Bool.Decides.{nat_tests}
 use borrow.Enum.Arm.{by_way}
 use Rattle.z_regs.specs.declared.ranges.Range.{Range}
 use Rattle.tx_constraint.specs.Bytes.{pieces, first_piece, end_piece}
@@ -16,29 +16,39 @@ use Rattle.tx_constraint.proofs.Lists.{range-split, inside, element_of}
 
 -- ---- one octoword
 
-grows_by_one : (found : List ℕ) (o : ℕ) → length found ≤ length (with_octoword found o)
-grows_by_one found o = by_way (cases_Bool (list_any (eqb o) found))
-    (λ there. let e : with_octoword found o ≡ found = ap (λ b. cond b found (found ++ o ∷ [])) there in
-    omega (arith, ap length e))
-    (λ new. let e : with_octoword found o ≡ found ++ o ∷ [] = ap (λ b. cond b found (found ++ o ∷ [])) new in
-    omega (arith, ap length e, length_push found o))
+one_longer : (found : List ℕ) (o : ℕ) → length found ≤ length (with_octoword found o)
+one_longer [] o = omega arith
+one_longer (x ∷ rest) o = by_order (ltb x o) (eqb x o) (one_longer rest o)
+  where
+    by_order : (less same : Bool) → length rest ≤ length (with_octoword rest o)
+        → length (x ∷ rest) ≤ length (cond less (x ∷ with_octoword rest o) (cond same (x ∷ rest) (o ∷ x ∷ rest)))
+    by_order true same more = omega (arith, more)
+    by_order false true more = omega arith
+    by_order false false more = omega arith
 
-stays : (found : List ℕ) (o : ℕ) → list_any (eqb o) found ≡ true → with_octoword found o ≡ found
-stays found o there = ap (λ b. cond b found (found ++ o ∷ [])) there
-
-is_there : (found : List ℕ) (o : ℕ) → list_any (eqb o) (with_octoword found o) ≡ true
-is_there found o = by_way (cases_Bool (list_any (eqb o) found))
-    (λ there. ap (list_any (eqb o)) (stays found o there) ∙ there)
-    (λ new.
-    ap (list_any (eqb o)) (ap (λ b. cond b found (found ++ o ∷ [])) new)
-    ∙ list_any-append (eqb o) found (o ∷ [])
-    ∙ or_right (list_any (eqb o) found) (eqb o o || false) (or_left (eqb o o) false (eq-eqb o o refl)))
+-- an octoword that was added is there
+again : (found : List ℕ) (o : ℕ) → with_octoword (with_octoword found o) o ≡ with_octoword found o
+again [] o = grind (arith, nat_tests)
+again (x ∷ rest) o = by_order (ltb x o) (eqb x o) refl refl (again rest o)
+  where
+    by_order : (less same : Bool) → ltb x o ≡ less → eqb x o ≡ same
+        → with_octoword (with_octoword rest o) o ≡ with_octoword rest o
+        → with_octoword (cond less (x ∷ with_octoword rest o) (cond same (x ∷ rest) (o ∷ x ∷ rest))) o
+        ≡ cond less (x ∷ with_octoword rest o) (cond same (x ∷ rest) (o ∷ x ∷ rest))
+    by_order true same p q more =
+        ap (λ b. cond b (x ∷ with_octoword (with_octoword rest o) o) (cond (eqb x o) (x ∷ with_octoword rest o) (o ∷ x ∷ with_octoword rest o))) p
+        ∙ ap (λ r. x ∷ r) more
+    by_order false true p q more =
+        (λ i. cond (p i) (x ∷ with_octoword rest o) (cond (q i) (x ∷ rest) (o ∷ x ∷ rest)))
+    by_order false false p q more =
+        ap (λ b. cond b (o ∷ with_octoword (x ∷ rest) o) (cond (eqb o o) (o ∷ x ∷ rest) (o ∷ o ∷ x ∷ rest))) (le-ltb o o (omega arith))
+        ∙ ap (λ b. cond b (o ∷ x ∷ rest) (o ∷ o ∷ x ∷ rest)) (eq-eqb o o refl)
 
 -- ---- several
 
 pub grows : (found os : List ℕ) → length found ≤ length (fold with_octoword found os)
 grows found [] = omega arith
-grows found (o ∷ os) = let one = grows_by_one found o in let rest = grows (with_octoword found o) os in
+grows found (o ∷ os) = let one = one_longer found o in let rest = grows (with_octoword found o) os in
     omega arith
 
 -- the first that has no room leaves too many in the end
@@ -102,12 +112,11 @@ some_bytes found f (suc n) =
     ∙ by_way (cases_eq ((f + suc n) / 32) ((f + n) / 32))
     (λ same.
     let low : f / 32 ≤ (f + n) / 32 = omega arith in
-    let has : list_any (eqb ((f + n) / 32)) (in_turn found (f / 32) ((f + n) / 32 + 1)) ≡ true =
-    ap (list_any (eqb ((f + n) / 32))) (pile_more found (f / 32) ((f + n) / 32) low)
-    ∙ is_there (fold with_octoword found (range_with_len (f / 32) ((f + n) / 32 - f / 32)))
-    ((f + n) / 32) in
+    let piled = pile_more found (f / 32) ((f + n) / 32) low in
     ap (with_octoword (in_turn found (f / 32) ((f + n) / 32 + 1))) same
-    ∙ stays (in_turn found (f / 32) ((f + n) / 32 + 1)) ((f + n) / 32) has
+    ∙ ap (λ xs. with_octoword xs ((f + n) / 32)) piled
+    ∙ again (fold with_octoword found (range_with_len (f / 32) ((f + n) / 32 - f / 32))) ((f + n) / 32)
+    ∙ sym piled
     ∙ ap (λ o. in_turn found (f / 32) (o + 1)) (sym same))
     (λ other.
     let next : (f + suc n) / 32 ≡ (f + n) / 32 + 1 = omega arith in
@@ -166,9 +175,6 @@ pub with_octowords_grows : (found : List ℕ) (ranges : List Range) →
     length found ≤ length (with_octowords found ranges)
 unfolding with_octowords
 with_octowords_grows found ranges = grows found (flat_map (pieces 32) ranges)
-
-pub few_kept : (xs : List ℕ) (used : ℕ) → used ≤ 4 → length (take used xs) ≤ 4
-few_kept xs used few = omega (arith, length-take used xs)
 
 -- an operand without room leaves too many in the end
 pub stays_full_after : (found : List ℕ) (ranges : List Range) (i : ℕ) (r : Range) →

@@ -1,57 +1,70 @@
 -- Octowords, pages and units said of every byte.
-use Rattle.std.proofs.Common.{◌≡◌, ℕ, ◌+◌, ◌-◌, ◌/◌, ◌%◌, ◌<◌, ◌≤◌, Bool, true, false, ◌||◌, cond, eqb, List, [], ◌∷◌, ◌++◌, get_or, All, refl, sym, ap, ◌∙◌, arith}
+use Rattle.std.proofs.Common.{◌≡◌, ℕ, ◌+◌, ◌-◌, ◌/◌, ◌%◌, ◌<◌, ◌≤◌, Bool, true, false, ◌||◌, cond, eqb, ltb, List, [], ◌∷◌, get_or, All, refl, sym, ap, subst, ◌∙◌, arith}
 use Rattle.std.specs.Prelude.{◌↔◌}
 use Rattle.std.specs.List.{list_any, flat_map, fold, count_by, range_with_len}
-use Rattle.std.proofs.lemmas.Bool.{cases_Bool, cases_eq, or_left, or_right, or_parts, eq-eqb, ne_eqb, eqb-true, leb-true, le-leb}
-use Rattle.std.proofs.lemmas.List.Folds.{list_any-append, list_any_at, Any-from_list_any}
-use Rattle.std.proofs.lemmas.List.Sums.{sum_by-append, sum_by-cons}
+use Rattle.std.proofs.lemmas.Bool.{cases_Bool, cases_eq, cases_lt, or_left, or_right, or_parts, eq-eqb, ne_eqb, eqb-true, eqb-false, ltb-true, ltb-false, leb-true, le-leb}
+use Rattle.std.proofs.lemmas.List.Folds.{list_any_at, Any-from_list_any}
+use Rattle.std.proofs.lemmas.List.Sums.{sum_by-cons}
 use Rattle.std.proofs.lemmas.List.FromFn.{length-range_with_len, get_or-range_with_len, length-map-range_with_len, get_or-map-range_with_len}
 use borrow.Enum.Arm.{by_way}
 use Rattle.z_regs.specs.declared.ranges.Range.{Range}
 use Rattle.tx_constraint.specs.Bytes.{pieces, lies_in_one, is_own_page}
-use Rattle.tx_constraint.specs.Octowords.{with_octoword, with_octowords}
+use Rattle.tx_constraint.specs.Octowords.{with_octoword, with_octowords, IsAbove, Ascends}
 use Rattle.tx_constraint.proofs.Lists.{same_tests}
 
 -- ---- octowords
 
-member_one : (found : List ℕ) (o x : ℕ) →
-    list_any (eqb x) (with_octoword found o) ≡ (list_any (eqb x) found || eqb x o)
-member_one found o x = by_way (cases_Bool (list_any (eqb o) found))
-    (λ there.
-    ap (list_any (eqb x)) (ap (λ b. cond b found (found ++ o ∷ [])) there)
-    ∙ by_way (cases_eq x o)
-    (λ same. let h : list_any (eqb x) found ≡ true = ap (λ y. list_any (eqb y) found) same ∙ there in h
-    ∙ sym (or_left (list_any (eqb x) found) (eqb x o) h))
-    (λ other. or_none (list_any (eqb x) found)
-    ∙ ap (λ b. list_any (eqb x) found || b) (sym (ne_eqb x o other))))
-    (λ new.
-    ap (list_any (eqb x)) (ap (λ b. cond b found (found ++ o ∷ [])) new)
-    ∙ list_any-append (eqb x) found (o ∷ [])
-    ∙ ap (λ b. list_any (eqb x) found || b) (sym (or_none (eqb x o))))
-  where
-    or_none : (b : Bool) → b ≡ (b || false)
-    or_none true = refl
-    or_none false = refl
+or_again : (a b : Bool) → (a || b) ≡ ((a || b) || a)
+or_again true b = refl
+or_again false true = refl
+or_again false false = refl
 
-member_all : (found os : List ℕ) (x : ℕ) →
-    list_any (eqb x) (fold with_octoword found os) ≡ (list_any (eqb x) found || list_any (eqb x) os)
-member_all found [] x = or_none (list_any (eqb x) found)
+or_turned : (a b c : Bool) → (a || (b || c)) ≡ ((b || c) || a)
+or_turned true true c = refl
+or_turned true false true = refl
+or_turned true false false = refl
+or_turned false true c = refl
+or_turned false false true = refl
+or_turned false false false = refl
+
+or_moved : (a b c : Bool) → (a || (b || c)) ≡ ((a || b) || c)
+or_moved true b c = refl
+or_moved false b c = refl
+
+-- an octoword passes a test among them where one did before, or the one that is added
+any_one : (p : ℕ → Bool) (found : List ℕ) (o : ℕ) →
+    list_any p (with_octoword found o) ≡ (list_any p found || p o)
+any_one p [] o = or_none (p o)
+  where
+    or_none : (b : Bool) → (b || false) ≡ b
+    or_none true = refl
+    or_none false = refl
+any_one p (y ∷ rest) o = by_order (ltb y o) (eqb y o) refl (any_one p rest o)
+  where
+    by_order : (less same : Bool) → eqb y o ≡ same
+        → list_any p (with_octoword rest o) ≡ (list_any p rest || p o)
+        → list_any p (cond less (y ∷ with_octoword rest o) (cond same (y ∷ rest) (o ∷ y ∷ rest)))
+        ≡ ((p y || list_any p rest) || p o)
+    by_order true same e more = ap (λ b. p y || b) more ∙ or_moved (p y) (list_any p rest) (p o)
+    by_order false true e more =
+        or_again (p y) (list_any p rest) ∙ ap (λ z. (p y || list_any p rest) || p z) (eqb-true y o e)
+    by_order false false e more = or_turned (p o) (p y) (list_any p rest)
+
+pub any_all : (p : ℕ → Bool) (found os : List ℕ) →
+    list_any p (fold with_octoword found os) ≡ (list_any p found || list_any p os)
+any_all p found [] = or_none (list_any p found)
   where
     or_none : (b : Bool) → b ≡ (b || false)
     or_none true = refl
     or_none false = refl
-member_all found (o ∷ os) x =
-    member_all (with_octoword found o) os x ∙ ap (λ b. b || list_any (eqb x) os) (member_one found o x)
-    ∙ assoc (list_any (eqb x) found) (eqb x o) (list_any (eqb x) os)
-  where
-    assoc : (a b c : Bool) → ((a || b) || c) ≡ (a || (b || c))
-    assoc true b c = refl
-    assoc false b c = refl
+any_all p found (o ∷ os) =
+    any_all p (with_octoword found o) os ∙ ap (λ b. b || list_any p os) (any_one p found o)
+    ∙ sym (or_moved (list_any p found) (p o) (list_any p os))
 
 pub members : (ranges : List Range) (x : ℕ) →
     list_any (eqb x) (with_octowords [] ranges) ≡ list_any (eqb x) (flat_map (pieces 32) ranges)
 unfolding with_octowords
-members ranges x = member_all [] (flat_map (pieces 32) ranges) x
+members ranges x = any_all (eqb x) [] (flat_map (pieces 32) ranges)
 
 abbrev tally : ℕ → List ℕ → ℕ
 tally x xs = count_by (eqb x) xs
@@ -64,36 +77,114 @@ tally_none x (y ∷ ys) none =
     let rest : tally x ys ≡ 0 = tally_none x ys parts.1 in
     omega (arith, here, rest, sum_by-cons (λ z. cond {A = ℕ} (eqb x z) 1 0) y ys)
 
-tally_push : (x : ℕ) (xs : List ℕ) (o : ℕ) → tally x (xs ++ o ∷ []) ≡ tally x xs + cond {A = ℕ} (eqb x o) 1 0
-tally_push x xs o =
-    let one : tally x (o ∷ []) ≡ cond {A = ℕ} (eqb x o) 1 0 =
-    omega (arith, sum_by-cons (λ z. cond {A = ℕ} (eqb x z) 1 0) o []) in
-    omega (arith, one, sum_by-append (λ z. cond {A = ℕ} (eqb x z) 1 0) xs (o ∷ []))
+-- one more in front of a list
+tally_front : (x y : ℕ) (ys : List ℕ) → tally x (y ∷ ys) ≡ cond {A = ℕ} (eqb x y) 1 0 + tally x ys
+tally_front x y ys = omega (arith, sum_by-cons (λ z. cond {A = ℕ} (eqb x z) 1 0) y ys)
 
-once_one : (found : List ℕ) (o x : ℕ) → tally x found ≤ 1 → tally x (with_octoword found o) ≤ 1
-once_one found o x once = by_way (cases_Bool (list_any (eqb o) found))
-    (λ there. let e : with_octoword found o ≡ found = ap (λ b. cond b found (found ++ o ∷ [])) there in
-    omega (arith, once, ap (tally x) e))
-    (λ new.
-    let e : with_octoword found o ≡ found ++ o ∷ [] = ap (λ b. cond b found (found ++ o ∷ [])) new in
-    let pushed : tally x (with_octoword found o) ≡ tally x found + cond {A = ℕ} (eqb x o) 1 0 =
-    ap (tally x) e ∙ tally_push x found o in
-    by_way (cases_eq x o)
+-- ---- in ascending order
+
+above_one : (before o : ℕ) (found : List ℕ) → IsAbove before found → before < o
+    → IsAbove before (with_octoword found o)
+above_one before o [] above less = less
+above_one before o (x ∷ rest) above less = by_order (ltb x o) (eqb x o)
+  where
+    by_order : (less same : Bool)
+        → IsAbove before (cond less (x ∷ with_octoword rest o) (cond same (x ∷ rest) (o ∷ x ∷ rest)))
+    by_order true same = above
+    by_order false true = above
+    by_order false false = less
+
+ascends_one : (o : ℕ) (found : List ℕ) → Ascends found → Ascends (with_octoword found o)
+ascends_one o [] h = (tt, tt)
+ascends_one o (x ∷ rest) h = by_order (ltb x o) (eqb x o) refl refl (ascends_one o rest h.1)
+  where
+    by_order : (less same : Bool) → ltb x o ≡ less → eqb x o ≡ same → Ascends (with_octoword rest o)
+        → Ascends (cond less (x ∷ with_octoword rest o) (cond same (x ∷ rest) (o ∷ x ∷ rest)))
+    by_order true same p q more = (above_one x o rest h.0 (ltb-true x o p), more)
+    by_order false true p q more = h
+    by_order false false p q more =
+        let behind = ltb-false x o p in
+        let other = eqb-false x o q in (omega arith, h)
+
+ascends_all : (found os : List ℕ) → Ascends found → Ascends (fold with_octoword found os)
+ascends_all found [] h = h
+ascends_all found (o ∷ os) h = ascends_all (with_octoword found o) os (ascends_one o found h)
+
+pub ascends : (ranges : List Range) → Ascends (with_octowords [] ranges)
+unfolding with_octowords
+ascends ranges = ascends_all [] (flat_map (pieces 32) ranges) tt
+
+-- what is not above the first is not there
+not_there : (x before : ℕ) (xs : List ℕ) → Ascends xs → IsAbove before xs → x ≤ before
+    → list_any (eqb x) xs ≡ false
+not_there x before [] h above low = refl
+not_there x before (y ∷ ys) h above low =
+    ap (λ b. b || list_any (eqb x) ys) (ne_eqb x y (λ e. absurd (omega arith)))
+    ∙ not_there x y ys h.1 h.0 (omega arith)
+
+once_in : (x : ℕ) (xs : List ℕ) → Ascends xs → tally x xs ≤ 1
+once_in x [] h = omega arith
+once_in x (y ∷ ys) h = by_way (cases_eq x y)
     (λ same.
-    let none : tally x found ≡ 0 = tally_none x found (ap (λ y. list_any (eqb y) found) same ∙ new) in
-    let one : cond {A = ℕ} (eqb x o) 1 0 ≡ 1 = ap (λ b. cond {A = ℕ} b 1 0) (eq-eqb x o same) in
-    omega (arith, pushed, none, one))
+    let one : cond {A = ℕ} (eqb x y) 1 0 ≡ 1 = ap (λ b. cond {A = ℕ} b 1 0) (eq-eqb x y same) in
+    let none : tally x ys ≡ 0 = tally_none x ys (not_there x y ys h.1 h.0 (omega arith)) in
+    omega (arith, one, none, tally_front x y ys))
     (λ other.
-    let zero_here : cond {A = ℕ} (eqb x o) 1 0 ≡ 0 = ap (λ b. cond {A = ℕ} b 1 0) (ne_eqb x o other) in
-    omega (arith, pushed, zero_here, once)))
-
-once_all : (found os : List ℕ) (x : ℕ) → tally x found ≤ 1 → tally x (fold with_octoword found os) ≤ 1
-once_all found [] x once = once
-once_all found (o ∷ os) x once = once_all (with_octoword found o) os x (once_one found o x once)
+    let none : cond {A = ℕ} (eqb x y) 1 0 ≡ 0 = ap (λ b. cond {A = ℕ} b 1 0) (ne_eqb x y other) in
+    let rest = once_in x ys h.1 in
+    omega (arith, none, rest, tally_front x y ys))
 
 pub once : (ranges : List Range) (x : ℕ) → count_by (eqb x) (with_octowords [] ranges) ≤ 1
-unfolding with_octowords
-once ranges x = once_all [] (flat_map (pieces 32) ranges) x (omega arith)
+once ranges x = once_in x (with_octowords [] ranges) (ascends ranges)
+
+-- ---- ascending lists with the same members are the same
+
+abbrev HaveSame : List ℕ → List ℕ → Type 0
+HaveSame xs ys = (x : ℕ) → list_any (eqb x) xs ≡ list_any (eqb x) ys
+
+-- the first is no higher than that of the other
+no_higher : (x y : ℕ) (xs ys : List ℕ) → Ascends (y ∷ ys) → HaveSame (x ∷ xs) (y ∷ ys) → y ≤ x
+no_higher x y xs ys h same = by_way (cases_lt x y)
+    (λ less.
+    let there : list_any (eqb x) (y ∷ ys) ≡ true =
+    sym (same x) ∙ or_left (eqb x x) (list_any (eqb x) xs) (eq-eqb x x refl) in
+    let none : list_any (eqb x) (y ∷ ys) ≡ false =
+    ap (λ b. b || list_any (eqb x) ys) (ne_eqb x y (λ e. absurd (omega arith)))
+    ∙ not_there x y ys h.1 h.0 (omega arith) in
+    absurd (let no : true ≡ false = sym there ∙ none in cc))
+    (λ above. above)
+
+-- the rest has the same members too
+rest_same : (x : ℕ) (xs ys : List ℕ) → Ascends (x ∷ xs) → Ascends (x ∷ ys) → HaveSame (x ∷ xs) (x ∷ ys)
+    → HaveSame xs ys
+rest_same x xs ys h g same z = by_way (cases_eq z x)
+    (λ here. not_there z x xs h.1 h.0 (omega arith) ∙ sym (not_there z x ys g.1 g.0 (omega arith)))
+    (λ other. let no = ne_eqb z x other in
+    sym (ap (λ b. b || list_any (eqb z) xs) no) ∙ same z ∙ ap (λ b. b || list_any (eqb z) ys) no)
+
+same_list : (xs ys : List ℕ) → Ascends xs → Ascends ys → HaveSame xs ys → xs ≡ ys
+same_list [] [] h g same = refl
+same_list [] (y ∷ ys) h g same =
+    absurd (let no : false ≡ true = same y ∙ or_left (eqb y y) (list_any (eqb y) ys) (eq-eqb y y refl) in cc)
+same_list (x ∷ xs) [] h g same =
+    absurd (let no : true ≡ false = sym (or_left (eqb x x) (list_any (eqb x) xs) (eq-eqb x x refl)) ∙ same x in cc)
+same_list (x ∷ xs) (y ∷ ys) h g same =
+    let low = no_higher x y xs ys g same in
+    let high = no_higher y x ys xs h (λ z. sym (same z)) in
+    let first : x ≡ y = omega arith in
+    let P : ℕ → Type 0 = λ z. Ascends (z ∷ ys) in
+    let Q : ℕ → Type 0 = λ z. HaveSame (x ∷ xs) (z ∷ ys) in
+    let g_at : Ascends (x ∷ ys) = subst P (sym first) g in
+    let same_at : HaveSame (x ∷ xs) (x ∷ ys) = subst Q (sym first) same in
+    let rest = same_list xs ys h.1 g_at.1 (rest_same x xs ys h g_at same_at) in
+    λ i. first i ∷ rest i
+
+pub same_octowords : (ranges others : List Range) → ((o : ℕ) →
+    list_any (eqb o) (flat_map (pieces 32) ranges) ≡ list_any (eqb o) (flat_map (pieces 32) others)) →
+    with_octowords [] ranges ≡ with_octowords [] others
+same_octowords ranges others same =
+    same_list (with_octowords [] ranges) (with_octowords [] others) (ascends ranges) (ascends others)
+    (λ o. members ranges o ∙ same o ∙ sym (members others o))
 
 -- ---- pages
 

@@ -1,5 +1,5 @@
 -- What is kept of an attempt, and the constraints that one more instruction would break, by that.
-use Rattle.std.specs.Prelude.{◌≡◌, ℕ, ◌+◌, ◌&&◌, not, nat_eq, nat_lt, nat_le, length, List, [], Option, None}
+use Rattle.std.specs.Prelude.{◌≡◌, ℕ, ◌+◌, ◌&&◌, not, nat_lt, nat_le, length, List, [], Option, None}
 use Rattle.std.specs.List.{list_any}
 use Rattle.z_regs.specs.declared.ranges.Range.{Range}
 use Rattle.z_instr.specs.declared.instr.Instr.{Instr}
@@ -38,5 +38,4 @@ kept_at begin = record { begin = begin; count = 0; octowords = [] }
 -- one TBEGINC, and the same octowords
 pub record AreSame (k l : Kept) : Type 0 where
   pub begin : k.begin ≡ l.begin
-  pub octowords : (octoword : ℕ) →
-      list_any (nat_eq octoword) k.octowords ≡ list_any (nat_eq octoword) l.octowords
+  pub octowords : k.octowords ≡ l.octowords

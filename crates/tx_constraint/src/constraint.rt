@@ -108,17 +108,14 @@ impl Constraint {
         self.count += 1;
     }
 
-    /// Whether both have the same TBEGINC and the same octowords, in any order.
+    /// Whether both have the same TBEGINC and the same octowords.
     pub fn same(&self, other: &Constraint) -> bool
         ensures { IsTrue result ↔ AreSame self.now other.now }
     {
         if self.begin != other.begin {
             return false;
         }
-        if !self.octowords.are_among(&other.octowords) {
-            return false;
-        }
-        other.octowords.are_among(&self.octowords)
+        self.octowords.are(&other.octowords)
     }
 
     /// Makes this equal to the other.

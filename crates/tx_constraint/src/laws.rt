@@ -3,7 +3,7 @@ ghost use Rattle.std.specs.Prelude.{◌≡◌, ◌≤◌, ◌<◌, ◌/◌, ◌�
 ghost use Rattle.std.specs.List.{list_any, flat_map, range_with_len};
 ghost use Rattle.z_regs.specs.declared.ranges.Range.{Range};
 ghost use Rattle.tx_constraint.specs.Bytes.{pieces, lies_in_one, is_own_page};
-ghost use Rattle.tx_constraint.specs.Octowords.{with_octowords};
+ghost use Rattle.tx_constraint.specs.Octowords.{with_octowords, Ascends};
 ghost use Rattle.tx_constraint.specs.Constraints.{Attempt, Step, begun, with_step, text_breach, operand_breach, GoesOn};
 ghost use Rattle.tx_constraint.specs.Kept.{kept, kept_at, added, next_text_breach, next_operand_breach};
 
@@ -21,13 +21,19 @@ pub fn the_list_decides()
     ensures octowords { (a : Attempt) → GoesOn a → length (kept a).octowords ≤ 4 }
 {}
 
-/// The octowords of operands are those that hold a byte of them, and each is counted once.
+/// The octowords of operands are those that hold a byte of them, each once, in ascending order. So where two lists of
+/// operands lie in the same octowords, whichever came first, what is kept of them is the same.
 pub fn octowords_are_counted_once()
     ensures members { (ranges : List Range) (octoword : ℕ) →
         list_any (nat_eq octoword) (with_octowords [] ranges) ≡
         list_any (nat_eq octoword) (flat_map (pieces 32) ranges) }
     ensures once { (ranges : List Range) (octoword : ℕ) →
         count_by (nat_eq octoword) (with_octowords [] ranges) ≤ 1 }
+    ensures ascending { (ranges : List Range) → Ascends (with_octowords [] ranges) }
+    ensures same { (ranges others : List Range) → ((octoword : ℕ) →
+        list_any (nat_eq octoword) (flat_map (pieces 32) ranges) ≡
+        list_any (nat_eq octoword) (flat_map (pieces 32) others)) →
+        with_octowords [] ranges ≡ with_octowords [] others }
 {}
 
 /// The pages that operands must not touch are those that hold any of the 256 bytes.

@@ -1,33 +1,54 @@
 //! The octowords that operands lie in, each once, and at most four.
-ghost use Rattle.std.specs.Prelude.{◌≡◌, ◌-◌, ◌≤◌, nat_eq, nat_le, length, take};
+ghost use Rattle.std.specs.Prelude.{◌≡◌, ◌-◌, ◌≤◌, ◌↔◌, nat_le, length, take, slice_get, IsTrue, Some};
 ghost use Rattle.std.specs.Bool.{OnTrue};
-ghost use Rattle.std.specs.List.{list_any, list_all, fold, range_with_len};
-ghost use Rattle.tx_constraint.specs.Octowords.{with_octoword, with_octowords};
+ghost use Rattle.std.specs.List.{fold, range_with_len};
+ghost use Rattle.arrayvec.specs.ArrayVec.{array_vec_len};
+ghost use Rattle.tx_constraint.specs.Octowords.{with_octoword, with_octowords, place_of};
 
 use crate::operations::OCTOWORD_SIZE;
 use crate::pieces::{Pieces, pieces_of};
+use arrayvec::ArrayVec;
 use std::marker::Model;
 use z_regs::Touches;
 
 /// The most octowords that the operands of an attempt may lie in.
 const MOST: usize = 4;
 
-/// At most four octowords by their numbers, address divided by 32, none of them twice. Contracts see their
-/// list.
+/// At most four octowords by their numbers, address divided by 32, in ascending order. Contracts see their list.
 #[derive(Drop)]
 pub struct Octowords {
-    numbers: [u64; MOST],
-    used: u8,
+    numbers: ArrayVec<u64, MOST>,
 }
 
 impl Model for Octowords {
-    ghost use Rattle.std.specs.Prelude.{◌≡◌, ◌≤◌, ℕ, List, length, take};
+    ghost use Rattle.std.specs.Prelude.{ℕ, List};
 
     ghost Value = { List ℕ };
 
-    ghost view = { λ o. take o.used o.numbers };
+    ghost view = { λ o. o.numbers.items };
+}
 
-    ghost invariant = { λ o. (o.used ≤ 4) × (length o.numbers ≡ 4) };
+/// How many octowords come before the first that is not below this one.
+fn place(octowords: &[u64], octoword: u64) -> usize
+    ensures value { result ≡ place_of octowords.now octoword }
+    ensures within { result ≤ length octowords.now }
+{
+    for (at, other) in octowords.iter().enumerate() {
+        if *other >= octoword {
+            return at;
+        }
+    }
+    octowords.len()
+}
+
+/// Whether the octoword stands at that place.
+fn is_at(octowords: &[u64], at: usize, octoword: u64) -> bool
+    ensures { IsTrue result ↔ (slice_get octowords.now at ≡ Some octoword) }
+{
+    match octowords.get(at) {
+        Some(other) => *other == octoword,
+        None => false,
+    }
 }
 
 impl Octowords {
@@ -38,40 +59,23 @@ impl Octowords {
         ensures { result ≡ [] }
     {
         Octowords {
-            numbers: [0; MOST],
-            used: 0,
+            numbers: ArrayVec::new(),
         }
     }
 
-    /// All of them.
-    fn as_slice(&self) -> &[u64]
-        ensures value { result.now ≡ self.now }
-        ensures few { length self.now ≤ 4 }
-    {
-        &self.numbers[..usize::from(self.used)]
-    }
-
-    /// Whether the octoword is among them.
-    fn has(&self, octoword: u64) -> bool
-        ensures { result ≡ list_any (nat_eq octoword) self.now }
-    {
-        self.as_slice().contains(&octoword)
-    }
-
-    /// Adds an octoword, unless it is there; says whether there was room.
+    /// Adds an octoword at its place, unless it is there; says whether there was room.
     fn add(&mut self, octoword: u64) -> bool
         ensures room { result ≡ nat_le (length (with_octoword self.old octoword)) 4 }
         ensures added { OnTrue result (self.new ≡ with_octoword self.old octoword) }
     {
-        if self.has(octoword) {
+        let at = place(self.numbers.as_slice(), octoword);
+        if is_at(self.numbers.as_slice(), at, octoword) {
             return true;
         }
-        let used = usize::from(self.used);
-        if used == MOST {
+        if self.numbers.is_full() {
             return false;
         }
-        self.numbers[used] = octoword;
-        self.used += 1;
+        self.numbers.insert(at, octoword);
         true
     }
 
@@ -85,7 +89,7 @@ impl Octowords {
             (self.new ≡ fold with_octoword self.old
             (range_with_len pieces.first (pieces.end - pieces.first))) }
     {
-        let _ = &self.numbers;
+        let _most = self.numbers.is_full();
         for octoword in pieces.first..pieces.end {
             if !self.add(octoword) {
                 return false;
@@ -100,7 +104,7 @@ impl Octowords {
         ensures room { result ≡ nat_le (length (with_octowords self.old touches.now)) 4 }
         ensures added { OnTrue result (self.new ≡ with_octowords self.old touches.now) }
     {
-        let _ = &self.numbers;
+        let _most = self.numbers.is_full();
         for i in 0..touches.count() {
             if !self.add_pieces(pieces_of(touches.at(i), OCTOWORD_SIZE)) {
                 return false;
@@ -113,24 +117,28 @@ impl Octowords {
     pub fn has_room(&self, touches: &Touches) -> bool
         ensures { result ≡ nat_le (length (with_octowords self.now touches.now)) 4 }
     {
+        if touches.count() == 0 {
+            return self.numbers.len() <= MOST;
+        }
         let mut all = Octowords::none();
         all.copy_from(self);
         all.add_all(touches)
     }
 
-    /// Whether each of them is among the others.
-    pub fn are_among(&self, others: &Octowords) -> bool
-        ensures { result ≡ list_all (λ octoword. list_any (nat_eq octoword) others.now) self.now }
+    /// Whether they are the same octowords.
+    pub fn are(&self, others: &Octowords) -> bool
+        ensures { IsTrue result ↔ (self.now ≡ others.now) }
     {
-        self.as_slice().iter().all(|octoword| others.has(*octoword))
+        self.numbers.as_slice() == others.numbers.as_slice()
     }
 
     /// Makes these octowords equal to the others.
     pub fn copy_from(&mut self, others: &Octowords)
         ensures { self.new ≡ others.now }
     {
-        let numbers = others.numbers;
-        self.numbers = numbers;
-        self.used = others.used;
+        self.numbers.clear();
+        for number in others.numbers.as_slice() {
+            self.numbers.push(*number);
+        }
     }
 }

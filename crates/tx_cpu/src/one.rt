@@ -28,6 +28,7 @@ ghost use Rattle.tx_cpu.specs.Plans.{fate_of, levels_of, HasRoom, HasPlanRoom};
 ghost use Rattle.tx_serial.specs.Flat.{address_of};
 ghost use Rattle.tx_cpu.specs.Plans.{IsPrepared, IsPlanPrepared, HasDoneRoom};
 ghost use Rattle.tx_attempt.specs.Same.{AreSameAttempts};
+ghost use Rattle.tx_constraint.specs.Kept.{Kept};
 
 use crate::interruption::{leave, load, store, waiting_after, waiting_with};
 use crate::outside::{delay_after, end_outside, perform_outside, told, wait_outside};
@@ -203,13 +204,16 @@ impl Cpu {
     }
 
     /// What holds of every CPU: where no attempt is live, nothing is left of an earlier one, so that no store waits; where
-    /// one is, a begin is open; and stores that wait lie in blocks of the footprint.
+    /// one is, a begin is open; stores that wait lie in blocks of the footprint; and constraints count one instruction less
+    /// than are completed, since TBEGINC is none of them.
     pub fn is_sound(&self)
         ensures rests { is_live (local_of self.now).attempt ≡ false
             → (local_of self.now).attempt ≡ resting (local_of self.now).attempt.cpu }
         ensures opens { is_live (local_of self.now).attempt ≡ true → 0 < length (local_of self.now).attempt.nest }
         ensures blocks { (block : ℕ) → has_block (local_of self.now).attempt.overlay block ≡ true
             → (local_of self.now).attempt.footprint.blocks block ≡ true }
+        ensures counted { (k : Kept) → (local_of self.now).attempt.constraint ≡ Some k
+            → k.count + 1 ≡ (local_of self.now).attempt.count }
     {
         self.attempt.is_sound();
     }

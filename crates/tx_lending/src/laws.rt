@@ -82,15 +82,19 @@ pub fn a_cpu_that_goes_on_alike_makes_the_same_turns()
 {}
 
 /// Outside transactions turns go by the CPU alone. A CPU that is as the first, for which something else is left to do,
-/// makes the same turns on the same storage, and that stays to be done.
+/// makes the same turns on the same storage, and that stays to be done; as many of its turns go away.
 pub fn what_is_left_to_do_changes_no_turn_outside()
-    ensures { (text : List ℕ) (held : ℕ → Option Mode) (k : ℕ) (local own : Local) (s : Storage)
+    ensures makes { (text : List ℕ) (held : ℕ → Option Mode) (k : ℕ) (local own : Local) (s : Storage)
         → is_live local.attempt ≡ false → own.cpu ≡ local.cpu → own.attempt ≡ local.attempt
         → GoAway text held k record { local = local; storage = s }
         → ran text k record { local = own; storage = s } ≡ record {
           local = left_as (ran text k record { local = local; storage = s }).local own;
           storage = (ran text k record { local = local; storage = s }).storage;
         } }
+    ensures away { (text : List ℕ) (held : ℕ → Option Mode) (k : ℕ) (local own : Local) (s : Storage)
+        → is_live local.attempt ≡ false → own.cpu ≡ local.cpu → own.attempt ≡ local.attempt
+        → GoAway text held k record { local = local; storage = s }
+        → GoAway text held k record { local = own; storage = s } }
 {}
 
 /// Turns that could be made away are turns of the machine. Where a CPU of the machine that keeps may have so many

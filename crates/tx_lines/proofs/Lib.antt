@@ -1,6 +1,5 @@
--- Lemmas of lines in rising order.
-pub mod Places
-pub mod Ranges
+-- Lemmas of requests and grants.
 pub mod Next
 pub mod Granting
 pub mod SameGrant
+pub mod Lent

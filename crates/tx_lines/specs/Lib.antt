@@ -1,5 +1,5 @@
 -- Storage and the holders of its lines, as one.
 pub mod Owned
-pub mod Needs
+pub mod Lent
 pub mod Next
 pub mod Spare

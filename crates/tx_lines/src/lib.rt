@@ -1,10 +1,9 @@
 //! The lines of a machine: the bytes of storage and who holds which line, kept together, so that nothing else
-//! touches a byte or a mode; and the lines that a turn needs.
+//! touches a byte or a mode.
 #![tactic(auto)]
 
 pub mod laws;
+pub mod lending;
 pub mod lines;
-pub mod needs;
 
 pub use lines::{Lines, NoMemory};
-pub use needs::{MOST_NEEDS, lines_needed, need_for};

@@ -33,8 +33,8 @@ pub struct NoMemory;
 /// The bytes of storage, and which CPU holds which of its lines.
 #[derive(Drop)]
 pub struct Lines {
-    storage: Storage,
-    table: LineTable,
+    pub(crate) storage: Storage,
+    pub(crate) table: LineTable,
 }
 
 impl Model for Lines {
@@ -73,6 +73,15 @@ impl Lines {
         ensures { result ≡ slice_index self.now.bytes address }
     {
         self.storage.as_slice()[address as usize]
+    }
+
+    /// How the CPU holds the line; None exactly where it does not.
+    pub fn mode_of(&self, cpu: u32, line: u32) -> Option<Mode>
+        requires cpu { cpu < self.now.cpus }
+        requires line { line < storage_lines }
+        ensures { result ≡ holders_in self.now cpu line }
+    {
+        self.table.mode_of(cpu, line)
     }
 
     /// Whether the CPU holds a line as it needs it: in that mode, or exclusively.

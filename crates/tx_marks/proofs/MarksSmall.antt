@@ -10,7 +10,7 @@ use Rattle.z_regs.specs.declared.ranges.Range.{Range}
 use Rattle.line_table.specs.Sizes.{storage_lines}
 use Rattle.tx_meaning.specs.declared.asking.Need.{Need}
 use Rattle.tx_meaning.specs.Needs.{needs_of, lines_of, first_line, last_line, with_number, rising}
-use Rattle.tx_lines.specs.Needs.{need_at}
+use Rattle.tx_needs.specs.Needs.{need_at}
 
 -- each of these is a line of storage
 abbrev AllSmall : List ℕ → Type 0

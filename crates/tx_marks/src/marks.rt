@@ -11,8 +11,8 @@ use bit_set::BitSet;
 use line_table::{LINES, Mode};
 use std::alloc::Global;
 use std::marker::Model;
-use tx_lines::{lines_needed, need_for};
 use tx_meaning::Need;
+use tx_needs::{lines_needed, need_for};
 use z_regs::{NoMemory, Touches};
 
 /// Which lines of storage have a mode, and which one: a run's own lines.

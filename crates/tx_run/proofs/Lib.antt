@@ -9,4 +9,5 @@ pub mod BytesLined
 pub mod Lined
 pub mod Laid
 pub mod Adding
+pub mod Texts
 pub mod Taking

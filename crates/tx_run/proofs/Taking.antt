@@ -9,20 +9,21 @@ use Rattle.tx_serial.specs.Flat.{Storage}
 use Rattle.tx_progress.specs.Local.{Local, Beside}
 use Rattle.tx_progress.specs.Progress.{Progress, is_live, resting, seen_through}
 use Rattle.tx_cpu.specs.Parts.{local_of, goes_on_as}
-use Rattle.tx_lending.specs.Away.{ran, touched, stored, IsClear}
+use Rattle.tx_lending.specs.Away.{ran, touched, stored, IsClear, GoAway}
 use Rattle.tx_lending.specs.Places.{over, LookAlike}
 use Rattle.tx_lending.specs.Stranger.{GoesOnLike, SeeAlike, gone_on, left_as, upon, waiting, only_at}
 use Rattle.tx_lending.proofs.Along.{makes, go_too}
-use Rattle.tx_lending.proofs.Outside.{own_turns}
-use Rattle.tx_lending.proofs.Strangers.{stranger_makes}
+use Rattle.tx_lending.proofs.Outside.{own_turns, own_go}
+use Rattle.tx_lending.proofs.Strangers.{stranger_makes, stranger_goes}
 use Rattle.tx_lending.proofs.Turning.{all_left}
 use Rattle.tx_lending.proofs.Waiting.{waits_so}
 use Rattle.tx_marks.specs.Marks.{mode_in}
 use Rattle.tx_marks.specs.Own.{given, is_touched, bytes_at}
 use Rattle.tx_marks.specs.Traces.{is_stored}
-use Rattle.tx_run.specs.Made.{Made, IsMade, from}
+use Rattle.tx_run.specs.Made.{Made, from}
 use Rattle.tx_run.proofs.Adding.{with_stores}
 use Rattle.tx_run.proofs.Laid.{laid-stored, laid-waits, turns-have}
+use Rattle.tx_run.proofs.Texts.{AreSteps}
 
 -- the CPU before the first step, and behind the last
 abbrev start : Made → Local
@@ -31,7 +32,19 @@ start m = local_of m.start
 abbrev reached : Made → Local
 reached m = local_of m.reached
 
-module _ (text image : List ℕ) (m : Made) (made : IsMade text image m) (own : Local)
+-- it has completed as much as the one that it goes on as
+pub goes-counted : (other own : Local) → (goes_on_as other own).attempt.count ≡ other.attempt.count
+goes-counted other own = by_live (is_live other.attempt)
+  where
+    by_live : (live : Bool) → (if live then (record other.attempt {
+      overlay = own.attempt.overlay;
+      lasting = own.attempt.lasting;
+      resumes_at = own.attempt.resumes_at;
+    }) else other.attempt).count ≡ other.attempt.count
+    by_live true = refl
+    by_live false = refl
+
+module _ (text : List ℕ) (m : Made) (made : AreSteps text m) (own : Local)
     (like : GoesOnLike (local_of m.start).attempt own.attempt)
   where
     -- the steps neither begin nor end a transaction
@@ -62,7 +75,7 @@ module _ (text image : List ℕ) (m : Made) (made : IsMade text image m) (own : 
         → (block : ℕ) → has_block own.attempt.overlay block ≡ true → (reached m).attempt.footprint.blocks block ≡ true
     covered rests blocks = covered-by (is_live (start m).attempt) refl rests blocks
 
-module _ (text image : List ℕ) (m : Made) (made : IsMade text image m) (own : Local) (t : Storage)
+module _ (text : List ℕ) (m : Made) (made : AreSteps text m) (own : Local) (t : Storage)
     (like : GoesOnLike (local_of m.start).attempt own.attempt)
     (alike : SeeAlike (is_touched m.own) (local_of m.start).attempt.overlay (given m.own) own.attempt.overlay t)
   where
@@ -113,6 +126,11 @@ module _ (text image : List ℕ) (m : Made) (made : IsMade text image m) (own : 
           storage = t;
         }))
 
+    pub goes-live-too : is_live (start m).attempt ≡ true
+        → GoAway text (mode_in m.needed) m.steps record { local = own; storage = t }
+    goes-live-too began =
+        stranger_goes text (mode_in m.needed) (start m) own (given m.own) t like began m.steps made.away looks
+
     -- ---- outside
 
     goes-rest : is_live (reached m).attempt ≡ false → goes_on_as (reached m) own ≡ left_as (reached m) own
@@ -135,6 +153,34 @@ module _ (text image : List ℕ) (m : Made) (made : IsMade text image m) (own : 
         (made.stored a ∙ laid-stored text (mode_in m.needed) m.steps (from m) a made.away rests)
         ∙ sym (ap (λ (x : Storage). over (stored text m.steps (from m)) x t a) storage-is)) i
 
+    -- the same CPU, for which something else is left to do
+    record IsOwn : Type 0 where
+      pub attempt : own.attempt ≡ (start m).attempt
+      pub cpu : own.cpu ≡ (start m).cpu
+      pub clear : IsClear (start m).attempt
+      pub seen : LookAlike (touched text m.steps (from m)) (start m).attempt.overlay (given m.own) t
+
+    is-own : (start m).attempt ≡ resting (start m).attempt.cpu → own.attempt ≡ resting own.attempt.cpu
+        → (start m).cpu ≡ (start m).attempt.cpu → own.cpu ≡ own.attempt.cpu → IsOwn
+    is-own none others settled own_settled =
+        let same : own.attempt ≡ (start m).attempt = others ∙ ap resting like.cpu ∙ sym none in
+        record {
+          attempt = same;
+          cpu = own_settled ∙ like.cpu ∙ sym settled;
+          clear = λ h a. ap (λ (q : Progress). q.overlay a) none;
+          seen = λ a h. sym (ap (λ (q : Progress). seen_through q.overlay t a) same) ∙ looks a h;
+        }
+
+    pub goes-outside-too : is_live (start m).attempt ≡ false
+        → (start m).attempt ≡ resting (start m).attempt.cpu → own.attempt ≡ resting own.attempt.cpu
+        → (start m).cpu ≡ (start m).attempt.cpu → own.cpu ≡ own.attempt.cpu
+        → GoAway text (mode_in m.needed) m.steps record { local = own; storage = t }
+    goes-outside-too began none others settled own_settled =
+        let held = mode_in m.needed in
+        let is = is-own none others settled own_settled in
+        own_go text held (start m) own t began is.cpu is.attempt m.steps
+        (go_too text held m.steps (start m) (given m.own) t is.clear made.away is.seen)
+
     pub given-outside : is_live (reached m).attempt ≡ false → is_live (start m).attempt ≡ false
         → (start m).attempt ≡ resting (start m).attempt.cpu → own.attempt ≡ resting own.attempt.cpu
         → (start m).cpu ≡ (start m).attempt.cpu → own.cpu ≡ own.attempt.cpu
@@ -143,14 +189,10 @@ module _ (text image : List ℕ) (m : Made) (made : IsMade text image m) (own : 
         (ran text m.steps record { local = own; storage = t })
     given-outside rests began none others settled own_settled s laid =
         let held = mode_in m.needed in
-        let same : own.attempt ≡ (start m).attempt = others ∙ ap resting like.cpu ∙ sym none in
-        let cpu : own.cpu ≡ (start m).cpu = own_settled ∙ like.cpu ∙ sym settled in
-        let clear : IsClear (start m).attempt = λ h a. ap (λ (q : Progress). q.overlay a) none in
-        let seen : LookAlike (touched text m.steps (from m)) (start m).attempt.overlay (given m.own) t =
-        λ a h. sym (ap (λ (q : Progress). seen_through q.overlay t a) same) ∙ looks a h in
-        let first = makes text held m.steps (start m) (given m.own) t clear made.away seen in
-        let away = go_too text held m.steps (start m) (given m.own) t clear made.away seen in
-        let all = own_turns text held (start m) own t began cpu same m.steps away in
+        let is = is-own none others settled own_settled in
+        let first = makes text held m.steps (start m) (given m.own) t is.clear made.away is.seen in
+        let away = go_too text held m.steps (start m) (given m.own) t is.clear made.away is.seen in
+        let all = own_turns text held (start m) own t began is.cpu is.attempt m.steps away in
         (λ i. record { local = goes-rest rests i; storage = stores-are began s laid i })
         ∙ sym (all ∙ (λ i. record { local = left_as (first i).local own; storage = (first i).storage })
         ∙ (λ i. record {

@@ -1,6 +1,7 @@
 -- The steps of a run: turns of a CPU on storage of its own.
 use Rattle.std.specs.Prelude.{◌≡◌, ℕ, zero, suc, ◌+◌, ◌≤◌, ◌<◌, Bool, true, false, ◌||◌, List, [], ◌++◌, Option, Some, None}
-use Rattle.std.specs.Prelude.{All, length}
+use Rattle.std.specs.Prelude.{All, length, nat_eq}
+use Rattle.std.specs.List.{list_any}
 use Rattle.std.specs.Prelude.{if◌then◌else◌}
 use Rattle.z_regs.specs.Absolute.{IsAccessible}
 use Rattle.z_regs.specs.Prefix.{storage_size, absolute_of}
@@ -95,6 +96,11 @@ pub record IsMade (text : List ℕ) (image : List ℕ) (m : Made) : Type 0 where
   pub given : SameText text (bytes_at image) (given m.own)
   pub now : SameText text (bytes_at image) (bytes_at m.own.now)
   pub count : (local_of m.reached).attempt.count ≤ (local_of m.start).attempt.count + m.steps
+
+-- at marked pages there are the same text pages
+abbrev pub AgreeOnPages : (ℕ → Bool) → List ℕ → List ℕ → Type 0
+AgreeOnPages marked text other =
+    (page : ℕ) → marked page ≡ true → list_any (nat_eq page) other ≡ list_any (nat_eq page) text
 
 -- turns that may be made again from the start: each goes away, and no byte of text pages was given otherwise
 pub record MayBeMadeAgain (text : List ℕ) (image : List ℕ) (m : Made) : Type 0 where

@@ -1,14 +1,16 @@
 //! What the steps of a run have stored, for another CPU and other storage.
-ghost use Rattle.std.specs.Prelude.{◌≡◌, ℕ, ◌<◌, ◌≤◌, length, None, Some};
-ghost use Rattle.z_regs.specs.Prefix.{storage_size};
+ghost use Rattle.std.specs.Prelude.{◌≡◌, ℕ, ◌<◌, ◌≤◌, length, List, None, Some};
+ghost use Rattle.std.specs.Prelude.{true};
+ghost use Rattle.z_regs.specs.Prefix.{storage_size, is_prefix};
 ghost use Rattle.std.specs.FinSet.{items};
 ghost use Rattle.tx_cpu.specs.Parts.{local_of, beside};
-ghost use Rattle.tx_lending.specs.Away.{ran};
+ghost use Rattle.tx_lending.specs.Away.{GoAway, ran};
+ghost use Rattle.tx_marks.specs.Marks.{mode_in};
 ghost use Rattle.tx_lending.specs.Places.{over};
 ghost use Rattle.tx_lending.specs.Stranger.{GoesOnLike, SeeAlike, upon, only_at};
 ghost use Rattle.tx_marks.specs.Own.{bytes_at, is_touched, given};
-ghost use Rattle.tx_marks.specs.Traces.{is_stored};
-ghost use Rattle.tx_run.specs.Made.{IsMade};
+ghost use Rattle.tx_marks.specs.Traces.{is_stored, is_paged};
+ghost use Rattle.tx_run.specs.Made.{IsMade, AgreeOnPages};
 
 use crate::steps::Steps;
 use tx_cpu::{Cpu, Program};
@@ -49,19 +51,31 @@ fn add_stores(traces: &Traces, from: &Cpu, into: &mut Cpu)
     }
 }
 
+/// The prefix of a CPU is one that a CPU may have.
+fn has_prefix(cpu: &Cpu)
+    ensures { is_prefix (local_of cpu.now).attempt.cpu.prefix ≡ true }
+{
+    let _prefix = cpu.image().prefix;
+}
+
 /// Gives what steps have made to another CPU and other storage. The CPU goes on like the one that was lent, and sees the same
-/// over that storage wherever the steps have looked.
+/// over that storage wherever the steps have looked. As many of its turns could have been made away, with the same lines, also
+/// by other text pages that are the same where the steps have looked.
 pub(crate) fn give<V: Bytes>(steps: &Steps, program: &Program, into: &mut Cpu, base: &mut V)
     requires made { IsMade (items program.now.guard) program.now.storage steps.now }
     requires like { GoesOnLike (local_of steps.now.start).attempt (local_of into.old).attempt }
     requires alike { SeeAlike (is_touched steps.now.own) (local_of steps.now.start).attempt.overlay (given steps.now.own)
         (local_of into.old).attempt.overlay (bytes_at (V.bytes base.old)) }
     requires size { length (V.bytes base.old) ≡ storage_size }
-    ensures given { beside into.new (V.bytes base.new)
-        ≡ ran (items program.now.guard) steps.now.steps (beside into.old (V.bytes base.old)) }
+    ensures given { (text : List ℕ) → AgreeOnPages (is_paged steps.now.traces) (items program.now.guard) text
+        → beside into.new (V.bytes base.new) ≡ ran text steps.now.steps (beside into.old (V.bytes base.old)) }
+    ensures away { (text : List ℕ) → AgreeOnPages (is_paged steps.now.traces) (items program.now.guard) text
+        → GoAway text (mode_in steps.now.needed) steps.now.steps (beside into.old (V.bytes base.old)) }
+    ensures count { (local_of into.new).attempt.count ≡ (local_of steps.now.reached).attempt.count }
     ensures size { length (V.bytes base.new) ≡ storage_size }
 {
     steps.start.is_sound();
+    has_prefix(&steps.start);
     into.is_sound();
     into.go_on_as(&steps.reached);
     if steps.reached.live().is_some() {

@@ -1,14 +1,14 @@
 //! A run: a CPU that is lent, with the lines that it holds, and the steps that it makes away from its machine.
-ghost use Rattle.std.specs.Prelude.{◌≡◌, ℕ, ◌+◌, ◌<◌, ◌≤◌, ◌^◌, true, false, IfOk, IfSome, if◌then◌else◌, length, None, Some};
+ghost use Rattle.std.specs.Prelude.{◌≡◌, ℕ, ◌+◌, ◌<◌, ◌≤◌, ◌^◌, true, false, IfOk, IfSome, if◌then◌else◌, length, List, None, Some};
 ghost use Rattle.std.specs.Prelude.{nat_eq};
 ghost use Rattle.std.specs.List.{list_any};
 ghost use Rattle.std.specs.FinSet.{items};
 ghost use Rattle.std.specs.Arc.{arc_value};
 ghost use Rattle.tx_serial.specs.Apply.{is_running};
 ghost use Rattle.tx_cpu.specs.Parts.{local_of, beside};
-ghost use Rattle.tx_lending.specs.Away.{lent_turn, ran};
+ghost use Rattle.tx_lending.specs.Away.{GoAway, lent_turn, ran};
 ghost use Rattle.tx_lending.specs.Stranger.{GoesOnLike, SeeAlike};
-ghost use Rattle.tx_run.specs.Made.{now, StartsAlike};
+ghost use Rattle.tx_run.specs.Made.{AgreeOnPages, now, StartsAlike};
 ghost use Rattle.z_regs.specs.Prefix.{storage_size};
 ghost use Rattle.line_table.specs.Sizes.{storage_lines};
 ghost use Rattle.tx_marks.specs.Own.{bytes_at, given, is_touched};
@@ -152,6 +152,7 @@ impl Run {
     /// The lowest line at or above `from` that its steps needed, and in which mode; None exactly where there is none.
     pub fn next_need(&self, from: u32) -> Option<(u32, Mode)>
         ensures found { IfSome result (λ p. (from ≤ p.0) × (mode_in self.now.made.needed p.0 ≡ Some p.1)) }
+        ensures inside { IfSome result (λ p. p.0 < storage_lines) }
         ensures first { IfSome result (λ p. (line : ℕ) → from ≤ line → line < p.0
             → mode_in self.now.made.needed line ≡ None) }
         ensures none { result ≡ None → (line : ℕ) → from ≤ line → mode_in self.now.made.needed line ≡ None }
@@ -175,6 +176,7 @@ impl Run {
     /// before the first step; None exactly where it sees all of them alike.
     pub fn first_difference<V: Bytes>(&self, other: &Cpu, base: &V) -> Option<Difference>
         requires size { length (V.bytes base.now) ≡ storage_size }
+        ensures within { IfSome result (λ d. d.address < storage_size) }
         ensures touched { IfSome result (λ d. is_touched self.now.made.own d.address ≡ true) }
         ensures kept { IfSome result (λ d. d.kept ≡ seen_through (local_of other.now).attempt.overlay
             (bytes_at (V.bytes base.now)) d.address) }
@@ -208,6 +210,7 @@ impl Run {
     /// whether it is a text page of the image that it runs; None exactly where there is none.
     pub fn next_page(&self, from: u32) -> Option<(u32, bool)>
         ensures found { IfSome result (λ p. (from ≤ p.0) × (is_paged self.now.made.traces p.0 ≡ true)) }
+        ensures inside { IfSome result (λ p. p.0 < 256) }
         ensures text { IfSome result (λ p. p.1 ≡ list_any (nat_eq p.0) self.now.text) }
         ensures first { IfSome result (λ p. (page : ℕ) → from ≤ page → page < p.0
             → is_paged self.now.made.traces page ≡ false) }
@@ -248,14 +251,19 @@ impl Run {
 
     /// Gives what its steps have made to another CPU and other storage. The CPU goes on like the one that was lent: the registers,
     /// the open begins, the footprint, what constraints ask and the number of completed instructions are the same; and each byte
-    /// of `next_byte` is the one that it sees over that storage. Then it has made as many turns as the run has steps.
+    /// of `next_byte` is the one that it sees over that storage. Then it has made as many turns as the run has steps, each of
+    /// which could have been made away, with the lines that the run has needed: turns by any text pages that are those of the
+    /// run's image among the pages of `next_page`.
     pub fn give<V: Bytes>(&self, into: &mut Cpu, base: &mut V)
         requires like { GoesOnLike (local_of self.now.made.start).attempt (local_of into.old).attempt }
         requires alike { SeeAlike (is_touched self.now.made.own) (local_of self.now.made.start).attempt.overlay
             (given self.now.made.own) (local_of into.old).attempt.overlay (bytes_at (V.bytes base.old)) }
         requires size { length (V.bytes base.old) ≡ storage_size }
-        ensures given { beside into.new (V.bytes base.new)
-            ≡ ran self.now.text self.now.made.steps (beside into.old (V.bytes base.old)) }
+        ensures given { (text : List ℕ) → AgreeOnPages (is_paged self.now.made.traces) self.now.text text
+            → beside into.new (V.bytes base.new) ≡ ran text self.now.made.steps (beside into.old (V.bytes base.old)) }
+        ensures away { (text : List ℕ) → AgreeOnPages (is_paged self.now.made.traces) self.now.text text
+            → GoAway text (mode_in self.now.made.needed) self.now.made.steps (beside into.old (V.bytes base.old)) }
+        ensures count { (local_of into.new).attempt.count ≡ (local_of self.now.made.reached).attempt.count }
         ensures size { length (V.bytes base.new) ≡ storage_size }
     {
         let _allowance = self.allowance;

@@ -24,7 +24,7 @@ use Rattle.tx_footprint.specs.Touched.{Sets}
 use Rattle.tx_progress.specs.Local.{Local}
 use Rattle.tx_lines.specs.Next.{passing_from, first_of}
 use Rattle.tx_lines.specs.Spare.{may_give_up, lowest_spare, is_unused, granted}
-use Rattle.tx_lines.specs.Needs.{need_at}
+use Rattle.tx_needs.specs.Needs.{need_at}
 use Rattle.tx_lines.proofs.Next.{passes_here, fails_here}
 use Rattle.tx_lines.proofs.SameGrant.{lines_of_needs, same_grant}
 use Rattle.tx_meaning.specs.declared.asking.Need.{Need}

@@ -13,7 +13,6 @@ pub mod Own
 pub mod Acts
 pub mod Idling
 pub mod Lined
-pub mod SmallPlaces
 pub mod Wanted
 pub mod Turns
 pub mod Plainly

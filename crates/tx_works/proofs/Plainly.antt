@@ -16,7 +16,7 @@ use Rattle.tx_program.specs.declared.ready.Touch.TheVariants as touch
 use Rattle.tx_program.specs.Shapes.{is_in_line, is_open, is_reached}
 use Rattle.tx_cpu.proofs.Plainly.{in-line}
 use Rattle.std.proofs.lemmas.Bool.{and_parts}
-use Rattle.tx_lines.specs.Needs.{need_at}
+use Rattle.tx_needs.specs.Needs.{need_at}
 use Rattle.tx_meaning.specs.Asking.{is_there}
 use Rattle.tx_meaning.specs.Limits.{Setting}
 use Rattle.tx_meaning.specs.Needs.{needs_of, operand_needs, lines_of, has_line, mode_for, rising, with_number}

@@ -16,7 +16,7 @@ use tx_journal::Event;
 use tx_meaning::{Limits, Outcome};
 
 /// Whether a tick comes with the turn of this number.
-fn is_tick(limits: Limits, turns: u32) -> bool
+pub fn is_tick(limits: Limits, turns: u32) -> bool
     ensures { result ≡ is_tick limits turns }
 {
     if limits.tick == 0 {

@@ -6,7 +6,7 @@ ghost use Rattle.z_regs.specs.Prefix.{storage_size};
 ghost use Rattle.line_table.specs.Sizes.{storage_lines};
 ghost use Rattle.line_table.specs.Holders.{against};
 ghost use Rattle.tx_lines.specs.Owned.{holders_in};
-ghost use Rattle.tx_lines.specs.Needs.{need_at};
+ghost use Rattle.tx_needs.specs.Needs.{need_at};
 ghost use Rattle.tx_meaning.specs.declared.asking.Need.{Need};
 ghost use Rattle.tx_meaning.specs.Limits.{Setting};
 ghost use Rattle.tx_meaning.specs.State.{cpus_of, is_head};
@@ -19,8 +19,8 @@ ghost use Rattle.tx_works.specs.Asks.{IsReady, IsFew, AskLeaves, asked_by, rejec
 
 use crate::asking::Refused;
 use crate::works::Works;
-use tx_lines::{MOST_NEEDS, lines_needed, need_for};
 use tx_meaning::Need;
+use tx_needs::{MOST_NEEDS, lines_needed, need_for};
 use z_regs::Touches;
 
 /// The bytes of a line.

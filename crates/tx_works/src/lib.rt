@@ -14,5 +14,6 @@ pub mod slot;
 pub mod turning;
 pub mod works;
 
+pub use events::is_tick;
 pub use slot::{Slot, Tally};
 pub use works::Works;

@@ -2,6 +2,7 @@
 use Rattle.std.proofs.Common.{◌≡◌, ℕ, Bool, true, false, Some, None, refl, sym, ap, subst, ◌∙◌}
 use Rattle.std.specs.Prelude.{is_some, if◌then◌else◌}
 use Rattle.std.specs.FinSet.{items}
+use Rattle.z_regs.specs.Prefix.{is_prefix}
 use Rattle.tx_progress.specs.Local.{Local}
 use Rattle.tx_progress.specs.Progress.{is_live, resting}
 use Rattle.tx_attempt.specs.Storages.{storage_of}
@@ -13,7 +14,9 @@ use Rattle.tx_marks.specs.Traces.{is_stored}
 use Rattle.tx_run.specs.Made.{Made}
 use Rattle.tx_run.specs.contracts.steps.Steps.{the_view}
 use Rattle.tx_run.proofs.Adding.{with_stores}
-use Rattle.tx_run.proofs.Taking.{alike-live, covered, stays, given-live, given-outside}
+use Rattle.tx_run.proofs.Taking.{alike-live, covered, stays, given-live, given-outside, goes-live-too, goes-outside-too}
+use Rattle.tx_run.proofs.Taking.{goes-counted}
+use Rattle.tx_run.proofs.Texts.{own-steps, steps-by}
 use Rattle.tx_run.proofs.giving.give.Goals as goal
 
 some-live : (b : Bool) (x : ℕ × ℕ) → is_some (if b then Some x else None) ≡ b
@@ -23,53 +26,102 @@ some-live false x = refl
 pub go_on_as-requires-clause-alike : goal.go_on_as-requires-clause-alike
 go_on_as-requires-clause-alike g c =
     let is = ap the_view c.steps-inside.view_is ∙ c.steps.view_is in
-    alike-live (items c.args.program.now.guard) c.args.program.now.storage c.args.steps.now c.requires.made
+    let text = items c.args.program.now.guard in
+    let m = c.args.steps.now in
+    alike-live text m (own-steps text c.args.program.now.storage m c.requires.made)
     (local_of c.args.into.now) c.requires.like
-    ∙ sym (ap (λ (m : Made). is_live (local_of m.reached).attempt) is)
+    ∙ sym (ap (λ (x : Made). is_live (local_of x.reached).attempt) is)
 
 pub go_on_as-requires-clause-covered : goal.go_on_as-requires-clause-covered
 go_on_as-requires-clause-covered g c = λ block h.
     let is = ap the_view c.steps-inside.view_is ∙ c.steps.view_is in
-    ap (λ (m : Made). (local_of m.reached).attempt.footprint.blocks block) is
-    ∙ covered (items c.args.program.now.guard) c.args.program.now.storage c.args.steps.now c.requires.made
+    let text = items c.args.program.now.guard in
+    let m = c.args.steps.now in
+    ap (λ (x : Made). (local_of x.reached).attempt.footprint.blocks block) is
+    ∙ covered text m (own-steps text c.args.program.now.storage m c.requires.made)
     (local_of c.args.into.now) c.requires.like c.is_sound-2.ensures.rests c.is_sound-2.ensures.blocks block h
 
 pub returns-then-is_some-clause-given : goal.returns-then-is_some-clause-given
-returns-then-is_some-clause-given g c =
-    let text = items c.args.program.now.guard in
-    let image = c.args.program.now.storage in
+returns-then-is_some-clause-given g c = λ text agree.
     let m = c.args.steps.now in
     let own = local_of c.args.into.now in
     let t = storage_of (g.V.Bytes.bytes c.args.base.now) in
     let is = ap the_view c.steps-inside.view_is ∙ c.steps.view_is in
+    let area = subst (λ (x : Made). is_prefix (local_of x.start).attempt.cpu.prefix ≡ true) is c.has_prefix.ensures in
+    let steps = steps-by (items c.args.program.now.guard) c.args.program.now.storage text m area c.requires.made agree in
     let live : is_live (local_of m.reached).attempt ≡ true =
     sym (ap (λ (x : Made). is_live (local_of x.reached).attempt) is)
     ∙ sym (some-live _ _) ∙ sym (ap is_some c.live.ensures) ∙ sym c.is_some.ensures ∙ c.if-is_some.true in
-    let began = sym (stays text image m c.requires.made own c.requires.like) ∙ live in
+    let began = sym (stays text m steps own c.requires.like) ∙ live in
     ap (λ (l : Local). record { local = l; storage = t })
     (c.add_stores.ensures ∙ ap (with_stores c.steps-inside.inside.0.1.1.1.0 (local_of c.steps-inside.inside.0.1.0)) c.go_on_as.ensures
     ∙ ap (λ (x : Made). with_stores x.traces (local_of x.reached) (goes_on_as (local_of x.reached) own)) is)
-    ∙ given-live text image m c.requires.made own t c.requires.like c.requires.alike live began
+    ∙ given-live text m steps own t c.requires.like c.requires.alike live began
 
 pub returns-else-is_some-clause-given : goal.returns-else-is_some-clause-given
-returns-else-is_some-clause-given g c =
-    let text = items c.args.program.now.guard in
-    let image = c.args.program.now.storage in
+returns-else-is_some-clause-given g c = λ text agree.
     let m = c.args.steps.now in
     let own = local_of c.args.into.now in
     let t = storage_of (g.V.Bytes.bytes c.args.base.now) in
     let s = storage_of (g.V.Bytes.bytes c.lay_stored.new.base) in
     let is = ap the_view c.steps-inside.view_is ∙ c.steps.view_is in
+    let area = subst (λ (x : Made). is_prefix (local_of x.start).attempt.cpu.prefix ≡ true) is c.has_prefix.ensures in
+    let steps = steps-by (items c.args.program.now.guard) c.args.program.now.storage text m area c.requires.made agree in
     let rests : is_live (local_of m.reached).attempt ≡ false =
     sym (ap (λ (x : Made). is_live (local_of x.reached).attempt) is)
     ∙ sym (some-live _ _) ∙ sym (ap is_some c.live.ensures) ∙ sym c.is_some.ensures ∙ c.if-is_some.false in
-    let began = sym (stays text image m c.requires.made own c.requires.like) ∙ rests in
-    let still = alike-live text image m c.requires.made own c.requires.like ∙ rests in
+    let began = sym (stays text m steps own c.requires.like) ∙ rests in
+    let still = alike-live text m steps own c.requires.like ∙ rests in
     let none = subst (λ (x : Made). is_live (local_of x.start).attempt ≡ false
     → (local_of x.start).attempt ≡ resting (local_of x.start).attempt.cpu) is c.is_sound.ensures.rests began in
     let laid = subst (λ (x : Made). (a : ℕ) → s a ≡ over (is_stored x.traces) (bytes_at x.own.now) t a) is
     c.lay_stored.ensures.value in
     ap (λ (l : Local). record { local = l; storage = s })
     (c.go_on_as.ensures ∙ ap (λ (x : Made). goes_on_as (local_of x.reached) own) is)
-    ∙ given-outside text image m c.requires.made own t c.requires.like c.requires.alike rests began none
+    ∙ given-outside text m steps own t c.requires.like c.requires.alike rests began none
     (c.is_sound-2.ensures.rests still) (cpu-rests m.start began) (cpu-rests c.args.into.now still) s laid
+
+pub returns-then-is_some-clause-away : goal.returns-then-is_some-clause-away
+returns-then-is_some-clause-away g c = λ text agree.
+    let m = c.args.steps.now in
+    let own = local_of c.args.into.now in
+    let is = ap the_view c.steps-inside.view_is ∙ c.steps.view_is in
+    let area = subst (λ (x : Made). is_prefix (local_of x.start).attempt.cpu.prefix ≡ true) is c.has_prefix.ensures in
+    let steps = steps-by (items c.args.program.now.guard) c.args.program.now.storage text m area c.requires.made agree in
+    let live : is_live (local_of m.reached).attempt ≡ true =
+    sym (ap (λ (x : Made). is_live (local_of x.reached).attempt) is)
+    ∙ sym (some-live _ _) ∙ sym (ap is_some c.live.ensures) ∙ sym c.is_some.ensures ∙ c.if-is_some.true in
+    goes-live-too text m steps own (storage_of (g.V.Bytes.bytes c.args.base.now)) c.requires.like c.requires.alike
+    (sym (stays text m steps own c.requires.like) ∙ live)
+
+pub returns-else-is_some-clause-away : goal.returns-else-is_some-clause-away
+returns-else-is_some-clause-away g c = λ text agree.
+    let m = c.args.steps.now in
+    let own = local_of c.args.into.now in
+    let is = ap the_view c.steps-inside.view_is ∙ c.steps.view_is in
+    let area = subst (λ (x : Made). is_prefix (local_of x.start).attempt.cpu.prefix ≡ true) is c.has_prefix.ensures in
+    let steps = steps-by (items c.args.program.now.guard) c.args.program.now.storage text m area c.requires.made agree in
+    let rests : is_live (local_of m.reached).attempt ≡ false =
+    sym (ap (λ (x : Made). is_live (local_of x.reached).attempt) is)
+    ∙ sym (some-live _ _) ∙ sym (ap is_some c.live.ensures) ∙ sym c.is_some.ensures ∙ c.if-is_some.false in
+    let began = sym (stays text m steps own c.requires.like) ∙ rests in
+    let still = alike-live text m steps own c.requires.like ∙ rests in
+    let none = subst (λ (x : Made). is_live (local_of x.start).attempt ≡ false
+    → (local_of x.start).attempt ≡ resting (local_of x.start).attempt.cpu) is c.is_sound.ensures.rests began in
+    goes-outside-too text m steps own (storage_of (g.V.Bytes.bytes c.args.base.now)) c.requires.like c.requires.alike
+    began none (c.is_sound-2.ensures.rests still) (cpu-rests m.start began) (cpu-rests c.args.into.now still)
+
+pub returns-then-is_some-clause-count : goal.returns-then-is_some-clause-count
+returns-then-is_some-clause-count g c =
+    let is = ap the_view c.steps-inside.view_is ∙ c.steps.view_is in
+    ap (λ (l : Local). l.attempt.count) (c.add_stores.ensures ∙ ap (with_stores c.steps-inside.inside.0.1.1.1.0
+    (local_of c.steps-inside.inside.0.1.0)) c.go_on_as.ensures)
+    ∙ goes-counted (local_of c.steps-inside.inside.0.1.0) (local_of c.args.into.now)
+    ∙ ap (λ (m : Made). (local_of m.reached).attempt.count) is
+
+pub returns-else-is_some-clause-count : goal.returns-else-is_some-clause-count
+returns-else-is_some-clause-count g c =
+    let is = ap the_view c.steps-inside.view_is ∙ c.steps.view_is in
+    ap (λ (l : Local). l.attempt.count) c.go_on_as.ensures
+    ∙ goes-counted (local_of c.steps-inside.inside.0.1.0) (local_of c.args.into.now)
+    ∙ ap (λ (m : Made). (local_of m.reached).attempt.count) is

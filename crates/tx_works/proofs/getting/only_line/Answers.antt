@@ -2,7 +2,7 @@
 use Rattle.std.proofs.Common.{◌≡◌, ◌+◌, ◌<◌, ◌≤◌, ◌/◌, ◌%◌, List, [], ◌∷◌, length, sym, subst, arith}
 use Rattle.z_regs.specs.declared.ranges.Range.{Range}
 use Rattle.tx_footprint.proofs.Ones.{only}
-use Rattle.tx_lines.specs.Needs.{need_at}
+use Rattle.tx_needs.specs.Needs.{need_at}
 use Rattle.tx_meaning.specs.Needs.{needs_of}
 use Rattle.tx_works.proofs.Plainly.{only-need}
 use Rattle.tx_works.proofs.getting.only_line.Goals as goal

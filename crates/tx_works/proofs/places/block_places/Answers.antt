@@ -5,7 +5,7 @@ use Rattle.z_regs.specs.Absolute.{absolute_ranges}
 use Rattle.z_regs.specs.Prefix.{storage_size}
 use Rattle.z_regs.specs.declared.ranges.Range.{Range}
 use Rattle.tx_meaning.specs.Needs.{stored}
-use Rattle.tx_works.proofs.SmallPlaces.{ranges-small, ranges-inside, block-place, one-place}
+use Rattle.tx_needs.proofs.SmallPlaces.{ranges-small, ranges-inside, block-place, one-place}
 use Rattle.tx_works.proofs.places.block_places.Goals as goal
 
 pub returns-in-None-clause-value : goal.returns-in-None-clause-value

@@ -3,7 +3,7 @@ use Rattle.std.proofs.Common.{◌≡◌, ap, ◌∙◌, List, [], ◌∷◌, ◌
 use Rattle.z_regs.specs.Prefix.{absolute_of}
 use Rattle.z_regs.specs.declared.ranges.Range.{Range}
 use Rattle.tx_meaning.specs.Needs.{stored}
-use Rattle.tx_works.proofs.SmallPlaces.{interruption-plain, interruption-block}
+use Rattle.tx_needs.proofs.SmallPlaces.{interruption-plain, interruption-block}
 use Rattle.tx_works.proofs.places.interruption_places.Goals as goal
 
 pub returns-then-block-clause-value : goal.returns-then-block-clause-value

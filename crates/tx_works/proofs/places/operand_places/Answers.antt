@@ -3,7 +3,7 @@ use Rattle.std.proofs.Common.{◌≤◌, ◌+◌, sym, subst, List}
 use Rattle.std.specs.Prelude.{All}
 use Rattle.z_regs.specs.Prefix.{storage_size}
 use Rattle.z_regs.specs.declared.ranges.Range.{Range}
-use Rattle.tx_works.proofs.SmallPlaces.{ranges-small, ranges-inside, accessible-places}
+use Rattle.tx_needs.proofs.SmallPlaces.{ranges-small, ranges-inside, accessible-places}
 use Rattle.tx_works.proofs.places.operand_places.Goals as goal
 
 pub returns-clause-small : goal.returns-clause-small

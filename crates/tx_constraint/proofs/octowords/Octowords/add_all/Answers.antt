@@ -2,7 +2,7 @@ use Rattle.std.proofs.Common.{◌≡◌, ℕ, ◌-◌, ◌≤◌, List, leb, len
 use Rattle.std.specs.List.{fold, range_with_len}
 use Rattle.std.proofs.lemmas.Bool.{leb-true}
 use Rattle.tx_constraint.specs.Octowords.{with_octoword}
-use Rattle.tx_constraint.proofs.Piling.{octowords_more, with_octowords-none, stays_full_after, few_kept}
+use Rattle.tx_constraint.proofs.Piling.{octowords_more, with_octowords-none, stays_full_after}
 use Rattle.tx_constraint.proofs.octowords.Octowords.add_all.Goals as goal
 
 -- octowords one after the other, beside some
@@ -13,7 +13,7 @@ pub loop-i-init : goal.loop-i-init
 loop-i-init c =
     let P : List ℕ → Type 0 = λ xs. length xs ≤ 4 in (
       sym (with_octowords-none c.args.self.now),
-      subst P c.self.view_is (few_kept c.self.inside.numbers c.self.inside.used c.self.invariant.0),
+      subst P c.self.view_is c.is_full-most.ensures.fits,
     )
 
 pub returns-then-not-add_pieces-clause-room : goal.returns-then-not-add_pieces-clause-room

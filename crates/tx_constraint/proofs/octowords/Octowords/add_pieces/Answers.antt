@@ -2,7 +2,7 @@ use Rattle.std.proofs.Common.{◌≡◌, ℕ, ◌-◌, ◌+◌, ◌≤◌, List,
 use Rattle.std.specs.List.{fold, range_with_len}
 use Rattle.std.proofs.lemmas.Bool.{le-leb, leb-true}
 use Rattle.tx_constraint.specs.Octowords.{with_octoword}
-use Rattle.tx_constraint.proofs.Piling.{range_with, stays_full, pile_more, few_kept}
+use Rattle.tx_constraint.proofs.Piling.{range_with, stays_full, pile_more}
 use Rattle.tx_constraint.proofs.octowords.Octowords.add_pieces.Goals as goal
 
 pub loop-octoword-init : goal.loop-octoword-init
@@ -11,7 +11,7 @@ loop-octoword-init c =
     let nothing : 0 ≡ c.args.pieces.first - c.args.pieces.first = omega arith in
     let P : List ℕ → Type 0 = λ xs. length xs ≤ 4 in (
       ap (λ n. fold with_octoword found (range_with_len c.args.pieces.first n)) nothing,
-      subst P c.self.view_is (few_kept c.self.inside.numbers c.self.inside.used c.self.invariant.0),
+      subst P c.self.view_is c.is_full-most.ensures.fits,
       omega arith,
     )
 

@@ -1,8 +1,9 @@
 -- What is kept of an attempt that is none, and of one that is live.
-use Rattle.std.proofs.Common.{◌≡◌, ◌<◌, ℕ, true, false, arith, length, subst}
+use Rattle.std.proofs.Common.{◌≡◌, ◌<◌, ◌+◌, ℕ, Some, true, false, arith, length, subst}
 use Rattle.std.specs.Prelude.{nat_lt}
 use Rattle.std.proofs.lemmas.Bool.Decides.{nat_tests}
 use Rattle.tx_progress.specs.Progress.{is_live, resting}
+use Rattle.tx_constraint.specs.Kept.{Kept}
 use Rattle.store_cache.specs.Overlay.{has_block}
 use Rattle.tx_cpu.specs.Parts.{Parts, local_of}
 use Rattle.tx_cpu.proofs.Ends.{none_of}
@@ -27,3 +28,8 @@ returns-clause-blocks c =
     subst (λ (p : Parts). (block : ℕ) → has_block (local_of p).attempt.overlay block ≡ true
     → (local_of p).attempt.footprint.blocks block ≡ true) c.self.view_is
     c.is_sound.ensures.sound.blocks
+
+pub returns-clause-counted : goal.returns-clause-counted
+returns-clause-counted c =
+    subst (λ (p : Parts). (k : Kept) → (local_of p).attempt.constraint ≡ Some k
+    → k.count + 1 ≡ (local_of p).attempt.count) c.self.view_is c.is_sound.ensures.sound.counted

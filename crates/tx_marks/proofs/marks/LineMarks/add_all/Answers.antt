@@ -1,5 +1,5 @@
 use Rattle.std.proofs.Common.{ap, map, ◌∙◌}
-use Rattle.tx_lines.specs.Needs.{need_at}
+use Rattle.tx_needs.specs.Needs.{need_at}
 use Rattle.tx_marks.specs.Marks.{mode_in}
 use Rattle.tx_marks.proofs.MarksEach.{none_added, line_added}
 use Rattle.tx_marks.proofs.MarksSmall.{line_in_storage}

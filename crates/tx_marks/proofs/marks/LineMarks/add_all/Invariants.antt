@@ -1,6 +1,6 @@
 -- The lines so far have the modes that are needed.
 use Rattle.std.proofs.Common.{◌≡◌, ℕ, map, take}
-use Rattle.tx_lines.specs.Needs.{need_at}
+use Rattle.tx_needs.specs.Needs.{need_at}
 use Rattle.tx_marks.specs.Marks.{mode_in, with_needs}
 use Rattle.tx_marks.proofs.marks.LineMarks.add_all.Given as goal
 

@@ -1,5 +1,5 @@
 use Rattle.std.proofs.Common.{Some, ap, sym, map, ◌∙◌}
-use Rattle.tx_lines.specs.Needs.{need_at}
+use Rattle.tx_needs.specs.Needs.{need_at}
 use Rattle.tx_marks.specs.Marks.{mode_in, first_missing}
 use Rattle.tx_marks.proofs.MarksEach.{line_there, line_missing, none_missing}
 use Rattle.tx_marks.proofs.MarksSmall.{line_in_storage}

@@ -1,6 +1,6 @@
 -- The lines so far are there.
 use Rattle.std.proofs.Common.{◌≡◌, map, drop}
-use Rattle.tx_lines.specs.Needs.{need_at}
+use Rattle.tx_needs.specs.Needs.{need_at}
 use Rattle.tx_marks.specs.Marks.{mode_in, first_missing}
 use Rattle.tx_marks.proofs.marks.LineMarks.missing.Given as goal
 

@@ -1,5 +1,5 @@
 -- All bytes below the next one are seen alike.
-use Rattle.std.proofs.Common.{ℕ, ◌-◌}
+use Rattle.std.proofs.Common.{◌-◌}
 use Rattle.tx_cpu.specs.Parts.{local_of}
 use Rattle.tx_lending.specs.Stranger.{SeeAlike}
 use Rattle.tx_marks.specs.Own.{bytes_at, is_touched, given}

@@ -3,7 +3,7 @@
 use Rattle.std.proofs.Common.{◌≡◌, map, List, ℕ, refl, sym, ap, subst, ◌∙◌, arith}
 use Rattle.std.specs.Prelude.{All, ◌<◌, [], ◌∷◌}
 use Rattle.line_table.specs.Sizes.{storage_lines}
-use Rattle.tx_lines.specs.Needs.{need_at}
+use Rattle.tx_needs.specs.Needs.{need_at}
 use Rattle.tx_meaning.specs.declared.asking.Need.{Need}
 use Rattle.tx_meaning.specs.Needs.{needs_of}
 use Rattle.tx_works.specs.Works.{kept_by}

@@ -12,7 +12,7 @@ use Rattle.tx_works.proofs.Seats.{no_seat}
 use Rattle.tx_works.proofs.Lined.{no_limits}
 use Rattle.tx_works.proofs.Plainly.{touched-places}
 use Rattle.tx_works.proofs.Wanted.{nothing-wanted}
-use Rattle.tx_works.proofs.SmallPlaces.{ranges-small, ranges-inside, accessible-places}
+use Rattle.tx_needs.proofs.SmallPlaces.{ranges-small, ranges-inside, accessible-places}
 use Rattle.tx_works.proofs.works.Works.operands_wanted.Goals as goal
 
 pub operand_places-requires-clause-few : goal.operand_places-requires-clause-few

@@ -2,8 +2,8 @@
 use Rattle.std.proofs.Common.{sym}
 use Rattle.std.specs.Prelude.{◌&&◌}
 use Rattle.tx_meaning.specs.Needs.{has_line}
-use Rattle.tx_lines.proofs.Ranges.{still_none, found_at}
-use Rattle.tx_lines.proofs.needs.is_stored.Goals as goal
+use Rattle.tx_needs.proofs.Ranges.{still_none, found_at}
+use Rattle.tx_needs.proofs.needs.is_stored.Goals as goal
 
 pub returns-then-stores_into : goal.returns-then-stores_into
 returns-then-stores_into c =

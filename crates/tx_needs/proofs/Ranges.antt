@@ -10,7 +10,7 @@ use Rattle.std.proofs.lemmas.List.Folds.{list_any_at, list_any_more}
 use Rattle.std.proofs.lemmas.Option.{get_or_from_slice_get, slice_get_within}
 use Rattle.z_regs.specs.declared.ranges.Range.{Range}
 use Rattle.tx_meaning.specs.Needs.{with_number, lines_of}
-use Rattle.tx_lines.specs.Needs.{with_numbers}
+use Rattle.tx_needs.specs.Needs.{with_numbers}
 
 pub holds_at : (P : Range → Type 0) (ranges : List Range) (i : ℕ) (r : Range) → All P ranges
     → slice_get ranges i ≡ Some r → P r

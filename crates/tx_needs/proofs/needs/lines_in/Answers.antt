@@ -1,9 +1,9 @@
 -- The lines of one range more.
 use Rattle.std.proofs.Common.{ap, sym, ◌∙◌, arith}
 use Rattle.tx_meaning.specs.Needs.{lines_of}
-use Rattle.tx_lines.specs.Needs.{with_numbers}
-use Rattle.tx_lines.proofs.Ranges.{lines_more}
-use Rattle.tx_lines.proofs.needs.lines_in.Goals as goal
+use Rattle.tx_needs.specs.Needs.{with_numbers}
+use Rattle.tx_needs.proofs.Ranges.{lines_more}
+use Rattle.tx_needs.proofs.needs.lines_in.Goals as goal
 
 pub loop-i-preserved : goal.loop-i-preserved
 loop-i-preserved c = (

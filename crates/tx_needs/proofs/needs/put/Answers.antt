@@ -1,7 +1,7 @@
 -- A line that stands at its place is there, and one that does not is put there.
 use Rattle.std.proofs.Common.{◌≡◌, ◌∙◌, refl, true, false}
-use Rattle.tx_lines.proofs.Places.{kept_at, put_at}
-use Rattle.tx_lines.proofs.needs.put.Goals as goal
+use Rattle.tx_needs.proofs.Places.{kept_at, put_at}
+use Rattle.tx_needs.proofs.needs.put.Goals as goal
 
 pub returns-then-is_at-clause-value : goal.returns-then-is_at-clause-value
 returns-then-is_at-clause-value c =

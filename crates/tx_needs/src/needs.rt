@@ -4,7 +4,7 @@ ghost use Rattle.std.specs.List.{flat_map, list_any};
 ghost use Rattle.arrayvec.specs.ArrayVec.{array_vec_len};
 ghost use Rattle.z_regs.specs.Prefix.{storage_size};
 ghost use Rattle.tx_meaning.specs.Needs.{with_number, lines_of, has_line, needs_of};
-ghost use Rattle.tx_lines.specs.Needs.{below, with_numbers, need_at};
+ghost use Rattle.tx_needs.specs.Needs.{below, with_numbers, need_at};
 
 use arrayvec::ArrayVec;
 use line_table::Mode;

@@ -1,6 +1,6 @@
 -- The lines before are below, and the one at the place is not.
-use Rattle.tx_lines.proofs.Places.{one_more, ends_here, all_below}
-use Rattle.tx_lines.proofs.needs.place.Goals as goal
+use Rattle.tx_needs.proofs.Places.{one_more, ends_here, all_below}
+use Rattle.tx_needs.proofs.needs.place.Goals as goal
 
 pub returns-then-other-line-clause-value : goal.returns-then-other-line-clause-value
 returns-then-other-line-clause-value c =

@@ -7,7 +7,7 @@ use Rattle.std.proofs.Math.Seq.{drop-cons}
 use Rattle.std.proofs.lemmas.List.{drop_all}
 use Rattle.std.proofs.lemmas.Bool.Decides.{nat_tests}
 use Rattle.tx_meaning.specs.Needs.{with_number}
-use Rattle.tx_lines.specs.Needs.{below}
+use Rattle.tx_needs.specs.Needs.{below}
 
 pub below_more : (n k : ℕ) (rest : List ℕ) → k < n → below n (k ∷ rest) ≡ below n rest + 1
 below_more n k rest h = grind (arith, nat_tests)

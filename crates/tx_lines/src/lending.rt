@@ -1,0 +1,80 @@
+//! Lines that are lent with a CPU, and what a run has made of them.
+ghost use Rattle.std.specs.Prelude.{◌≡◌, ◌≢◌, ℕ, ◌<◌, true, List, None, IfSome};
+ghost use Rattle.line_table.specs.Sizes.{storage_lines};
+ghost use Rattle.z_regs.specs.Prefix.{storage_size};
+ghost use Rattle.tx_progress.specs.Progress.{seen_through};
+ghost use Rattle.tx_cpu.specs.Parts.{local_of};
+ghost use Rattle.tx_lending.specs.Away.{GoAway, ran};
+ghost use Rattle.tx_lending.specs.Stranger.{GoesOnLike, SeeAlike};
+ghost use Rattle.tx_marks.specs.Own.{given, is_touched};
+ghost use Rattle.tx_marks.specs.Traces.{below, is_paged};
+ghost use Rattle.tx_run.specs.Made.{AgreeOnPages};
+ghost use Rattle.tx_marks.specs.Marks.{mode_in};
+ghost use Rattle.tx_lines.specs.Lent.{HasLines};
+ghost use Rattle.tx_lines.specs.Owned.{holders_in, storage_in, with_lines};
+
+use crate::lines::Lines;
+use tx_cpu::Cpu;
+use tx_meaning::Need;
+use tx_run::{Difference, Run};
+
+impl Lines {
+    /// Gives a run that has no line yet all lines that the CPU holds, in their modes, with their bytes; those of text pages stay
+    /// the image's. The run has made no step.
+    pub fn lend(&self, cpu: u32, run: &mut Run)
+        requires cpu { cpu < self.now.cpus }
+        requires none { run.old.made.steps ≡ 0 }
+        requires empty { (line : ℕ) → mode_in run.old.held line ≡ None }
+        ensures { HasLines (holders_in self.now cpu) (storage_in self.now) run.old run.new }
+    {
+        let _size = self.storage.as_slice();
+        let mut from = 0;
+        while let Some(line) = self.table.next_line(cpu, from) {
+            if let Some(mode) = self.table.mode_of(cpu, line) {
+                run.hold(Need { line, mode }, &self.storage);
+            }
+            from = line + 1;
+        }
+    }
+
+    /// The lowest byte that a run has touched and that the CPU sees otherwise than the CPU that was lent has seen it before the
+    /// first step; None exactly where it sees all of them alike.
+    pub fn first_difference(&self, run: &Run, cpu: &Cpu) -> Option<Difference>
+        ensures within { IfSome result (λ d. d.address < storage_size) }
+        ensures touched { IfSome result (λ d. is_touched run.now.made.own d.address ≡ true) }
+        ensures kept { IfSome result (λ d. d.kept ≡ seen_through (local_of cpu.now).attempt.overlay
+            (storage_in self.now) d.address) }
+        ensures given { IfSome result (λ d. d.given ≡ seen_through (local_of run.now.made.start).attempt.overlay
+            (given run.now.made.own) d.address) }
+        ensures differs { IfSome result (λ d. d.kept ≢ d.given) }
+        ensures first { IfSome result (λ d. SeeAlike (below (is_touched run.now.made.own) d.address)
+            (local_of run.now.made.start).attempt.overlay (given run.now.made.own)
+            (local_of cpu.now).attempt.overlay (storage_in self.now)) }
+        ensures none { result ≡ None → SeeAlike (is_touched run.now.made.own)
+            (local_of run.now.made.start).attempt.overlay (given run.now.made.own)
+            (local_of cpu.now).attempt.overlay (storage_in self.now) }
+    {
+        let _size = self.storage.as_slice();
+        run.first_difference(cpu, &self.storage)
+    }
+
+    /// Gives what the steps of a run have made to a CPU and to storage. The CPU goes on like the one that was lent, and sees the
+    /// same wherever the steps have looked. Then it has made as many turns as the run has steps, each of which could have been
+    /// made away, with the lines that the run has needed: turns by any text pages that are those of the run's image where the
+    /// steps have looked. No mode changes.
+    pub fn bring(&mut self, run: &Run, into: &mut Cpu)
+        requires like { GoesOnLike (local_of run.now.made.start).attempt (local_of into.old).attempt }
+        requires alike { SeeAlike (is_touched run.now.made.own) (local_of run.now.made.start).attempt.overlay
+            (given run.now.made.own) (local_of into.old).attempt.overlay (storage_in self.old) }
+        ensures value { (text : List ℕ) → AgreeOnPages (is_paged run.now.made.traces) run.now.text text
+            → with_lines into.new self.new ≡ ran text run.now.made.steps (with_lines into.old self.old) }
+        ensures away { (text : List ℕ) → AgreeOnPages (is_paged run.now.made.traces) run.now.text text
+            → GoAway text (mode_in run.now.made.needed) run.now.made.steps (with_lines into.old self.old) }
+        ensures count { (local_of into.new).attempt.count ≡ (local_of run.now.made.reached).attempt.count }
+        ensures cpus { self.new.cpus ≡ self.old.cpus }
+        ensures held { holders_in self.new ≡ holders_in self.old }
+    {
+        let _size = self.storage.as_slice();
+        run.give(into, &mut self.storage);
+    }
+}

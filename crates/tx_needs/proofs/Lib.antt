@@ -1,0 +1,4 @@
+-- Lemmas of lines in rising order, and of ranges that are small and lie in storage.
+pub mod Places
+pub mod Ranges
+pub mod SmallPlaces

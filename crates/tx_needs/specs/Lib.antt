@@ -1,0 +1,2 @@
+-- The lines that ranges need.
+pub mod Needs
