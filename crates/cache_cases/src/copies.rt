@@ -33,6 +33,15 @@ fn change(l1: &mut L1, line: u32, at: u32, byte: u8) -> bool {
     true
 }
 
+/// Changes bytes of a copy from a place on, where there is one with room for them, and gives all of it.
+fn change_all<'a>(l1: &'a mut L1, line: u32, at: u32, bytes: &[u8]) -> Option<&'a [u8]> {
+    if !l1.has(line) || bytes.len() > LINE_SIZE || at as usize > LINE_SIZE - bytes.len() {
+        return None;
+    }
+    l1.lay(line, at, bytes);
+    Some(l1.copy_of(line))
+}
+
 /// Drops a copy, where there is one.
 fn take_away(l1: &mut L1, line: u32) -> bool {
     if !l1.has(line) {
@@ -87,6 +96,17 @@ fn a_byte_of_one_copy_changes(rt: HostRuntime) -> Result<(), Fail> {
     ];
     assert_eq!(rt; (filled, changed), ([true, true], true));
     assert_eq!(rt; bytes, [Some(9), Some(1), Some(2)]);
+    Ok(())
+}
+
+#[test]
+fn the_last_bytes_of_a_copy_change(rt: HostRuntime) -> Result<(), Fail> {
+    let mut l1 = L1::open(rt.alloc())?;
+    let filled = fill(&mut l1, 144, 1);
+    let copy = change_all(&mut l1, 144, 253, &[7, 8, 9]).ok_or("no copy")?;
+    assert_eq!(rt; (filled, copy.len()), (true, 256));
+    assert_eq!(rt; &copy[252..], [1, 7, 8, 9].as_slice());
+    assert_eq!(rt; change_all(&mut l1, 145, 0, &[7]).is_none(), true);
     Ok(())
 }
 

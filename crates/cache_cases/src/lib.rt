@@ -4,6 +4,8 @@
 #[cfg(test)]
 mod copies;
 #[cfg(test)]
+mod lines;
+#[cfg(test)]
 mod sets;
 #[cfg(test)]
 mod slots;

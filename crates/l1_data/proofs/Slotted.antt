@@ -1,7 +1,7 @@
 -- The copy of a line, found by its slot, after each change.
-use Rattle.std.proofs.Common.{◌≡◌, ◌≢◌, ℕ, ◌-◌, ◌<◌, ◌≤◌, true, false, cond, eqb, List, [], ◌∷◌, ◌++◌, length}
+use Rattle.std.proofs.Common.{◌≡◌, ◌≢◌, ℕ, ◌+◌, ◌-◌, ◌<◌, ◌≤◌, true, false, cond, eqb, List, [], ◌∷◌, ◌++◌, length}
 use Rattle.std.proofs.Common.{get_or, set, Option, Some, None, is_some, IfSome, refl, sym, ap, subst, ◌∙◌}
-use Rattle.std.proofs.Common.{arith}
+use Rattle.std.proofs.Common.{arith, take, drop, append_assoc, drop-drop}
 use Rattle.std.specs.List.{slice_get}
 use Rattle.std.specs.Option.{option_and_then, option_map}
 use Rattle.std.proofs.lemmas.Bool.{cases_eq, cond-true, cond-false, eq-eqb, ne_eqb}
@@ -14,7 +14,7 @@ use borrow.Enum.Arm.{by_way}
 use Rattle.slot_index.proofs.Found.{slot_in-has, slot_in-add, slot_in-none, slot_cases}
 use Rattle.l1_data.specs.Sizes.{storage_lines, line_size}
 use Rattle.l1_data.specs.Copies.{Kept, Copies, copies_of, with_copy, no_copies, copy_count, byte_in, IsSound}
-use Rattle.l1_data.specs.Copies.{IsKept}
+use Rattle.l1_data.specs.Copies.{IsKept, laid}
 
 -- the copy in the slot of a line
 abbrev pub copy_at : List ℕ → List (List ℕ) → Copies
@@ -123,6 +123,15 @@ changed lines copies line slot change e room i q =
         ∙ sym (at_found lines copies q found.0 found.1))
         (λ absent. at_none lines (set copies slot (change (get_or copies slot []))) q absent
         ∙ sym (at_none lines copies q absent))
+
+-- the part of a copy from a place on is written over
+pub laid_between : (copy : List ℕ) (at : ℕ) (bytes : List ℕ)
+    → take at copy ++ (bytes ++ drop (at + length bytes - at) (drop at copy)) ≡ laid copy at bytes
+laid_between copy at bytes =
+    let size : at + length bytes - at ≡ length bytes = omega arith in
+    ap (λ n. take at copy ++ (bytes ++ drop n (drop at copy))) size
+    ∙ ap (λ rest. take at copy ++ (bytes ++ rest)) (drop-drop (length bytes) at copy)
+    ∙ sym (append_assoc (take at copy) bytes (drop (at + length bytes) copy))
 
 -- ---- a copy less, the last one in its slot
 

@@ -1,6 +1,6 @@
 -- Copies of lines.
-use Rattle.std.specs.Prelude.{◌≡◌, ℕ, ◌<◌, ◌≤◌, ◌==◌, if◌then◌else◌, List, [], length, Option, None, is_some}
-use Rattle.std.specs.Prelude.{IfSome, slice_get}
+use Rattle.std.specs.Prelude.{◌≡◌, ℕ, ◌+◌, ◌<◌, ◌≤◌, ◌==◌, if◌then◌else◌, List, [], ◌++◌, length, take, drop}
+use Rattle.std.specs.Prelude.{Option, None, is_some, IfSome, slice_get}
 use Rattle.std.specs.List.{slice_index_or}
 use Rattle.std.specs.Option.{option_and_then, option_map}
 use Rattle.bit_set.specs.Counts.{count_below}
@@ -25,6 +25,10 @@ copy_count copies = count_below storage_lines (λ line. is_some (copies line))
 -- a byte of the copy of a line
 abbrev pub byte_in : Copies → ℕ → ℕ → Option ℕ
 byte_in copies line at = option_and_then (λ copy. slice_get copy at) (copies line)
+
+-- the bytes of a copy with others from a place on
+abbrev pub laid : List ℕ → ℕ → List ℕ → List ℕ
+laid copy at bytes = take at copy ++ bytes ++ drop (at + length bytes) copy
 
 -- copies are of lines of storage and have a line's bytes, and there are not too many
 pub record IsSound (copies : Copies) : Type 0 where

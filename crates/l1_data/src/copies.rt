@@ -1,9 +1,9 @@
 //! The copies that one CPU has.
-ghost use Rattle.std.specs.Prelude.{◌≡◌, ℕ, ◌<◌, ◌≤◌, IsSome, IsNone, None, Some, IfOk, is_some, length};
+ghost use Rattle.std.specs.Prelude.{◌≡◌, ℕ, ◌+◌, ◌<◌, ◌≤◌, IsSome, IsNone, None, Some, IfOk, is_some, length};
 ghost use Rattle.std.specs.Prelude.{true, slice_set};
 ghost use Rattle.std.specs.Option.{option_map};
 ghost use Rattle.slot_index.specs.Slots.{slot_in, is_key};
-ghost use Rattle.l1_data.specs.Copies.{copies_of, no_copies, with_copy, copy_count, byte_in, IsSound};
+ghost use Rattle.l1_data.specs.Copies.{copies_of, no_copies, with_copy, copy_count, byte_in, laid, IsSound};
 
 use slot_index::SlotIndex;
 use std::alloc::{AllocError, Global};
@@ -121,6 +121,28 @@ impl L1 {
     {
         let slot = slot_of(&self.index, line);
         self.copies[slot][at as usize] = byte;
+    }
+
+    /// The bytes of the copy of the line, which has one.
+    pub fn copy_of(&self, line: u32) -> &[u8]
+        requires { IsSome (copies_of self.now line) }
+        ensures copy { copies_of self.now line ≡ Some result.now }
+        ensures size { length result.now ≡ LINE_SIZE }
+    {
+        &self.copies[slot_of(&self.index, line)]
+    }
+
+    /// Changes the bytes from a place on of the copy of the line, which has one, within its 256 bytes.
+    pub fn lay(&mut self, line: u32, at: u32, bytes: &[u8])
+        requires there { IsSome (copies_of self.old line) }
+        requires within { at + length bytes.now ≤ LINE_SIZE }
+        ensures { copies_of self.new
+            ≡ with_copy (copies_of self.old) line
+            (option_map (λ copy. laid copy at bytes.now) (copies_of self.old line)) }
+    {
+        let slot = slot_of(&self.index, line);
+        let first = at as usize;
+        self.copies[slot][first..first + bytes.len()].copy_from_slice(bytes);
     }
 }
 

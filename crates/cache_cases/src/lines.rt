@@ -1,0 +1,103 @@
+//! Lines with copies: two CPUs, of which one stores into a line that it holds exclusively.
+ghost use Rattle.std.specs.Prelude.{◌≡◌, ◌<◌, ◌≤◌, ◌+◌, length};
+ghost use Rattle.line_copies.specs.Seen.{holdings_of};
+
+use line_copies::{CoherentLines, Held, Window};
+use line_table::Mode;
+use std::alloc::Global;
+use std::marker::Brand;
+use std::test::Fail;
+use z_regs::Bytes;
+
+/// The address where line 144 begins.
+const FIRST: u32 = 36864;
+
+/// How much there is; a byte; how the first CPU holds line 144, who is the first to hold it, and which line
+/// the first CPU holds first.
+type Looks = (usize, u8, Option<Mode>, Option<u32>, Option<u32>);
+
+/// Adds one to the number in eight bytes, and copies its last byte to the end of the next eight, in code that
+/// knows bytes alone.
+fn count_up<V: Bytes>(view: &mut V, address: u64)
+    requires inside { address + 16 ≤ length (V.bytes view.old) }
+    requires low { address < 1048576 }
+    ensures { length (V.bytes view.new) ≡ length (V.bytes view.old) }
+{
+    let number = view.word(address, 8);
+    view.put_word(address, 8, number.wrapping_add(1));
+    let last = view.get(address + 7);
+    view.put(address + 15, last);
+}
+
+/// The lines after that, as one CPU sees them. Nobody gets or loses a line.
+fn count_up_in<H: Held>(lines: CoherentLines, cpu: u32, address: u64) -> CoherentLines
+    requires cpu { cpu < lines.cpus }
+    requires held { holdings_of lines ≡ H.held }
+    requires inside { address + 16 ≤ 1048576 }
+    ensures { holdings_of result ≡ holdings_of lines }
+{
+    let mut window: Window<H> = Window::open(lines, cpu);
+    count_up(&mut window, address);
+    window.close()
+}
+
+/// The numbers in eight bytes that the two CPUs see at the end of line 143 and at the beginning of line 144.
+fn numbers(lines: &CoherentLines) -> [u64; 4]
+    requires { lines.now.cpus ≡ 2 }
+{
+    [
+        lines.fetch_word(0, FIRST - 4, 8),
+        lines.fetch_word(1, FIRST - 4, 8),
+        lines.fetch_word(0, FIRST, 8),
+        lines.fetch_word(1, FIRST, 8),
+    ]
+}
+
+/// What else is seen of the lines.
+fn looks(lines: &CoherentLines) -> Looks
+    requires { lines.now.cpus ≡ 2 }
+{
+    let mode = lines.mode_of(0, 144);
+    let (holder, line) = (lines.next_holder(144, 0), lines.next_line(0, 0));
+    (lines.size(), lines.byte(FIRST + 15), mode, holder, line)
+}
+
+/// What is seen when the first CPU has counted up in line 144, which it holds exclusively; when it has
+/// also done so across the end of line 143; and when each of them has line 144 in shared mode, and then the
+/// first one no longer. And what else is seen in between.
+fn seen(alloc: Global, bytes: &[u8]) -> Result<([[u64; 4]; 4], Looks), Fail>
+    requires { length bytes.now ≡ 1048576 }
+{
+    let mut lines = CoherentLines::open(alloc, bytes, 2)?;
+    if lines.held(0) >= 384 {
+        return Err("no room")?;
+    }
+    lines.grant(0, 144, Mode::Exclusive);
+    let lines = count_up_in::<Brand>(lines, 0, u64::from(FIRST));
+    let inside = numbers(&lines);
+    let between = looks(&lines);
+    let mut lines = count_up_in::<Brand>(lines, 0, u64::from(FIRST) - 4);
+    let across = numbers(&lines);
+    lines.demote(0, 144);
+    if lines.held(1) >= 384 {
+        return Err("no room")?;
+    }
+    lines.grant(1, 144, Mode::Shared);
+    let shared = numbers(&lines);
+    lines.give_up(0, 144);
+    Ok(([inside, across, shared, numbers(&lines)], between))
+}
+
+#[test]
+fn an_exclusive_copy_is_seen_by_all(rt: HostRuntime) -> Result<(), Fail> {
+    let bytes = vec![in rt.alloc(); 0; 1_048_576]?;
+    let ([inside, across, shared, last], between) = seen(rt.alloc(), &bytes)?;
+    assert_eq!(rt;
+        between,
+        (1_048_576, 1, Some(Mode::Exclusive), Some(0), Some(144))
+    );
+    assert_eq!(rt; inside, [0, 0, 1, 1]);
+    assert_eq!(rt; across, [1, 1, 0x1_0000_0001, 0x1_0000_0001]);
+    assert_eq!(rt; [shared, last], [across, across]);
+    Ok(())
+}

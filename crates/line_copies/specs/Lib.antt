@@ -1,0 +1,3 @@
+-- Copies of lines and the bytes that are seen with them.
+pub mod Coherence
+pub mod Seen

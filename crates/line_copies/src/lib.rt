@@ -1,0 +1,12 @@
+//! Copies of lines: each CPU has copies of the lines that it holds, and storage is seen through those that
+//! are held exclusively.
+#![tactic(auto)]
+
+mod access;
+mod lines;
+mod numbers;
+mod parts;
+mod window;
+
+pub use lines::{CoherentLines, NoMemory};
+pub use window::{Held, Window};
