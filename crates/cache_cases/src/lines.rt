@@ -2,7 +2,7 @@
 ghost use Rattle.std.specs.Prelude.{◌≡◌, ◌<◌, ◌≤◌, ◌+◌, length};
 ghost use Rattle.line_copies.specs.Seen.{holdings_of};
 
-use line_copies::{CoherentLines, Held, Window};
+use line_copies::{CoherentLines, Handback, Held, Window};
 use line_table::Mode;
 use std::alloc::Global;
 use std::marker::Brand;
@@ -17,28 +17,44 @@ const FIRST: u32 = 36864;
 type Looks = (usize, u8, Option<Mode>, Option<u32>, Option<u32>);
 
 /// Adds one to the number in eight bytes, and copies its last byte to the end of the next eight, in code that
-/// knows bytes alone.
-fn count_up<V: Bytes>(view: &mut V, address: u64)
+/// knows bytes alone. Gives the number as it was.
+fn count_up<V: Bytes>(view: &mut V, address: u64) -> u64
     requires inside { address + 16 ≤ length (V.bytes view.old) }
     requires low { address < 1048576 }
-    ensures { length (V.bytes view.new) ≡ length (V.bytes view.old) }
 {
     let number = view.word(address, 8);
     view.put_word(address, 8, number.wrapping_add(1));
     let last = view.get(address + 7);
     view.put(address + 15, last);
+    number
 }
 
-/// The lines after that, as one CPU sees them. Nobody gets or loses a line.
-fn count_up_in<H: Held>(lines: CoherentLines, cpu: u32, address: u64) -> CoherentLines
-    requires cpu { cpu < lines.cpus }
-    requires held { holdings_of lines ≡ H.held }
+/// The same through a window on lines.
+fn count_up_in<'a, H: Held>(
+    lines: &'a mut CoherentLines,
+    cpu: u32,
+    address: u64,
+) -> Handback<'a, u64>
+    requires cpu { cpu < lines.old.cpus }
+    requires held { holdings_of lines.old ≡ H.held }
+    requires name { lines.ghost_name ≡ H.name }
     requires inside { address + 16 ≤ 1048576 }
-    ensures { holdings_of result ≡ holdings_of lines }
+    ensures held { holdings_of result.lines.now ≡ holdings_of lines.old }
+    ensures same_reference { result.lines.ghost_name ≡ lines.entry.ghost_name }
 {
-    let mut window: Window<H> = Window::open(lines, cpu);
-    count_up(&mut window, address);
-    window.close()
+    let mut window: Window<'a, H> = Window::open(lines, cpu);
+    let number = count_up(&mut window, address);
+    window.close(number)
+}
+
+/// The same of lines as one CPU sees them. Nobody gets or loses a line.
+fn count_up_at(lines: &mut CoherentLines, cpu: u32, address: u64) -> u64
+    requires cpu { cpu < lines.old.cpus }
+    requires inside { address + 16 ≤ 1048576 }
+    ensures { holdings_of lines.new ≡ holdings_of lines.old }
+{
+    let Handback { value, .. } = count_up_in::<Brand>(lines, cpu, address);
+    value
 }
 
 /// The numbers in eight bytes that the two CPUs see at the end of line 143 and at the beginning of line 144.
@@ -73,10 +89,10 @@ fn seen(alloc: Global, bytes: &[u8]) -> Result<([[u64; 4]; 4], Looks), Fail>
         return Err("no room")?;
     }
     lines.grant(0, 144, Mode::Exclusive);
-    let lines = count_up_in::<Brand>(lines, 0, u64::from(FIRST));
+    count_up_at(&mut lines, 0, u64::from(FIRST));
     let inside = numbers(&lines);
     let between = looks(&lines);
-    let mut lines = count_up_in::<Brand>(lines, 0, u64::from(FIRST) - 4);
+    count_up_at(&mut lines, 0, u64::from(FIRST) - 4);
     let across = numbers(&lines);
     lines.demote(0, 144);
     if lines.held(1) >= 384 {

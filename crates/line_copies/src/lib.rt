@@ -9,4 +9,4 @@ mod parts;
 mod window;
 
 pub use lines::{CoherentLines, NoMemory};
-pub use window::{Held, Window};
+pub use window::{Handback, Held, Window};

@@ -1,78 +1,155 @@
 //! Lines as one CPU sees them.
-ghost use Rattle.std.specs.Prelude.{◌≡◌, ◌<◌, [], length};
+ghost use Rattle.std.specs.Prelude.{◌≡◌, ◌<◌, ◌≤◌, ◌+◌, ◌*◌, ◌^◌, [], ◌∷◌, length, slice_index};
+ghost use Rattle.byteorder.specs.Endian.{big_number, big_bytes};
 ghost use Rattle.z_regs.specs.Prefix.{storage_size};
+ghost use Rattle.z_regs.specs.Written.{range_at, written};
 ghost use Rattle.line_table.specs.Holders.{Holdings};
 ghost use Rattle.line_copies.specs.Seen.{holdings_of};
+ghost use base.Fml.{GName};
 
 use crate::CoherentLines;
 use std::marker::{Brand, PhantomData};
 use z_regs::Bytes;
 
-/// Who holds which line while a window is open. It is no part of the code.
+/// Who holds which line while a window is open, and which lines it shows. It is no part of the code.
 pub trait Held {
     ghost held: { Holdings };
+
+    ghost name: { GName };
 }
 
 impl Held for Brand {
     ghost held = { record { cpus = 0; modes = [] } };
+
+    ghost name = { 0 };
+}
+
+/// Lines, and the CPU that reaches for them.
+#[derive(Drop)]
+struct Reach<'a> {
+    lines: &'a mut CoherentLines,
+    cpu: u32,
+}
+
+impl Reach<'_> {
+    /// The byte at an address.
+    fn get(&self, address: u64) -> u8
+        requires cpu { self.now.cpu < self.now.lines.now.cpus }
+        requires inside { address < storage_size }
+        ensures { result ≡ slice_index self.now.lines.now.bytes address }
+    {
+        self.lines.fetch(self.cpu, address as u32)
+    }
+
+    /// The number in the `count` bytes from an address on.
+    fn word(&self, address: u64, count: u8) -> u64
+        requires cpu { self.now.cpu < self.now.lines.now.cpus }
+        requires low { 1 ≤ count }
+        requires high { count ≤ 8 }
+        requires inside { address + count ≤ storage_size }
+        ensures value { result ≡ big_number count (range_at self.now.lines.now.bytes address count) }
+        ensures bytes { big_bytes count result ≡ range_at self.now.lines.now.bytes address count }
+        ensures fits { result < 2 ^ (8 * count) }
+    {
+        self.lines.fetch_word(self.cpu, address as u32, count)
+    }
+
+    /// Changes the byte at an address.
+    fn put(&mut self, address: u64, byte: u8)
+        requires cpu { self.old.cpu < self.old.lines.now.cpus }
+        requires inside { address < storage_size }
+        ensures bytes { self.new.lines.now.bytes ≡ written self.old.lines.now.bytes address (byte ∷ []) }
+        ensures held { holdings_of self.new.lines.now ≡ holdings_of self.old.lines.now }
+        ensures cpu { self.new.cpu ≡ self.old.cpu }
+        ensures same_reference { self.new.lines.ghost_name ≡ self.old.lines.ghost_name }
+    {
+        self.lines.store(self.cpu, address as u32, &[byte]);
+    }
+
+    /// Changes the `count` bytes from an address on to the rightmost of a number.
+    fn put_word(&mut self, address: u64, count: u8, value: u64)
+        requires cpu { self.old.cpu < self.old.lines.now.cpus }
+        requires low { 1 ≤ count }
+        requires high { count ≤ 8 }
+        requires inside { address + count ≤ storage_size }
+        ensures bytes { self.new.lines.now.bytes
+            ≡ written self.old.lines.now.bytes address (big_bytes count value) }
+        ensures held { holdings_of self.new.lines.now ≡ holdings_of self.old.lines.now }
+        ensures cpu { self.new.cpu ≡ self.old.cpu }
+        ensures same_reference { self.new.lines.ghost_name ≡ self.old.lines.ghost_name }
+    {
+        self.lines
+            .store_word(self.cpu, address as u32, count, value);
+    }
 }
 
 /// Lines as one CPU sees them, for code that knows bytes alone: whatever it does, nobody gets or loses a
 /// line, and all copies stay coherent.
 #[derive(Drop)]
-pub struct Window<H: Held> {
-    lines: CoherentLines,
-    cpu: u32,
+pub struct Window<'a, H: Held> {
+    reach: Reach<'a>,
     of: PhantomData<H>,
-    ghost holds: { holdings_of lines ≡ H.held },
-    ghost in_range: { cpu < lines.cpus },
-    ghost size: { length lines.bytes ≡ storage_size },
+    ghost holds: { holdings_of reach.lines.now ≡ H.held },
+    ghost same_reference: { reach.lines.ghost_name ≡ H.name },
+    ghost in_range: { reach.cpu < reach.lines.now.cpus },
+    ghost size: { length reach.lines.now.bytes ≡ storage_size },
 }
 
-impl<H: Held> Window<H> {
+/// The lines that a window has shown, and what came of it.
+#[derive(Drop)]
+pub struct Handback<'a, T: Drop> {
+    /// The lines.
+    pub lines: &'a mut CoherentLines,
+    /// What came of it.
+    pub value: T,
+}
+
+impl<'a, H: Held> Window<'a, H> {
     /// The lines for this CPU.
-    pub fn open(lines: CoherentLines, cpu: u32) -> Window<H>
-        requires cpu { cpu < lines.cpus }
-        requires held { holdings_of lines ≡ H.held }
-        ensures lines { result.lines ≡ lines }
-        ensures size { length lines.bytes ≡ storage_size }
+    pub fn open(lines: &'a mut CoherentLines, cpu: u32) -> Window<'a, H>
+        requires cpu { cpu < lines.old.cpus }
+        requires held { holdings_of lines.old ≡ H.held }
+        requires name { lines.ghost_name ≡ H.name }
+        ensures bytes { result.reach.lines.now.bytes ≡ lines.old.bytes }
+        ensures size { length lines.old.bytes ≡ storage_size }
     {
         let _size = lines.size();
         Window {
-            lines,
-            cpu,
+            reach: Reach { lines, cpu },
             of: PhantomData,
         }
     }
 
-    /// The lines again, with the bytes that were seen through the window; who holds which of them is as it
-    /// was.
-    pub fn close(self) -> CoherentLines
-        ensures lines { result ≡ self.lines }
-        ensures held { holdings_of result ≡ H.held }
+    /// The lines again, with the bytes that were seen through the window, and with what came of it. Who holds
+    /// which of them is as it was.
+    pub fn close<T: Drop>(self, value: T) -> Handback<'a, T>
+        ensures bytes { result.lines.now.bytes ≡ self.entry.reach.lines.now.bytes }
+        ensures held { holdings_of result.lines.now ≡ H.held }
+        ensures same_reference { result.lines.ghost_name ≡ H.name }
+        ensures value { result.value ≡ value }
     {
-        let Window { lines, .. } = self;
-        lines
+        let Window { reach, .. } = self;
+        let Reach { lines, .. } = reach;
+        Handback { lines, value }
     }
 }
 
-impl<H: Held> Bytes for Window<H> {
-    ghost bytes = { λ w. w.lines.bytes };
+impl<'a, H: Held> Bytes for Window<'a, H> {
+    ghost bytes = { λ w. w.reach.lines.now.bytes };
 
     fn get(&self, address: u64) -> u8 {
-        self.lines.fetch(self.cpu, address as u32)
+        self.reach.get(address)
     }
 
     fn put(&mut self, address: u64, byte: u8) {
-        self.lines.store(self.cpu, address as u32, &[byte]);
+        self.reach.put(address, byte);
     }
 
     fn word(&self, address: u64, count: u8) -> u64 {
-        self.lines.fetch_word(self.cpu, address as u32, count)
+        self.reach.word(address, count)
     }
 
     fn put_word(&mut self, address: u64, count: u8, value: u64) {
-        self.lines
-            .store_word(self.cpu, address as u32, count, value);
+        self.reach.put_word(address, count, value);
     }
 }

@@ -19,7 +19,7 @@ quiet false = refl
 
 pub grant-requires-2-clause-free : goal.grant-requires-2-clause-free
 grant-requires-2-clause-free c =
-    let counted = ap mode_in c.count_up_in-lines-2.ensures ∙ ap mode_in c.count_up_in-lines.ensures
+    let counted = ap mode_in c.count_up_at-2.ensures ∙ ap mode_in c.count_up_at.ensures
     ∙ c.grant.ensures.held
     ∙ ap (λ (h : Holders). holding h 0 144 (Some Exclusive)) c.in_ok-lines.ensures.nobody in
     let now = c.demote.ensures.held ∙ ap (λ (h : Holders). holding h 0 144 (Some Shared)) counted in

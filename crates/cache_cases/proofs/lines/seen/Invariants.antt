@@ -1,5 +1,0 @@
-use Rattle.line_copies.specs.Seen.{holdings_of}
-use Rattle.cache_cases.proofs.lines.seen.Given as goal
-
-abbrev pub ghosts-count_up_in : goal.ghosts-count_up_in
-ghosts-count_up_in a = record { held = holdings_of a.lines }
