@@ -12,9 +12,9 @@ use z_regs::Bytes;
 /// The address where line 144 begins.
 const FIRST: u32 = 36864;
 
-/// How much there is; a byte; how the first CPU holds line 144, who is the first to hold it, and which line
-/// the first CPU holds first.
-type Looks = (usize, u8, Option<Mode>, Option<u32>, Option<u32>);
+/// How much there is; a byte, and the number in eight, from outside; how the first CPU holds line 144, who is
+/// the first to hold it, and which line the first CPU holds first.
+type Looks = (usize, u8, u64, Option<Mode>, Option<u32>, Option<u32>);
 
 /// Adds one to the number in eight bytes, and copies its last byte to the end of the next eight, in code that
 /// knows bytes alone. Gives the number as it was.
@@ -62,10 +62,10 @@ fn numbers(lines: &CoherentLines) -> [u64; 4]
     requires { lines.now.cpus ≡ 2 }
 {
     [
-        lines.fetch_word(0, FIRST - 4, 8),
-        lines.fetch_word(1, FIRST - 4, 8),
-        lines.fetch_word(0, FIRST, 8),
-        lines.fetch_word(1, FIRST, 8),
+        lines.fetch_word(Some(0), FIRST - 4, 8),
+        lines.fetch_word(Some(1), FIRST - 4, 8),
+        lines.fetch_word(Some(0), FIRST, 8),
+        lines.fetch_word(Some(1), FIRST, 8),
     ]
 }
 
@@ -73,9 +73,11 @@ fn numbers(lines: &CoherentLines) -> [u64; 4]
 fn looks(lines: &CoherentLines) -> Looks
     requires { lines.now.cpus ≡ 2 }
 {
+    let size = lines.size();
     let mode = lines.mode_of(0, 144);
     let (holder, line) = (lines.next_holder(144, 0), lines.next_line(0, 0));
-    (lines.size(), lines.byte(FIRST + 15), mode, holder, line)
+    let (byte, number) = (lines.byte(FIRST + 15), lines.word(u64::from(FIRST) - 4, 8));
+    (size, byte, number, mode, holder, line)
 }
 
 /// What is seen when the first CPU has counted up in line 144, which it holds exclusively; when it has
@@ -110,7 +112,7 @@ fn an_exclusive_copy_is_seen_by_all(rt: HostRuntime) -> Result<(), Fail> {
     let ([inside, across, shared, last], between) = seen(rt.alloc(), &bytes)?;
     assert_eq!(rt;
         between,
-        (1_048_576, 1, Some(Mode::Exclusive), Some(0), Some(144))
+        (1_048_576, 1, 0, Some(Mode::Exclusive), Some(0), Some(144))
     );
     assert_eq!(rt; inside, [0, 0, 1, 1]);
     assert_eq!(rt; across, [1, 1, 0x1_0000_0001, 0x1_0000_0001]);

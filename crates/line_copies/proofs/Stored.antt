@@ -304,7 +304,8 @@ all_stored table items items' storage storage' bytes line at kept low none fits 
     line)) each c
     (omega (arith, below_cpus, kept.each)) in
     let others : (c l : ℕ) → l ≢ line → copied items' c l ≡ copied items c l =
-    other_lines items items' line (λ k. option_map (λ b. laid b at bytes) (copied items k line)) size each in (
+    other_lines items items' line (λ k. option_map (λ b. laid b at bytes) (copied items k line)) size each
+    in (
       record {
         size = ap length stored ∙ length-written storage (line * line_size + at) bytes (omega (
           arith,

@@ -1,5 +1,5 @@
 //! What is done with storage, the table of holders and the copies, each for itself.
-ghost use Rattle.std.specs.Prelude.{◌≡◌, ◌<◌, ◌≤◌, ◌+◌, ◌*◌, ℕ, List, Some, None, length};
+ghost use Rattle.std.specs.Prelude.{◌≡◌, ◌<◌, ◌≤◌, ◌+◌, ◌*◌, ℕ, List, Some, None, length, IfSome};
 ghost use Rattle.z_regs.specs.Prefix.{storage_size};
 ghost use Rattle.z_regs.specs.Written.{written};
 ghost use Rattle.line_table.specs.Sizes.{storage_lines};
@@ -27,14 +27,16 @@ pub(crate) fn exclusive_holder(table: &LineTable, line: u32) -> Option<u32>
     }
 }
 
-/// The same, asked first of the CPU that is most likely it.
-pub(crate) fn exclusive_by(table: &LineTable, cpu: u32, line: u32) -> Option<u32>
-    requires cpu { cpu < table.now.cpus }
+/// The same, asked first of the CPU that is most likely it, if there is one.
+pub(crate) fn exclusive_by(table: &LineTable, who: Option<u32>, line: u32) -> Option<u32>
+    requires cpu { IfSome who (λ cpu. cpu < table.now.cpus) }
     requires line { line < storage_lines }
     ensures { result ≡ exclusive_holder table.now.cpus (λ other. mode_in table.now other line) }
 {
-    if let Some(Mode::Exclusive) = table.mode_of(cpu, line) {
-        return Some(cpu);
+    if let Some(cpu) = who {
+        if let Some(Mode::Exclusive) = table.mode_of(cpu, line) {
+            return Some(cpu);
+        }
     }
     exclusive_holder(table, line)
 }

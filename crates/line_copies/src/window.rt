@@ -38,7 +38,7 @@ impl Reach<'_> {
         requires inside { address < storage_size }
         ensures { result ≡ slice_index self.now.lines.now.bytes address }
     {
-        self.lines.fetch(self.cpu, address as u32)
+        self.lines.fetch(Some(self.cpu), address as u32)
     }
 
     /// The number in the `count` bytes from an address on.
@@ -51,7 +51,7 @@ impl Reach<'_> {
         ensures bytes { big_bytes count result ≡ range_at self.now.lines.now.bytes address count }
         ensures fits { result < 2 ^ (8 * count) }
     {
-        self.lines.fetch_word(self.cpu, address as u32, count)
+        self.lines.fetch_word(Some(self.cpu), address as u32, count)
     }
 
     /// Changes the byte at an address.
@@ -63,7 +63,7 @@ impl Reach<'_> {
         ensures cpu { self.new.cpu ≡ self.old.cpu }
         ensures same_reference { self.new.lines.ghost_name ≡ self.old.lines.ghost_name }
     {
-        self.lines.store(self.cpu, address as u32, &[byte]);
+        self.lines.store(Some(self.cpu), address as u32, &[byte]);
     }
 
     /// Changes the `count` bytes from an address on to the rightmost of a number.
@@ -79,7 +79,7 @@ impl Reach<'_> {
         ensures same_reference { self.new.lines.ghost_name ≡ self.old.lines.ghost_name }
     {
         self.lines
-            .store_word(self.cpu, address as u32, count, value);
+            .store_word(Some(self.cpu), address as u32, count, value);
     }
 }
 
