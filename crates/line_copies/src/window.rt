@@ -111,6 +111,7 @@ impl<'a, H: Held> Window<'a, H> {
         requires held { holdings_of lines.old ≡ H.held }
         requires name { lines.ghost_name ≡ H.name }
         ensures bytes { result.reach.lines.now.bytes ≡ lines.old.bytes }
+        ensures cpu { result.reach.cpu ≡ cpu }
         ensures size { length lines.old.bytes ≡ storage_size }
     {
         let _size = lines.size();
