@@ -1,10 +1,11 @@
 //! Lines as one CPU sees them.
-ghost use Rattle.std.specs.Prelude.{◌≡◌, ◌<◌, ◌≤◌, ◌+◌, ◌*◌, ◌^◌, [], ◌∷◌, length, slice_index};
+ghost use Rattle.std.specs.Prelude.{◌≡◌, ◌<◌, ◌≤◌, ◌+◌, ◌*◌, ◌^◌, [], ◌∷◌, length, slice_index, IfSome};
 ghost use Rattle.byteorder.specs.Endian.{big_number, big_bytes};
 ghost use Rattle.z_regs.specs.Prefix.{storage_size};
 ghost use Rattle.z_regs.specs.Written.{range_at, written};
 ghost use Rattle.line_table.specs.Holders.{Holdings};
 ghost use Rattle.line_copies.specs.Seen.{holdings_of};
+ghost use Rattle.std.proofs.Props.{props};
 ghost use base.Fml.{GName};
 
 use crate::CoherentLines;
@@ -24,26 +25,26 @@ impl Held for Brand {
     ghost name = { 0 };
 }
 
-/// Lines, and the CPU that reaches for them.
+/// Lines, and the CPU that reaches for them, or None for somebody who is no CPU.
 #[derive(Drop)]
 struct Reach<'a> {
     lines: &'a mut CoherentLines,
-    cpu: u32,
+    who: Option<u32>,
 }
 
 impl Reach<'_> {
     /// The byte at an address.
     fn get(&self, address: u64) -> u8
-        requires cpu { self.now.cpu < self.now.lines.now.cpus }
+        requires who { IfSome self.now.who (λ cpu. cpu < self.now.lines.now.cpus) }
         requires inside { address < storage_size }
         ensures { result ≡ slice_index self.now.lines.now.bytes address }
     {
-        self.lines.fetch(Some(self.cpu), address as u32)
+        self.lines.fetch(self.who, address as u32)
     }
 
     /// The number in the `count` bytes from an address on.
     fn word(&self, address: u64, count: u8) -> u64
-        requires cpu { self.now.cpu < self.now.lines.now.cpus }
+        requires who { IfSome self.now.who (λ cpu. cpu < self.now.lines.now.cpus) }
         requires low { 1 ≤ count }
         requires high { count ≤ 8 }
         requires inside { address + count ≤ storage_size }
@@ -51,35 +52,35 @@ impl Reach<'_> {
         ensures bytes { big_bytes count result ≡ range_at self.now.lines.now.bytes address count }
         ensures fits { result < 2 ^ (8 * count) }
     {
-        self.lines.fetch_word(Some(self.cpu), address as u32, count)
+        self.lines.fetch_word(self.who, address as u32, count)
     }
 
     /// Changes the byte at an address.
     fn put(&mut self, address: u64, byte: u8)
-        requires cpu { self.old.cpu < self.old.lines.now.cpus }
+        requires who { IfSome self.old.who (λ cpu. cpu < self.old.lines.now.cpus) }
         requires inside { address < storage_size }
         ensures bytes { self.new.lines.now.bytes ≡ written self.old.lines.now.bytes address (byte ∷ []) }
         ensures held { holdings_of self.new.lines.now ≡ holdings_of self.old.lines.now }
-        ensures cpu { self.new.cpu ≡ self.old.cpu }
+        ensures who { self.new.who ≡ self.old.who }
         ensures same_reference { self.new.lines.ghost_name ≡ self.old.lines.ghost_name }
     {
-        self.lines.store(Some(self.cpu), address as u32, &[byte]);
+        self.lines.store(self.who, address as u32, &[byte]);
     }
 
     /// Changes the `count` bytes from an address on to the rightmost of a number.
     fn put_word(&mut self, address: u64, count: u8, value: u64)
-        requires cpu { self.old.cpu < self.old.lines.now.cpus }
+        requires who { IfSome self.old.who (λ cpu. cpu < self.old.lines.now.cpus) }
         requires low { 1 ≤ count }
         requires high { count ≤ 8 }
         requires inside { address + count ≤ storage_size }
         ensures bytes { self.new.lines.now.bytes
             ≡ written self.old.lines.now.bytes address (big_bytes count value) }
         ensures held { holdings_of self.new.lines.now ≡ holdings_of self.old.lines.now }
-        ensures cpu { self.new.cpu ≡ self.old.cpu }
+        ensures who { self.new.who ≡ self.old.who }
         ensures same_reference { self.new.lines.ghost_name ≡ self.old.lines.ghost_name }
     {
         self.lines
-            .store_word(Some(self.cpu), address as u32, count, value);
+            .store_word(self.who, address as u32, count, value);
     }
 }
 
@@ -91,7 +92,7 @@ pub struct Window<'a, H: Held> {
     of: PhantomData<H>,
     ghost holds: { holdings_of reach.lines.now ≡ H.held },
     ghost same_reference: { reach.lines.ghost_name ≡ H.name },
-    ghost in_range: { reach.cpu < reach.lines.now.cpus },
+    ghost in_range: { IfSome reach.who (λ cpu. cpu < reach.lines.now.cpus) } by { Prim.hlevel props },
     ghost size: { length reach.lines.now.bytes ≡ storage_size },
 }
 
@@ -105,18 +106,18 @@ pub struct Handback<'a, T: Drop> {
 }
 
 impl<'a, H: Held> Window<'a, H> {
-    /// The lines for this CPU.
-    pub fn open(lines: &'a mut CoherentLines, cpu: u32) -> Window<'a, H>
-        requires cpu { cpu < lines.old.cpus }
+    /// The lines for this CPU, or for somebody who is no CPU and has no copies (None).
+    pub fn open(lines: &'a mut CoherentLines, who: Option<u32>) -> Window<'a, H>
+        requires who { IfSome who (λ cpu. cpu < lines.old.cpus) }
         requires held { holdings_of lines.old ≡ H.held }
         requires name { lines.ghost_name ≡ H.name }
         ensures bytes { result.reach.lines.now.bytes ≡ lines.old.bytes }
-        ensures cpu { result.reach.cpu ≡ cpu }
+        ensures who { result.reach.who ≡ who }
         ensures size { length lines.old.bytes ≡ storage_size }
     {
         let _size = lines.size();
         Window {
-            reach: Reach { lines, cpu },
+            reach: Reach { lines, who },
             of: PhantomData,
         }
     }
