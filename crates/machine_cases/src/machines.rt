@@ -36,7 +36,7 @@ fn externals_in(events: &[Event]) -> usize
 }
 
 /// The machine of a listing, from which nothing has happened, with so many turns for each CPU.
-fn opened(alloc: Global, listing: &[u8], turns: u32) -> Result<Machine, Fail>
+pub fn opened(alloc: Global, listing: &[u8], turns: u32) -> Result<Machine, Fail>
     ensures { IfOk result (λ machine. MayRun machine) }
 {
     let image = assemble(alloc, listing)?;

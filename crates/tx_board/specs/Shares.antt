@@ -5,6 +5,8 @@ use Rattle.tx_meaning.specs.IdleOutcomes.{is_idle_outcome}
 use Rattle.tx_meaning.specs.Meaning.{is_external}
 use Rattle.tx_meaning.specs.declared.outcome.Outcome.{Outcome}
 use Rattle.tx_machine.specs.Machine.{Seen, setting_of}
+use Rattle.tx_machine.specs.declared.lending.Home.{Home}
+use Rattle.tx_machine.specs.declared.lending.Home.TheVariants as home
 
 -- one share for the worker of each CPU, and a last one for the thread that called
 abbrev pub shares_for : Content → ℕ
@@ -13,6 +15,11 @@ shares_for image = length image.cpus + 1
 -- how many events are recorded by a turn with this outcome
 abbrev pub recorded_by : Outcome → ℕ
 recorded_by o = if is_idle_outcome o then 0 else 1
+
+-- how many turns a run that came home so has made
+abbrev pub taken_in : Home → ℕ
+taken_in (home.Taken k) = k
+taken_in (home.Discarded place kept given) = 0
 
 -- the same image and the same limits
 abbrev pub IsOfSameRun : Seen → Seen → Type 0

@@ -1,19 +1,25 @@
 //! What lies behind the lock: a machine, and a ledger of the events that it has recorded.
-ghost use Rattle.std.specs.Prelude.{◌≡◌, ℕ, ◌+◌, ◌-◌, ◌<◌, ◌≤◌, true, [], length, sum_by, take, IfOk, vec_len};
+ghost use Rattle.std.specs.Prelude.{◌≡◌, ℕ, ◌+◌, ◌-◌, ◌<◌, ◌≤◌, true, None, [], length, sum_by, take, IfOk, vec_len};
 ghost use Rattle.std.specs.Prelude.{slice_index_or};
 ghost use Rattle.std.specs.List.{All};
 ghost use Rattle.tx_journal.specs.declared.events.Event.TheVariants.{Turn};
 ghost use Rattle.tx_machine.specs.Machine.{after, event_of, setting_of, state_of, most_events};
 ghost use Rattle.tx_meaning.specs.Idle.{is_ready};
-ghost use Rattle.tx_board.specs.Shares.{shares_for, recorded_by};
+ghost use Rattle.std.specs.FinSet.{items};
+ghost use Rattle.tx_home.specs.Lending.{IsLentBy};
+ghost use Rattle.tx_home.specs.Places.{IsFirstUnlike};
+ghost use Rattle.tx_machine.specs.Lending.{IfLent, kept_of, kept_because, lent_by, refusal_in, home_by, unlike_in};
+ghost use Rattle.tx_machine.specs.declared.lending.Home.TheVariants.{Taken};
+ghost use Rattle.tx_board.specs.Shares.{shares_for, recorded_by, taken_in};
 
-use crate::turns::{cpu_count, is_idle, make_turn};
+use crate::turns::{bring_home, cpu_count, is_idle, lend_cpu, make_turn, taken_in};
 use std::alloc::Global;
 use std::marker::PhantomData;
 use std::sync::ledger;
 use std::sync::ledger::Ledger;
-use tx_machine::{Machine, NoMemory};
+use tx_machine::{Home, Lend, Machine, NoMemory};
 use tx_meaning::Outcome;
+use tx_run::Run;
 
 /// A ledger that is not opened yet.
 #[derive(Drop)]
@@ -47,15 +53,15 @@ pub struct Share<L: Ledger> {
 }
 
 /// A machine with the total of a ledger, which is the number of events that the machine has recorded. Nothing
-/// takes away from a total, so a board never gets an earlier machine back. No turn was made elsewhere and brought
-/// home.
+/// takes away from a total, so a board never gets an earlier machine back. The turns that were made away and brought home
+/// are among those events.
 #[derive(Drop)]
 pub struct Board<L: Ledger> {
     machine: Machine,
     book: ledger::Book<L>,
     homed: u64,
     ghost counted: { book.total ≡ length machine.events },
-    ghost at_home: { homed ≡ 0 },
+    ghost brought: { homed ≤ length machine.events },
 }
 
 /// What a race has come to.
@@ -157,6 +163,37 @@ impl<L: Ledger> Board<L> {
             share.turns += 1;
         }
         outcome
+    }
+
+    /// Lends a CPU of the machine, or says why not. Nothing is counted.
+    pub fn lend(&mut self, cpu: u32) -> Lend
+        requires { cpu < length self.old.machine.image.cpus }
+        ensures refused { refusal_in result ≡ kept_because self.old.machine cpu }
+        ensures lent { IfLent result (IsLentBy self.old.machine.limits (kept_of self.old.machine) cpu) }
+        ensures machine { self.new.machine ≡ lent_by result cpu self.old.machine }
+        ensures homed { self.new.homed ≡ self.old.homed }
+    {
+        lend_cpu(&mut self.machine, cpu)
+    }
+
+    /// A run comes home to the machine. Where it is taken, its turns are counted in the total, in the share, and among those
+    /// that were brought home.
+    pub fn home(&mut self, share: &mut Share<L>, run: Run) -> Home
+        requires { run.cpu < length self.old.machine.image.cpus }
+        ensures first { IsFirstUnlike (items self.old.machine.image.guard) self.old.machine.limits run
+            (kept_of self.old.machine) (unlike_in result) }
+        ensures taken { unlike_in result ≡ None → result ≡ Taken run.made.steps }
+        ensures machine { self.new.machine ≡ home_by result run.cpu self.old.machine }
+        ensures share { share.new.turns ≡ share.old.turns + taken_in result }
+        ensures homed { self.new.homed ≡ self.old.homed + taken_in result }
+    {
+        let home = bring_home(&mut self.machine, run);
+        let taken = taken_in(home);
+        self.book.add(&mut share.part, taken);
+        self.book.audit(&mut share.part);
+        share.turns += taken;
+        self.homed += taken;
+        home
     }
 
     /// What the race has come to, behind all its turns. The shares are all that `open` gave, in that order.

@@ -63,7 +63,7 @@ module _ (m : Setting) (w : Works) (remaining : ℕ) (s : Stands m w remaining) 
 
   -- ---- with any seat behind the last CPU
 
-  same_seat : (rest : Seat) (j : ℕ) → j < length w.slots
+  pub same_seat : (rest : Seat) (j : ℕ) → j < length w.slots
       → seats_of (nobody m) w.slots j ≡ seats_of rest w.slots j
   same_seat rest j lt = get_or_default w.slots j (nobody m) rest lt
 

@@ -6,3 +6,6 @@ pub mod Opened
 pub mod Going
 pub mod Happened
 pub mod Laws
+pub mod Places
+pub mod Homes
+pub mod Runner

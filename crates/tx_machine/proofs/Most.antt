@@ -39,7 +39,7 @@ one_event (event.External i) rest same =
       same,
     )
 
-by_kinds : (events : List Event) → length events ≡ count_by is_turn events + count_by is_external events
+pub by_kinds : (events : List Event) → length events ≡ count_by is_turn events + count_by is_external events
 by_kinds [] = refl
 by_kinds (e ∷ rest) = one_event e rest (by_kinds rest)
 

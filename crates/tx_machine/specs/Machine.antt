@@ -1,6 +1,7 @@
 -- What a machine is seen as, and what it stands for.
-use Rattle.std.specs.Prelude.{◌≡◌, ℕ, ◌<◌, ◌+◌, ◌*◌, List, [], length, Option, Some, None, count_by, refl}
-use Rattle.std.specs.Coded.{Coded, code_by, coded×, coded_ℕ, coded_list, coded_option}
+use Rattle.std.specs.Prelude.{◌≡◌, ℕ, ◌<◌, ◌+◌, ◌*◌, Bool, false, List, [], length, replicate, Option, Some, None}
+use Rattle.std.specs.Prelude.{count_by, refl}
+use Rattle.std.specs.Coded.{Coded, code_by, coded×, coded_ℕ, coded_bool, coded_list, coded_option}
 use Rattle.tx_journal.specs.contracts.events.Event as event
 use Rattle.tx_meaning.specs.contracts.asking.Reject as reject
 use Rattle.tx_journal.specs.Content.{Content, content_code}
@@ -23,12 +24,14 @@ use Rattle.tx_meaning.specs.declared.counts.Counts.{Counts}
 use Rattle.tx_works.specs.declared.slot.Tally.{Tally}
 use Rattle.tx_works.specs.Works.{Seat, Works, kept_by}
 
--- its image, its limits, the recorded events, and the reject in the last event, where there was one
+-- its image, its limits, the recorded events, the reject in the last event, where there was one, and for each CPU whether
+-- its run is away
 pub record Seen : Type 0 where
   pub image : Content
   pub limits : RunLimits
   pub events : List Event
   pub reject : Option Reject
+  pub away : List Bool
 
 abbrev pub setting_of : Seen → Setting
 setting_of s = record { image = s.image; limits = s.limits }
@@ -47,18 +50,24 @@ limits_code =
 
 abbrev pub seen_code : Coded Seen
 seen_code =
-    code_by (Content × (RunLimits × (List Event × Option Reject)))
+    code_by (Content × (RunLimits × (List Event × (Option Reject × List Bool))))
     (coded× content_code (coded× limits_code (coded× (coded_list event.the_row.coded)
-    (coded_option reject.the_row.coded))))
-    (λ s. (s.image, (s.limits, (s.events, s.reject))))
-    (λ p. record { image = p.0; limits = p.1.0; events = p.1.1.0; reject = p.1.1.1 })
+    (coded× (coded_option reject.the_row.coded) (coded_list coded_bool)))))
+    (λ s. (s.image, (s.limits, (s.events, (s.reject, s.away)))))
+    (λ p. record { image = p.0; limits = p.1.0; events = p.1.1.0; reject = p.1.1.1.0; away = p.1.1.1.1 })
     (λ _. refl)
 
--- a machine from which nothing has happened
+-- a machine from which nothing has happened, with no run away
 abbrev pub opened : Content → RunLimits → Seen
-opened image limits = record { image = image; limits = limits; events = []; reject = None }
+opened image limits = record {
+  image = image;
+  limits = limits;
+  events = [];
+  reject = None;
+  away = replicate (length image.cpus) false;
+}
 
--- one event more
+-- one event more, by which no run leaves or comes home
 abbrev pub event_of : Seen → Event → Turned
 event_of s e = happen (setting_of s) e (state_of s)
 
@@ -136,3 +145,8 @@ pub record Stands (m : Setting) (w : Works) (remaining : ℕ) : Type 0 where
   pub externals : count_by is_external w.events + remaining ≡ m.limits.externals
   pub room : most_events m < w.room
   pub events_room : most_events m < w.events_room
+
+-- besides, there is a place for the run of each CPU
+pub record IsWhole (m : Setting) (w : Works) (remaining : ℕ) (away : List Bool) : Type 0 where
+  pub stands : Stands m w remaining
+  pub runs : length away ≡ cpus_of m

@@ -2,9 +2,14 @@
 //! turn of a CPU, or an interruption of it from outside.
 #![tactic(auto)]
 
+pub mod homing;
+pub mod lending;
 pub mod machine;
 pub mod opening;
+mod runs;
 
+pub use lending::{Home, Lend};
 pub use machine::{Machine, NoMemory};
+pub use tx_home::{Place, Refusal};
 pub use tx_meaning::Counts;
 pub use tx_works::Tally;

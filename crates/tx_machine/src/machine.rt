@@ -31,7 +31,8 @@ ghost use Rattle.tx_machine.specs.Machine.{code_awaited, counts_with, most_event
 ghost use Rattle.tx_machine.specs.Machine.{tally_at};
 ghost use Rattle.tx_works.specs.Wanted.{wanted};
 
-use crate::opening::open_works;
+use crate::opening::{open_program, open_works};
+use crate::runs::Runs;
 use std::alloc::{AllocError, Global};
 use std::marker::Model;
 use std::sync::Arc;
@@ -51,33 +52,37 @@ impl From<AllocError> for NoMemory {
     }
 }
 
-/// CPUs that share one storage, after events. Contracts see a machine as its image, its limits, the recorded
-/// events, and the reject in the last event; all else that it shows is the meaning of those events.
+/// CPUs that share one storage, after events, with a run for each CPU that may be lent out. Contracts see a machine as its
+/// image, its limits, the recorded events, the reject in the last event, and which runs are away; all else that it shows is
+/// the meaning of those events.
 #[derive(Drop)]
 pub struct Machine {
-    program: Program,
-    limits: Limits,
-    works: Works,
-    externals_left: u32,
-    reject: Option<Reject>,
+    pub(crate) program: Arc<Program>,
+    pub(crate) limits: Limits,
+    pub(crate) works: Works,
+    pub(crate) externals_left: u32,
+    pub(crate) reject: Option<Reject>,
+    pub(crate) runs: Runs,
 }
 
 impl Model for Machine {
-    ghost use Rattle.tx_machine.specs.Machine.{IsLeft, Stands, Seen, seen_code, Stands};
+    ghost use Rattle.std.specs.Arc.{arc_value};
+    ghost use Rattle.tx_machine.specs.Machine.{IsWhole, Seen, seen_code};
 
     ghost Value = { Seen };
 
     ghost coded = { seen_code };
 
     ghost view = { λ m. record {
-      image = m.program;
+      image = arc_value m.program;
       limits = m.limits;
       events = m.works.events;
       reject = m.reject;
+      away = m.runs;
     } };
 
-    ghost invariant = { λ m. Stands record { image = m.program; limits = m.limits } m.works
-        m.externals_left };
+    ghost invariant = { λ m. IsWhole record { image = arc_value m.program; limits = m.limits } m.works
+        m.externals_left m.runs };
 }
 
 /// The code of the program interruption that a CPU in this state has.
@@ -176,28 +181,29 @@ fn advance(
 }
 
 impl Machine {
-    /// A machine of an image, from which nothing has happened. It has room for all that can be recorded, so
-    /// no event takes memory. The error is want of memory.
+    /// A machine of an image, from which nothing has happened, and no run of which is away. It has room for all that can be
+    /// recorded, and a run for each CPU, so no event takes memory. The error is want of memory.
     pub fn open(alloc: Global, image: Arc<Image>, limits: Limits) -> Result<Machine, NoMemory>
         ensures { IfOk result (λ machine. machine ≡ opened (arc_value image) limits) }
     {
         let externals_left = limits.externals;
-        let most = image.cpu_count() as usize * limits.turns as usize + externals_left as usize + 1;
+        let cpus = image.cpu_count();
+        let most = cpus as usize * limits.turns as usize + externals_left as usize + 1;
         let works = open_works(alloc, &image, most)?;
-        let Ok(program) = Program::open(alloc, image) else {
-            return Err(NoMemory);
-        };
+        let program = open_program(alloc, image)?;
+        let runs = Runs::open(alloc, &program, cpus)?;
         Ok(Machine {
             program,
             limits,
             works,
             externals_left,
             reject: None,
+            runs,
         })
     }
 
     /// One event more, of a CPU that there is; an external one only while some are left. Says what came of
-    /// it. It takes no memory.
+    /// it. It takes no memory, and no run leaves or comes home by it.
     ///
     /// Behind every event the history is legal, and it only grows. No live attempt sees a mixed state: what it
     /// has seen is one private run on storage as it is now. What an attempt has touched is held. No CPU has more conflict aborts than lead to the stop queue, the queue

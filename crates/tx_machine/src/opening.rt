@@ -1,5 +1,6 @@
 //! What a machine keeps before anything has happened.
 ghost use Rattle.std.specs.Prelude.{◌≡◌, ◌≤◌, [], IfOk, length, map, take};
+ghost use Rattle.std.specs.Arc.{arc_value};
 ghost use Rattle.z_regs.specs.Cpu.{cpu_of};
 ghost use Rattle.tx_journal.specs.Content.{Content};
 ghost use Rattle.line_table.specs.Holders.{nobody};
@@ -10,7 +11,8 @@ ghost use Rattle.tx_machine.specs.Opened.{AreUnused, IsUnused};
 
 use crate::machine::NoMemory;
 use std::alloc::Global;
-use tx_cpu::Cpu;
+use std::sync::Arc;
+use tx_cpu::{Cpu, Program};
 use tx_journal::Image;
 use tx_ladder::{Ladder, Parms, StopQueue};
 use tx_lines::Lines;
@@ -81,4 +83,17 @@ pub fn open_works(alloc: Global, image: &Image, most: usize) -> Result<Works, No
         history,
         events,
     })
+}
+
+/// The program of an image, to be shared. The error is want of memory.
+pub fn open_program(alloc: Global, image: Arc<Image>) -> Result<Arc<Program>, NoMemory>
+    ensures { IfOk result (λ program. arc_value program ≡ arc_value image) }
+{
+    let Ok(program) = Program::open(alloc, image) else {
+        return Err(NoMemory);
+    };
+    let Ok(shared) = Arc::new(alloc, program) else {
+        return Err(NoMemory);
+    };
+    Ok(shared)
 }

@@ -1,6 +1,6 @@
 //! The bytes of a run: storage as the run has made it, and each byte that it has touched as it was before.
 ghost use Rattle.std.specs.Prelude.{◌≡◌, ℕ, ◌+◌, ◌*◌, ◌/◌, ◌<◌, ◌≤◌, true, false, ◌||◌, nat_eq, All, length, IsTrue};
-ghost use Rattle.std.specs.Prelude.{IfOk, IfSome, None, if◌then◌else◌};
+ghost use Rattle.std.specs.Prelude.{IfOk, IfSome, None, if◌then◌else◌, vec_len, vec_capacity};
 ghost use Rattle.std.specs.List.{flat_map, slice_index_or};
 ghost use Rattle.z_regs.specs.Prefix.{storage_size, is_prefix};
 ghost use Rattle.line_table.specs.Sizes.{storage_lines};
@@ -84,23 +84,69 @@ fn copy_bytes<V: Bytes>(now: &mut Storage, first: u64, end: u64, from: &V)
     }
 }
 
-impl OwnBytes {
-    /// A run's storage with these bytes, which are 1,048,576, none of them touched. The error is want of memory.
-    pub fn open(alloc: Global, bytes: &[u8]) -> Result<OwnBytes, NoMemory>
-        requires { length bytes.now ≡ storage_size }
-        ensures bytes { IfOk result (λ o. o.now ≡ bytes.now) }
-        ensures untouched { IfOk result (λ o. (a : ℕ) → is_touched o a ≡ false) }
-    {
-        let now = Storage::open(alloc, bytes)?;
-        let before = Storage::open(alloc, bytes)?;
+/// Storage of these bytes in a vector that has room for them.
+fn filled(room: Vec<u8>, bytes: &[u8]) -> Storage
+    requires empty { vec_len room ≡ 0 }
+    requires room { storage_size ≤ vec_capacity room }
+    requires size { length bytes.now ≡ storage_size }
+    ensures { result ≡ bytes.now }
+{
+    let mut room = room;
+    let _reserved = room.extend_from_slice(bytes);
+    Storage::of(room)
+}
+
+/// Memory for the bytes of a run, to which nothing is written yet.
+#[derive(Drop)]
+pub struct OwnRoom {
+    now: Vec<u8>,
+    before: Vec<u8>,
+    touched: BitSet,
+    ghost now_empty: { vec_len now ≡ 0 },
+    ghost now_room: { 1048576 ≤ vec_capacity now },
+    ghost before_empty: { vec_len before ≡ 0 },
+    ghost before_room: { 1048576 ≤ vec_capacity before },
+    ghost size: { length touched ≡ 1048576 },
+    ghost none: { (a : ℕ) → slice_index_or touched a false ≡ false },
+}
+
+impl OwnRoom {
+    /// Memory for the bytes of a run. The error is want of memory.
+    pub fn reserve(alloc: Global) -> Result<OwnRoom, NoMemory> {
+        let Ok(now) = Vec::with_capacity(alloc, STORAGE_SIZE as usize) else {
+            return Err(NoMemory);
+        };
+        let Ok(before) = Vec::with_capacity(alloc, STORAGE_SIZE as usize) else {
+            return Err(NoMemory);
+        };
         let touched = open_set(alloc, STORAGE_SIZE as usize / 64)?;
-        Ok(OwnBytes {
+        Ok(OwnRoom {
             now,
             before,
             touched,
         })
     }
 
+    /// A run's storage with these bytes, which are 1,048,576, none of them touched. It takes no memory.
+    pub fn fill(self, bytes: &[u8]) -> OwnBytes
+        requires { length bytes.now ≡ storage_size }
+        ensures bytes { result.now ≡ bytes.now }
+        ensures untouched { (a : ℕ) → is_touched result a ≡ false }
+    {
+        let OwnRoom {
+            now,
+            before,
+            touched,
+        } = self;
+        OwnBytes {
+            now: filled(now, bytes),
+            before: filled(before, bytes),
+            touched,
+        }
+    }
+}
+
+impl OwnBytes {
     /// Marks the byte at a place as touched; where it was not, its value is kept.
     pub fn touch(&mut self, place: u64)
         requires { place < storage_size }

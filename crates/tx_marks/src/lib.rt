@@ -6,6 +6,6 @@ mod bytes;
 mod marks;
 mod traces;
 
-pub use bytes::OwnBytes;
+pub use bytes::{OwnBytes, OwnRoom};
 pub use marks::LineMarks;
 pub use traces::Traces;

@@ -2,6 +2,7 @@
 //! machine, and a ledger beside it keeps how many events each thread has made.
 #![tactic(auto)]
 
+mod calls;
 mod gate;
 mod racing;
 mod workers;

@@ -3,6 +3,7 @@ ghost use Rattle.std.specs.Prelude.{◌≡◌, ◌+◌, ◌≤◌, [], length, v
 ghost use Rattle.tx_board.specs.Shares.{IsOfSameRun, HasTurnsAlone, shares_for};
 ghost use Rattle.tx_schedule.specs.Ran.{HasNoneReady};
 
+use crate::calls::Calls;
 use crate::gate::Gate;
 use crate::workers::{Job, jobs_of, work};
 use std::alloc::Global;
@@ -26,6 +27,7 @@ fn work_all<L: Ledger + Send + Sync, R: Threads + Wait + Sync, G: Gate>(
     rt: &R,
     board: Board<L>,
     jobs: Vec<Job<L>>,
+    calls: &Calls,
     gate: &G,
     lockings: u64,
 ) -> Option<(Board<L>, Vec<Share<L>>)>
@@ -36,7 +38,7 @@ fn work_all<L: Ledger + Send + Sync, R: Threads + Wait + Sync, G: Gate>(
     let done = thread::map_vec(
         rt,
         jobs,
-        &|job: Job<L>| work(rt, shared, gate, job, lockings),
+        &|job: Job<L>| work(rt, shared, calls, gate, job, lockings),
     );
     match done {
         Ok(shares) => Some((board.into_inner(), shares)),
@@ -64,6 +66,7 @@ fn race_on<L: Ledger + Send + Sync, R: Threads + Wait + Sync, G: Gate>(
     let image = machine.shared_image()?;
     let limits = machine.limits();
     let lockings = lockings_of(limits);
+    let calls = Calls::open(alloc, image.cpu_count())?;
     let (board, shares) = Board::open(alloc, machine, Blank::<L>::new(blank))?;
     let mut shares = shares;
     let mut last = shares.pop().unwrap();
@@ -71,7 +74,7 @@ fn race_on<L: Ledger + Send + Sync, R: Threads + Wait + Sync, G: Gate>(
         drop(board);
         return Err(NoMemory);
     };
-    let Some((mut board, mut shares)) = work_all(rt, board, jobs, gate, lockings) else {
+    let Some((mut board, mut shares)) = work_all(rt, board, jobs, &calls, gate, lockings) else {
         return Err(NoMemory);
     };
     if !is_of_run(board.machine(), &image, limits) {
@@ -95,12 +98,13 @@ fn has_turns_alone(raced: &Raced)
 }
 
 /// Lets the CPUs of a machine race until none is ready. Each CPU's turns are made by a worker, under one lock, in
-/// a thread of its own; where none can be made, the thread that calls does its work. A worker passes the gate
-/// between two lockings, and ends when its CPU is finished or spent, or after a number of lockings that the
-/// limits bound. Behind them the thread that calls gives the rest of the turns in the round.
+/// a thread of its own; where none can be made, the thread that calls does its work. A worker has its CPU lent, makes the
+/// turns that it may make away from the machine without the lock, and brings them home; where nothing comes of that, its CPU
+/// has a turn. It passes the gate while its CPU is lent, and behind a turn, and ends when its CPU is finished or spent, or
+/// after a number of lockings that the limits bound. Behind them the thread that calls gives the rest of the turns in the round.
 ///
 /// The machine that comes back has the same image and the same limits, as many recorded events as the workers and
-/// the thread that called have made, and turns alone among them; no CPU of it is ready. Where the workers left a
+/// the thread that called have made, and turns alone among them; no CPU of it is ready. `homed` of them were brought home. Where the workers left a
 /// machine of another image or other limits, the thread that called has made the run again alone, and `worked` is
 /// 0. The error is want of memory; all threads have ended then, too.
 pub fn race<R: Threads + Wait + Sync, G: Gate>(

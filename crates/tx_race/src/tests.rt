@@ -101,8 +101,8 @@ fn count_in(machine: &Machine) -> u64 {
     count
 }
 
-/// Whether each of so many CPUs has counted so many times, some turns were made by workers and none away from the
-/// machine, and all that were made are recorded.
+/// Whether each of so many CPUs has counted so many times, some turns were made by workers, each CPU's first ones away from
+/// the machine, and all that were made are recorded.
 fn is_right(raced: &Raced, cpus: u32, times: u64) -> bool {
     let machine = &raced.machine;
     for cpu in 0..cpus {
@@ -113,7 +113,8 @@ fn is_right(raced: &Raced, cpus: u32, times: u64) -> bool {
     count_in(machine) == times.saturating_mul(u64::from(cpus))
         && raced.worked.saturating_add(raced.finished) == machine.events().len() as u64
         && raced.worked > 0
-        && raced.homed == 0
+        && raced.homed >= u64::from(cpus)
+        && raced.homed <= raced.worked
 }
 
 /// CPUs that count: how many, how often each, and how many turns each may have.

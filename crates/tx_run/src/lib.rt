@@ -7,4 +7,4 @@ mod run;
 mod steps;
 
 pub use reason::{Reason, RunStep};
-pub use run::{Difference, Run};
+pub use run::{Difference, Room, Run};

@@ -21,7 +21,7 @@ ghost use Rattle.tx_run.specs.Lent.{IsLent, IsLoaded, IsSameLoan, HasOneMore, st
 
 use crate::giving::give;
 use crate::reason::{Reason, RunStep};
-use crate::steps::Steps;
+use crate::steps::{Steps, StepsRoom};
 use line_table::Mode;
 use std::alloc::Global;
 use std::marker::Model;
@@ -40,6 +40,73 @@ pub struct Difference {
     pub kept: u8,
     /// What the CPU that was lent has seen there.
     pub given: u8,
+}
+
+/// Memory for a run of a CPU, and the program that it runs. Little of it is written before the run is made. Contracts see the
+/// CPU and the image.
+#[derive(Drop)]
+pub struct Room {
+    program: Arc<Program>,
+    cpu: u32,
+    held: LineMarks,
+    steps: StepsRoom,
+}
+
+impl Model for Room {
+    ghost use Rattle.std.specs.Prelude.{◌≡◌, ℕ, None};
+    ghost use Rattle.std.specs.Arc.{arc_value};
+    ghost use Rattle.std.specs.Coded.{coded×, coded_ℕ};
+    ghost use Rattle.tx_journal.specs.Content.{Content, content_code};
+    ghost use Rattle.tx_marks.specs.Marks.{mode_in};
+
+    ghost Value = { Content × ℕ };
+
+    ghost coded = { coded× content_code coded_ℕ };
+
+    ghost view = { λ r. (arc_value r.program, r.cpu) };
+
+    ghost invariant = { λ r. (line : ℕ) → mode_in r.held line ≡ None };
+}
+
+impl Room {
+    /// Memory for a run of this CPU, which runs this program. The error is want of it.
+    pub fn reserve(alloc: Global, program: Arc<Program>, cpu: u32) -> Result<Room, NoMemory>
+        ensures { IfOk result (λ r. (r.0 ≡ arc_value program) × (r.1 ≡ cpu)) }
+    {
+        let steps = StepsRoom::reserve(alloc)?;
+        let held = LineMarks::open(alloc)?;
+        Ok(Room {
+            program,
+            cpu,
+            held,
+            steps,
+        })
+    }
+
+    /// The run. It was lent nothing yet: it may make no step. It takes no memory.
+    pub fn make(self) -> Run
+        ensures cpu { result.cpu ≡ self.1 }
+        ensures image { result.image ≡ self.0.storage }
+        ensures text { result.text ≡ items self.0.guard }
+        ensures allowance { result.allowance ≡ 0 }
+    {
+        let Room {
+            program,
+            cpu,
+            held,
+            steps,
+        } = self;
+        let steps = steps.make(program.bytes());
+        Run {
+            program,
+            cpu,
+            turns: 0,
+            attempt: 0,
+            allowance: 0,
+            held,
+            steps,
+        }
+    }
 }
 
 /// A CPU that is lent, with the lines that it holds. Its steps are turns of that CPU on storage of the run's own. Contracts
@@ -85,17 +152,8 @@ impl Run {
         ensures text { IfOk result (λ r. r.text ≡ items (arc_value program).guard) }
         ensures allowance { IfOk result (λ r. r.allowance ≡ 0) }
     {
-        let steps = Steps::open(alloc, program.bytes())?;
-        let held = LineMarks::open(alloc)?;
-        Ok(Run {
-            program,
-            cpu,
-            turns: 0,
-            attempt: 0,
-            allowance: 0,
-            held,
-            steps,
-        })
+        let room = Room::reserve(alloc, program, cpu)?;
+        Ok(room.make())
     }
 
     /// The CPU that is lent.

@@ -1,12 +1,14 @@
 //! The steps of a run: turns of a CPU on storage of its own.
-ghost use Rattle.std.specs.Prelude.{◌≡◌, ℕ, suc, ◌+◌, ◌<◌, ◌≤◌, ◌^◌, ◌||◌, ◌++◌, true, false, IsTrue, List, All, length, IfOk, if◌then◌else◌, ◌/◌, nat_eq};
+ghost use Rattle.std.specs.Prelude.{◌≡◌, ℕ, suc, ◌+◌, ◌<◌, ◌≤◌, ◌^◌, ◌||◌, ◌++◌, true, false, None, IsTrue, List, All, length, IfOk, if◌then◌else◌, ◌/◌, nat_eq};
 ghost use Rattle.std.specs.List.{list_any};
 ghost use Rattle.line_table.specs.Sizes.{storage_lines};
 ghost use Rattle.std.specs.FinSet.{items};
 ghost use Rattle.z_regs.specs.Prefix.{storage_size, is_prefix, absolute_of};
 ghost use Rattle.z_instr.specs.Layout.{length_by};
 ghost use Rattle.tx_meaning.specs.Needs.{operand_needs};
+ghost use Rattle.z_regs.specs.Cpu.{started};
 ghost use Rattle.tx_progress.specs.Doing.{executed};
+ghost use Rattle.tx_progress.specs.Local.{settled};
 ghost use Rattle.tx_cpu.specs.Parts.{local_of};
 ghost use Rattle.tx_cpu.specs.Plans.{IsPrepared, IsPlanPrepared, fate_of};
 ghost use Rattle.tx_serial.specs.Text.{SameText};
@@ -28,7 +30,7 @@ use std::alloc::Global;
 use std::marker::Model;
 use tx_cpu::laws::the_next_instruction_is_text;
 use tx_cpu::{Cpu, Done, Plan, Program};
-use tx_marks::{LineMarks, OwnBytes, Traces};
+use tx_marks::{LineMarks, OwnBytes, OwnRoom, Traces};
 use z_decode::length_of;
 use z_instr::instr::Instr;
 use z_instr::kind::{Branch, Kind, Transaction};
@@ -64,6 +66,57 @@ impl Model for Steps {
       needed = s.needed;
       steps = s.count;
     } };
+}
+
+/// Memory for the steps of a run. None of the bytes is written yet; the CPUs run, with zeros in their registers.
+#[derive(Drop)]
+pub(crate) struct StepsRoom {
+    start: Cpu,
+    reached: Cpu,
+    own: OwnRoom,
+    traces: Traces,
+    needed: LineMarks,
+    ghost start_so: { local_of start ≡ settled (started 0) },
+    ghost reached_so: { local_of reached ≡ settled (started 0) },
+    ghost stored: { (a : ℕ) → is_stored traces a ≡ false },
+    ghost pages: { (page : ℕ) → is_paged traces page ≡ false },
+    ghost none: { (line : ℕ) → mode_in needed line ≡ None },
+}
+
+impl StepsRoom {
+    /// Memory for the steps of a run. The error is want of it.
+    pub(crate) fn reserve(alloc: Global) -> Result<StepsRoom, NoMemory> {
+        let start = CpuImage::entering(0);
+        Ok(StepsRoom {
+            start: Cpu::open(alloc, start)?,
+            reached: Cpu::open(alloc, start)?,
+            own: OwnRoom::reserve(alloc)?,
+            traces: Traces::open(alloc)?,
+            needed: LineMarks::open(alloc)?,
+        })
+    }
+
+    /// No step of a CPU that runs, on these bytes. It takes no memory.
+    pub(crate) fn make(self, bytes: &[u8]) -> Steps
+        requires { length bytes.now ≡ storage_size }
+        ensures { (text : List ℕ) → IsLent text bytes.now 0 result }
+    {
+        let StepsRoom {
+            start,
+            reached,
+            own,
+            traces,
+            needed,
+        } = self;
+        Steps {
+            start,
+            reached,
+            own: own.fill(bytes),
+            traces,
+            needed,
+            count: 0,
+        }
+    }
 }
 
 /// Whether an instruction has completed, with nothing else to tell.
@@ -306,22 +359,6 @@ impl Steps {
         for _ in 0..count {
             self.make_next(program);
         }
-    }
-
-    /// No step of a CPU that runs, on these bytes. The error is want of memory.
-    pub(crate) fn open(alloc: Global, bytes: &[u8]) -> Result<Steps, NoMemory>
-        requires { length bytes.now ≡ storage_size }
-        ensures { IfOk result (λ s. (text : List ℕ) → IsLent text bytes.now 0 s) }
-    {
-        let start = CpuImage::entering(0);
-        Ok(Steps {
-            start: Cpu::open(alloc, start)?,
-            reached: Cpu::open(alloc, start)?,
-            own: OwnBytes::open(alloc, bytes)?,
-            traces: Traces::open(alloc)?,
-            needed: LineMarks::open(alloc)?,
-            count: 0,
-        })
     }
 
     /// No step from this CPU on; the bytes stay as they are.

@@ -82,7 +82,7 @@ put_in i n l st lines k = record {
   standings = at_put k.standings i st;
 }
 
-put-is : (rest : Seat) (old : Works) (i : ℕ) (t : Seat) (lines : Owned) → i < length old.slots
+pub put-is : (rest : Seat) (old : Works) (i : ℕ) (t : Seat) (lines : Owned) → i < length old.slots
     → kept_by rest (record old { slots = set old.slots i t; lines = lines })
     ≡ put_in i (numbers_of t) (local_of t.cpu) t.ladder lines (kept_by rest old)
 put-is rest old i t lines known =

@@ -39,6 +39,14 @@ impl Storage {
         }
     }
 
+    /// Storage that is made of these bytes, which are 1,048,576. It takes no memory.
+    pub fn of(bytes: Vec<u8>) -> Storage
+        requires { vec_len bytes ≡ storage_size }
+        ensures { result ≡ bytes.items }
+    {
+        Storage { bytes }
+    }
+
     /// All the bytes.
     pub fn as_slice(&self) -> &[u8]
         ensures bytes { result.now ≡ self.now }

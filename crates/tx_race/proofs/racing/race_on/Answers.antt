@@ -13,7 +13,7 @@ returns-clause-same g c =
     let yes : c.is_of_run.result ≡ true = search (rules, c.if-not-is_of_run.false) in
     ap setting_of c.close.ensures.machine ∙ c.finish_round.ensures.same ∙ sym (ap setting_of c.machine-2.ensures)
     ∙ c.is_of_run.ensures yes
-    ∙ same_setting _ _ _ _ (c.deref.ensures ∙ c.in_ok-image.ensures) c.limits-limits.ensures
+    ∙ same_setting _ _ _ _ (c.deref-2.ensures ∙ c.in_ok-image.ensures) c.limits-limits.ensures
 
 pub returns-then-not-is_of_run-clause-same : goal.returns-then-not-is_of_run-clause-same
 returns-then-not-is_of_run-clause-same g c =

@@ -10,5 +10,5 @@ use Rattle.tx_machine.proofs.machine.Machine.byte.Goals as goal
 pub returns : goal.returns
 returns c =
     c.byte.ensures ∙ ap (λ (i : Inside). storage_in i.works.lines c.args.address) c.self-inside.view_is
-    ∙ sym (reads_storage _ _ _ c.self.invariant c.args.address)
+    ∙ sym (reads_storage _ _ _ c.self.invariant.stands c.args.address)
     ∙ ap (λ (s : Seen). (flat_of (setting_of s) (state_of s)).storage c.args.address) c.self.view_is

@@ -2,6 +2,7 @@
 use Rattle.std.proofs.Common.{◌<◌, sym, ap, ◌∙◌, subst, length}
 use Rattle.std.specs.Prelude.{get_or}
 use Rattle.std.proofs.lemmas.List.{get_or_default}
+use Rattle.std.specs.Arc.{arc_value}
 use Rattle.tx_meaning.specs.Limits.{Setting}
 use Rattle.tx_meaning.specs.State.{cpu_of}
 use Rattle.tx_works.specs.Works.{Seat}
@@ -12,14 +13,14 @@ use Rattle.tx_machine.proofs.machine.Machine.cpu.Goals as goal
 
 pub returns : goal.returns
 returns c =
-    let m : Setting = record { image = c.self.inside.program; limits = c.self.inside.limits } in
+    let m : Setting = record { image = arc_value c.self.inside.program; limits = c.self.inside.limits } in
     let cpu = c.args.cpu in
     let within : cpu < length c.self.inside.works.slots =
-    subst (λ n. cpu < n) (sym c.self.invariant.cpus)
+    subst (λ n. cpu < n) (sym c.self.invariant.stands.cpus)
     (subst (λ (s : Seen). cpu < length s.image.cpus) (sym c.self.view_is) c.requires) in
     let inner : cpu < _ = subst (λ (i : Inside). cpu < length i.works.slots) (sym c.self-inside.view_is) within in
     c.image.ensures ∙ ap (λ (s : Seat). s.cpu.image) (c.behind-self.view_is ∙ c.index.ensures
     ∙ get_or_default _ cpu _ (nobody m) inner)
     ∙ ap (λ (i : Inside). (get_or i.works.slots cpu (nobody m)).cpu.image) c.self-inside.view_is
-    ∙ sym (reads_cpu m c.self.inside.works _ c.self.invariant cpu)
+    ∙ sym (reads_cpu m c.self.inside.works _ c.self.invariant.stands cpu)
     ∙ ap (λ (s : Seen). cpu_of (setting_of s) (state_of s) cpu) c.self.view_is

@@ -1,6 +1,8 @@
 -- What holds behind every event holds behind this one.
 use Rattle.std.proofs.Common.{◌≡◌, ℕ, ◌+◌, ◌<◌, ◌≤◌, None, true, [], sym, subst, length}
 use Rattle.std.specs.Prelude.{◌⊎◌}
+use Rattle.std.specs.Arc.{arc_value}
+use Rattle.tx_journal.specs.Content.{Content}
 use Rattle.tx_journal.specs.Image.{cpu_of_event}
 use Rattle.tx_meaning.specs.Limits.{Setting}
 use Rattle.tx_meaning.specs.Meaning.{meaning}
@@ -20,18 +22,28 @@ use Rattle.tx_headline.proofs.Bounds.{turns_of_head}
 use Rattle.tx_machine.proofs.machine.Machine.event.Goals as goal
 
 abbrev setting : goal.After-advance → Setting
-setting c = record { image = c.self.inside.program; limits = c.self.inside.limits }
+setting c = record { image = arc_value c.self.inside.program; limits = c.self.inside.limits }
 
 stands : (c : goal.After-advance) → Stands (setting c) c.advance.new.works c.advance.new.externals_left
-stands c = c.advance.ensures.stands
+stands c =
+    subst (λ (i : Content). Stands (record { image = i; limits = c.self.inside.limits }) c.advance.new.works
+    c.advance.new.externals_left) c.deref.ensures c.advance.ensures.stands
 
 means : (c : goal.After-advance) → (happen (setting c) c.args.e (meaning (setting c) c.self.inside.works.events)).state
     ≡ meaning (setting c) c.advance.new.works.events
-means c = sym c.advance.ensures.state
+means c =
+    subst (λ (i : Content). let m : Setting = record { image = i; limits = c.self.inside.limits } in
+    (happen m c.args.e (meaning m c.self.inside.works.events)).state ≡ meaning m c.advance.new.works.events)
+    c.deref.ensures (sym c.advance.ensures.state)
 
 known : (c : goal.After-advance) → cpu_of_event c.args.e < cpus_of (setting c)
 known c =
     subst (λ (s : Seen). cpu_of_event c.args.e < length s.image.cpus) (sym c.self.view_is) c.requires.known
+
+pub advance-requires-clause-stands : goal.advance-requires-clause-stands
+advance-requires-clause-stands c =
+    subst (λ (i : Content). Stands (record { image = i; limits = c.self.inside.limits }) c.self.inside.works
+    c.self.inside.externals_left) (sym c.deref.ensures) c.self.invariant.stands
 
 pub returns-clause-legal : goal.returns-clause-legal
 returns-clause-legal c = is_legal (setting c) c.advance.new.works _ (stands c)
@@ -40,19 +52,19 @@ pub returns-clause-grows : goal.returns-clause-grows
 returns-clause-grows c =
     subst (λ (s : Seen). GoesOnWith (state_of s).history (meaning (setting c) c.advance.new.works.events).history)
     c.self.view_is (subst (λ (t : State). GoesOnWith (meaning (setting c) c.self.inside.works.events).history
-    t.history) (means c) (history_grows (setting c) c.self.inside.works _ c.self.invariant c.args.e (known c)))
+    t.history) (means c) (history_grows (setting c) c.self.inside.works _ c.self.invariant.stands c.args.e (known c)))
 
 pub returns-clause-views : goal.returns-clause-views
 returns-clause-views c =
     subst (λ (s : Seen). KeepsViews (setting_of s) (state_of s) (meaning (setting c) c.advance.new.works.events))
     c.self.view_is (subst (KeepsViews (setting c) (meaning (setting c) c.self.inside.works.events)) (means c)
-    (views_stay (setting c) c.self.inside.works _ c.self.invariant c.args.e (known c)))
+    (views_stay (setting c) c.self.inside.works _ c.self.invariant.stands c.args.e (known c)))
 
 pub returns-clause-opaque : goal.returns-clause-opaque
 returns-clause-opaque c =
     subst (λ (s : Seen). SeesOneRun (setting_of s) (state_of s) (meaning (setting c) c.advance.new.works.events))
     c.self.view_is (subst (SeesOneRun (setting c) (meaning (setting c) c.self.inside.works.events)) (means c)
-    (one_run (setting c) c.self.inside.works _ c.self.invariant c.args.e (known c)))
+    (one_run (setting c) c.self.inside.works _ c.self.invariant.stands c.args.e (known c)))
 
 pub returns-clause-held : goal.returns-clause-held
 returns-clause-held c = is_held (setting c) c.advance.new.works _ (stands c)
@@ -64,7 +76,7 @@ pub returns-clause-queue : goal.returns-clause-queue
 returns-clause-queue c =
     subst (λ (s : Seen). QueueMoves (state_of s).queue (meaning (setting c) c.advance.new.works.events).queue)
     c.self.view_is (subst (λ (t : State). QueueMoves (meaning (setting c) c.self.inside.works.events).queue t.queue)
-    (means c) (queue_at_its_ends (setting c) c.self.inside.works _ c.self.invariant c.args.e (known c)))
+    (means c) (queue_at_its_ends (setting c) c.self.inside.works _ c.self.invariant.stands c.args.e (known c)))
 
 pub returns-clause-turns : goal.returns-clause-turns
 returns-clause-turns c i is = few_turns_left (setting c) c.advance.new.works _ (stands c) i is
@@ -81,7 +93,7 @@ returns-clause-behind_few c i waits = few_before (setting c) c.advance.new.works
 pub returns-clause-reasons : goal.returns-clause-reasons
 returns-clause-reasons c =
     subst (λ (s : Seen). QueueChanges (setting_of s) (state_of s) c.args.e) c.self.view_is
-    (queue_with_reasons (setting c) c.self.inside.works _ c.self.invariant c.args.e (known c))
+    (queue_with_reasons (setting c) c.self.inside.works _ c.self.invariant.stands c.args.e (known c))
 
 pub returns-clause-head_alone : goal.returns-clause-head_alone
 returns-clause-head_alone c =
@@ -93,7 +105,7 @@ pub returns-clause-head : goal.returns-clause-head
 returns-clause-head c i =
     subst (λ (s : Seen). head_turns (setting_of s) s.events i
     + counted (is_counted_turn (setting_of s) (state_of s) c.args.e i) ≤ 34) c.self.view_is
-    (few_turns_of_heads (setting c) c.self.inside.works _ c.self.invariant c.args.e (known c) i)
+    (few_turns_of_heads (setting c) c.self.inside.works _ c.self.invariant.stands c.args.e (known c) i)
 
 pub returns-clause-unrejected : goal.returns-clause-unrejected
 returns-clause-unrejected c =

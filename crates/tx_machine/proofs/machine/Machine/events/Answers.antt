@@ -12,7 +12,7 @@ use Rattle.tx_machine.proofs.machine.Machine.events.Goals as goal
 pub returns-clause-meant : goal.returns-clause-meant
 returns-clause-meant c =
     c.as_slice.ensures.value ∙ ap (λ (i : Inside). i.works.events) c.self-inside.view_is
-    ∙ sym (ap (λ (t : State). t.events) (reads_state _ _ _ c.self.invariant))
+    ∙ sym (ap (λ (t : State). t.events) (reads_state _ _ _ c.self.invariant.stands))
     ∙ ap (λ (s : Seen). (state_of s).events) c.self.view_is
 
 pub returns-clause-known : goal.returns-clause-known
@@ -21,11 +21,11 @@ returns-clause-known c =
     subst (λ es. All (λ e. cpu_of_event e < length c.args.self.now.image.cpus) es)
     (sym (c.as_slice.ensures.value ∙ ap (λ (i : Inside). i.works.events) c.self-inside.view_is))
     (subst (λ (s : Seen). All (λ e. cpu_of_event e < length s.image.cpus) kept) c.self.view_is
-    c.self.invariant.events.known)
+    c.self.invariant.stands.events.known)
 
 pub returns-clause-most : goal.returns-clause-most
 returns-clause-most c =
-    let allowed = c.self.invariant.events in
+    let allowed = c.self.invariant.stands.events in
     subst (λ es. length es ≤ most_events (setting_of c.args.self.now)) (sym (returns-clause-meant c))
     (subst (λ (s : Seen). length (state_of s).events ≤ most_events (setting_of s)) c.self.view_is
     (at_most _ c.self.inside.works.events allowed.known allowed.externals))
@@ -34,4 +34,4 @@ pub returns-clause-entries : goal.returns-clause-entries
 returns-clause-entries c =
     subst (λ es. length (state_of c.args.self.now).history ≤ length es) (sym (returns-clause-meant c))
     (subst (λ (s : Seen). length (state_of s).history ≤ length (state_of s).events) c.self.view_is
-    (entries_at_most _ c.self.inside.works.events c.self.invariant.events.known))
+    (entries_at_most _ c.self.inside.works.events c.self.invariant.stands.events.known))

@@ -9,5 +9,5 @@ use Rattle.tx_machine.proofs.machine.Machine.journal.Goals as goal
 pub returns : goal.returns
 returns c =
     c.as_slice.ensures.value ∙ ap (λ (i : Inside). i.works.history) c.self-inside.view_is
-    ∙ sym (ap (λ (t : State). t.history) (reads_state _ _ _ c.self.invariant))
+    ∙ sym (ap (λ (t : State). t.history) (reads_state _ _ _ c.self.invariant.stands))
     ∙ ap (λ (s : Seen). (state_of s).history) c.self.view_is

@@ -2,6 +2,7 @@
 use Rattle.std.proofs.Common.{◌<◌, sym, ap, ◌∙◌, subst, length}
 use Rattle.std.specs.Prelude.{get_or}
 use Rattle.std.proofs.lemmas.List.{get_or_default}
+use Rattle.std.specs.Arc.{arc_value}
 use Rattle.tx_meaning.specs.Limits.{Setting}
 use Rattle.tx_cpu.specs.Parts.{local_of}
 use Rattle.tx_cpu.specs.Plans.{levels_of}
@@ -14,14 +15,14 @@ use Rattle.tx_machine.proofs.machine.Machine.live.Goals as goal
 
 pub returns : goal.returns
 returns c =
-    let m : Setting = record { image = c.self.inside.program; limits = c.self.inside.limits } in
+    let m : Setting = record { image = arc_value c.self.inside.program; limits = c.self.inside.limits } in
     let cpu = c.args.cpu in
     let within : cpu < length c.self.inside.works.slots =
-    subst (λ n. cpu < n) (sym c.self.invariant.cpus)
+    subst (λ n. cpu < n) (sym c.self.invariant.stands.cpus)
     (subst (λ (s : Seen). cpu < length s.image.cpus) (sym c.self.view_is) c.requires) in
     let inner : cpu < _ = subst (λ (i : Inside). cpu < length i.works.slots) (sym c.self-inside.view_is) within in
     c.live.ensures ∙ ap (λ (s : Seat). levels_of (local_of s.cpu).attempt) (c.behind-self.view_is ∙ c.index.ensures
     ∙ get_or_default _ cpu _ (nobody m) inner)
     ∙ ap (λ (i : Inside). levels_of (local_of (get_or i.works.slots cpu (nobody m)).cpu).attempt) c.self-inside.view_is
-    ∙ sym (reads_levels m c.self.inside.works _ c.self.invariant cpu)
+    ∙ sym (reads_levels m c.self.inside.works _ c.self.invariant.stands cpu)
     ∙ ap (λ (s : Seen). levels_at (setting_of s) (state_of s) cpu) c.self.view_is

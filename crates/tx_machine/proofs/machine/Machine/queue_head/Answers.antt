@@ -10,5 +10,5 @@ use Rattle.tx_machine.proofs.machine.Machine.queue_head.Goals as goal
 pub returns : goal.returns
 returns c =
     c.head.ensures.value ∙ ap (λ (i : Inside). slice_get i.works.queue 0) c.self-inside.view_is
-    ∙ sym (ap (λ (t : State). slice_get t.queue 0) (reads_state _ _ _ c.self.invariant))
+    ∙ sym (ap (λ (t : State). slice_get t.queue 0) (reads_state _ _ _ c.self.invariant.stands))
     ∙ ap (λ (s : Seen). slice_get (state_of s).queue 0) c.self.view_is

@@ -24,15 +24,15 @@ pub returns-clause-value : goal.returns-clause-value
 returns-clause-value c =
     let cpu = c.args.cpu in
     let within : cpu < length c.self.inside.works.slots =
-    subst (λ n. cpu < n) (sym c.self.invariant.cpus)
+    subst (λ n. cpu < n) (sym c.self.invariant.stands.cpus)
     (subst (λ (s : Seen). cpu < length s.image.cpus) (sym c.self.view_is) c.requires) in
     ap (λ (s : Seat). s.tally) (c.behind-self.view_is ∙ c.index.ensures)
-    ∙ reads_tally _ _ _ c.self.invariant _ cpu _ (ap (λ (i : Inside). i.works.slots) c.self-inside.view_is) within
+    ∙ reads_tally _ _ _ c.self.invariant.stands _ cpu _ (ap (λ (i : Inside). i.works.slots) c.self-inside.view_is) within
     ∙ ap (λ (s : Seen). tally_at (state_of s) cpu) c.self.view_is
 
 pub returns-clause-short : goal.returns-clause-short
 returns-clause-short c =
     subst (λ n. n < 4294967296)
-    (ap (λ (t : State). length t.history) (sym (reads_state _ _ _ c.self.invariant))
+    (ap (λ (t : State). length t.history) (sym (reads_state _ _ _ c.self.invariant.stands))
     ∙ ap (λ (s : Seen). length (state_of s).history) c.self.view_is)
-    (history_is_short _ c.self.inside.works _ c.self.invariant)
+    (history_is_short _ c.self.inside.works _ c.self.invariant.stands)

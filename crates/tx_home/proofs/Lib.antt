@@ -1,0 +1,4 @@
+-- Lemmas on runs that come home.
+pub mod Firsts
+pub mod Alike
+pub mod Brought

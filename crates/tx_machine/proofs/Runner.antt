@@ -1,0 +1,119 @@
+-- A CPU that is lent runs.
+use Rattle.std.proofs.Common.{◌≡◌, ℕ, ◌<◌, Bool, true, false, Option, Some, None, refl, sym, ap, ◌∙◌, subst, length}
+use Rattle.std.specs.Prelude.{◌&&◌, ◌||◌, is_none, is_some, if◌then◌else◌}
+use Rattle.std.specs.Option.{option_or}
+use Rattle.std.proofs.lemmas.Bool.{and_parts, false≢true}
+use Rattle.z_regs.specs.Cpu.{Cpu}
+use Rattle.z_regs.specs.declared.image.RunState.{RunState}
+use Rattle.z_regs.specs.declared.image.RunState.TheVariants.{Running, Halted, Interrupted}
+use Rattle.tx_serial.specs.Apply.{is_running}
+use Rattle.tx_serial.specs.Flat.{Pending}
+use Rattle.tx_cpu.specs.Parts.{local_of}
+use Rattle.tx_progress.specs.Progress.{Progress}
+use Rattle.tx_progress.specs.Reached.{progress_of}
+use Rattle.tx_progress.proofs.Parts.{rests}
+use Rattle.tx_meaning.specs.Idle.{has_ended, is_spent, kept_back}
+use Rattle.tx_meaning.specs.Limits.{Setting}
+use Rattle.tx_meaning.specs.Meaning.{IsSetting}
+use Rattle.tx_meaning.specs.State.{cpus_of, is_live}
+use Rattle.tx_meaning.specs.declared.outcome.Outcome.{Outcome}
+use Rattle.tx_meaning.specs.declared.outcome.Outcome.TheVariants as outcome
+use Rattle.tx_keeping.specs.Kept.{Kept, kept_flat, kept_finished}
+use Rattle.tx_keeping.specs.Turn.{k_idle}
+use Rattle.tx_keeping.proofs.Needed.{is_awaited}
+use Rattle.tx_keeping.proofs.Truth.{Truth, live_is}
+use Rattle.tx_bounds.proofs.Running.{run_runs}
+use Rattle.tx_works.specs.Works.{Works, Seat, kept_by, seats_of}
+use Rattle.tx_home.specs.Lending.{refusal_of}
+use Rattle.tx_home.specs.declared.lending.Refusal.{Refusal}
+use Rattle.tx_home.specs.declared.lending.Refusal.TheVariants as refusal
+use Rattle.tx_machine.specs.Machine.{Stands, nobody}
+use Rattle.tx_machine.proofs.Going.{same_seat}
+use Rattle.tx_machine.proofs.Shown.{shown}
+
+-- ---- no reason holds
+
+pub record NoReason (idle : Option Outcome) (left : Bool) : Type 0 where
+  pub ready : idle ≡ None
+  pub nothing : left ≡ false
+
+no_reason : (idle : Option Outcome) (waits left ticks : Bool) (rest : Option Refusal)
+    → option_or (if is_some idle then Some refusal.Idle else (if waits then Some refusal.Delayed
+    else (if left then Some refusal.Pending else (if ticks then Some refusal.TickDue else None)))) rest ≡ None
+    → NoReason idle left
+no_reason (Some o) waits left ticks rest none = absurd (false≢true (ap is_none none))
+no_reason None true left ticks rest none = absurd (false≢true (ap is_none none))
+no_reason None false true ticks rest none = absurd (false≢true (ap is_none none))
+no_reason None false false ticks rest none = record { ready = refl; nothing = refl }
+
+no_some : {A : Type 0} (o : Option A) → is_some o ≡ false → o ≡ None
+no_some None is = refl
+no_some (Some a) is = absurd (false≢true (sym is))
+
+or-first : (x y : Bool) → (x || y) ≡ false → x ≡ false
+or-first true y is = is
+or-first false y is = refl
+
+or-second : (x y : Bool) → (x || y) ≡ false → y ≡ false
+or-second true y is = absurd (false≢true (sym is))
+or-second false y is = is
+
+-- the program of a CPU whose turn is not idle has not ended
+unfinished : (finished spent : Bool) (o : Option Outcome)
+    → (if finished then Some outcome.Halted else (if spent then Some outcome.Spent else o)) ≡ None → finished ≡ false
+unfinished true spent o none = absurd (false≢true (ap is_none none))
+unfinished false spent o none = refl
+
+runs_where : (state : RunState) (prefix : Option ℕ) → has_ended state prefix ≡ false
+    → ((code first : ℕ) → state ≡ Interrupted code → prefix ≡ Some first → ⊥) → is_running state ≡ true
+runs_where Running prefix going never = refl
+runs_where Halted prefix going never = absurd (false≢true (sym going))
+runs_where (Interrupted code) None going never = absurd (false≢true (sym going))
+runs_where (Interrupted code) (Some first) going never = absurd (never code first refl refl)
+
+-- ---- it runs
+
+module _ (m : Setting) (s : IsSetting m) (i : ℕ) (k : Kept) (t : Truth m k) where
+  flat_runs : (live : Bool) → is_live k.state i ≡ live → kept_finished k i ≡ false → (k.locals i).pending ≡ None
+      → (k.locals i).waiting ≡ None → is_running (k.locals i).cpu.state ≡ true
+  flat_runs true live going none empty =
+      (and_parts (is_running (k.locals i).cpu.state) _ ((t.each i).followed.acts (sym (live_is m k t i) ∙ live))).0
+  flat_runs false off going none empty =
+      let l = k.locals i in
+      let own : l.attempt.cpu ≡ l.cpu =
+      ap (λ (q : Progress). q.cpu) (rests (kept_flat m k) i l (t.each i).followed (sym (live_is m k t i) ∙ off)) in
+      let ended : has_ended l.cpu.state l.cpu.prefix ≡ false =
+      ap (λ (c : Cpu). has_ended c.state c.prefix) (sym own)
+      ∙ ap (λ (o : Option Pending). is_none o && has_ended l.attempt.cpu.state l.attempt.cpu.prefix) (sym none) ∙ going in
+      runs_where l.cpu.state l.cpu.prefix ended (λ code first stopped prefix.
+      let there = is_awaited m.image k.state.history (kept_flat m k) s.image t.replayed i code first stopped prefix in
+      false≢true (sym (ap is_some empty) ∙ there))
+
+  attempt_runs : kept_finished k i ≡ false → (k.locals i).pending ≡ None → (k.locals i).waiting ≡ None
+      → is_running (k.locals i).attempt.cpu.state ≡ true
+  unfolding progress_of
+  attempt_runs going none empty =
+      let f = kept_flat m k in
+      let now = flat_runs (is_live k.state i) refl going none empty in
+      subst (λ (q : Progress). is_running q.cpu.state ≡ true) (t.each i).followed.attempt
+      (run_runs f i (k.locals i).attempt.count now)
+
+pub lent_runs : (m : Setting) (w : Works) (remaining : ℕ) → Stands m w remaining → (i : ℕ) → i < cpus_of m → (rest : Seat)
+    → refusal_of m i (kept_by rest w) ≡ None → is_running ((kept_by rest w).locals i).attempt.cpu.state ≡ true
+unfolding k_idle
+lent_runs m w remaining s i within rest none =
+    let there : i < length w.slots = subst (λ n. i < n) (sym s.cpus) within in
+    let same = same_seat m w remaining s rest i there in
+    let k = kept_by (nobody m) w in
+    let reason = no_reason (k_idle m (kept_by rest w) i) _ _ _ _ none in
+    let l = local_of (seats_of rest w.slots i).cpu in
+    let going = unfinished (kept_finished (kept_by rest w) i) (is_spent m.limits ((kept_by rest w).state.numbers i))
+    (kept_back w.queue i) reason.ready in
+    subst (λ (seat : Seat). is_running (local_of seat.cpu).attempt.cpu.state ≡ true) same
+    (attempt_runs m s.setting i k (shown m w remaining s).good.truth
+    (ap (λ (seat : Seat). is_none (local_of seat.cpu).pending
+    && has_ended (local_of seat.cpu).attempt.cpu.state (local_of seat.cpu).attempt.cpu.prefix) same ∙ going)
+    (ap (λ (seat : Seat). (local_of seat.cpu).pending) same
+    ∙ no_some l.pending (or-first (is_some l.pending) (is_some l.waiting) reason.nothing))
+    (ap (λ (seat : Seat). (local_of seat.cpu).waiting) same
+    ∙ no_some l.waiting (or-second (is_some l.pending) (is_some l.waiting) reason.nothing)))
