@@ -239,3 +239,31 @@ fn all_cpus_count(rt: HostRuntime) -> Result<(), Fail> {
     }
     Ok(())
 }
+
+/// Three instructions that may be made away from the machine, and one that may not.
+const SHORT: &str = " CPU START
+START LGHI 1,5
+ LGHI 2,7
+ AGR 1,2
+ SVC 0
+";
+
+/// The turns of a race of one CPU on it: those of the worker, those among them that were brought home, and the rest.
+fn short_race<R: Threads + Wait + Sync>(rt: &R, alloc: Global) -> Result<[u64; 3], Fail> {
+    let image = Arc::new(alloc, assemble(alloc, SHORT.as_bytes())?)?;
+    let limits = Limits {
+        turns: 200_000,
+        tick: 0,
+        externals: 0,
+    };
+    let machine = Machine::open(alloc, image, limits).ok().ok_or("no memory")?;
+    let raced = race(rt, alloc, machine, &OpenGate).ok().ok_or("no memory")?;
+    Ok([raced.worked, raced.homed, raced.finished])
+}
+
+#[test]
+fn a_cpu_is_lent_until_its_call(rt: HostRuntime) -> Result<(), Fail> {
+    let turns = short_race(&rt, rt.alloc())?;
+    assert!(rt; turns == [4, 3, 0]);
+    Ok(())
+}

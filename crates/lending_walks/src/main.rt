@@ -1,0 +1,135 @@
+//! Random walks of machines that lend their CPUs.
+//!
+//! Each walk has two machines of one listing. In the first one CPUs have turns, are lent, make steps away, and come home, as
+//! drawn numbers say. In the second one the same turns are made one after the other, and nobody is lent. Both have to show the
+//! same, and what comes of a run has to be what a plain comparison with the second machine says. The program writes how many
+//! walks there were, how many of them were wrong, and which answers were met in some of them.
+#![tactic(auto)]
+
+mod plain;
+mod walk;
+
+use anyhow::{Result, bail};
+use std::alloc::Global;
+use std::io;
+use std::sync::Arc;
+use tx_journal::Image;
+use tx_machine::Machine;
+use tx_meaning::Limits;
+use walk::{Met, Walk};
+use z_assemble::assemble;
+use ztx_io::{WriterSink, write_all};
+
+/// How many walks each listing has.
+const WALKS: u64 = 100;
+
+/// Counters in one line, with and without transactions, and a loop beside them.
+const COUNTERS: &str = " CPU GO
+ CPU GO
+ CPU ON
+GO TBEGINC 0,X'FF00'
+ LG 1,X'9000'
+ AGHI 1,1
+ STG 1,X'9000'
+ TEND
+ LG 3,X'9100'
+ AGHI 3,7
+ STG 3,X'9000'
+ J GO
+ON LG 1,X'9000'
+ AGHI 2,3
+ STG 2,X'9108'
+ AGHI 4,1
+ J ON
+";
+
+/// Transactions that store into two lines and are aborted in their midst, and a CPU that stores into these.
+const NESTED: &str = " CPU GO
+ CPU ST
+GO TBEGIN 0,X'FF00'
+ JNZ GO
+ LG 1,X'9000'
+ STG 1,X'9200'
+ AGHI 1,5
+ STG 1,X'9208'
+ AGHI 6,1
+ TEND
+ J GO
+ST STG 5,X'9208'
+ AGHI 5,1
+ LG 7,X'9200'
+ STG 7,X'A300'
+ AGHI 7,1
+ AGHI 8,1
+ J ST
+";
+
+/// CPUs on lines of their own, one of which comes to its end, and one that is stopped by an exception.
+const APART: &str = " CPU AA
+ CPU BB
+ CPU CC
+AA LGHI 2,9
+AL LG 1,X'9000'
+ AGHI 1,1
+ STG 1,X'9000'
+ BRCTG 2,AL
+ SVC 0
+BB LG 1,X'9100'
+ AGHI 1,2
+ STG 1,X'9100'
+ J BB
+CC AGHI 1,1
+ STG 1,X'9200'
+ AGHI 1,1
+ LG 3,0(2)
+";
+
+/// The machine of an image, with few turns and some ticks.
+fn open(alloc: Global, image: &Arc<Image>) -> Result<Machine> {
+    let limits = Limits {
+        turns: 90,
+        tick: 31,
+        externals: 0,
+    };
+    match Machine::open(alloc, Arc::try_clone(image)?, limits) {
+        Ok(machine) => Ok(machine),
+        Err(_) => bail!("no memory"),
+    }
+}
+
+/// One walk by a number. Whether all was right.
+fn go(alloc: Global, image: &Arc<Image>, number: u64, met: &mut Met) -> Result<bool> {
+    let first = open(alloc, image)?;
+    let second = open(alloc, image)?;
+    let mut walk = Walk::open(alloc, first, second, number)?;
+    Ok(walk.go(met))
+}
+
+/// All walks of a listing: how many were wrong.
+fn walk_all(alloc: Global, listing: &str, met: &mut Met) -> Result<u64> {
+    let Ok(image) = assemble(alloc, listing.as_bytes()) else {
+        bail!("no image");
+    };
+    let image = Arc::new(alloc, image)?;
+    let mut wrong = 0u64;
+    for number in 0..WALKS {
+        if !go(alloc, &image, number, met)? {
+            wrong = wrong.saturating_add(1);
+        }
+    }
+    Ok(wrong)
+}
+
+fn main(rt: HostRuntime) -> Result<()> {
+    let mut met = Met::nothing();
+    let mut wrong = 0u64;
+    for listing in [COUNTERS, NESTED, APART] {
+        wrong = wrong.saturating_add(walk_all(rt.alloc(), listing, &mut met)?);
+    }
+    let mut text = String::new(rt.alloc());
+    writeln!(text, "{} walks, {wrong} wrong", 3 * WALKS)?;
+    met.add(&mut text)?;
+    let mut sink = WriterSink::new(io::writer(&rt));
+    write_all(&mut sink, text.as_bytes())?;
+    Ok(())
+}
