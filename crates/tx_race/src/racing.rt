@@ -99,8 +99,8 @@ fn has_turns_alone(raced: &Raced)
 
 /// Lets the CPUs of a machine race until none is ready. Each CPU's turns are made by a worker, under one lock, in
 /// a thread of its own; where none can be made, the thread that calls does its work. A worker has its CPU lent, makes the
-/// turns that it may make away from the machine without the lock, and brings them home; where nothing comes of that, its CPU
-/// has a turn. It passes the gate while its CPU is lent, and behind a turn, and ends when its CPU is finished or spent, or
+/// turns that it may make away from the machine without the lock, and brings them home; between two such runs its CPU has
+/// turns under the lock, ever more of them. It passes the gate while its CPU is lent, and behind a turn, and ends when its CPU is finished or spent, or
 /// after a number of lockings that the limits bound. Behind them the thread that calls gives the rest of the turns in the round.
 ///
 /// The machine that comes back has the same image and the same limits, as many recorded events as the workers and

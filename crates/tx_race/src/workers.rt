@@ -14,6 +14,9 @@ use tx_run::{Run, RunStep};
 /// The most steps of a run.
 const MOST_STEPS: u32 = 64;
 
+/// The most turns that a worker makes under the lock between two runs.
+const MOST_TURNS_BETWEEN: u32 = 4096;
+
 /// What a worker is given: a CPU, and the share in which it counts.
 #[derive(Drop)]
 pub struct Job<L: Ledger> {
@@ -37,15 +40,21 @@ pub fn jobs_of<L: Ledger>(alloc: Global, shares: Vec<Share<L>>) -> Result<Vec<Jo
     Ok(jobs)
 }
 
-/// What a worker does with the lock when it has it next.
+/// What a worker does with the lock when it has it next. Behind a run, and where its CPU is not lent, it makes so many turns
+/// under the lock, twice as many each time: to lend a CPU costs as much as hundreds of turns.
 #[derive(Drop)]
 enum Next {
-    /// Its CPU is lent.
-    Lend,
-    /// A run of its CPU comes home.
-    Home(Run),
-    /// Its CPU has a turn.
-    Turn,
+    /// Its CPU is lent; so many turns come behind.
+    Lend(u32),
+    /// A run of its CPU comes home; so many turns come behind.
+    Home(Run, u32),
+    /// Its CPU has so many turns more; so many come behind the next run.
+    Turns(u32, u32),
+}
+
+/// So many turns now, and twice as many behind the next run.
+fn turns_now(turns: u32) -> Next {
+    Next::Turns(turns, turns.saturating_mul(2).min(MOST_TURNS_BETWEEN))
 }
 
 /// One locking, in which the CPU is lent. None where the machine that is found has no such CPU.
@@ -102,14 +111,15 @@ fn go_away<L: Ledger, R: Wait, G: Gate>(
     calls: &Calls,
     gate: &G,
     cpu: u32,
+    turns: u32,
 ) -> Option<Next> {
     match lend_once(rt, board, cpu)? {
-        Lend::Refused(_) => Some(Next::Turn),
+        Lend::Refused(_) => Some(turns_now(turns)),
         Lend::Run(run) => {
             let mut run = run;
             gate.pass(cpu);
             make_steps(calls, &mut run);
-            Some(Next::Home(run))
+            Some(Next::Home(run, turns))
         }
     }
 }
@@ -121,17 +131,15 @@ fn come_home<L: Ledger, R: Wait>(
     calls: &Calls,
     share: &mut Share<L>,
     run: Run,
+    turns: u32,
 ) -> Option<Next> {
     let cpu = run.cpu();
-    let home = home_once(rt, board, share, run)?;
+    let _home = home_once(rt, board, share, run)?;
     calls.clear(cpu);
-    match home {
-        Home::Taken(0) | Home::Discarded { .. } => Some(Next::Turn),
-        Home::Taken(_) => Some(Next::Lend),
-    }
+    Some(turns_now(turns))
 }
 
-/// One turn of the CPU; a CPU that has rejected its request is called home. None where the worker has come to its end.
+/// One turn of the CPU; a CPU that has rejected its request is called home. Whether the worker goes on.
 fn take_turn<L: Ledger, R: Wait, G: Gate>(
     rt: &R,
     board: &Mutex<Board<L>>,
@@ -139,17 +147,23 @@ fn take_turn<L: Ledger, R: Wait, G: Gate>(
     gate: &G,
     share: &mut Share<L>,
     cpu: u32,
-) -> Option<Next> {
-    let outcome = turn_once(rt, board, share, cpu)?;
+) -> bool {
+    let Some(outcome) = turn_once(rt, board, share, cpu) else {
+        return false;
+    };
     gate.pass(cpu);
-    match outcome {
-        Outcome::Halted | Outcome::Spent => None,
-        Outcome::Rejected { by, .. } => {
-            calls.call(by);
-            Some(Next::Lend)
-        }
-        _ => Some(Next::Lend),
+    if let Outcome::Rejected { by, .. } = outcome {
+        calls.call(by);
     }
+    !matches!(outcome, Outcome::Halted | Outcome::Spent)
+}
+
+/// What comes behind one of so many turns.
+fn behind_turn(left: u32, turns: u32) -> Next {
+    if left > 1 {
+        return Next::Turns(left - 1, turns);
+    }
+    Next::Lend(turns)
 }
 
 /// What the worker is to do next, done in one locking; and what then. None where it has come to its end.
@@ -163,14 +177,19 @@ fn go_on<L: Ledger, R: Wait, G: Gate>(
     next: Next,
 ) -> Option<Next> {
     match next {
-        Next::Lend => go_away(rt, board, calls, gate, cpu),
-        Next::Home(run) => come_home(rt, board, calls, share, run),
-        Next::Turn => take_turn(rt, board, calls, gate, share, cpu),
+        Next::Lend(turns) => go_away(rt, board, calls, gate, cpu, turns),
+        Next::Home(run, turns) => come_home(rt, board, calls, share, run, turns),
+        Next::Turns(left, turns) => {
+            if !take_turn(rt, board, calls, gate, share, cpu) {
+                return None;
+            }
+            Some(behind_turn(left, turns))
+        }
     }
 }
 
-/// Makes turns of the CPU of a job until it is finished or spent, in at most so many lockings: it is lent, and its run comes
-/// home; where it is not lent, or the run has made nothing, it has a turn. Hands the share back.
+/// Makes turns of the CPU of a job until it is finished or spent, in at most so many lockings: it is lent, its run comes home,
+/// and then it has some turns under the lock before it is lent again. Hands the share back.
 pub fn work<L: Ledger, R: Wait, G: Gate>(
     rt: &R,
     board: &Mutex<Board<L>>,
@@ -180,7 +199,7 @@ pub fn work<L: Ledger, R: Wait, G: Gate>(
     lockings: u64,
 ) -> Share<L> {
     let Job { cpu, mut share } = job;
-    let mut next = Some(Next::Lend);
+    let mut next = Some(Next::Lend(1));
     for _ in 0..lockings {
         let Some(now) = next.take() else {
             break;
