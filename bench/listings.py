@@ -4,6 +4,7 @@ import re
 import shlex
 import subprocess
 import sys
+import tempfile
 
 HERE = os.path.dirname(os.path.abspath(__file__))
 EXAMPLES = os.path.join(HERE, '..', 'examples')
@@ -31,6 +32,16 @@ def answer(command, words, text, seconds=600):
     except subprocess.TimeoutExpired:
         return None, b''
     return done.returncode, done.stdout
+
+
+def memory_of(command, source):
+    """The most bytes of resident memory that a command holds on a file; its exit status and standard output."""
+    with open(source, 'rb') as file, tempfile.TemporaryFile() as output:
+        child = subprocess.Popen(command, stdin=file, stdout=output)
+        _, status, used = os.wait4(child.pid, 0)
+        child.returncode = -os.WTERMSIG(status) if os.WIFSIGNALED(status) else os.WEXITSTATUS(status)
+        output.seek(0)
+        return used.ru_maxrss * 1024, child.returncode, output.read()
 
 
 def read(path):

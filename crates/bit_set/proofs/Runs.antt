@@ -1,12 +1,14 @@
 -- Runs of marks.
-use Rattle.std.proofs.Common.{◌≡◌, ◌≢◌, ℕ, ◌+◌, ◌-◌, ◌*◌, ◌/◌, ◌%◌, ◌<◌, ◌≤◌, Bool, true, false, ltb, leb, List}
+use Rattle.std.proofs.Common.{◌≡◌, ◌≢◌, ℕ, ◌+◌, ◌-◌, ◌*◌, ◌/◌, ◌%◌, ◌^◌, ◌<◌, ◌≤◌, Bool, true, false, ltb, leb, List}
 use Rattle.std.proofs.Common.{length, get_or, set, refl, sym, ap, ◌∙◌, arith}
 use Rattle.std.specs.Prelude.{◌||◌}
 use Rattle.std.proofs.lemmas.Bool.{cases_lt, cases_eq, lt-ltb, le-ltb, le-leb, lt-leb, and_from, and_left, and_right}
+use Rattle.std.proofs.lemmas.Bool.{or_left, or_right}
 use Rattle.std.proofs.lemmas.List.{length-set, get_or_past, get_or-set_same, get_or-set_other}
 use borrow.Enum.Arm.{by_way}
 use Rattle.bit_set.specs.Bits.{bit, bits_of, lies_in}
 use Rattle.bit_set.proofs.Marks.{length-bits_of, get_or-bits_of}
+use Rattle.bit_set.proofs.Words.{same_word}
 
 pub lies_inside : (first end k : ℕ) → first ≤ k → k < end → lies_in first end k ≡ true
 lies_inside first end k le lt = and_from (leb first k) (ltb k end) (le-leb first k le) (lt-ltb k end lt)
@@ -76,3 +78,48 @@ module _ (words : List ℕ) (word from end : ℕ) where
           ∙ ap (λ b. get_or (bits_of words) k false || b)
           (sym (by_way (cases_lt k from) (λ low. lies_before from end k low)
           (λ ge. lies_behind from end k (omega (arith, ge, ne, near, some)))))
+
+-- the bits of a run in a word are set exactly where setting them changes nothing
+module _ (words : List ℕ) (word from end : ℕ) where
+  pub run_is_there : from < end → end ≤ from / 64 * 64 + 64 → end ≤ 64 * length words
+      → word < 2 ^ 64 → get_or words (from / 64) 0 < 2 ^ 64
+      → ((i : ℕ) → i < 64
+      → bit word i ≡ (bit (get_or words (from / 64) 0) i || lies_in (from % 64) (end - from / 64 * 64) i))
+      → (word ≡ get_or words (from / 64) 0
+      → (k : ℕ) → from ≤ k → k < end → get_or (bits_of words) k false ≡ true)
+      × (((k : ℕ) → from ≤ k → k < end → get_or (bits_of words) k false ≡ true)
+      → word ≡ get_or words (from / 64) 0)
+  run_is_there some near within fits was_fits is = (
+    λ same k le lt. at k le lt
+        ∙ (ap (λ w. bit w (k % 64)) (sym same) ∙ is (k % 64) (omega arith)
+        ∙ or_right _ _ (lies_inside (from % 64) (end - from / 64 * 64) (k % 64) (omega (arith, le, lt, near))
+        (omega (arith, le, lt, near)))),
+    λ all. same_word word (get_or words (from / 64) 0) fits was_fits (λ i lt. is i lt
+        ∙ by_way (cases_lt i (from % 64))
+        (λ low. nothing i (lies_before (from % 64) (end - from / 64 * 64) i low))
+        (λ ge. by_way (cases_lt i (end - from / 64 * 64))
+        (λ under. or_left _ _ (here i lt ge under all) ∙ sym (here i lt ge under all))
+        (λ over. nothing i (lies_behind (from % 64) (end - from / 64 * 64) i over)))),
+  )
+    where
+      at : (k : ℕ) → from ≤ k → k < end
+          → get_or (bits_of words) k false ≡ bit (get_or words (from / 64) 0) (k % 64)
+      at k le lt =
+          let quotient : k / 64 ≡ from / 64 = omega (arith, le, lt, near) in
+          get_or-bits_of words k false (omega (arith, lt, within))
+          ∙ ap (λ w. bit (get_or words w 0) (k % 64)) quotient
+
+      nothing : (i : ℕ) → lies_in (from % 64) (end - from / 64 * 64) i ≡ false
+          → (bit (get_or words (from / 64) 0) i || lies_in (from % 64) (end - from / 64 * 64) i)
+          ≡ bit (get_or words (from / 64) 0) i
+      nothing i none = ap (λ b. bit (get_or words (from / 64) 0) i || b) none ∙ sym (or_nothing _)
+
+      here : (i : ℕ) → i < 64 → from % 64 ≤ i → i < end - from / 64 * 64
+          → ((k : ℕ) → from ≤ k → k < end → get_or (bits_of words) k false ≡ true)
+          → bit (get_or words (from / 64) 0) i ≡ true
+      here i lt ge under all =
+          let le : from ≤ from / 64 * 64 + i = omega (arith, ge) in
+          let below : from / 64 * 64 + i < end = omega (arith, under) in
+          let rest : (from / 64 * 64 + i) % 64 ≡ i = omega (arith, lt) in
+          ap (bit (get_or words (from / 64) 0)) (sym rest) ∙ sym (at (from / 64 * 64 + i) le below)
+          ∙ all (from / 64 * 64 + i) le below

@@ -1,11 +1,15 @@
 -- The words in use, after each change of one word.
-use Rattle.std.proofs.Common.{◌≡◌, ℕ, ◌+◌, ◌<◌, ◌^◌, min, max, List, length, get_or, set, sym, ap}
-use Rattle.std.proofs.Common.{◌∙◌, arith}
-use Rattle.std.proofs.lemmas.Bool.{cases_eq}
-use Rattle.std.proofs.lemmas.List.{length-set, get_or-set_same, get_or-set_other}
+use Rattle.std.proofs.Common.{◌≡◌, ℕ, ◌+◌, ◌*◌, ◌/◌, ◌%◌, ◌<◌, ◌≤◌, ◌^◌, false, min, max, List, length, get_or, set, sym, ap}
+use Rattle.std.proofs.Common.{◌∙◌, arith, Option, Some, None, IfSome, IfNone}
+use Rattle.std.proofs.lemmas.Bool.{cases_eq, cases_lt}
+use Rattle.std.proofs.lemmas.List.{length-set, get_or-set_same, get_or-set_other, get_or_past}
+use Rattle.std.proofs.lemmas.Nat.Bits.{bit_at-zero}
 use Rattle.std.proofs.lemmas.List.Elements.{All-set}
 use borrow.Enum.Arm.{by_way}
+use Rattle.bit_set.specs.Bits.{bit, bits_of, IsNext, NoneMarked}
 use Rattle.bit_set.specs.Used.{IsKept}
+use Rattle.bit_set.proofs.Marks.{length-bits_of, get_or-bits_of}
+use Rattle.bit_set.proofs.Words.{bit_of_zero}
 
 module _ (words : List ℕ) (word at low high : ℕ) where
   -- a word that changes is in use
@@ -42,3 +46,40 @@ module _ (words : List ℕ) (word at low high : ℕ) where
           (λ e. ap (λ n. get_or (set words at word) n 0) e ∙ get_or-set_same words at word 0 within
           ∙ stays (ap (λ n. get_or words n 0) (sym e) ∙ zero))
           (λ ne. get_or-set_other words at k word 0 ne ∙ zero)
+
+-- what is found among the words in use is found among all
+module _ (words : List ℕ) (low high from end first past : ℕ) (kept : IsKept words low high)
+    (near : (k : ℕ) → k < first → k < end → k / 64 < low) (far : (k : ℕ) → past ≤ k → k < end → high ≤ k / 64) where
+  unmarked : (k : ℕ) → get_or words (k / 64) 0 ≡ 0 → get_or (bits_of words) k false ≡ false
+  unmarked k zero =
+      by_way (cases_lt k (64 * length words))
+      (λ under. get_or-bits_of words k false under ∙ ap (λ w. bit w (k % 64)) zero
+      ∙ bit_of_zero 0 (k % 64) (bit_at-zero (k % 64)))
+      (λ over. get_or_past (bits_of words) k false (omega (arith, over, length-bits_of words)))
+
+  none_from : (at : ℕ) → at ≤ end
+      → ((k : ℕ) → max from first ≤ k → k < at → get_or (bits_of words) k false ≡ false)
+      → (k : ℕ) → from ≤ k → k < at → get_or (bits_of words) k false ≡ false
+  none_from at within none k le lt =
+      by_way (cases_lt k first)
+      (λ low_one. unmarked k (kept.used.below (k / 64) (near k low_one (omega (arith, lt, within)))))
+      (λ ge. none k (omega (arith, le, ge)) lt)
+
+  pub found_in_all : (o : Option ℕ) → IfSome o (λ at. IsNext (bits_of words) (max from first) (min end past) at)
+      → IfSome o (λ at. IsNext (bits_of words) from end at)
+  found_in_all None found = tt
+  found_in_all (Some at) found =
+      record {
+        from_on = omega (arith, found.from_on);
+        below = omega (arith, found.below);
+        marked = found.marked;
+        first = none_from at (omega (arith, found.below)) found.first;
+      }
+
+  pub none_in_all : (o : Option ℕ) → IfNone o (NoneMarked (bits_of words) (max from first) (min end past))
+      → IfNone o (NoneMarked (bits_of words) from end)
+  none_in_all (Some at) none = tt
+  none_in_all None none =
+      none_from end (omega arith) (λ k le lt. by_way (cases_lt k past)
+      (λ under. none k le (omega (arith, lt, under)))
+      (λ over. unmarked k (kept.used.from_on (k / 64) (far k over lt))))

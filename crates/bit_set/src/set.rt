@@ -139,13 +139,43 @@ impl BitSet {
         self.words == other.words
     }
 
-    /// The lowest number of the set from `from` on and below `end`.
+    /// The lowest number of the set from `from` on and below `end`. Only words in use are read.
     pub fn next(&self, from: usize, end: usize) -> Option<usize>
         requires { end ≤ length self.now }
         ensures found { IfSome result (λ at. IsNext self.now from end at) }
         ensures none { IfNone result (NoneMarked self.now from end) }
     {
-        next_in(&self.words, from, end)
+        let first = self.low.saturating_mul(64);
+        let past = self.high.saturating_mul(64);
+        next_in(&self.words, from.max(first), end.min(past))
+    }
+
+    /// Whether all numbers from `from` on and below `end` are in the set.
+    pub fn has_run(&self, from: usize, end: usize) -> bool
+        requires order { from ≤ end }
+        requires within { end ≤ length self.now }
+        ensures { IsTrue result ↔ ((k : ℕ) → from ≤ k → k < end → slice_index_or self.now k false ≡ true) }
+    {
+        let mut at = from;
+        while at < end {
+            let stop = at + (64 - at % 64).min(end - at);
+            if !self.has_in_word(at, stop) {
+                return false;
+            }
+            at = stop;
+        }
+        true
+    }
+
+    /// Whether all numbers of one word from `from` on and below `end` are in the set.
+    fn has_in_word(&self, from: usize, end: usize) -> bool
+        requires some { from < end }
+        requires word { end ≤ from / 64 * 64 + 64 }
+        requires within { end ≤ length self.now }
+        ensures { IsTrue result ↔ ((k : ℕ) → from ≤ k → k < end → slice_index_or self.now k false ≡ true) }
+    {
+        let word = self.words[from / 64];
+        with_run(word, (from % 64) as u32, (end - from / 64 * 64) as u32) == word
     }
 }
 

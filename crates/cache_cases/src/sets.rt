@@ -16,6 +16,14 @@ fn finds_what_was_added(rt: HostRuntime) -> Result<(), Fail> {
         set.next(66, 192),
     ];
     assert_eq!(rt; found, [Some(62), Some(65), None, Some(191)]);
+    let whole = [
+        set.has_run(62, 66),
+        set.has_run(63, 65),
+        set.has_run(61, 66),
+        set.has_run(62, 67),
+        set.has_run(191, 192),
+    ];
+    assert_eq!(rt; whole, [true, true, false, false, true]);
     Ok(())
 }
 

@@ -1,27 +1,31 @@
-//! Random walks of machines that lend their CPUs.
+//! Random walks of machines that lend their CPUs; and loans, for somebody who looks at a clock.
 //!
 //! Each walk has two machines of one listing. In the first one CPUs have turns, are lent, make steps away, and come home, as
 //! drawn numbers say. In the second one the same turns are made one after the other, and nobody is lent. Both have to show the
 //! same, and what comes of a run has to be what a plain comparison with the second machine says. The program writes how many
 //! walks there were, how many of them were wrong, and which answers were met in some of them.
+//!
+//! Without words each listing has a hundred walks; `walks N` makes it N. `times LINES STEPS COUNT` makes loans in their place.
 #![tactic(auto)]
 
+mod loans;
+mod machines;
 mod plain;
 mod walk;
+mod words;
 
-use anyhow::{Result, bail};
+use anyhow::{Context, Result};
+use machines::{image_of, open};
 use std::alloc::Global;
 use std::io;
+use std::rt::Env;
 use std::sync::Arc;
 use tx_journal::Image;
 use tx_machine::Machine;
 use tx_meaning::Limits;
 use walk::{Met, Walk};
-use z_assemble::assemble;
+use words::{Task, task_of};
 use ztx_io::{WriterSink, write_all};
-
-/// How many walks each listing has.
-const WALKS: u64 = 100;
 
 /// Counters in one line, with and without transactions, and a loop beside them.
 const COUNTERS: &str = " CPU GO
@@ -85,34 +89,28 @@ CC AGHI 1,1
 ";
 
 /// The machine of an image, with few turns and some ticks.
-fn open(alloc: Global, image: &Arc<Image>) -> Result<Machine> {
+fn open_short(alloc: Global, image: &Arc<Image>) -> Result<Machine> {
     let limits = Limits {
         turns: 90,
         tick: 31,
         externals: 0,
     };
-    match Machine::open(alloc, Arc::try_clone(image)?, limits) {
-        Ok(machine) => Ok(machine),
-        Err(_) => bail!("no memory"),
-    }
+    open(alloc, image, limits)
 }
 
 /// One walk by a number. Whether all was right.
-fn go(alloc: Global, image: &Arc<Image>, number: u64, met: &mut Met) -> Result<bool> {
-    let first = open(alloc, image)?;
-    let second = open(alloc, image)?;
-    let mut walk = Walk::open(alloc, first, second, number)?;
+fn go(alloc: Global, image: &Arc<Image>, number: u32, met: &mut Met) -> Result<bool> {
+    let first = open_short(alloc, image)?;
+    let second = open_short(alloc, image)?;
+    let mut walk = Walk::open(alloc, first, second, u64::from(number))?;
     Ok(walk.go(met))
 }
 
-/// All walks of a listing: how many were wrong.
-fn walk_all(alloc: Global, listing: &str, met: &mut Met) -> Result<u64> {
-    let Ok(image) = assemble(alloc, listing.as_bytes()) else {
-        bail!("no image");
-    };
-    let image = Arc::new(alloc, image)?;
+/// So many walks of a listing: how many were wrong.
+fn walk_all(alloc: Global, listing: &str, walks: u32, met: &mut Met) -> Result<u64> {
+    let image = image_of(alloc, listing)?;
     let mut wrong = 0u64;
-    for number in 0..WALKS {
+    for number in 0..walks {
         if !go(alloc, &image, number, met)? {
             wrong = wrong.saturating_add(1);
         }
@@ -120,15 +118,33 @@ fn walk_all(alloc: Global, listing: &str, met: &mut Met) -> Result<u64> {
     Ok(wrong)
 }
 
-fn main(rt: HostRuntime) -> Result<()> {
+/// Makes so many walks of each listing, and adds what came of them.
+fn add_walks(text: &mut String, alloc: Global, walks: u32) -> Result<()> {
     let mut met = Met::nothing();
     let mut wrong = 0u64;
     for listing in [COUNTERS, NESTED, APART] {
-        wrong = wrong.saturating_add(walk_all(rt.alloc(), listing, &mut met)?);
+        wrong = wrong.saturating_add(walk_all(alloc, listing, walks, &mut met)?);
     }
+    writeln!(text, "{} walks, {wrong} wrong", 3 * u64::from(walks))?;
+    met.add(text)?;
+    Ok(())
+}
+
+/// Does what the words of the command line say, and adds what came of it.
+fn add_answer(text: &mut String, rt: &(impl Env + AllocGlobal)) -> Result<()> {
+    let mut words = Vec::new(rt.alloc());
+    for word in std::env::args(rt)? {
+        words.push(word)?;
+    }
+    match task_of(words.as_slice()).context("bad words")? {
+        Task::Walk(walks) => add_walks(text, rt.alloc(), walks),
+        Task::Lend(loans) => loans.add(text, rt.alloc()),
+    }
+}
+
+fn main(rt: HostRuntime) -> Result<()> {
     let mut text = String::new(rt.alloc());
-    writeln!(text, "{} walks, {wrong} wrong", 3 * WALKS)?;
-    met.add(&mut text)?;
+    add_answer(&mut text, &rt)?;
     let mut sink = WriterSink::new(io::writer(&rt));
     write_all(&mut sink, text.as_bytes())?;
     Ok(())

@@ -1,11 +1,11 @@
 //! One walk of two machines.
 ghost use Rattle.std.specs.Prelude.{◌<◌, length};
 
+use crate::machines::make_turns;
 use crate::plain::due_to;
 use std::alloc::{AllocError, Global};
 use tx_journal::{Entry, Event};
 use tx_machine::{Home, Lend, Machine, Place};
-use tx_meaning::Outcome;
 use tx_run::{Run, RunStep};
 
 /// How many moves a walk has.
@@ -172,19 +172,6 @@ fn same(one: &Machine, other: &Machine) -> bool {
     one.last_reject() == other.last_reject()
         && same_entries(one.journal(), other.journal())
         && same_bytes(one, other)
-}
-
-/// So many turns of a CPU, each of which has to be executed.
-fn make_turns(machine: &mut Machine, cpu: u32, turns: u32) -> bool {
-    for _ in 0..turns {
-        if cpu >= machine.image().cpu_count() {
-            return false;
-        }
-        if machine.event(Event::Turn(cpu)) != Outcome::Executed {
-            return false;
-        }
-    }
-    true
 }
 
 impl Walk {

@@ -4,3 +4,4 @@ pub mod Change
 pub mod Shown
 pub mod Moves
 pub mod Stored
+pub mod Exclusive

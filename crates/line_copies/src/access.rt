@@ -1,4 +1,4 @@
-//! What one CPU fetches and stores, or somebody who is no CPU and has no copies: None.
+//! What one CPU fetches, or somebody who is no CPU and has no copies (None), and what is stored.
 ghost use Rattle.std.specs.Prelude.{◌≡◌, ◌<◌, ◌≤◌, ◌+◌, ◌*◌, ◌%◌, ◌^◌, length, slice_index, IfSome};
 ghost use Rattle.z_regs.specs.Prefix.{storage_size};
 ghost use Rattle.z_regs.specs.Written.{range_at, written};
@@ -8,11 +8,10 @@ ghost use Rattle.l1_data.specs.Sizes.{line_size};
 ghost use Rattle.line_copies.specs.Seen.{holders_in};
 
 use crate::CoherentLines;
-use crate::numbers::number_in;
-use crate::parts::{exclusive_by, lay_in_copies, lay_in_storage};
+use crate::parts::lay_in_copies;
 use byteorder::{BigEndian, ByteOrder};
 use l1_data::LINE_SIZE;
-use z_regs::Bytes;
+use z_regs::{Bytes, number_in};
 
 /// The lines as they are seen from outside.
 impl Bytes for CoherentLines {
@@ -25,7 +24,7 @@ impl Bytes for CoherentLines {
 
     fn put(&mut self, address: u64, byte: u8) {
         let _size = self.size();
-        self.store(None, address as u32, &[byte]);
+        self.store(address as u32, &[byte]);
     }
 
     fn word(&self, address: u64, count: u8) -> u64 {
@@ -35,7 +34,7 @@ impl Bytes for CoherentLines {
 
     fn put_word(&mut self, address: u64, count: u8, value: u64) {
         let _size = self.size();
-        self.store_word(None, address as u32, count, value);
+        self.store_word(address as u32, count, value);
     }
 }
 
@@ -100,10 +99,9 @@ impl CoherentLines {
         BigEndian::read_uint(&item, count)
     }
 
-    /// Changes bytes of one line, as a CPU stores them, or somebody from outside: in the copy of the CPU that
-    /// holds the line exclusively, and where there is none, in storage and every copy.
-    pub fn store(&mut self, who: Option<u32>, address: u32, bytes: &[u8])
-        requires cpu { IfSome who (λ cpu. cpu < self.old.cpus) }
+    /// Changes bytes of one line: in the copy of the CPU that holds the line exclusively, and where there is
+    /// none, in storage and every copy.
+    pub fn store(&mut self, address: u32, bytes: &[u8])
         requires inside { address < storage_size }
         requires one_line { address % line_size + length bytes.now ≤ line_size }
         ensures bytes { self.new.bytes ≡ written self.old.bytes address bytes.now }
@@ -112,19 +110,17 @@ impl CoherentLines {
     {
         let line = address / LINE_SIZE as u32;
         let at = address % LINE_SIZE as u32;
-        match exclusive_by(&self.table, who, line) {
+        match self.table.exclusive_holder(line) {
             Some(holder) => self.copies[holder as usize].lay(line, at, bytes),
             None => {
-                lay_in_storage(&mut self.storage, address, bytes);
+                self.storage.lay(address as usize, bytes);
                 lay_in_copies(&mut self.copies, line, at, bytes);
             }
         }
     }
 
-    /// Changes the `count` bytes from an address on, one to eight of them, to the rightmost of a number, as a
-    /// CPU stores them, or somebody from outside.
-    pub fn store_word(&mut self, who: Option<u32>, address: u32, count: u8, value: u64)
-        requires cpu { IfSome who (λ cpu. cpu < self.old.cpus) }
+    /// Changes the `count` bytes from an address on, one to eight of them, to the rightmost of a number.
+    pub fn store_word(&mut self, address: u32, count: u8, value: u64)
         requires low { 1 ≤ count }
         requires high { count ≤ 8 }
         requires inside { address + count ≤ storage_size }
@@ -133,12 +129,11 @@ impl CoherentLines {
         ensures modes { self.new.modes ≡ self.old.modes }
     {
         let item = value.to_be_bytes();
-        self.store_across(who, address, &item[8 - usize::from(count)..]);
+        self.store_across(address, &item[8 - usize::from(count)..]);
     }
 
     /// Changes bytes of one line or of two.
-    fn store_across(&mut self, who: Option<u32>, address: u32, bytes: &[u8])
-        requires cpu { IfSome who (λ cpu. cpu < self.old.cpus) }
+    fn store_across(&mut self, address: u32, bytes: &[u8])
         requires few { length bytes.now ≤ line_size }
         requires some { 1 ≤ length bytes.now }
         requires inside { address + length bytes.now ≤ storage_size }
@@ -149,9 +144,9 @@ impl CoherentLines {
         let _size = self.size();
         let room = LINE_SIZE - address as usize % LINE_SIZE;
         if bytes.len() <= room {
-            return self.store(who, address, bytes);
+            return self.store(address, bytes);
         }
-        self.store(who, address, &bytes[..room]);
-        self.store(who, address + room as u32, &bytes[room..]);
+        self.store(address, &bytes[..room]);
+        self.store(address + room as u32, &bytes[room..]);
     }
 }

@@ -3,8 +3,8 @@
 #![tactic(auto)]
 
 mod access;
+mod directory;
 mod lines;
-mod numbers;
 mod parts;
 mod window;
 

@@ -9,9 +9,10 @@ ghost use Rattle.line_table.specs.declared.table.Mode.TheVariants.{Shared};
 ghost use Rattle.l1_data.specs.Sizes.{line_size};
 ghost use Rattle.line_copies.specs.Seen.{holders_in, copied};
 
-use crate::parts::{copy_from_storage, exclusive_holder, write_back};
+use crate::directory::Directory;
+use crate::parts::{copy_from_storage, write_back};
 use l1_data::{L1, LINE_SIZE};
-use line_table::{LineTable, Mode};
+use line_table::Mode;
 use std::alloc::{AllocError, Global};
 use std::marker::Model;
 use z_regs::Storage;
@@ -50,7 +51,7 @@ impl From<l1_data::NoMemory> for NoMemory {
 #[derive(Drop)]
 pub struct CoherentLines {
     pub(crate) storage: Storage,
-    pub(crate) table: LineTable,
+    pub(crate) table: Directory,
     pub(crate) copies: Vec<L1>,
 }
 
@@ -78,7 +79,7 @@ impl CoherentLines {
         ensures nobody { IfOk result (λ lines. holders_in lines ≡ nobody) }
     {
         let storage = Storage::open(alloc, bytes)?;
-        let table = LineTable::open(alloc, cpus)?;
+        let table = Directory::open(alloc, cpus)?;
         let copies = no_copies(alloc, cpus)?;
         let _size = storage.as_slice();
         Ok(CoherentLines {
@@ -98,12 +99,12 @@ impl CoherentLines {
 
     /// The bytes of a line as they are seen: the copy of the CPU that holds it exclusively, else those of
     /// storage.
-    pub(crate) fn line_at(&self, line: u32) -> &[u8]
+    pub fn line_at(&self, line: u32) -> &[u8]
         requires { line < storage_lines }
         ensures bytes { result.now ≡ range_at self.now.bytes (line * line_size) line_size }
         ensures size { length result.now ≡ line_size }
     {
-        match exclusive_holder(&self.table, line) {
+        match self.table.exclusive_holder(line) {
             Some(holder) => self.copies[holder as usize].copy_of(line),
             None => {
                 let first = line as usize * LINE_SIZE;

@@ -10,52 +10,16 @@ ghost use Rattle.l1_data.specs.Copies.{copies_of, with_copy, copy_count, laid};
 ghost use Rattle.line_copies.specs.Coherence.{line_in, exclusive_holder};
 ghost use Rattle.line_copies.specs.Seen.{IsKept, seen_bytes, copied};
 
+use crate::directory::Directory;
 use l1_data::{L1, LINE_SIZE};
-use line_table::{LineTable, Mode};
+use line_table::Mode;
 use z_regs::{Bytes, Storage};
-
-/// The CPU that holds a line exclusively.
-pub(crate) fn exclusive_holder(table: &LineTable, line: u32) -> Option<u32>
-    requires { line < storage_lines }
-    ensures { result ≡ exclusive_holder table.now.cpus (λ cpu. mode_in table.now cpu line) }
-{
-    let holder = table.next_holder(line, 0)?;
-    let mode = table.mode_of(holder, line)?;
-    match mode {
-        Mode::Exclusive => Some(holder),
-        Mode::Shared => None,
-    }
-}
-
-/// The same, asked first of the CPU that is most likely it, if there is one.
-pub(crate) fn exclusive_by(table: &LineTable, who: Option<u32>, line: u32) -> Option<u32>
-    requires cpu { IfSome who (λ cpu. cpu < table.now.cpus) }
-    requires line { line < storage_lines }
-    ensures { result ≡ exclusive_holder table.now.cpus (λ other. mode_in table.now other line) }
-{
-    if let Some(cpu) = who {
-        if let Some(Mode::Exclusive) = table.mode_of(cpu, line) {
-            return Some(cpu);
-        }
-    }
-    exclusive_holder(table, line)
-}
-
-/// Changes the bytes of storage from an address on.
-pub(crate) fn lay_in_storage(storage: &mut Storage, first: u32, bytes: &[u8])
-    requires { first + length bytes.now ≤ length storage.old }
-    ensures { storage.new ≡ written storage.old first bytes.now }
-{
-    for (k, byte) in bytes.iter().enumerate() {
-        storage.put(u64::from(first) + k as u64, *byte);
-    }
-}
 
 /// Writes a CPU's copy of a line back into storage, where it holds the line exclusively. What is seen stays,
 /// and the copy, if there is one, is what storage holds from now on.
 pub(crate) fn write_back(
     storage: &mut Storage,
-    table: &LineTable,
+    table: &Directory,
     copies: &[L1],
     cpu: u32,
     line: u32,
@@ -71,7 +35,7 @@ pub(crate) fn write_back(
 {
     if let Some(Mode::Exclusive) = table.mode_of(cpu, line) {
         let copy = copies[cpu as usize].copy_of(line);
-        lay_in_storage(storage, line * LINE_SIZE as u32, copy);
+        storage.lay(line as usize * LINE_SIZE, copy);
     }
 }
 

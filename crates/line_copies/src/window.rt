@@ -57,19 +57,17 @@ impl Reach<'_> {
 
     /// Changes the byte at an address.
     fn put(&mut self, address: u64, byte: u8)
-        requires who { IfSome self.old.who (λ cpu. cpu < self.old.lines.now.cpus) }
         requires inside { address < storage_size }
         ensures bytes { self.new.lines.now.bytes ≡ written self.old.lines.now.bytes address (byte ∷ []) }
         ensures held { holdings_of self.new.lines.now ≡ holdings_of self.old.lines.now }
         ensures who { self.new.who ≡ self.old.who }
         ensures same_reference { self.new.lines.ghost_name ≡ self.old.lines.ghost_name }
     {
-        self.lines.store(self.who, address as u32, &[byte]);
+        self.lines.store(address as u32, &[byte]);
     }
 
     /// Changes the `count` bytes from an address on to the rightmost of a number.
     fn put_word(&mut self, address: u64, count: u8, value: u64)
-        requires who { IfSome self.old.who (λ cpu. cpu < self.old.lines.now.cpus) }
         requires low { 1 ≤ count }
         requires high { count ≤ 8 }
         requires inside { address + count ≤ storage_size }
@@ -79,8 +77,7 @@ impl Reach<'_> {
         ensures who { self.new.who ≡ self.old.who }
         ensures same_reference { self.new.lines.ghost_name ≡ self.old.lines.ghost_name }
     {
-        self.lines
-            .store_word(self.who, address as u32, count, value);
+        self.lines.store_word(address as u32, count, value);
     }
 }
 

@@ -120,6 +120,14 @@ const DONE: Answer = Answer::Step(RunStep::Done);
 
 const AT_HOME: Answer = Answer::Step(RunStep::Leave(Reason::AtHome));
 
+/// Three instructions that may be made away from the machine, and one that may not.
+const SHORT: &str = " CPU START
+START LGHI 1,5
+ LGHI 2,7
+ AGR 1,2
+ SVC 0
+";
+
 /// Two loads from one line.
 const LOADS: &str = " CPU GO
 GO LG 1,X'9000'
@@ -160,7 +168,7 @@ GO TBEGINC 0,X'FF00'
  SVC 0
 ";
 
-static CASES: [Case; 7] = [
+static CASES: [Case; 9] = [
     // a run comes home to a machine in which nothing has changed
     Case {
         listing: LOADS,
@@ -278,6 +286,37 @@ static CASES: [Case; 7] = [
             (Move::Home, Answer::Home(Home::Taken(1))),
             (Move::Turn(0), EXECUTED),
             (Move::Turn(0), EXECUTED),
+        ],
+    },
+    // up to a call, with a turn left for it
+    Case {
+        listing: SHORT,
+        other: SHORT,
+        turns: 4,
+        moves: &[
+            (Move::Lend(0), Answer::Lent),
+            (Move::Step, DONE),
+            (Move::Step, DONE),
+            (Move::Step, DONE),
+            (Move::Step, AT_HOME),
+            (Move::Home, Answer::Home(Home::Taken(3))),
+            (Move::Turn(0), EXECUTED),
+            (Move::Turn(0), Answer::Turn(Outcome::Halted)),
+        ],
+    },
+    // as many steps as the CPU has turns
+    Case {
+        listing: SHORT,
+        other: SHORT,
+        turns: 2,
+        moves: &[
+            (Move::Lend(0), Answer::Lent),
+            (Move::Step, DONE),
+            (Move::Step, DONE),
+            (Move::Step, Answer::Step(RunStep::Leave(Reason::Allowance))),
+            (Move::Home, Answer::Home(Home::Taken(2))),
+            (Move::Turn(0), Answer::Turn(Outcome::Spent)),
+            (Move::Lend(0), Answer::Refused(Refusal::Idle)),
         ],
     },
 ];

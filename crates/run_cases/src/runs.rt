@@ -58,7 +58,8 @@ fn lend(run: &mut Run, cpu: &Cpu, storage: &Storage, allowance: u32) {
         line: 0x90,
         mode: Mode::Exclusive,
     };
-    run.hold(need, storage);
+    let first = need.line as usize * 256;
+    run.hold(need, &storage.as_slice()[first..first + 256]);
 }
 
 /// What five steps answer, how many were made, what is in register 1 then, and the first byte that was touched beside the

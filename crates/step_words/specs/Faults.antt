@@ -3,19 +3,12 @@ use Rattle.std.specs.Prelude.{◌≡◌, ℕ, All, List, [], ◌∷◌, ◌++◌
 use Rattle.step_words.specs.declared.command.StepCommand.{StepCommand}
 use Rattle.step_words.specs.declared.fault.CommandFault.{CommandFault}
 use Rattle.step_words.specs.declared.fault.CommandFault.TheVariants.{Memory, Line}
-use Rattle.step_words.specs.Commands.{IsFair, IsFirstBad, IsKnown, command_text, filled}
+use Rattle.step_words.specs.Commands.{IsFirstBad, IsKnown, command_text, filled}
 
--- a line that is fair adds its command to those that are there
+-- a line adds its command to those that are there
 pub record Adds (cpus : ℕ) (line : List ℕ) (before after : List StepCommand) : Type 0 where
   pub spelled : map command_text after ≡ map command_text before ++ filled (line ∷ [])
   pub known : All (IsKnown cpus) before → All (IsKnown cpus) after
-  pub fair : IsFair cpus line
-
--- for want of memory, which says nothing of the line; or since the line with this number is neither empty nor a
--- command
-abbrev pub IsBadLine : ℕ → List ℕ → ℕ → CommandFault → Type 0
-IsBadLine cpus line number Memory = Unit {0}
-IsBadLine cpus line number (Line told) = (told ≡ number) × (¬ IsFair cpus line)
 
 -- for want of memory, which says nothing of the text; or since the line with this number is the first bad one
 abbrev pub IsRefused : ℕ → List ℕ → CommandFault → Type 0

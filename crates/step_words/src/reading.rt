@@ -1,13 +1,15 @@
 //! Lines read as commands.
 ghost use Rattle.std.specs.Prelude.{◌≡◌, ◌≢◌, ℕ, ◌<◌, List, ◌∷◌, ◌++◌, ◌↔◌, IsTrue, IfSome, IfNone, IfOk, IfErr};
+ghost use Rattle.std.specs.Prelude.{All, OnOk};
 ghost use Rattle.std.specs.Fmt.{decimal};
-ghost use Rattle.step_words.specs.Commands.{AreBytes, AreCommands, IsCommand, Tells};
-ghost use Rattle.step_words.specs.Faults.{Adds, IsBadLine, IsRefused};
+ghost use Rattle.input_parts.specs.Lines.{lines_of};
+ghost use Rattle.step_words.specs.Commands.{AreBytes, AreCommands, IsCommand, IsFair, IsFirstBad, Tells};
+ghost use Rattle.step_words.specs.Faults.{Adds, IsRefused};
 
 use crate::command::StepCommand;
 use crate::fault::CommandFault;
 use input_parts::cut;
-use std::alloc::Global;
+use std::alloc::{AllocError, Global};
 use tx_journal::read_number;
 
 /// The command that is a letter alone.
@@ -89,31 +91,62 @@ fn read_command(line: &[u8], cpus: u32) -> Option<StepCommand>
     }
 }
 
-/// Adds the command that a line with this number is; an empty line says nothing. The error is want of memory, or
-/// that the line is neither.
-fn add_line(
-    commands: &mut Vec<StepCommand>,
-    number: u64,
-    line: &[u8],
-    cpus: u32,
-) -> Result<(), CommandFault>
-    ensures added { IfOk result (λ _. Adds cpus line.now commands.old.items commands.new.items) }
-    ensures fault { IfErr result (λ fault. IsBadLine cpus line.now number fault) }
+/// Whether a line is empty, or a command of a machine with so many CPUs.
+fn is_fair(line: &[u8], cpus: u32) -> bool
+    ensures { IsTrue result ↔ IsFair cpus line.now }
 {
-    if line.is_empty() {
-        return Ok(());
+    line.is_empty() || read_command(line, cpus).is_some()
+}
+
+/// The number of the first line that is neither empty nor a command, from 1 on; None exactly where there is none.
+fn first_bad(text: &[u8], cpus: u32) -> Option<u64>
+    ensures some { IfSome result (λ number. IsFirstBad cpus text.now number) }
+    ensures none { IfNone result (All (IsFair cpus) (lines_of text.now)) }
+{
+    let mut number = 1;
+    let mut from = 0;
+    while let Some((line, _)) = cut(&text[from..], b'\n') {
+        if !is_fair(line, cpus) {
+            return Some(number);
+        }
+        number += 1;
+        from += line.len() + 1;
     }
-    match read_command(line, cpus) {
-        None => Err(CommandFault::Line(number)),
-        Some(command) => match commands.push(command) {
-            Ok(()) => Ok(()),
-            Err(_) => Err(CommandFault::Memory),
-        },
+    if is_fair(&text[from..], cpus) {
+        return None;
     }
+    Some(number)
+}
+
+/// Adds the command that a line is; an empty line says nothing.
+fn add_line(commands: &mut Vec<StepCommand>, line: &[u8], cpus: u32) -> Result<(), AllocError>
+    requires { IsFair cpus line.now }
+    ensures { OnOk result (Adds cpus line.now commands.old.items commands.new.items) }
+{
+    if let Some(command) = read_command(line, cpus) {
+        commands.push(command)?;
+    }
+    Ok(())
+}
+
+/// The commands of a text of which each line is empty or a command.
+fn commands_of(alloc: Global, text: &[u8], cpus: u32) -> Result<Vec<StepCommand>, AllocError>
+    requires { All (IsFair cpus) (lines_of text.now) }
+    ensures { IfOk result (λ commands. AreCommands cpus text.now commands.items) }
+{
+    let mut commands = Vec::new(alloc);
+    let mut from = 0;
+    while let Some((line, _)) = cut(&text[from..], b'\n') {
+        add_line(&mut commands, line, cpus)?;
+        from += line.len() + 1;
+    }
+    add_line(&mut commands, &text[from..], cpus)?;
+    Ok(commands)
 }
 
 /// The commands that the lines of a text are, of a machine with so many CPUs. An empty line says nothing. The
-/// error is want of memory, or the first line that is neither empty nor a command.
+/// error is the first line that is neither empty nor a command, which is looked for before any memory is taken; or
+/// want of memory.
 pub fn read_commands(
     alloc: Global,
     text: &[u8],
@@ -122,14 +155,8 @@ pub fn read_commands(
     ensures commands { IfOk result (λ commands. AreCommands cpus text.now commands.items) }
     ensures fault { IfErr result (λ fault. IsRefused cpus text.now fault) }
 {
-    let mut commands = Vec::new(alloc);
-    let mut number = 1;
-    let mut from = 0;
-    while let Some((line, _)) = cut(&text[from..], b'\n') {
-        add_line(&mut commands, number, line, cpus)?;
-        number += 1;
-        from += line.len() + 1;
+    if let Some(number) = first_bad(text, cpus) {
+        return Err(CommandFault::Line(number));
     }
-    add_line(&mut commands, number, &text[from..], cpus)?;
-    Ok(commands)
+    Ok(commands_of(alloc, text, cpus)?)
 }

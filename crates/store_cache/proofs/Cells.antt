@@ -1,10 +1,10 @@
 -- The marked items of entries, after each change.
 use Rattle.std.proofs.Common.{◌≡◌, ◌≢◌, ℕ, ◌+◌, ◌*◌, ◌/◌, ◌%◌, ◌<◌, ◌≤◌, Bool, true, false, cond, eqb}
-use Rattle.std.proofs.Common.{List, [], ◌∷◌, ◌++◌, length, get_or, set, Option, Some, None}
+use Rattle.std.proofs.Common.{List, [], ◌∷◌, ◌++◌, length, get_or, set, take, Option, Some, None}
 use Rattle.std.proofs.Common.{sym, ap, ◌∙◌, arith}
 use Rattle.std.specs.Option.{option_and_then}
 use Rattle.std.proofs.lemmas.Bool.{cases_eq, cond-true, cond-false, eq-eqb, ne_eqb}
-use Rattle.std.proofs.lemmas.List.{get_or-set_same, get_or-set_other}
+use Rattle.std.proofs.lemmas.List.{get_or-set_same, get_or-set_other, get_or-take}
 use Rattle.std.proofs.lemmas.Nat.{same_from_place, div-add-mod'}
 use Rattle.std.proofs.Math.Nat.{mod-lt}
 use Rattle.slot_index.specs.Slots.{slot_in}
@@ -56,6 +56,28 @@ pub items_of-empty : (size : ℕ) (items : List ℕ) (marks : List Bool) → ite
 items_of-empty size items marks i place =
     items_of-none size [] items marks place
     (slot_in-none [] (place / size) (λ j lt. absurd (omega (arith, lt)))) i
+
+-- ---- entries in use alone matter
+
+pub items_of-front : (size : ℕ) → 0 < size → (blocks items others : List ℕ) (marks : List Bool)
+    → ((slot rest : ℕ) → slot < length blocks → rest < size → slot * size + rest < length blocks * size)
+    → take (length blocks * size) items ≡ take (length blocks * size) others
+    → items_of size blocks items marks ≡ items_of size blocks others marks
+items_of-front size pos blocks items others marks within same i place = at_place i
+  where
+    at_place : items_of size blocks items marks place ≡ items_of size blocks others marks place
+    at_place =
+        by_way (slot_cases blocks (place / size))
+        (λ found.
+        let cell = cell_of size found.0 place in
+        let under : cell < length blocks * size =
+        within found.0 (place % size) (slot_in-has blocks (place / size) found.0 found.1).within (mod-lt place pos) in
+        items_of-at size blocks items marks place found.0 found.1
+        ∙ ap (λ n. cond (get_or marks cell false) (Some n) None) (sym (get_or-take (length blocks * size) items cell 0 under)
+        ∙ ap (λ l. get_or l cell 0) same ∙ get_or-take (length blocks * size) others cell 0 under)
+        ∙ sym (items_of-at size blocks others marks place found.0 found.1))
+        (λ absent. items_of-none size blocks items marks place absent
+        ∙ sym (items_of-none size blocks others marks place absent))
 
 -- ---- a new entry, in which nothing is marked
 

@@ -1,6 +1,6 @@
 -- What a store cache shows of its entries, and its invariant after each change.
 use Rattle.std.proofs.Common.{◌≡◌, ◌≢◌, ℕ, ◌+◌, ◌*◌, ◌/◌, ◌%◌, ◌<◌, ◌≤◌, Bool, true, false, cond, eqb}
-use Rattle.std.proofs.Common.{ltb, List, [], ◌∷◌, ◌++◌, length, get_or, set, Some, None}
+use Rattle.std.proofs.Common.{ltb, List, [], ◌∷◌, ◌++◌, length, get_or, set, take, Some, None}
 use Rattle.std.proofs.Common.{is_some, replicate, inl, inr, refl, sym, ap, subst, ◌∙◌, arith}
 use Rattle.std.specs.Prelude.{◌||◌}
 use Rattle.std.proofs.lemmas.Bool.{cases_eq, cases_lt, cases_Bool, cond-true, cond-false, eq-eqb, ne_eqb}
@@ -17,7 +17,7 @@ use Rattle.store_cache.specs.Stores.{Stores, no_stores, has_room, IsSound}
 use Rattle.store_cache.specs.Entries.{Entries, items_of, stores_of, IsKept}
 use Rattle.store_cache.proofs.Overlays.{with_bytes-inside}
 use Rattle.store_cache.proofs.Blocks.{has_block-at, has_block-here, has_block-other, has_block-nothing}
-use Rattle.store_cache.proofs.Cells.{items_of-none, items_of-empty, items_of-add, items_of-store}
+use Rattle.store_cache.proofs.Cells.{items_of-none, items_of-empty, items_of-add, items_of-store, items_of-front}
 
 -- ---- what entries show
 
@@ -267,3 +267,41 @@ has_block-with_bytes overlay address bytes some =
     (omega arith)
     (ap (λ n. is_some (with_bytes overlay address bytes n)) same
     ∙ ap is_some (with_bytes-inside overlay address bytes address (omega arith) (omega (arith, some))))
+
+-- ---- the entries in use alone are copied
+
+module _ (index : Slots) (bytes : List ℕ) (marks : List Bool) (values : List ℕ) (value_marks : List Bool)
+    (new_bytes new_values : List ℕ) (kept : IsKept index bytes marks values value_marks)
+    (byte_room : length new_bytes ≡ block_limit * block_size)
+    (value_room : length new_values ≡ block_limit * block_doublewords)
+    (same_bytes : take (length index.keys * block_size) new_bytes ≡ take (length index.keys * block_size) bytes)
+    (same_values : take (length index.keys * block_doublewords) new_values
+    ≡ take (length index.keys * block_doublewords) values) where
+  front_bytes : items_of block_size index.keys new_bytes marks ≡ items_of block_size index.keys bytes marks
+  front_bytes =
+      items_of-front block_size (omega arith) index.keys new_bytes bytes marks
+      (λ slot rest lt under. omega (arith, lt, under)) same_bytes
+
+  front_values : items_of block_doublewords index.keys new_values value_marks
+      ≡ items_of block_doublewords index.keys values value_marks
+  front_values =
+      items_of-front block_doublewords (omega arith) index.keys new_values values value_marks
+      (λ slot rest lt under. omega (arith, lt, under)) same_values
+
+  pub front_kept : IsKept index new_bytes marks new_values value_marks
+  front_kept =
+      record {
+        limit = kept.limit;
+        most = kept.most;
+        byte_room = byte_room;
+        mark_room = kept.mark_room;
+        value_room = value_room;
+        value_mark_room = kept.value_mark_room;
+        unmarked = kept.unmarked;
+        no_value = kept.no_value;
+        stored = λ block. ap (λ (o : Overlay). has_block o block) front_bytes ∙ kept.stored block;
+      }
+
+  pub front_shown : shown index.keys new_bytes marks new_values value_marks
+      ≡ shown index.keys bytes marks values value_marks
+  front_shown i = record { overlay = front_bytes i; lasting = front_values i }

@@ -1,6 +1,6 @@
 //! The store cache.
 ghost use Rattle.std.specs.Prelude.{◌≡◌, ℕ, ◌+◌, ◌*◌, ◌/◌, ◌%◌, ◌<◌, ◌≤◌, true, is_some, None, Some, IfOk, length};
-ghost use Rattle.std.specs.Prelude.{false, if◌then◌else◌, ◌++◌, ◌∷◌, [], slice_index};
+ghost use Rattle.std.specs.Prelude.{false, if◌then◌else◌, ◌++◌, ◌∷◌, [], slice_index, take};
 ghost use Rattle.bit_set.specs.Counts.{count_below};
 ghost use Rattle.slot_index.specs.Slots.{slot_in, is_key};
 ghost use Rattle.store_cache.specs.Overlay.{with_one, with_bytes, bytes_through, has_block, block_count};
@@ -189,14 +189,15 @@ impl StoreCache {
         self.empty();
     }
 
-    /// Makes this cache equal to the other.
+    /// Makes this cache equal to the other. Of bytes and values those of stored blocks alone are copied.
     pub fn copy_from(&mut self, other: &StoreCache)
         ensures { stores_of self.new ≡ stores_of other.now }
     {
+        let blocks = other.index.count();
         self.index.copy_from(&other.index);
-        self.bytes.copy_from_slice(&other.bytes);
+        copy_front(&mut self.bytes, &other.bytes, blocks * BLOCK_SIZE);
         self.marks.copy_from(&other.marks);
-        self.values.copy_from_slice(&other.values);
+        copy_front(&mut self.values, &other.values, blocks * DOUBLEWORDS);
         self.value_marks.copy_from(&other.value_marks);
     }
 
@@ -222,6 +223,16 @@ impl StoreCache {
         self.value_marks.clear();
         self.index.clear();
     }
+}
+
+/// Copies so many items from the beginning of a list.
+fn copy_front<T: Copy + Drop>(into: &mut [T], from: &[T], count: usize)
+    requires into { count ≤ length into.old }
+    requires from { count ≤ length from.now }
+    ensures size { length into.new ≡ length into.old }
+    ensures front { take count into.new ≡ take count from.now }
+{
+    into[..count].copy_from_slice(&from[..count]);
 }
 
 /// Copies the bytes to their place among others.

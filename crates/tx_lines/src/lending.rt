@@ -1,12 +1,12 @@
 //! Lines that are lent with a CPU, and what a run has made of them.
-ghost use Rattle.std.specs.Prelude.{◌≡◌, ◌≢◌, ℕ, ◌<◌, true, List, None, IfSome};
+ghost use Rattle.std.specs.Prelude.{◌≡◌, ◌≢◌, ℕ, ◌<◌, ◌/◌, length, true, List, None, IfSome};
 ghost use Rattle.line_table.specs.Sizes.{storage_lines};
 ghost use Rattle.z_regs.specs.Prefix.{storage_size};
 ghost use Rattle.tx_progress.specs.Progress.{seen_through};
 ghost use Rattle.tx_cpu.specs.Parts.{local_of};
 ghost use Rattle.tx_lending.specs.Away.{GoAway, ran};
 ghost use Rattle.tx_lending.specs.Stranger.{GoesOnLike, SeeAlike};
-ghost use Rattle.tx_marks.specs.Own.{given, is_touched};
+ghost use Rattle.tx_marks.specs.Own.{given, is_touched, line_bytes};
 ghost use Rattle.tx_marks.specs.Traces.{below, is_paged};
 ghost use Rattle.tx_run.specs.Made.{AgreeOnPages};
 ghost use Rattle.tx_marks.specs.Marks.{mode_in};
@@ -14,11 +14,23 @@ ghost use Rattle.tx_lines.specs.Lent.{HasLines};
 ghost use Rattle.tx_lines.specs.Owned.{holders_in, storage_in, with_lines};
 
 use crate::lines::Lines;
+use crate::windows::bring_in;
+use std::marker::Brand;
 use tx_cpu::Cpu;
 use tx_meaning::Need;
 use tx_run::{Difference, Run};
 
 impl Lines {
+    /// The bytes of a line.
+    fn line_at(&self, line: u32) -> &[u8]
+        requires { line < storage_lines }
+        ensures size { length result.now ≡ 256 }
+        ensures bytes { (a : ℕ) → a / 256 ≡ line → line_bytes result.now a ≡ storage_in self.now a }
+    {
+        let _size = self.lines.size();
+        self.lines.line_at(line)
+    }
+
     /// Gives a run that has no line yet all lines that the CPU holds, in their modes, with their bytes; those of text pages stay
     /// the image's. The run has made no step.
     pub fn lend(&self, cpu: u32, run: &mut Run)
@@ -27,11 +39,10 @@ impl Lines {
         requires empty { (line : ℕ) → mode_in run.old.held line ≡ None }
         ensures { HasLines (holders_in self.now cpu) (storage_in self.now) run.old run.new }
     {
-        let _size = self.storage.as_slice();
         let mut from = 0;
-        while let Some(line) = self.table.next_line(cpu, from) {
-            if let Some(mode) = self.table.mode_of(cpu, line) {
-                run.hold(Need { line, mode }, &self.storage);
+        while let Some(line) = self.lines.next_line(cpu, from) {
+            if let Some(mode) = self.lines.mode_of(cpu, line) {
+                run.hold(Need { line, mode }, self.line_at(line));
             }
             from = line + 1;
         }
@@ -54,8 +65,8 @@ impl Lines {
             (local_of run.now.made.start).attempt.overlay (given run.now.made.own)
             (local_of cpu.now).attempt.overlay (storage_in self.now) }
     {
-        let _size = self.storage.as_slice();
-        run.first_difference(cpu, &self.storage)
+        let _size = self.lines.size();
+        run.first_difference(cpu, &self.lines)
     }
 
     /// Gives what the steps of a run have made to a CPU and to storage. The CPU goes on like the one that was lent, and sees the
@@ -74,7 +85,6 @@ impl Lines {
         ensures cpus { self.new.cpus ≡ self.old.cpus }
         ensures held { holders_in self.new ≡ holders_in self.old }
     {
-        let _size = self.storage.as_slice();
-        run.give(into, &mut self.storage);
+        bring_in::<Brand>(&mut self.lines, run, into);
     }
 }

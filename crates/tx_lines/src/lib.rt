@@ -5,5 +5,6 @@
 pub mod laws;
 pub mod lending;
 pub mod lines;
+mod windows;
 
 pub use lines::{Lines, NoMemory};

@@ -16,25 +16,27 @@ ghost use Rattle.tx_lines.specs.Owned.{Owned, holders_in, with_lines};
 ghost use Rattle.tx_lines.specs.Spare.{is_unused, lowest_spare, granted};
 ghost use Rattle.tx_lines.specs.Next.{next_against, stands_against};
 
-use line_table::{LineTable, MOST_HELD, Mode};
+use crate::windows::{abort_in, execute_in, store_block_in, take_in};
+use line_copies::{CoherentLines, Handback};
+use line_table::{MOST_HELD, Mode};
 use std::alloc::Global;
-use std::marker::Model;
+use std::marker::{Brand, Model};
 use tx_control::Why;
 use tx_cpu::{Cpu, Done};
 use tx_footprint::Footprint;
 use tx_meaning::Need;
 use z_instr::instr::Instr;
-use z_regs::{Storage, Touches};
+use z_regs::Touches;
 
 /// There was no memory.
 #[derive(Clone, Copy, Debug, PartialEq, Eq)]
 pub struct NoMemory;
 
-/// The bytes of storage, and which CPU holds which of its lines.
+/// The bytes of storage, which CPU holds which of its lines, and the copies that CPUs have of those. The bytes are
+/// as they are seen, the copies that are held exclusively laid over storage.
 #[derive(Drop)]
 pub struct Lines {
-    pub(crate) storage: Storage,
-    pub(crate) table: LineTable,
+    pub(crate) lines: CoherentLines,
 }
 
 impl Model for Lines {
@@ -43,9 +45,9 @@ impl Model for Lines {
 
     ghost Value = { Owned };
 
-    ghost view = { λ l. record { bytes = l.storage; cpus = l.table.cpus; modes = l.table.modes } };
+    ghost view = { λ l. record { bytes = l.lines.bytes; cpus = l.lines.cpus; modes = l.lines.modes } };
 
-    ghost invariant = { λ l. l.table.cpus ≤ 16 };
+    ghost invariant = { λ l. l.lines.cpus ≤ 16 };
 }
 
 impl Lines {
@@ -58,13 +60,10 @@ impl Lines {
         ensures cpus { IfOk result (λ lines. lines.cpus ≡ cpus) }
         ensures nobody { IfOk result (λ lines. holders_in lines ≡ nobody) }
     {
-        let Ok(storage) = Storage::open(alloc, bytes) else {
+        let Ok(lines) = CoherentLines::open(alloc, bytes, cpus) else {
             return Err(NoMemory);
         };
-        let Ok(table) = LineTable::open(alloc, cpus) else {
-            return Err(NoMemory);
-        };
-        Ok(Lines { storage, table })
+        Ok(Lines { lines })
     }
 
     /// The byte at an address.
@@ -72,7 +71,7 @@ impl Lines {
         requires { address < storage_size }
         ensures { result ≡ slice_index self.now.bytes address }
     {
-        self.storage.as_slice()[address as usize]
+        self.lines.byte(address)
     }
 
     /// How the CPU holds the line; None exactly where it does not.
@@ -81,7 +80,7 @@ impl Lines {
         requires line { line < storage_lines }
         ensures { result ≡ holders_in self.now cpu line }
     {
-        self.table.mode_of(cpu, line)
+        self.lines.mode_of(cpu, line)
     }
 
     /// Whether the CPU holds a line as it needs it: in that mode, or exclusively.
@@ -91,7 +90,7 @@ impl Lines {
         ensures value { result ≡ is_there need.mode (holders_in self.now cpu need.line) }
         ensures sound { IsSound (holders_in self.now) }
     {
-        match self.table.mode_of(cpu, need.line) {
+        match self.lines.mode_of(cpu, need.line) {
             None => false,
             Some(Mode::Exclusive) => true,
             Some(Mode::Shared) => matches!(need.mode, Mode::Shared),
@@ -109,8 +108,8 @@ impl Lines {
         ensures held { holders_in self.new ≡ holding (holders_in self.old) holder line (left_to wanted) }
     {
         match wanted {
-            Mode::Shared => self.table.demote(holder, line),
-            Mode::Exclusive => self.table.give_up(holder, line),
+            Mode::Shared => self.lines.demote(holder, line),
+            Mode::Exclusive => self.lines.give_up(holder, line),
         }
     }
 
@@ -123,7 +122,7 @@ impl Lines {
         if other == cpu {
             return false;
         }
-        match self.table.mode_of(other, need.line) {
+        match self.lines.mode_of(other, need.line) {
             None => false,
             Some(Mode::Exclusive) => true,
             Some(Mode::Shared) => matches!(need.mode, Mode::Exclusive),
@@ -138,7 +137,7 @@ impl Lines {
         ensures { result ≡ next_against self.now.cpus (holders_in self.now) cpu need.line need.mode from }
     {
         let mut at = from;
-        while let Some(other) = self.table.next_holder(need.line, at) {
+        while let Some(other) = self.lines.next_holder(need.line, at) {
             if self.stands_against(other, cpu, need) {
                 return Some(other);
             }
@@ -168,7 +167,7 @@ impl Lines {
         ensures held { IfSome result (λ line. is_some (holders_in self.now cpu line) ≡ true) }
     {
         let mut at = 0;
-        while let Some(line) = self.table.next_line(cpu, at) {
+        while let Some(line) = self.lines.next_line(cpu, at) {
             if self.is_free(line, footprint, needed) {
                 return Some(line);
             }
@@ -191,12 +190,12 @@ impl Lines {
         ensures held { holders_in self.new ≡ granted cpu (sets_of footprint.now) needed.now need (holders_in self.old) }
     {
         if self.has_room(cpu, need.line) {
-            self.table.grant(cpu, need.line, need.mode);
+            self.lines.grant(cpu, need.line, need.mode);
             return;
         }
         if let Some(line) = self.spare(cpu, footprint, needed) {
-            self.table.give_up(cpu, line);
-            self.table.grant(cpu, need.line, need.mode);
+            self.lines.give_up(cpu, line);
+            self.lines.grant(cpu, need.line, need.mode);
         }
     }
 
@@ -207,7 +206,7 @@ impl Lines {
         ensures value { result ≡ has_room (holders_in self.now) cpu line }
         ensures sound { IsSound (holders_in self.now) }
     {
-        self.table.mode_of(cpu, line).is_some() || self.table.held(cpu) < MOST_HELD
+        self.lines.mode_of(cpu, line).is_some() || self.lines.held(cpu) < MOST_HELD
     }
 
     /// Executes an instruction that the CPU has found to go, with its operands, and tells what came of it. Where
@@ -222,8 +221,8 @@ impl Lines {
         ensures cpus { self.new.cpus ≡ self.old.cpus }
         ensures held { holders_in self.new ≡ holders_in self.old }
     {
-        let _size = self.storage.as_slice();
-        cpu.execute(instr, need, &mut self.storage)
+        let Handback { value, .. } = execute_in::<Brand>(&mut self.lines, cpu, instr, need);
+        value
     }
 
     /// Aborts the live attempt of a CPU by this cause; `at` is the address that the diagnostic block tells. What
@@ -236,8 +235,8 @@ impl Lines {
         ensures cpus { self.new.cpus ≡ self.old.cpus }
         ensures held { holders_in self.new ≡ holders_in self.old }
     {
-        let _size = self.storage.as_slice();
-        cpu.abort(why, at, &mut self.storage)
+        let Handback { value, .. } = abort_in::<Brand>(&mut self.lines, cpu, why, at);
+        value
     }
 
     /// Stores the block that is pending for a CPU; nothing is pending afterwards.
@@ -246,8 +245,7 @@ impl Lines {
         ensures cpus { self.new.cpus ≡ self.old.cpus }
         ensures held { holders_in self.new ≡ holders_in self.old }
     {
-        let _size = self.storage.as_slice();
-        cpu.store_block(&mut self.storage);
+        store_block_in::<Brand>(&mut self.lines, cpu);
     }
 
     /// A CPU without a live attempt takes the interruption that waits for it.
@@ -257,7 +255,6 @@ impl Lines {
         ensures cpus { self.new.cpus ≡ self.old.cpus }
         ensures held { holders_in self.new ≡ holders_in self.old }
     {
-        let _size = self.storage.as_slice();
-        cpu.take(&mut self.storage);
+        take_in::<Brand>(&mut self.lines, cpu);
     }
 }

@@ -3,7 +3,7 @@ use Rattle.std.proofs.Common.{◌≡◌, ◌≢◌, ℕ, zero, suc, ◌+◌, ◌
 use Rattle.std.proofs.Common.{refl, sym, ap, ◌∙◌, subst, arith, length, replicate}
 use Rattle.std.specs.Prelude.{All, count_by, cond, is_none}
 use Rattle.std.proofs.lemmas.Bool.{false≢true, cases_eq}
-use Rattle.std.proofs.lemmas.List.Elements.{All-append, All-nil, All-replicate}
+use Rattle.std.proofs.lemmas.List.Elements.{All-append, All-nil, All-push, All-replicate}
 use Rattle.std.proofs.lemmas.List.{append-nil}
 use Rattle.std.proofs.lemmas.List.Sums.{sum_by-append}
 use borrow.Enum.Arm.{by_way}
@@ -11,19 +11,26 @@ use Rattle.tx_journal.specs.Image.{cpu_of_event}
 use Rattle.tx_journal.specs.declared.events.Event.{Event}
 use Rattle.tx_journal.specs.declared.events.Event.TheVariants.{Turn}
 use Rattle.tx_meaning.specs.Changes.{counting_turn}
+use Rattle.tx_meaning.specs.Heads.{head_turns}
 use Rattle.tx_meaning.specs.Limits.{Setting}
 use Rattle.tx_meaning.specs.Meaning.{is_external, meaning}
 use Rattle.tx_meaning.specs.State.{Numbers, State, cpus_of}
-use Rattle.tx_meaning.specs.Turn.{happen, turned}
-use Rattle.tx_meaning.specs.Views.{AreKnown, GoesOnWith}
+use Rattle.tx_meaning.specs.Stretches.{counted, is_counted_turn}
+use Rattle.tx_meaning.specs.Turn.{Turned, happen, turned}
+use Rattle.tx_meaning.specs.Views.{AreKnown, GoesOnWith, KeepsViews}
 use Rattle.tx_meaning.specs.declared.outcome.Outcome.TheVariants.{Executed}
 use Rattle.tx_meaning.proofs.Books.{total, total_at_most, one_counted, counts_of, all_externals}
 use Rattle.tx_keeping.specs.Kept.{Kept, kept_beginning}
 use Rattle.tx_keeping.specs.Keeping.{keeping, keeping_from}
 use Rattle.tx_keeping.specs.Told.{turned_of}
 use Rattle.tx_keeping.specs.Turn.{k_happen, k_turned}
-use Rattle.tx_keeping.proofs.Events.{happens_alike, keeping_is, grows_only}
+use Rattle.tx_keeping.proofs.Events.{happens_alike, keeping_is, grows_only, views_kept}
 use Rattle.tx_meaning.proofs.Walk.{at_put_case}
+use Rattle.tx_bounds.proofs.Heads.{heads_in_all}
+use Rattle.tx_opacity.specs.Opacity.{SeesOneRun}
+use Rattle.tx_opacity.proofs.Opaque.{opaque}
+use Rattle.tx_headline.specs.Queue.{QueueChanges}
+use Rattle.tx_headline.proofs.Queue.{queue_changes}
 use Rattle.tx_works.specs.Works.{Works, Seat, IsSameSize, kept_by, numbers_of}
 use Rattle.tx_home.specs.Taken.{HasRoomFor}
 use Rattle.tx_home.specs.declared.place.Unlike.{Unlike}
@@ -157,6 +164,33 @@ module _ (m : Setting) (w : Works) (remaining : ℕ) (s : Stands m w remaining) 
       ∙ ap turned_of each
       ∙ ap (λ (t : Kept). turned t.state Executed) (sym (more (suc j)))
       ∙ ap (λ (t : State). turned t Executed) (sym (keeping_is m s.setting (w.events ++ turns (suc j)) (known (suc j))))
+
+  -- no live attempt sees a mixed state by one that is executed
+  pub views_home : (j : ℕ) → happen m (Turn i) (meaning m (w.events ++ turns j))
+      ≡ turned (meaning m (w.events ++ turns (suc j))) Executed
+      → KeepsViews m (meaning m (w.events ++ turns j)) (meaning m (w.events ++ turns (suc j)))
+  views_home j is =
+      subst (λ (t : Turned). KeepsViews m (meaning m (w.events ++ turns j)) t.state) is
+      (views_kept m s.setting (w.events ++ turns j) (Turn i) (known j) within)
+
+  -- and what one has seen is one private run
+  pub opaque_home : (j : ℕ) → happen m (Turn i) (meaning m (w.events ++ turns j))
+      ≡ turned (meaning m (w.events ++ turns (suc j))) Executed
+      → SeesOneRun m (meaning m (w.events ++ turns j)) (meaning m (w.events ++ turns (suc j)))
+  opaque_home j is =
+      subst (λ (t : Turned). SeesOneRun m (meaning m (w.events ++ turns j)) t.state) is
+      (opaque m s.setting (w.events ++ turns j) (Turn i) (known j) within)
+
+  -- the head of the stop queue has few turns
+  pub head_home : (j head : ℕ) → head_turns m (w.events ++ turns j) head
+      + counted (is_counted_turn m (meaning m (w.events ++ turns j)) (Turn i) head) ≤ 34
+  head_home j head = heads_in_all m s.setting head (w.events ++ turns j) (Turn i) (known j)
+
+  -- the stop queue changes for its reasons alone
+  pub reasons_home : (j : ℕ) → QueueChanges m (meaning m (w.events ++ turns j)) (Turn i)
+  reasons_home j =
+      queue_changes m s.setting (w.events ++ turns j) (Turn i)
+      (All-push (λ e. cpu_of_event e < cpus_of m) (w.events ++ turns j) (Turn i) (known j) within)
 
   pub grows_home : (later : Works) → later.events ≡ w.events ++ turns k
       → GoesOnWith (meaning m w.events).history (meaning m later.events).history

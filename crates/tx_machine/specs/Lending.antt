@@ -58,6 +58,10 @@ abbrev pub reject_by : Home → Option Reject → Option Reject
 reject_by (home.Taken k) reject = if nat_eq k 0 then reject else None
 reject_by (home.Discarded place kept given) reject = reject
 
+-- behind so many turns more of a CPU, as far as they go
+abbrev pub with_turns : ℕ → ℕ → Seen → Seen
+with_turns j i s = record s { events = s.events ++ replicate j (Turn i) }
+
 -- a taken run is so many turns of its CPU; no run of that CPU is away any more
 abbrev pub home_by : Home → ℕ → Seen → Seen
 home_by (home.Taken k) i s = record s {

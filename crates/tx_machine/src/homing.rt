@@ -1,5 +1,6 @@
 //! Runs that come home to the machine.
 ghost use Rattle.std.specs.Prelude.{◌≡◌, ◌≢◌, ℕ, suc, ◌<◌, ◌≤◌, ◌+◌, ◌*◌, ◌++◌, true, None, length, replicate};
+ghost use Rattle.std.specs.Prelude.{◌⊎◌, []};
 ghost use Rattle.std.specs.FinSet.{items};
 ghost use Rattle.tx_journal.specs.declared.events.Event.TheVariants.{Turn};
 ghost use Rattle.tx_serial.specs.History.{IsLegal};
@@ -7,16 +8,19 @@ ghost use Rattle.tx_meaning.specs.Hits.{hits};
 ghost use Rattle.tx_meaning.specs.Heads.{head_turns};
 ghost use Rattle.tx_meaning.specs.Limits.{Setting};
 ghost use Rattle.tx_meaning.specs.Meaning.{meaning};
+ghost use Rattle.tx_meaning.specs.State.{is_head};
 ghost use Rattle.tx_meaning.specs.Stretches.{stretch_of, left, bound, attempt_turns};
+ghost use Rattle.tx_meaning.specs.Stretches.{counted, is_counted_turn};
 ghost use Rattle.tx_meaning.specs.Turn.{happen, turned};
 ghost use Rattle.tx_meaning.specs.Views.{GoesOnWith, KeepsViews, HoldsTouched};
 ghost use Rattle.tx_meaning.specs.declared.outcome.Outcome.TheVariants.{Executed};
 ghost use Rattle.tx_keeping.specs.Keeping.{keeping};
 ghost use Rattle.tx_ladder.specs.Waiting.{waits_in};
-ghost use Rattle.tx_headline.specs.Queue.{others_before};
+ghost use Rattle.tx_headline.specs.Queue.{QueueChanges, others_before};
+ghost use Rattle.tx_opacity.specs.Opacity.{SeesOneRun};
 ghost use Rattle.tx_home.specs.Places.{IsFirstUnlike};
-ghost use Rattle.tx_machine.specs.Lending.{home_by, kept_of, reject_by, unlike_in};
-ghost use Rattle.tx_machine.specs.Machine.{Stands, setting_of, state_of};
+ghost use Rattle.tx_machine.specs.Lending.{home_by, kept_of, reject_by, unlike_in, with_turns};
+ghost use Rattle.tx_machine.specs.Machine.{Stands, setting_of, state_of, event_of};
 ghost use Rattle.tx_machine.specs.declared.lending.Home.TheVariants.{Taken};
 
 use crate::lending::Home;
@@ -81,15 +85,31 @@ impl Machine {
     /// so many turns of its CPU, each of them executed, with no reject. In both cases no run of that CPU is away any more; it
     /// is this one that the CPU is lent by next. It takes no memory.
     ///
-    /// What holds behind every event holds behind it as well.
+    /// What holds of every event holds of each of these turns, none of which is rejected, whether its CPU is the head of the
+    /// stop queue or not; and what holds behind every event holds behind the last.
     pub fn home(&mut self, run: Run) -> Home
         requires { run.cpu < length self.old.image.cpus }
         ensures first { IsFirstUnlike (items self.old.image.guard) self.old.limits run (kept_of self.old) (unlike_in result) }
         ensures taken { unlike_in result ≡ None → result ≡ Taken run.made.steps }
         ensures machine { self.new ≡ home_by result run.cpu self.old }
-        ensures executed { (j : ℕ) → let m = setting_of self.old in unlike_in result ≡ None → j < run.made.steps
-            → happen m (Turn run.cpu) (meaning m (self.old.events ++ replicate j (Turn run.cpu)))
-            ≡ turned (meaning m (self.old.events ++ replicate (suc j) (Turn run.cpu))) Executed }
+        ensures executed { (j : ℕ) → unlike_in result ≡ None → j < run.made.steps
+            → event_of (with_turns j run.cpu self.old) (Turn run.cpu)
+            ≡ turned (state_of (with_turns (suc j) run.cpu self.old)) Executed }
+        ensures views { (j : ℕ) → unlike_in result ≡ None → j < run.made.steps → KeepsViews (setting_of self.old)
+            (state_of (with_turns j run.cpu self.old)) (state_of (with_turns (suc j) run.cpu self.old)) }
+        ensures opaque { (j : ℕ) → unlike_in result ≡ None → j < run.made.steps → SeesOneRun (setting_of self.old)
+            (state_of (with_turns j run.cpu self.old)) (state_of (with_turns (suc j) run.cpu self.old)) }
+        ensures head { (j i : ℕ) → let before = with_turns j run.cpu self.old in unlike_in result ≡ None → j < run.made.steps
+            → head_turns (setting_of self.old) before.events i
+            + counted (is_counted_turn (setting_of self.old) (state_of before) (Turn run.cpu) i) ≤ 34 }
+        ensures unrejected { (j : ℕ) → unlike_in result ≡ None → j < run.made.steps
+            → (event_of (with_turns j run.cpu self.old) (Turn run.cpu)).reject ≡ None }
+        ensures reasons { (j : ℕ) → unlike_in result ≡ None → j < run.made.steps
+            → QueueChanges (setting_of self.old) (state_of (with_turns j run.cpu self.old)) (Turn run.cpu) }
+        ensures head_alone { (j i : ℕ) → let before = state_of (with_turns j run.cpu self.old) in
+            unlike_in result ≡ None → j < run.made.steps
+            → is_counted_turn (setting_of self.old) before (Turn run.cpu) i ≡ true
+            → (before.queue ≡ []) ⊎ (is_head before i ≡ true) }
         ensures legal { IsLegal self.new.image (state_of self.new).history }
         ensures grows { GoesOnWith (state_of self.old).history (state_of self.new).history }
         ensures held { HoldsTouched (setting_of self.new) (state_of self.new) }

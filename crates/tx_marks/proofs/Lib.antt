@@ -3,3 +3,4 @@ pub mod BytesTouched
 pub mod MarksNeeded
 pub mod MarksSmall
 pub mod MarksEach
+pub mod RunsPlaced

@@ -1,5 +1,5 @@
 -- The bytes of a run: storage as it has made it, and of each byte that it has touched the one before.
-use Rattle.std.specs.Prelude.{ℕ, Bool, false, List, get_or}
+use Rattle.std.specs.Prelude.{ℕ, ◌%◌, Bool, false, List, get_or}
 use Rattle.std.specs.List.{slice_index_or}
 use Rattle.tx_serial.specs.Flat.{Storage}
 use Rattle.tx_lending.specs.Places.{over}
@@ -19,3 +19,7 @@ is_touched o a = slice_index_or o.touched a false
 -- each byte as it was before it was touched first
 abbrev pub given : Own → Storage
 given o = over (is_touched o) (bytes_at o.before) (bytes_at o.now)
+
+-- the bytes of one line, at the places of that line
+abbrev pub line_bytes : List ℕ → Storage
+line_bytes line a = get_or line (a % 256) 0

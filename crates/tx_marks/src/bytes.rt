@@ -5,15 +5,16 @@ ghost use Rattle.std.specs.List.{flat_map, slice_index_or};
 ghost use Rattle.z_regs.specs.Prefix.{storage_size, is_prefix};
 ghost use Rattle.line_table.specs.Sizes.{storage_lines};
 ghost use Rattle.tx_lending.specs.Places.{is_among, places_from};
-ghost use Rattle.tx_marks.specs.Own.{bytes_at, is_touched, given};
+ghost use Rattle.tx_marks.specs.Own.{bytes_at, is_touched, given, line_bytes};
 
+use crate::placing::stay;
 use bit_set::BitSet;
 use std::alloc::Global;
 use std::marker::Model;
 use z_regs::{Bytes, NoMemory, STORAGE_SIZE, Storage, Touches, place_of};
 
 /// The bytes of a line.
-const LINE_SIZE: u64 = 256;
+const LINE_SIZE: usize = 256;
 
 /// The bytes of a run, and which of them it has touched, each of these with its value before.
 #[derive(Drop)]
@@ -66,21 +67,6 @@ fn lay(now: &mut Storage, before: &Storage, places: &BitSet)
     while let Some(at) = places.next(from, STORAGE_SIZE as usize) {
         now.put(at as u64, bytes[at]);
         from = at + 1;
-    }
-}
-
-/// The bytes from a place on and below another one are those of other storage.
-fn copy_bytes<V: Bytes>(now: &mut Storage, first: u64, end: u64, from: &V)
-    requires order { first ≤ end }
-    requires inside { end ≤ storage_size }
-    requires size { length (V.bytes from.now) ≡ storage_size }
-    ensures there { (a : ℕ) → first ≤ a → a < end → bytes_at now.new a ≡ bytes_at (V.bytes from.now) a }
-    ensures below { (a : ℕ) → a < first → bytes_at now.new a ≡ bytes_at now.old a }
-    ensures above { (a : ℕ) → end ≤ a → bytes_at now.new a ≡ bytes_at now.old a }
-{
-    let _size = now.as_slice();
-    for at in first..end {
-        now.put(at, from.get(at));
     }
 }
 
@@ -162,6 +148,17 @@ impl OwnBytes {
         self.touched.insert(at);
     }
 
+    /// Whether it is seen at one look that so many bytes from a real address on are touched, for a CPU with this prefix.
+    fn are_touched(&self, prefix: Option<u32>, first: u64, length: u32) -> bool
+        requires prefix_in { IsTrue (is_prefix prefix) }
+        requires inside { first + length ≤ storage_size }
+        ensures { result ≡ true → (a : ℕ) → is_among (places_from prefix first length) a ≡ true
+            → is_touched self.entry.now a ≡ true }
+    {
+        let end = first + u64::from(length);
+        stay(prefix, first, length) && self.touched.has_run(first as usize, end as usize)
+    }
+
     /// Marks so many bytes from a real address on as touched, for a CPU with this prefix.
     pub fn touch_places(&mut self, prefix: Option<u32>, first: u64, length: u32)
         requires prefix_in { IsTrue (is_prefix prefix) }
@@ -171,6 +168,9 @@ impl OwnBytes {
         ensures touched { (a : ℕ) → is_touched self.new a
             ≡ (is_touched self.old a || is_among (places_from prefix first length) a) }
     {
+        if self.are_touched(prefix, first, length) {
+            return;
+        }
         for k in 0..length {
             self.touch(place_of(prefix, first + u64::from(k)));
         }
@@ -191,16 +191,16 @@ impl OwnBytes {
         }
     }
 
-    /// The bytes of a line are those of other storage. None is touched yet.
-    pub fn copy_line<V: Bytes>(&mut self, line: u32, from: &V)
+    /// The bytes of a line are these. None is touched yet.
+    pub fn copy_line(&mut self, line: u32, bytes: &[u8])
         requires line { line < storage_lines }
-        requires size { length (V.bytes from.now) ≡ storage_size }
+        requires size { length bytes.now ≡ 256 }
         ensures now { (a : ℕ) → bytes_at self.new.now a ≡
-            (if nat_eq (a / 256) line then bytes_at (V.bytes from.now) a else bytes_at self.old.now a) }
+            (if nat_eq (a / 256) line then line_bytes bytes.now a else bytes_at self.old.now a) }
         ensures touched { self.new.touched ≡ self.old.touched }
     {
-        let first = u64::from(line) * LINE_SIZE;
-        copy_bytes(&mut self.now, first, first + LINE_SIZE, from);
+        let _size = self.now.as_slice();
+        self.now.lay(line as usize * LINE_SIZE, bytes);
     }
 
     /// Every touched byte is again as it was before, and none is touched any more.

@@ -4,6 +4,7 @@
 
 mod bytes;
 mod marks;
+mod placing;
 mod traces;
 
 pub use bytes::{OwnBytes, OwnRoom};

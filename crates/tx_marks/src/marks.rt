@@ -1,5 +1,5 @@
 //! Lines, each with a mode or without.
-ghost use Rattle.std.specs.Prelude.{◌≡◌, ℕ, ◌+◌, ◌<◌, ◌≤◌, All, IfOk, IfSome, Some, None};
+ghost use Rattle.std.specs.Prelude.{◌≡◌, ℕ, ◌+◌, ◌<◌, ◌≤◌, [], ◌∷◌, All, IfOk, IfSome, Some, None};
 ghost use Rattle.z_regs.specs.Prefix.{storage_size};
 ghost use Rattle.line_table.specs.Sizes.{storage_lines};
 ghost use Rattle.tx_meaning.specs.Asking.{is_there};
@@ -14,6 +14,9 @@ use std::marker::Model;
 use tx_meaning::Need;
 use tx_needs::{lines_needed, need_for};
 use z_regs::{NoMemory, Touches};
+
+/// The bytes of a line.
+const LINE_SIZE: u64 = 256;
 
 /// Which lines of storage have a mode, and which one: a run's own lines.
 #[derive(Drop)]
@@ -30,6 +33,33 @@ impl Model for LineMarks {
     ghost view = { λ m. record { any = m.any; exclusive = m.exclusive } };
 
     ghost invariant = { λ m. AreKept m.any m.exclusive };
+}
+
+/// How the only line of ranges is needed, where they are one range by absolute addresses that lies in a line.
+fn one_need(ranges: &Touches) -> Option<Need>
+    requires { All (λ r. r.first + r.length ≤ storage_size) ranges.now }
+    ensures need { IfSome result (λ need. needs_of ranges.now ≡ need ∷ []) }
+    ensures line { IfSome result (λ need. need.line < storage_lines) }
+{
+    if ranges.count() != 1 {
+        return None;
+    }
+    let range = ranges.at(0);
+    if range.length == 0 {
+        return None;
+    }
+    if range.first % LINE_SIZE + u64::from(range.length) > LINE_SIZE {
+        return None;
+    }
+    let mode = if range.store {
+        Mode::Exclusive
+    } else {
+        Mode::Shared
+    };
+    Some(Need {
+        line: (range.first / LINE_SIZE) as u32,
+        mode,
+    })
 }
 
 impl LineMarks {
@@ -97,6 +127,18 @@ impl LineMarks {
         requires in_storage { All (λ r. r.first + r.length ≤ storage_size) ranges.now }
         ensures { (line : ℕ) → mode_in self.new line ≡ with_needs (needs_of ranges.now) (mode_in self.old) line }
     {
+        match one_need(ranges) {
+            Some(need) => self.add(need),
+            None => self.add_each(ranges),
+        }
+    }
+
+    /// The same, line by line.
+    fn add_each(&mut self, ranges: &Touches)
+        requires small { All (λ r. r.length ≤ 256) ranges.now }
+        requires in_storage { All (λ r. r.first + r.length ≤ storage_size) ranges.now }
+        ensures { (line : ℕ) → mode_in self.new line ≡ with_needs (needs_of ranges.now) (mode_in self.old) line }
+    {
         let needed = lines_needed(ranges);
         let lines = needed.as_slice();
         for line in lines {
@@ -106,6 +148,29 @@ impl LineMarks {
 
     /// The lowest line that such ranges need and that is not there as they need it; None exactly where all are.
     pub fn missing(&self, ranges: &Touches) -> Option<u32>
+        requires small { All (λ r. r.length ≤ 256) ranges.now }
+        requires in_storage { All (λ r. r.first + r.length ≤ storage_size) ranges.now }
+        ensures { result ≡ first_missing (needs_of ranges.now) (mode_in self.now) }
+    {
+        match one_need(ranges) {
+            Some(need) => self.missing_one(need),
+            None => self.missing_of(ranges),
+        }
+    }
+
+    /// The line that is needed, where it is not there so.
+    fn missing_one(&self, need: Need) -> Option<u32>
+        requires { need.line < storage_lines }
+        ensures { result ≡ first_missing (need ∷ []) (mode_in self.now) }
+    {
+        if self.is_there(need) {
+            return None;
+        }
+        Some(need.line)
+    }
+
+    /// The lowest line that ranges need and that is not there as they need it, looked for line by line.
+    fn missing_of(&self, ranges: &Touches) -> Option<u32>
         requires small { All (λ r. r.length ≤ 256) ranges.now }
         requires in_storage { All (λ r. r.first + r.length ≤ storage_size) ranges.now }
         ensures { result ≡ first_missing (needs_of ranges.now) (mode_in self.now) }

@@ -8,6 +8,7 @@ ghost use Rattle.tx_lending.specs.Places.{is_among, places_from};
 ghost use Rattle.tx_marks.specs.Traces.{is_stored, is_paged, lies_on, has_page};
 
 use crate::bytes::{clear_set, open_set};
+use crate::placing::stay;
 use bit_set::BitSet;
 use std::alloc::Global;
 use std::marker::Model;
@@ -83,6 +84,17 @@ impl Traces {
         ensures pages { (page : ℕ) → is_paged self.new page
             ≡ (is_paged self.old page || has_page (places_from prefix first length) page) }
     {
+        if length == 0 {
+            return;
+        }
+        if stay(prefix, first, length) {
+            let last = first + u64::from(length) - 1;
+            self.pages.insert_run(
+                (first / PAGE_SIZE) as usize,
+                (last / PAGE_SIZE) as usize + 1,
+            );
+            return;
+        }
         for k in 0..length {
             self.mark_page(place_of(prefix, first + u64::from(k)));
         }
@@ -96,6 +108,11 @@ impl Traces {
             ≡ (is_stored self.old a || is_among (places_from prefix first length) a) }
         ensures pages { self.new.pages ≡ self.old.pages }
     {
+        if stay(prefix, first, length) {
+            let end = first + u64::from(length);
+            self.stored.insert_run(first as usize, end as usize);
+            return;
+        }
         for k in 0..length {
             self.mark_store(place_of(prefix, first + u64::from(k)));
         }

@@ -4,6 +4,7 @@
 
 mod calls;
 mod gate;
+mod paces;
 mod racing;
 mod workers;
 

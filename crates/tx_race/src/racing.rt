@@ -3,9 +3,8 @@ ghost use Rattle.std.specs.Prelude.{◌≡◌, ◌+◌, ◌≤◌, [], length, v
 ghost use Rattle.tx_board.specs.Shares.{IsOfSameRun, HasTurnsAlone, shares_for};
 ghost use Rattle.tx_schedule.specs.Ran.{HasNoneReady};
 
-use crate::calls::Calls;
 use crate::gate::Gate;
-use crate::workers::{Job, jobs_of, work};
+use crate::workers::{Job, Signals, jobs_of, work};
 use std::alloc::Global;
 use std::marker::Brand;
 use std::sync::ledger::Ledger;
@@ -13,7 +12,7 @@ use std::sync::{Mutex, Wait, ledger};
 use std::thread;
 use std::thread::Threads;
 use tx_board::{Blank, Board, Raced, Share, cpu_count, finish_round, is_of_run, run_again};
-use tx_machine::{Machine, NoMemory};
+use tx_machine::{Lend, Machine, NoMemory};
 use tx_meaning::Limits;
 
 /// The most lockings of a worker.
@@ -27,7 +26,7 @@ fn work_all<L: Ledger + Send + Sync, R: Threads + Wait + Sync, G: Gate>(
     rt: &R,
     board: Board<L>,
     jobs: Vec<Job<L>>,
-    calls: &Calls,
+    signals: &Signals,
     gate: &G,
     lockings: u64,
 ) -> Option<(Board<L>, Vec<Share<L>>)>
@@ -38,11 +37,32 @@ fn work_all<L: Ledger + Send + Sync, R: Threads + Wait + Sync, G: Gate>(
     let done = thread::map_vec(
         rt,
         jobs,
-        &|job: Job<L>| work(rt, shared, calls, gate, job, lockings),
+        &|job: Job<L>| work(rt, shared, signals, gate, job, lockings),
     );
     match done {
         Ok(shares) => Some((board.into_inner(), shares)),
         Err(_) => None,
+    }
+}
+
+/// Sees to it that the first run of each CPU is made before the workers start, since that writes megabytes: the CPUs are lent,
+/// and come home without steps.
+fn make_runs<L: Ledger>(board: &mut Board<L>, share: &mut Share<L>) {
+    for cpu in 0..cpu_count(board.machine()) {
+        make_run(board, share, cpu);
+    }
+}
+
+/// The same of one CPU, where the machine that is found has it.
+fn make_run<L: Ledger>(board: &mut Board<L>, share: &mut Share<L>, cpu: u32) {
+    if cpu >= cpu_count(board.machine()) {
+        return;
+    }
+    let Lend::Run(run) = board.lend(cpu) else {
+        return;
+    };
+    if run.cpu() < cpu_count(board.machine()) {
+        board.home(share, run);
     }
 }
 
@@ -66,15 +86,17 @@ fn race_on<L: Ledger + Send + Sync, R: Threads + Wait + Sync, G: Gate>(
     let image = machine.shared_image()?;
     let limits = machine.limits();
     let lockings = lockings_of(limits);
-    let calls = Calls::open(alloc, image.cpu_count())?;
+    let signals = Signals::open(alloc, image.cpu_count())?;
     let (board, shares) = Board::open(alloc, machine, Blank::<L>::new(blank))?;
+    let mut board = board;
     let mut shares = shares;
     let mut last = shares.pop().unwrap();
+    make_runs(&mut board, &mut last);
     let Ok(jobs) = jobs_of(alloc, shares) else {
         drop(board);
         return Err(NoMemory);
     };
-    let Some((mut board, mut shares)) = work_all(rt, board, jobs, &calls, gate, lockings) else {
+    let Some((mut board, mut shares)) = work_all(rt, board, jobs, &signals, gate, lockings) else {
         return Err(NoMemory);
     };
     if !is_of_run(board.machine(), &image, limits) {
@@ -99,9 +121,10 @@ fn has_turns_alone(raced: &Raced)
 
 /// Lets the CPUs of a machine race until none is ready. Each CPU's turns are made by a worker, under one lock, in
 /// a thread of its own; where none can be made, the thread that calls does its work. A worker has its CPU lent, makes the
-/// turns that it may make away from the machine without the lock, and brings them home; between two such runs its CPU has
-/// turns under the lock, ever more of them. It passes the gate while its CPU is lent, and behind a turn, and ends when its CPU is finished or spent, or
-/// after a number of lockings that the limits bound. Behind them the thread that calls gives the rest of the turns in the round.
+/// turns that it may make away from the machine without the lock, and brings them home; behind a run of few steps its CPU
+/// has turns under the lock first. A worker whose CPU is far ahead of another lets others run, but not for ever. It passes
+/// the gate while its CPU is lent, and behind a turn under the lock, and ends when its CPU is finished or spent, or after a
+/// number of lockings that the limits bound. Behind them the thread that calls gives the rest of the turns in the round.
 ///
 /// The machine that comes back has the same image and the same limits, as many recorded events as the workers and
 /// the thread that called have made, and turns alone among them; no CPU of it is ready. `homed` of them were brought home. Where the workers left a

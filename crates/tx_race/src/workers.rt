@@ -3,6 +3,7 @@ ghost use Rattle.std.specs.Prelude.{◌≡◌, ◌≤◌, IfOk, vec_len};
 
 use crate::calls::Calls;
 use crate::gate::Gate;
+use crate::paces::Paces;
 use std::alloc::Global;
 use std::sync::ledger::Ledger;
 use std::sync::{Mutex, Wait};
@@ -14,8 +15,35 @@ use tx_run::{Run, RunStep};
 /// The most steps of a run.
 const MOST_STEPS: u32 = 64;
 
+/// A run of at least so many steps is worth its two lockings: behind it the CPU is lent again at once.
+const WORTHWHILE_STEPS: u32 = 16;
+
 /// The most turns that a worker makes under the lock between two runs.
 const MOST_TURNS_BETWEEN: u32 = 4096;
+
+/// Behind so many lockings a worker looks whether its CPU is far ahead of others.
+const LOCKINGS_BETWEEN: u64 = 16;
+
+/// How often a worker at most lets others run, one time after the other, since its CPU is far ahead of theirs.
+const PATIENCE: u32 = 10_000;
+
+/// What the workers of a race share beside the board.
+#[derive(Drop)]
+pub struct Signals {
+    /// Which runs are called home.
+    pub calls: Calls,
+    /// How far each CPU has come.
+    pub paces: Paces,
+}
+
+impl Signals {
+    /// No run is called, and no CPU has had a turn. The error is want of memory.
+    pub fn open(alloc: Global, cpus: u32) -> Result<Signals, NoMemory> {
+        let calls = Calls::open(alloc, cpus)?;
+        let paces = Paces::open(alloc, cpus)?;
+        Ok(Signals { calls, paces })
+    }
+}
 
 /// What a worker is given: a CPU, and the share in which it counts.
 #[derive(Drop)]
@@ -40,8 +68,8 @@ pub fn jobs_of<L: Ledger>(alloc: Global, shares: Vec<Share<L>>) -> Result<Vec<Jo
     Ok(jobs)
 }
 
-/// What a worker does with the lock when it has it next. Behind a run, and where its CPU is not lent, it makes so many turns
-/// under the lock, twice as many each time: to lend a CPU costs as much as hundreds of turns.
+/// What a worker does with the lock when it has it next. Behind a run of few steps, and where its CPU is not lent, it makes so
+/// many turns under the lock, twice as many each time.
 #[derive(Drop)]
 enum Next {
     /// Its CPU is lent; so many turns come behind.
@@ -108,7 +136,7 @@ fn make_steps(calls: &Calls, run: &mut Run) {
 fn go_away<L: Ledger, R: Wait, G: Gate>(
     rt: &R,
     board: &Mutex<Board<L>>,
-    calls: &Calls,
+    signals: &Signals,
     gate: &G,
     cpu: u32,
     turns: u32,
@@ -118,9 +146,25 @@ fn go_away<L: Ledger, R: Wait, G: Gate>(
         Lend::Run(run) => {
             let mut run = run;
             gate.pass(cpu);
-            make_steps(calls, &mut run);
+            make_steps(&signals.calls, &mut run);
             Some(Next::Home(run, turns))
         }
+    }
+}
+
+/// How many turns a run has brought that has come home so.
+fn turns_in(home: Home) -> u32 {
+    match home {
+        Home::Taken(steps) => steps,
+        Home::Discarded { .. } => 0,
+    }
+}
+
+/// What comes behind a run that has come home so.
+fn behind_run(home: Home, turns: u32) -> Next {
+    match home {
+        Home::Taken(steps) if steps >= WORTHWHILE_STEPS => Next::Lend(1),
+        _ => turns_now(turns),
     }
 }
 
@@ -128,22 +172,23 @@ fn go_away<L: Ledger, R: Wait, G: Gate>(
 fn come_home<L: Ledger, R: Wait>(
     rt: &R,
     board: &Mutex<Board<L>>,
-    calls: &Calls,
+    signals: &Signals,
     share: &mut Share<L>,
     run: Run,
     turns: u32,
 ) -> Option<Next> {
     let cpu = run.cpu();
-    let _home = home_once(rt, board, share, run)?;
-    calls.clear(cpu);
-    Some(turns_now(turns))
+    let home = home_once(rt, board, share, run)?;
+    signals.calls.clear(cpu);
+    signals.paces.add(cpu, turns_in(home));
+    Some(behind_run(home, turns))
 }
 
 /// One turn of the CPU; a CPU that has rejected its request is called home. Whether the worker goes on.
 fn take_turn<L: Ledger, R: Wait, G: Gate>(
     rt: &R,
     board: &Mutex<Board<L>>,
-    calls: &Calls,
+    signals: &Signals,
     gate: &G,
     share: &mut Share<L>,
     cpu: u32,
@@ -151,9 +196,10 @@ fn take_turn<L: Ledger, R: Wait, G: Gate>(
     let Some(outcome) = turn_once(rt, board, share, cpu) else {
         return false;
     };
+    signals.paces.add(cpu, 1);
     gate.pass(cpu);
     if let Outcome::Rejected { by, .. } = outcome {
-        calls.call(by);
+        signals.calls.call(by);
     }
     !matches!(outcome, Outcome::Halted | Outcome::Spent)
 }
@@ -170,17 +216,17 @@ fn behind_turn(left: u32, turns: u32) -> Next {
 fn go_on<L: Ledger, R: Wait, G: Gate>(
     rt: &R,
     board: &Mutex<Board<L>>,
-    calls: &Calls,
+    signals: &Signals,
     gate: &G,
     share: &mut Share<L>,
     cpu: u32,
     next: Next,
 ) -> Option<Next> {
     match next {
-        Next::Lend(turns) => go_away(rt, board, calls, gate, cpu, turns),
-        Next::Home(run, turns) => come_home(rt, board, calls, share, run, turns),
+        Next::Lend(turns) => go_away(rt, board, signals, gate, cpu, turns),
+        Next::Home(run, turns) => come_home(rt, board, signals, share, run, turns),
         Next::Turns(left, turns) => {
-            if !take_turn(rt, board, calls, gate, share, cpu) {
+            if !take_turn(rt, board, signals, gate, share, cpu) {
                 return None;
             }
             Some(behind_turn(left, turns))
@@ -189,22 +235,27 @@ fn go_on<L: Ledger, R: Wait, G: Gate>(
 }
 
 /// Makes turns of the CPU of a job until it is finished or spent, in at most so many lockings: it is lent, its run comes home,
-/// and then it has some turns under the lock before it is lent again. Hands the share back.
+/// and behind a run of few steps it has some turns under the lock before it is lent again. Hands the share back.
 pub fn work<L: Ledger, R: Wait, G: Gate>(
     rt: &R,
     board: &Mutex<Board<L>>,
-    calls: &Calls,
+    signals: &Signals,
     gate: &G,
     job: Job<L>,
     lockings: u64,
 ) -> Share<L> {
     let Job { cpu, mut share } = job;
     let mut next = Some(Next::Lend(1));
-    for _ in 0..lockings {
+    let mut patience = PATIENCE;
+    for at in 0..lockings {
         let Some(now) = next.take() else {
             break;
         };
-        next = go_on(rt, board, calls, gate, &mut share, cpu, now);
+        if at % LOCKINGS_BETWEEN == 0 {
+            patience = signals.paces.wait(cpu, patience);
+        }
+        next = go_on(rt, board, signals, gate, &mut share, cpu, now);
     }
+    signals.paces.end(cpu);
     share
 }

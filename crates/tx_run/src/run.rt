@@ -11,7 +11,7 @@ ghost use Rattle.tx_lending.specs.Stranger.{GoesOnLike, SeeAlike};
 ghost use Rattle.tx_run.specs.Made.{AgreeOnPages, now, StartsAlike};
 ghost use Rattle.z_regs.specs.Prefix.{storage_size};
 ghost use Rattle.line_table.specs.Sizes.{storage_lines};
-ghost use Rattle.tx_marks.specs.Own.{bytes_at, given, is_touched};
+ghost use Rattle.tx_marks.specs.Own.{bytes_at, given, is_touched, line_bytes};
 ghost use Rattle.tx_marks.specs.Traces.{is_paged};
 ghost use Rattle.tx_marks.specs.Marks.{mode_in};
 ghost use Rattle.std.specs.Prelude.{◌≢◌};
@@ -295,15 +295,15 @@ impl Run {
         self.steps.load(from);
     }
 
-    /// Gives it a line, with its bytes in other storage. Bytes of text pages stay those of the image. No step has been made yet.
-    pub fn hold<V: Bytes>(&mut self, need: Need, from: &V)
+    /// Gives it a line, with these bytes, which are 256. Bytes of text pages stay those of the image. No step has been made yet.
+    pub fn hold(&mut self, need: Need, bytes: &[u8])
         requires line { need.line < storage_lines }
-        requires size { length (V.bytes from.now) ≡ storage_size }
+        requires size { length bytes.now ≡ 256 }
         requires none { self.old.made.steps ≡ 0 }
-        ensures { HasOneMore need (bytes_at (V.bytes from.now)) self.old self.new }
+        ensures { HasOneMore need (line_bytes bytes.now) self.old self.new }
     {
         let _allowance = self.allowance;
-        self.steps.take_line(need.line, &self.program, from);
+        self.steps.take_line(need.line, &self.program, bytes);
         self.held.add(need);
     }
 

@@ -1,5 +1,5 @@
 //! The steps of a run: turns of a CPU on storage of its own.
-ghost use Rattle.std.specs.Prelude.{◌≡◌, ℕ, suc, ◌+◌, ◌<◌, ◌≤◌, ◌^◌, ◌||◌, ◌++◌, true, false, None, IsTrue, List, All, length, IfOk, if◌then◌else◌, ◌/◌, nat_eq};
+ghost use Rattle.std.specs.Prelude.{◌≡◌, ℕ, suc, ◌+◌, ◌<◌, ◌≤◌, ◌^◌, ◌||◌, ◌++◌, true, false, None, IsTrue, List, All, length, IfOk, IfSome, if◌then◌else◌, ◌/◌, nat_eq};
 ghost use Rattle.std.specs.List.{list_any};
 ghost use Rattle.line_table.specs.Sizes.{storage_lines};
 ghost use Rattle.std.specs.FinSet.{items};
@@ -17,7 +17,8 @@ ghost use Rattle.z_instr.specs.Roles.{ends_level, is_lasting_store, is_assist};
 ghost use Rattle.tx_lending.specs.Away.{is_plain, is_abort, is_service};
 ghost use Rattle.tx_lending.specs.Places.{is_among, text_places, operand_places, stored_places};
 ghost use Rattle.tx_marks.specs.Traces.{is_stored, is_paged, has_page};
-ghost use Rattle.tx_marks.specs.Own.{given, is_touched, bytes_at};
+ghost use Rattle.tx_marks.specs.Own.{given, is_touched, bytes_at, line_bytes};
+ghost use Rattle.tx_program.specs.Shapes.{touched_by};
 ghost use Rattle.tx_serial.specs.Fate.{Goes};
 ghost use Rattle.tx_lending.specs.Away.{lent_turn};
 ghost use Rattle.tx_run.specs.Lent.{IsLent, is_done, with_line};
@@ -29,7 +30,7 @@ use crate::reason::{Reason, RunStep};
 use std::alloc::Global;
 use std::marker::Model;
 use tx_cpu::laws::the_next_instruction_is_text;
-use tx_cpu::{Cpu, Done, Plan, Program};
+use tx_cpu::{Cpu, Done, Plain, Plan, Program, operands_at};
 use tx_marks::{LineMarks, OwnBytes, OwnRoom, Traces};
 use z_decode::length_of;
 use z_instr::instr::Instr;
@@ -413,6 +414,53 @@ impl Steps {
         RunStep::Leave(Reason::AtHome)
     }
 
+    /// The next instruction, where nothing unusual is the case. It is one of the program's as long as its text pages are those of
+    /// the image.
+    fn plain<'a>(&self, program: &'a Program) -> Option<Plain<'a>>
+        requires { SameText (items program.now.guard) (bytes_at program.now.storage) (bytes_at self.now.own.now) }
+        ensures goes { IfSome result (λ p. next_fate (items program.now.guard) self.now ≡ Goes p.ready.now.instr
+            (touched_by p.ready.now.shape.touch p.first p.ready.now.shape.size)) }
+        ensures area { is_prefix (local_of self.now.reached).attempt.cpu.prefix ≡ true }
+        ensures opens { is_live (local_of self.now.reached).attempt ≡ true
+            → 0 < length (local_of self.now.reached).attempt.nest }
+    {
+        the_next_instruction_is_text();
+        self.reached.is_sound();
+        let _prefix = self.prefix();
+        self.reached.plain(program)
+    }
+
+    /// Makes the next instruction, which goes, where it may be made away, with these lines, and completes.
+    fn step_going(
+        &mut self,
+        instr: &Instr,
+        need: &Touches,
+        program: &Program,
+        held: &LineMarks,
+    ) -> RunStep
+        requires made { IsMade (items program.now.guard) program.now.storage self.old }
+        requires goes { next_fate (items program.now.guard) self.old ≡ Goes instr.now need.now }
+        requires few { self.old.steps < 64 }
+        requires completed { (local_of self.old.start).attempt.count + self.old.steps + 1 < 2 ^ 32 }
+        requires area { is_prefix (local_of self.old.reached).attempt.cpu.prefix ≡ true }
+        requires opens { is_live (local_of self.old.reached).attempt ≡ true
+            → 0 < length (local_of self.old.reached).attempt.nest }
+        ensures answer { result ≡ step_by (mode_in held.now) (next_fate (items program.now.guard) self.old) self.old }
+        ensures made { IsMade (items program.now.guard) program.now.storage self.new }
+        ensures now { now self.new ≡ (if is_done result then lent_turn (items program.now.guard) (now self.old)
+            else now self.old) }
+        ensures steps { self.new.steps ≡ (if is_done result then self.old.steps + 1 else self.old.steps) }
+        ensures start { StartsAlike self.old self.new }
+    {
+        if !is_made_away(instr) {
+            return RunStep::Leave(Reason::AtHome);
+        }
+        if let Some(line) = self.missing(need, held) {
+            return RunStep::Leave(Reason::LineMissing(line));
+        }
+        self.make_or_stay(instr, need, program)
+    }
+
     /// Makes the next instruction, where it may be made away, with these lines, and completes.
     pub(crate) fn step(&mut self, program: &Program, held: &LineMarks) -> RunStep
         requires made { IsMade (items program.now.guard) program.now.storage self.old }
@@ -425,43 +473,42 @@ impl Steps {
         ensures steps { self.new.steps ≡ (if is_done result then self.old.steps + 1 else self.old.steps) }
         ensures start { StartsAlike self.old self.new }
     {
+        if let Some(plain) = self.plain(program) {
+            let ready = plain.ready;
+            let need = operands_at(ready.shape, plain.first);
+            return self.step_going(&ready.instr, &need, program, held);
+        }
         let Plan::Go { instr, need } = self.plan(program) else {
             return RunStep::Leave(Reason::AtHome);
         };
-        if !is_made_away(&instr) {
-            return RunStep::Leave(Reason::AtHome);
-        }
-        if let Some(line) = self.missing(&need, held) {
-            return RunStep::Leave(Reason::LineMissing(line));
-        }
-        self.make_or_stay(&instr, &need, program)
+        self.step_going(&instr, &need, program, held)
     }
 
-    /// The bytes of a line are those of other storage. No step has been made yet, and the line lies in no text page.
-    fn copy_line<V: Bytes>(&mut self, line: u32, from: &V)
+    /// The bytes of a line are these. No step has been made yet, and the line lies in no text page.
+    fn copy_line(&mut self, line: u32, bytes: &[u8])
         requires line { line < storage_lines }
-        requires size { length (V.bytes from.now) ≡ storage_size }
+        requires size { length bytes.now ≡ 256 }
         requires none { self.old.steps ≡ 0 }
         ensures made { (text image : List ℕ) → list_any (nat_eq (line / 16)) text ≡ false → IsMade text image self.old
             → IsMade text image self.new }
         ensures bytes { (a : ℕ) → bytes_at self.new.own.now a ≡
-            (if nat_eq (a / 256) line then bytes_at (V.bytes from.now) a else bytes_at self.old.own.now a) }
+            (if nat_eq (a / 256) line then line_bytes bytes.now a else bytes_at self.old.own.now a) }
         ensures start { self.new.start ≡ self.old.start }
         ensures reached { self.new.reached ≡ self.old.reached }
         ensures steps { self.new.steps ≡ self.old.steps }
     {
-        self.own.copy_line(line, from);
+        self.own.copy_line(line, bytes);
     }
 
-    /// The bytes of a line are those of other storage, unless it lies in a text page. No step has been made yet.
-    pub(crate) fn take_line<V: Bytes>(&mut self, line: u32, program: &Program, from: &V)
+    /// The bytes of a line are these, unless it lies in a text page. No step has been made yet.
+    pub(crate) fn take_line(&mut self, line: u32, program: &Program, bytes: &[u8])
         requires line { line < storage_lines }
-        requires size { length (V.bytes from.now) ≡ storage_size }
+        requires size { length bytes.now ≡ 256 }
         requires none { self.old.steps ≡ 0 }
         requires made { IsMade (items program.now.guard) program.now.storage self.old }
         ensures made { IsMade (items program.now.guard) program.now.storage self.new }
         ensures bytes { (a : ℕ) → bytes_at self.new.own.now a ≡ with_line (items program.now.guard) line
-            (bytes_at (V.bytes from.now)) (bytes_at self.old.own.now) a }
+            (line_bytes bytes.now) (bytes_at self.old.own.now) a }
         ensures start { self.new.start ≡ self.old.start }
         ensures reached { self.new.reached ≡ self.old.reached }
         ensures steps { self.new.steps ≡ self.old.steps }
@@ -469,6 +516,6 @@ impl Steps {
         if program.guard().has(line / LINES_A_PAGE) {
             return;
         }
-        self.copy_line(line, from);
+        self.copy_line(line, bytes);
     }
 }

@@ -5,7 +5,7 @@ ghost use Rattle.z_regs.specs.Written.{range_at, written};
 ghost use Rattle.byteorder.specs.Endian.{big_number, big_bytes};
 
 use crate::Bytes;
-use byteorder::{BigEndian, ByteOrder};
+use crate::number::number_in;
 use std::alloc::Global;
 use std::marker::Model;
 
@@ -55,63 +55,9 @@ impl Storage {
         self.bytes.as_slice()
     }
 
-    /// The number in some bytes from a place on, got one by one.
-    fn number_at(&self, first: usize, count: usize) -> u64
-        requires low { 1 ≤ count }
-        requires high { count ≤ 8 }
-        requires inside { first + count ≤ length self.now }
-        ensures value { result ≡ big_number count (range_at self.now first count) }
-        ensures bytes { big_bytes count result ≡ range_at self.now first count }
-        ensures fits { result < 2 ^ (8 * count) }
-    {
-        let mut item = [0u8; 8];
-        for k in 0..count {
-            item[k] = self.bytes[first + k];
-        }
-        BigEndian::read_uint(&item, count)
-    }
-
-    /// The number in eight bytes.
-    fn doubleword_at(&self, first: usize) -> u64
-        requires { first + 8 ≤ length self.now }
-        ensures { big_bytes 8 result ≡ range_at self.now first 8 }
-    {
-        u64::from_be_bytes([
-            self.bytes[first],
-            self.bytes[first + 1],
-            self.bytes[first + 2],
-            self.bytes[first + 3],
-            self.bytes[first + 4],
-            self.bytes[first + 5],
-            self.bytes[first + 6],
-            self.bytes[first + 7],
-        ])
-    }
-
-    /// The number in four bytes.
-    fn word_at(&self, first: usize) -> u32
-        requires { first + 4 ≤ length self.now }
-        ensures { big_bytes 4 result ≡ range_at self.now first 4 }
-    {
-        u32::from_be_bytes([
-            self.bytes[first],
-            self.bytes[first + 1],
-            self.bytes[first + 2],
-            self.bytes[first + 3],
-        ])
-    }
-
-    /// The number in two bytes.
-    fn halfword_at(&self, first: usize) -> u16
-        requires { first + 2 ≤ length self.now }
-        ensures { big_bytes 2 result ≡ range_at self.now first 2 }
-    {
-        u16::from_be_bytes([self.bytes[first], self.bytes[first + 1]])
-    }
-
     /// Changes the bytes from a place on.
     #[inline(always)]
-    fn lay(&mut self, first: usize, bytes: &[u8])
+    pub fn lay(&mut self, first: usize, bytes: &[u8])
         requires { first + length bytes.now ≤ length self.old }
         ensures { self.new ≡ written self.old first bytes.now }
     {
@@ -131,14 +77,7 @@ impl Bytes for Storage {
     }
 
     fn word(&self, address: u64, count: u8) -> u64 {
-        let first = address as usize;
-        match count {
-            8 => self.doubleword_at(first),
-            4 => u64::from(self.word_at(first)),
-            2 => u64::from(self.halfword_at(first)),
-            1 => u64::from(self.bytes[first]),
-            _ => self.number_at(first, usize::from(count)),
-        }
+        number_in(&self.bytes, address as usize, count)
     }
 
     fn put_word(&mut self, address: u64, count: u8, value: u64) {

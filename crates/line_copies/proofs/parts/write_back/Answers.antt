@@ -22,7 +22,7 @@ returns-in-Some-Exclusive-clause-kept c =
     let is = sym c.in-Some-Exclusive.ensures.value ∙ ap Some c.in-Some-Exclusive.field-0-is in
     let within : c.args.line * line_size + line_size ≤ length storage =
     omega (arith, c.requires.line, c.requires.kept.size) in
-    let stored = c.lay_in_storage.ensures in
+    let stored = c.lay.ensures in
     record {
       size = ap length stored ∙ length-written storage (c.args.line * line_size) copy
           (omega (arith, within, c.copy_of-copy.ensures.size)) ∙ c.requires.kept.size;
@@ -45,7 +45,7 @@ returns-in-Some-Exclusive-clause-bytes c =
     (omega (arith, c.requires.cpu, c.requires.kept.each)) c.index-copies-cpu.is)) ∙
     c.copy_of-copy.ensures.copy in
     let is = sym c.in-Some-Exclusive.ensures.value ∙ ap Some c.in-Some-Exclusive.field-0-is in
-    ap (λ s. seen_bytes s c.args.table.now c.args.copies.now) c.lay_in_storage.ensures
+    ap (λ s. seen_bytes s c.args.table.now c.args.copies.now) c.lay.ensures
     ∙ written_back_seen c.args.table.now.cpus (mode_in c.args.table.now) (copied c.args.copies.now) storage
     c.args.cpu c.args.line copy c.requires.kept.coherent c.requires.cpu is has c.copy_of-copy.ensures.size
     (omega (arith, c.requires.line, c.requires.kept.size))
@@ -60,6 +60,6 @@ returns-in-Some-Exclusive-clause-clean c =
     (omega (arith, c.requires.cpu, c.requires.kept.each)) c.index-copies-cpu.is)) ∙
     c.copy_of-copy.ensures.copy in
     same_Some b copy (sym holds ∙ has)
-    ∙ sym (ap (λ s. line_in s c.args.line) c.lay_in_storage.ensures
+    ∙ sym (ap (λ s. line_in s c.args.line) c.lay.ensures
     ∙ line_whole storage copy c.args.line (omega (arith, c.requires.line, c.requires.kept.size))
     c.copy_of-copy.ensures.size)

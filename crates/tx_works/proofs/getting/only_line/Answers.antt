@@ -4,7 +4,7 @@ use Rattle.z_regs.specs.declared.ranges.Range.{Range}
 use Rattle.tx_footprint.proofs.Ones.{only}
 use Rattle.tx_needs.specs.Needs.{need_at}
 use Rattle.tx_meaning.specs.Needs.{needs_of}
-use Rattle.tx_works.proofs.Plainly.{only-need}
+use Rattle.tx_needs.proofs.OneLine.{only-need}
 use Rattle.tx_works.proofs.getting.only_line.Goals as goal
 
 pub returns : goal.returns

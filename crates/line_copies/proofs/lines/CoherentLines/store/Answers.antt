@@ -80,8 +80,8 @@ back c =
     (sym c.deref_mut.ensures.len ∙ ap length c.deref_mut.ensures.value)
 
 in_all : (c : goal.After-self-in-None-1)
-    → IsKept c.lay_in_storage.new.storage c.self.inside.table c.lay_in_copies.new.copies
-    × (seen_bytes c.lay_in_storage.new.storage c.self.inside.table c.lay_in_copies.new.copies
+    → IsKept c.lay-in-None.new.self c.self.inside.table c.lay_in_copies.new.copies
+    × (seen_bytes c.lay-in-None.new.self c.self.inside.table c.lay_in_copies.new.copies
     ≡ written (seen_bytes c.self.inside.storage c.self.inside.table c.self.inside.copies.items)
     (c.args.address / line_size * line_size + c.args.address % line_size) c.args.bytes.now)
 in_all c =
@@ -90,11 +90,11 @@ in_all c =
     let bytes = c.args.bytes.now in
     let items = c.self.inside.copies.items in
     all_stored c.self.inside.table items c.lay_in_copies.new.copies c.self.inside.storage
-    c.lay_in_storage.new.storage
+    c.lay-in-None.new.self
     bytes line at c.self.invariant (omega (arith, c.requires.inside)) (sym c.in-None.ensures)
     c.requires.one_line
     (c.lay_in_copies.auto.copies ∙ ap length c.deref_mut.ensures.value)
-    (c.lay_in_storage.ensures ∙ ap (λ a. written c.self.inside.storage a bytes) (sym (whole c.args.address)))
+    (c.lay-in-None.ensures ∙ ap (λ a. written c.self.inside.storage a bytes) (sym (whole c.args.address)))
     (λ k low. c.lay_in_copies.ensures k (omega (arith, low, ap length c.deref_mut.ensures.value))
     ∙ ap (λ (i : List Kept). with_copy (copied i k) line (option_map (λ b. laid b at bytes) (copied i k
     line)))
@@ -102,11 +102,11 @@ in_all c =
 
 pub invariant_of-self-in-None : goal.invariant_of-self-in-None
 invariant_of-self-in-None c =
-    subst (IsKept c.lay_in_storage.new.storage c.self.inside.table) (sym (back c)) (in_all c).0
+    subst (IsKept c.lay-in-None.new.self c.self.inside.table) (sym (back c)) (in_all c).0
 
 pub returns-in-None-clause-bytes : goal.returns-in-None-clause-bytes
 returns-in-None-clause-bytes c =
-    ap (seen_bytes c.lay_in_storage.new.storage c.self.inside.table) (back c)
+    ap (seen_bytes c.lay-in-None.new.self c.self.inside.table) (back c)
     ∙ (in_all c).1
     ∙ ap (λ a. written (seen_bytes c.self.inside.storage c.self.inside.table c.self.inside.copies.items) a
     c.args.bytes.now) (whole c.args.address)

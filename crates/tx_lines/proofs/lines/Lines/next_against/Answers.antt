@@ -20,8 +20,8 @@ returns-then-stands_against c =
 
 pub overflow_add-at : goal.overflow_add-at
 overflow_add-at c =
-    let few : c.self.inside.table.cpus ≤ 16 = c.self.invariant in
-    let within : c.in-Some.other < c.self.inside.table.cpus = (c.in-Some.ensures).in_range in
+    let few : c.self.inside.lines.cpus ≤ 16 = c.self.invariant in
+    let within : c.in-Some.other < c.self.inside.lines.cpus = (c.in-Some.ensures).in_range in
     search (rules, few, within)
 
 pub loop-other-preserved : goal.loop-other-preserved

@@ -1,0 +1,120 @@
+//! What a CPU does on lines with copies, each through a window on them, so that no mode changes.
+ghost use Rattle.std.specs.Prelude.{◌≡◌, ℕ, ◌<◌, List, false, true, ◌+◌, ◌^◌};
+ghost use Rattle.line_copies.specs.Seen.{holdings_of};
+ghost use Rattle.tx_progress.specs.Local.{aborted, block_stored, interruption_taken};
+ghost use Rattle.tx_progress.specs.Doing.{executed};
+ghost use Rattle.tx_progress.specs.Progress.{is_live, seen_through};
+ghost use Rattle.tx_cpu.specs.Parts.{local_of, beside};
+ghost use Rattle.tx_cpu.specs.Plans.{HasRoom, HasDoneRoom, IsPrepared};
+ghost use Rattle.tx_lending.specs.Away.{GoAway, ran};
+ghost use Rattle.tx_lending.specs.Stranger.{GoesOnLike, SeeAlike};
+ghost use Rattle.tx_marks.specs.Own.{bytes_at, given, is_touched};
+ghost use Rattle.tx_marks.specs.Traces.{is_paged};
+ghost use Rattle.tx_marks.specs.Marks.{mode_in};
+ghost use Rattle.tx_run.specs.Made.{AgreeOnPages};
+
+use line_copies::{CoherentLines, Handback, Held, Window};
+use tx_control::Why;
+use tx_cpu::{Cpu, Done};
+use tx_run::Run;
+use z_instr::instr::Instr;
+use z_regs::Touches;
+
+/// Executes an instruction that the CPU has found to go.
+#[inline(always)]
+pub(crate) fn execute_in<'a, H: Held>(
+    lines: &'a mut CoherentLines,
+    cpu: &mut Cpu,
+    instr: &Instr,
+    need: &Touches,
+) -> Handback<'a, Done>
+    requires holds { holdings_of lines.old ≡ H.held }
+    requires name { lines.ghost_name ≡ H.name }
+    requires prepared { IsPrepared (local_of cpu.old).attempt instr.now need.now }
+    requires count { (local_of cpu.old).attempt.count + 1 < 2 ^ 32 }
+    ensures value { record { after = beside cpu.new result.lines.now.bytes; told = result.value } ≡
+        executed instr.now need.now (beside cpu.old lines.old.bytes) }
+    ensures code { HasDoneRoom result.value }
+    ensures held { holdings_of result.lines.now ≡ holdings_of lines.old }
+    ensures same_reference { result.lines.ghost_name ≡ lines.entry.ghost_name }
+{
+    let mut window: Window<'a, H> = Window::open(lines, None);
+    let done = cpu.execute(instr, need, &mut window);
+    window.close(done)
+}
+
+/// Aborts the live attempt of a CPU.
+pub(crate) fn abort_in<'a, H: Held>(
+    lines: &'a mut CoherentLines,
+    cpu: &mut Cpu,
+    why: Why,
+    at: u64,
+) -> Handback<'a, u32>
+    requires holds { holdings_of lines.old ≡ H.held }
+    requires name { lines.ghost_name ≡ H.name }
+    requires live { is_live (local_of cpu.old).attempt ≡ true }
+    requires code { HasRoom why }
+    ensures count { result.value ≡ (local_of cpu.old).attempt.count }
+    ensures value { beside cpu.new result.lines.now.bytes ≡ aborted why at (beside cpu.old lines.old.bytes) }
+    ensures held { holdings_of result.lines.now ≡ holdings_of lines.old }
+    ensures same_reference { result.lines.ghost_name ≡ lines.entry.ghost_name }
+{
+    let mut window: Window<'a, H> = Window::open(lines, None);
+    let count = cpu.abort(why, at, &mut window);
+    window.close(count)
+}
+
+/// Stores the block that is pending for a CPU.
+pub(crate) fn store_block_in<'a, H: Held>(
+    lines: &'a mut CoherentLines,
+    cpu: &mut Cpu,
+) -> Handback<'a, ()>
+    requires holds { holdings_of lines.old ≡ H.held }
+    requires name { lines.ghost_name ≡ H.name }
+    ensures value { beside cpu.new result.lines.now.bytes ≡ block_stored (beside cpu.old lines.old.bytes) }
+    ensures held { holdings_of result.lines.now ≡ holdings_of lines.old }
+    ensures same_reference { result.lines.ghost_name ≡ lines.entry.ghost_name }
+{
+    let mut window: Window<'a, H> = Window::open(lines, None);
+    cpu.store_block(&mut window);
+    window.close(())
+}
+
+/// A CPU without a live attempt takes the interruption that waits for it.
+pub(crate) fn take_in<'a, H: Held>(lines: &'a mut CoherentLines, cpu: &mut Cpu) -> Handback<'a, ()>
+    requires holds { holdings_of lines.old ≡ H.held }
+    requires name { lines.ghost_name ≡ H.name }
+    requires rests { is_live (local_of cpu.old).attempt ≡ false }
+    ensures value { beside cpu.new result.lines.now.bytes
+        ≡ interruption_taken (beside cpu.old lines.old.bytes) }
+    ensures held { holdings_of result.lines.now ≡ holdings_of lines.old }
+    ensures same_reference { result.lines.ghost_name ≡ lines.entry.ghost_name }
+{
+    let mut window: Window<'a, H> = Window::open(lines, None);
+    cpu.take(&mut window);
+    window.close(())
+}
+
+/// Gives what the steps of a run have made to a CPU and to the lines.
+pub(crate) fn bring_in<'a, H: Held>(
+    lines: &'a mut CoherentLines,
+    run: &Run,
+    into: &mut Cpu,
+) -> Handback<'a, ()>
+    requires holds { holdings_of lines.old ≡ H.held }
+    requires name { lines.ghost_name ≡ H.name }
+    requires like { GoesOnLike (local_of run.now.made.start).attempt (local_of into.old).attempt }
+    requires alike { SeeAlike (is_touched run.now.made.own) (local_of run.now.made.start).attempt.overlay
+        (given run.now.made.own) (local_of into.old).attempt.overlay (bytes_at lines.old.bytes) }
+    ensures value { (text : List ℕ) → AgreeOnPages (is_paged run.now.made.traces) run.now.text text
+        → beside into.new result.lines.now.bytes ≡ ran text run.now.made.steps (beside into.old lines.old.bytes) }
+    ensures away { (text : List ℕ) → AgreeOnPages (is_paged run.now.made.traces) run.now.text text
+        → GoAway text (mode_in run.now.made.needed) run.now.made.steps (beside into.old lines.old.bytes) }
+    ensures count { (local_of into.new).attempt.count ≡ (local_of run.now.made.reached).attempt.count }
+    ensures held { holdings_of result.lines.now ≡ holdings_of lines.old }
+    ensures same_reference { result.lines.ghost_name ≡ lines.entry.ghost_name }
+{
+    let mut window: Window<'a, H> = Window::open(lines, None);
+    run.give(into, &mut window);
+    window.close(())
+}
