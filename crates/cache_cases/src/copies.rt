@@ -42,6 +42,11 @@ fn change_all<'a>(l1: &'a mut L1, line: u32, at: u32, bytes: &[u8]) -> Option<&'
     Some(l1.copy_of(line))
 }
 
+/// The last byte of a copy, where there is one.
+fn last_byte(l1: &L1, line: u32) -> Option<u8> {
+    l1.find(line).map(|copy| copy[LINE_SIZE - 1])
+}
+
 /// Drops a copy, where there is one.
 fn take_away(l1: &mut L1, line: u32) -> bool {
     if !l1.has(line) {
@@ -106,7 +111,9 @@ fn the_last_bytes_of_a_copy_change(rt: HostRuntime) -> Result<(), Fail> {
     let copy = change_all(&mut l1, 144, 253, &[7, 8, 9]).ok_or("no copy")?;
     assert_eq!(rt; (filled, copy.len()), (true, 256));
     assert_eq!(rt; &copy[252..], [1, 7, 8, 9].as_slice());
-    assert_eq!(rt; change_all(&mut l1, 145, 0, &[7]).is_none(), true);
+    let none = change_all(&mut l1, 145, 0, &[7]).is_none();
+    let last = [last_byte(&l1, 144), last_byte(&l1, 145)];
+    assert_eq!(rt; (none, last), (true, [Some(9), None]));
     Ok(())
 }
 

@@ -42,7 +42,7 @@ fn count_up_in<'a, H: Held>(
     ensures held { holdings_of result.lines.now ≡ holdings_of lines.old }
     ensures same_reference { result.lines.ghost_name ≡ lines.entry.ghost_name }
 {
-    let mut window: Window<'a, H> = Window::open(lines, Some(cpu));
+    let mut window: Window<'a, H> = Window::open(lines, cpu);
     let number = count_up(&mut window, address);
     window.close(number)
 }

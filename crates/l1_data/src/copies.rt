@@ -1,5 +1,5 @@
 //! The copies that one CPU has.
-ghost use Rattle.std.specs.Prelude.{◌≡◌, ℕ, ◌+◌, ◌<◌, ◌≤◌, IsSome, IsNone, None, Some, IfOk, is_some, length};
+ghost use Rattle.std.specs.Prelude.{◌≡◌, ℕ, ◌+◌, ◌<◌, ◌≤◌, IsSome, IsNone, None, Some, IfOk, IfSome, IfNone, is_some, length};
 ghost use Rattle.std.specs.Prelude.{true, slice_set};
 ghost use Rattle.std.specs.Option.{option_map};
 ghost use Rattle.slot_index.specs.Slots.{slot_in, is_key};
@@ -123,7 +123,21 @@ impl L1 {
         self.copies[slot][at as usize] = byte;
     }
 
+    /// The bytes of the copy of the line; None exactly where it has none.
+    #[inline(always)]
+    pub fn find(&self, line: u32) -> Option<&[u8]>
+        ensures copy { IfSome result (λ copy. copies_of self.now line ≡ Some copy.now) }
+        ensures size { IfSome result (λ copy. length copy.now ≡ LINE_SIZE) }
+        ensures none { IfNone result (copies_of self.now line ≡ None) }
+    {
+        match self.index.slot_of(line as usize) {
+            Some(slot) => Some(&self.copies[slot]),
+            None => None,
+        }
+    }
+
     /// The bytes of the copy of the line, which has one.
+    #[inline(always)]
     pub fn copy_of(&self, line: u32) -> &[u8]
         requires { IsSome (copies_of self.now line) }
         ensures copy { copies_of self.now line ≡ Some result.now }
@@ -133,6 +147,7 @@ impl L1 {
     }
 
     /// Changes the bytes from a place on of the copy of the line, which has one, within its 256 bytes.
+    #[inline(always)]
     pub fn lay(&mut self, line: u32, at: u32, bytes: &[u8])
         requires there { IsSome (copies_of self.old line) }
         requires within { at + length bytes.now ≤ LINE_SIZE }
@@ -147,6 +162,7 @@ impl L1 {
 }
 
 /// The slot of the copy of a line that has one.
+#[inline(always)]
 fn slot_of(index: &SlotIndex, line: u32) -> usize
     requires { is_key index.now.keys line ≡ true }
     ensures value { slot_in index.now.keys line ≡ Some result }

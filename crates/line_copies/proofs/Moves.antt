@@ -8,7 +8,7 @@ use borrow.Enum.Arm.{by_way}
 use Rattle.line_table.specs.declared.table.Mode.{Mode}
 use Rattle.line_table.specs.declared.table.Mode.TheVariants.{Shared, Exclusive}
 use Rattle.line_table.specs.Sizes.{storage_lines}
-use Rattle.line_table.specs.Holders.{Holders, Holdings, holding, mode_in, against, is_against, IsSound}
+use Rattle.line_table.specs.Holders.{Holders, Holdings, holding, mode_in, against, is_against}
 use Rattle.line_table.proofs.Seen.{holding_here, holding_other_cpu, holding_other_line}
 use Rattle.line_table.proofs.Against.{none_against}
 use Rattle.l1_data.specs.Sizes.{line_size}
@@ -171,16 +171,18 @@ written_back_of before storage table slice items cpu line e kept bytes clean =
 
 pub line_of_holder : (cpus : ℕ) (held : Holders) (copies : Copied) (storage : List ℕ) (cpu line : ℕ) (copy :
     List ℕ)
-    → IsCoherent cpus held copies storage → IsSound held → cpu < cpus → is_some (held cpu line) ≡ true
-    → copies cpu line ≡ Some copy → line * line_size + line_size ≤ length storage
+    → IsCoherent cpus held copies storage → cpu < cpus → copies cpu line ≡ Some copy
+    → line * line_size + line_size ≤ length storage
     → copy ≡ line_in (flat cpus held copies storage) line
-line_of_holder cpus held copies storage cpu line copy coherent sound low holds has within =
+line_of_holder cpus held copies storage cpu line copy coherent low has within =
     by_way (mode_cases (held cpu line))
-    (λ none. let n : false ≡ true = ap is_some (sym none) ∙ holds in cc)
+    (λ none.
+    let n : true ≡ false = ap is_some (sym has) ∙ coherent.there cpu line low ∙ ap is_some none in cc)
     (λ some. by_way some
     (λ shares.
     same_Some copy (line_in storage line) (sym has ∙ coherent.shared cpu line low shares)
-    ∙ line_in_storage cpus held copies storage line (none_beside_shared held cpus cpu line sound shares)
+    ∙ line_in_storage cpus held copies storage line
+    (none_beside_shared held cpus cpu line (λ c lt is ne. coherent.alone c cpu line lt low is ne) shares)
     within)
     (λ alone.
     line_in_copy cpus held copies storage cpu line copy

@@ -1,5 +1,5 @@
 -- The copies that CPUs keep as data, and lines as they are seen.
-use Rattle.std.proofs.Common.{◌≡◌, ℕ, ◌+◌, ◌*◌, ◌/◌, ◌%◌, ◌<◌, ◌≤◌, eqb, List, [], ◌∷◌, ◌++◌, length, get_or}
+use Rattle.std.proofs.Common.{◌≡◌, ◌≢◌, ℕ, ◌+◌, ◌*◌, ◌/◌, ◌%◌, ◌<◌, ◌≤◌, eqb, List, [], ◌∷◌, ◌++◌, length, get_or}
 use Rattle.std.proofs.Common.{set}
 use Rattle.std.proofs.Common.{Option, Some, None, refl, sym, ap, ◌∙◌, arith}
 use Rattle.std.proofs.lemmas.Bool.{cases_eq, cases_lt, cases_Bool, cond-true, cond-false, eq-eqb, ne_eqb}
@@ -8,7 +8,7 @@ use Rattle.std.proofs.lemmas.List.{get_or_push, get_or_append_left}
 use Rattle.std.proofs.lemmas.List.{length_push}
 use borrow.Enum.Arm.{by_way}
 use Rattle.line_table.specs.declared.table.Mode.TheVariants.{Shared, Exclusive}
-use Rattle.line_table.specs.Holders.{Holders, IsSound, nobody}
+use Rattle.line_table.specs.Holders.{Holders, nobody}
 use Rattle.store_cache.specs.Overlay.{byte_through, nothing}
 use Rattle.store_cache.proofs.Overlays.{length-bytes_through, get_or-bytes_through, bytes_through-nothing}
 use Rattle.l1_data.specs.Sizes.{line_size}
@@ -50,17 +50,17 @@ copied_set items cpu line l1 value lt e =
 -- ---- the exclusive holder of a line
 
 -- a line that one CPU holds in shared mode, or that nobody holds, has none
-pub none_beside_shared : (held : Holders) (cpus holder line : ℕ) → IsSound held → held holder line ≡ Some
-    Shared
-    → exclusive_holder cpus (λ c. held c line) ≡ None
-none_beside_shared held cpus holder line sound shares =
+pub none_beside_shared : (held : Holders) (cpus holder line : ℕ)
+    → ((c : ℕ) → c < cpus → held c line ≡ Some Exclusive → holder ≢ c → held holder line ≡ None)
+    → held holder line ≡ Some Shared → exclusive_holder cpus (λ c. held c line) ≡ None
+none_beside_shared held cpus holder line alone shares =
     none_exclusive cpus (λ c. held c line)
-    (λ c _. by_way (cases_Bool (is_exclusive (held c line)))
+    (λ c low. by_way (cases_Bool (is_exclusive (held c line)))
     (λ yes.
     let is : held c line ≡ Some Exclusive = is_exclusive-true (held c line) yes in
     by_way (cases_eq holder c)
     (λ e. let n : Some Shared ≡ Some Exclusive = sym shares ∙ ap (λ k. held k line) e ∙ is in cc)
-    (λ ne. let n : Some Shared ≡ None = sym shares ∙ sound.alone c holder line is ne in cc))
+    (λ ne. let n : Some Shared ≡ None = sym shares ∙ alone c low is ne in cc))
     (λ no. no))
 
 pub none_at_all : (held : Holders) (cpus line : ℕ) → ((c : ℕ) → 0 ≤ c → held c line ≡ None)

@@ -1,5 +1,5 @@
 //! What one CPU fetches, or somebody who is no CPU and has no copies (None), and what is stored.
-ghost use Rattle.std.specs.Prelude.{◌≡◌, ◌<◌, ◌≤◌, ◌+◌, ◌*◌, ◌%◌, ◌^◌, length, slice_index, IfSome};
+ghost use Rattle.std.specs.Prelude.{◌≡◌, ◌<◌, ◌≤◌, ◌+◌, ◌-◌, ◌*◌, ◌%◌, ◌^◌, length, slice_index, IfSome};
 ghost use Rattle.z_regs.specs.Prefix.{storage_size};
 ghost use Rattle.z_regs.specs.Written.{range_at, written};
 ghost use Rattle.byteorder.specs.Endian.{big_number, big_bytes};
@@ -8,7 +8,7 @@ ghost use Rattle.l1_data.specs.Sizes.{line_size};
 ghost use Rattle.line_copies.specs.Seen.{holders_in};
 
 use crate::CoherentLines;
-use crate::parts::lay_in_copies;
+use crate::parts::lay_everywhere;
 use byteorder::{BigEndian, ByteOrder};
 use l1_data::LINE_SIZE;
 use z_regs::{Bytes, number_in};
@@ -40,6 +40,7 @@ impl Bytes for CoherentLines {
 
 impl CoherentLines {
     /// The bytes of a line as a CPU sees it: its copy, where it has one, and else what all see.
+    #[inline(always)]
     fn line_for(&self, who: Option<u32>, line: u32) -> &[u8]
         requires cpu { IfSome who (λ cpu. cpu < self.now.cpus) }
         requires line { line < storage_lines }
@@ -47,14 +48,15 @@ impl CoherentLines {
         ensures size { length result.now ≡ line_size }
     {
         if let Some(cpu) = who {
-            if self.table.mode_of(cpu, line).is_some() {
-                return self.copies[cpu as usize].copy_of(line);
+            if let Some(copy) = self.copies[cpu as usize].find(line) {
+                return copy;
             }
         }
         self.line_at(line)
     }
 
     /// The byte at an address, as a CPU fetches it, or somebody from outside.
+    #[inline(always)]
     pub fn fetch(&self, who: Option<u32>, address: u32) -> u8
         requires cpu { IfSome who (λ cpu. cpu < self.now.cpus) }
         requires inside { address < storage_size }
@@ -65,6 +67,7 @@ impl CoherentLines {
 
     /// The number in the `count` bytes from an address on, one to eight of them, as a CPU fetches it, or
     /// somebody from outside.
+    #[inline(always)]
     pub fn fetch_word(&self, who: Option<u32>, address: u32, count: u8) -> u64
         requires cpu { IfSome who (λ cpu. cpu < self.now.cpus) }
         requires low { 1 ≤ count }
@@ -82,6 +85,7 @@ impl CoherentLines {
     }
 
     /// The number in bytes of two lines.
+    #[inline(never)]
     fn number_across(&self, who: Option<u32>, address: u32, count: usize) -> u64
         requires cpu { IfSome who (λ cpu. cpu < self.now.cpus) }
         requires low { 1 ≤ count }
@@ -101,6 +105,7 @@ impl CoherentLines {
 
     /// Changes bytes of one line: in the copy of the CPU that holds the line exclusively, and where there is
     /// none, in storage and every copy.
+    #[inline(always)]
     pub fn store(&mut self, address: u32, bytes: &[u8])
         requires inside { address < storage_size }
         requires one_line { address % line_size + length bytes.now ≤ line_size }
@@ -112,14 +117,12 @@ impl CoherentLines {
         let at = address % LINE_SIZE as u32;
         match self.table.exclusive_holder(line) {
             Some(holder) => self.copies[holder as usize].lay(line, at, bytes),
-            None => {
-                self.storage.lay(address as usize, bytes);
-                lay_in_copies(&mut self.copies, line, at, bytes);
-            }
+            None => lay_everywhere(&mut self.storage, &mut self.copies, address, bytes),
         }
     }
 
     /// Changes the `count` bytes from an address on, one to eight of them, to the rightmost of a number.
+    #[inline(always)]
     pub fn store_word(&mut self, address: u32, count: u8, value: u64)
         requires low { 1 ≤ count }
         requires high { count ≤ 8 }
@@ -129,10 +132,17 @@ impl CoherentLines {
         ensures modes { self.new.modes ≡ self.old.modes }
     {
         let item = value.to_be_bytes();
-        self.store_across(address, &item[8 - usize::from(count)..]);
+        match count {
+            8 => self.store_across(address, &item),
+            4 => self.store_across(address, &item[4..]),
+            2 => self.store_across(address, &item[6..]),
+            1 => self.store_across(address, &item[7..]),
+            _ => self.store_across(address, &item[8 - usize::from(count)..]),
+        }
     }
 
     /// Changes bytes of one line or of two.
+    #[inline(always)]
     fn store_across(&mut self, address: u32, bytes: &[u8])
         requires few { length bytes.now ≤ line_size }
         requires some { 1 ≤ length bytes.now }
@@ -146,6 +156,21 @@ impl CoherentLines {
         if bytes.len() <= room {
             return self.store(address, bytes);
         }
+        self.store_in_two(address, room, bytes);
+    }
+
+    /// Changes bytes of two lines, the first of which has room for so many.
+    #[inline(never)]
+    fn store_in_two(&mut self, address: u32, room: usize, bytes: &[u8])
+        requires few { length bytes.now ≤ line_size }
+        requires room { room ≡ line_size - address % line_size }
+        requires more { room < length bytes.now }
+        requires inside { address + length bytes.now ≤ storage_size }
+        requires size { length self.old.bytes ≡ storage_size }
+        ensures bytes { self.new.bytes ≡ written self.old.bytes address bytes.now }
+        ensures cpus { self.new.cpus ≡ self.old.cpus }
+        ensures modes { self.new.modes ≡ self.old.modes }
+    {
         self.store(address, &bytes[..room]);
         self.store(address + room as u32, &bytes[room..]);
     }

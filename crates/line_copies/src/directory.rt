@@ -42,6 +42,7 @@ impl Directory {
     }
 
     /// The CPU that holds a line exclusively.
+    #[inline(always)]
     pub(crate) fn exclusive_holder(&self, line: u32) -> Option<u32>
         requires { line < storage_lines }
         ensures { result ≡ exclusive_holder self.now.cpus (λ cpu. mode_in self.now cpu line) }

@@ -99,6 +99,7 @@ impl CoherentLines {
 
     /// The bytes of a line as they are seen: the copy of the CPU that holds it exclusively, else those of
     /// storage.
+    #[inline(always)]
     pub fn line_at(&self, line: u32) -> &[u8]
         requires { line < storage_lines }
         ensures bytes { result.now ≡ range_at self.now.bytes (line * line_size) line_size }

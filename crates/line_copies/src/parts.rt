@@ -1,5 +1,5 @@
 //! What is done with storage, the table of holders and the copies, each for itself.
-ghost use Rattle.std.specs.Prelude.{◌≡◌, ◌<◌, ◌≤◌, ◌+◌, ◌*◌, ℕ, List, Some, None, length, IfSome};
+ghost use Rattle.std.specs.Prelude.{◌≡◌, ◌<◌, ◌≤◌, ◌+◌, ◌*◌, ◌/◌, ◌%◌, ℕ, List, Some, None, length, IfSome};
 ghost use Rattle.z_regs.specs.Prefix.{storage_size};
 ghost use Rattle.z_regs.specs.Written.{written};
 ghost use Rattle.line_table.specs.Sizes.{storage_lines};
@@ -66,7 +66,7 @@ fn lay_where_there(l1: &mut L1, line: u32, at: u32, bytes: &[u8])
 }
 
 /// Changes the bytes of every copy of a line from a place on.
-pub(crate) fn lay_in_copies(copies: &mut [L1], line: u32, at: u32, bytes: &[u8])
+fn lay_in_copies(copies: &mut [L1], line: u32, at: u32, bytes: &[u8])
     requires { at + length bytes.now ≤ line_size }
     ensures { (cpu : ℕ) → cpu < length copies.old → copied copies.new cpu
         ≡ with_copy (copied copies.old cpu) line
@@ -75,4 +75,24 @@ pub(crate) fn lay_in_copies(copies: &mut [L1], line: u32, at: u32, bytes: &[u8])
     for l1 in copies.iter_mut() {
         lay_where_there(l1, line, at, bytes);
     }
+}
+
+/// Changes bytes of one line in storage and in every copy of the line.
+#[inline(never)]
+pub(crate) fn lay_everywhere(storage: &mut Storage, copies: &mut [L1], address: u32, bytes: &[u8])
+    requires inside { address + length bytes.now ≤ length storage.old }
+    requires one_line { address % line_size + length bytes.now ≤ line_size }
+    ensures storage { storage.new ≡ written storage.old address bytes.now }
+    ensures copies { (cpu : ℕ) → cpu < length copies.old → copied copies.new cpu
+        ≡ with_copy (copied copies.old cpu) (address / line_size)
+        (option_map (λ copy. laid copy (address % line_size) bytes.now)
+        (copied copies.old cpu (address / line_size))) }
+{
+    storage.lay(address as usize, bytes);
+    lay_in_copies(
+        copies,
+        address / LINE_SIZE as u32,
+        address % LINE_SIZE as u32,
+        bytes,
+    );
 }

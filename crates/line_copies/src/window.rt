@@ -1,11 +1,10 @@
 //! Lines as one CPU sees them.
-ghost use Rattle.std.specs.Prelude.{◌≡◌, ◌<◌, ◌≤◌, ◌+◌, ◌*◌, ◌^◌, [], ◌∷◌, length, slice_index, IfSome};
+ghost use Rattle.std.specs.Prelude.{◌≡◌, ◌<◌, ◌≤◌, ◌+◌, ◌*◌, ◌^◌, [], ◌∷◌, length, slice_index};
 ghost use Rattle.byteorder.specs.Endian.{big_number, big_bytes};
 ghost use Rattle.z_regs.specs.Prefix.{storage_size};
 ghost use Rattle.z_regs.specs.Written.{range_at, written};
 ghost use Rattle.line_table.specs.Holders.{Holdings};
 ghost use Rattle.line_copies.specs.Seen.{holdings_of};
-ghost use Rattle.std.proofs.Props.{props};
 ghost use base.Fml.{GName};
 
 use crate::CoherentLines;
@@ -25,26 +24,28 @@ impl Held for Brand {
     ghost name = { 0 };
 }
 
-/// Lines, and the CPU that reaches for them, or None for somebody who is no CPU.
+/// Lines, and the CPU that reaches for them.
 #[derive(Drop)]
 struct Reach<'a> {
     lines: &'a mut CoherentLines,
-    who: Option<u32>,
+    who: u32,
 }
 
 impl Reach<'_> {
     /// The byte at an address.
+    #[inline(always)]
     fn get(&self, address: u64) -> u8
-        requires who { IfSome self.now.who (λ cpu. cpu < self.now.lines.now.cpus) }
+        requires who { self.now.who < self.now.lines.now.cpus }
         requires inside { address < storage_size }
         ensures { result ≡ slice_index self.now.lines.now.bytes address }
     {
-        self.lines.fetch(self.who, address as u32)
+        self.lines.fetch(Some(self.who), address as u32)
     }
 
     /// The number in the `count` bytes from an address on.
+    #[inline(always)]
     fn word(&self, address: u64, count: u8) -> u64
-        requires who { IfSome self.now.who (λ cpu. cpu < self.now.lines.now.cpus) }
+        requires who { self.now.who < self.now.lines.now.cpus }
         requires low { 1 ≤ count }
         requires high { count ≤ 8 }
         requires inside { address + count ≤ storage_size }
@@ -52,10 +53,11 @@ impl Reach<'_> {
         ensures bytes { big_bytes count result ≡ range_at self.now.lines.now.bytes address count }
         ensures fits { result < 2 ^ (8 * count) }
     {
-        self.lines.fetch_word(self.who, address as u32, count)
+        self.lines.fetch_word(Some(self.who), address as u32, count)
     }
 
     /// Changes the byte at an address.
+    #[inline(always)]
     fn put(&mut self, address: u64, byte: u8)
         requires inside { address < storage_size }
         ensures bytes { self.new.lines.now.bytes ≡ written self.old.lines.now.bytes address (byte ∷ []) }
@@ -67,6 +69,7 @@ impl Reach<'_> {
     }
 
     /// Changes the `count` bytes from an address on to the rightmost of a number.
+    #[inline(always)]
     fn put_word(&mut self, address: u64, count: u8, value: u64)
         requires low { 1 ≤ count }
         requires high { count ≤ 8 }
@@ -89,7 +92,7 @@ pub struct Window<'a, H: Held> {
     of: PhantomData<H>,
     ghost holds: { holdings_of reach.lines.now ≡ H.held },
     ghost same_reference: { reach.lines.ghost_name ≡ H.name },
-    ghost in_range: { IfSome reach.who (λ cpu. cpu < reach.lines.now.cpus) } by { Prim.hlevel props },
+    ghost in_range: { reach.who < reach.lines.now.cpus },
     ghost size: { length reach.lines.now.bytes ≡ storage_size },
 }
 
@@ -103,9 +106,9 @@ pub struct Handback<'a, T: Drop> {
 }
 
 impl<'a, H: Held> Window<'a, H> {
-    /// The lines for this CPU, or for somebody who is no CPU and has no copies (None).
-    pub fn open(lines: &'a mut CoherentLines, who: Option<u32>) -> Window<'a, H>
-        requires who { IfSome who (λ cpu. cpu < lines.old.cpus) }
+    /// The lines for this CPU.
+    pub fn open(lines: &'a mut CoherentLines, who: u32) -> Window<'a, H>
+        requires who { who < lines.old.cpus }
         requires held { holdings_of lines.old ≡ H.held }
         requires name { lines.ghost_name ≡ H.name }
         ensures bytes { result.reach.lines.now.bytes ≡ lines.old.bytes }
@@ -136,18 +139,22 @@ impl<'a, H: Held> Window<'a, H> {
 impl<'a, H: Held> Bytes for Window<'a, H> {
     ghost bytes = { λ w. w.reach.lines.now.bytes };
 
+    #[inline(always)]
     fn get(&self, address: u64) -> u8 {
         self.reach.get(address)
     }
 
+    #[inline(always)]
     fn put(&mut self, address: u64, byte: u8) {
         self.reach.put(address, byte);
     }
 
+    #[inline(always)]
     fn word(&self, address: u64, count: u8) -> u64 {
         self.reach.word(address, count)
     }
 
+    #[inline(always)]
     fn put_word(&mut self, address: u64, count: u8, value: u64) {
         self.reach.put_word(address, count, value);
     }

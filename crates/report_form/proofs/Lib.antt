@@ -7,3 +7,4 @@ pub mod Counted
 pub mod Forms
 pub mod OneFault
 pub mod StepLines
+pub mod TextLines

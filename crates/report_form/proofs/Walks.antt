@@ -1,13 +1,12 @@
 -- Lines against rows that are due one after the other.
 use Rattle.std.proofs.Common.{◌≡◌, ℕ, zero, suc, ◌+◌, ◌-◌, ◌<◌, ◌≤◌, Bool, false, List, [], ◌∷◌, ◌++◌, length}
-use Rattle.std.proofs.Common.{Decides, map, take, drop, append-nil, get_or, refl, sym, ap, subst, inl, inr, ◌∙◌, arith, length-append}
+use Rattle.std.proofs.Common.{Decides, take, drop, append-nil, get_or, refl, sym, ap, subst, inl, inr, ◌∙◌, arith, length-append}
 use Rattle.std.specs.Prelude.{replicate}
-use denote.Ref.{Bor}
 use Rattle.std.proofs.lemmas.Bool.{false≢true}
 use Rattle.std.proofs.lemmas.List.Concat.{flat_map-append}
 use Rattle.report_form.specs.declared.lines.Part.{Part}
-use Rattle.std.proofs.lemmas.List.{replicate-append-replicate, replicate_more, length-map, length-replicate}
-use Rattle.std.proofs.lemmas.List.{get_or-map, drop_all, drop-drop, take_more, take-append-drop}
+use Rattle.std.proofs.lemmas.List.{replicate-append-replicate, replicate_more, length-replicate}
+use Rattle.std.proofs.lemmas.List.{drop_all, drop-drop, take_more, take-append-drop}
 use Rattle.std.proofs.Math.Seq.{drop-cons}
 use Rattle.report_form.specs.declared.rows.Row.{Row}
 use Rattle.report_form.specs.Rows.{IsRow}
@@ -27,19 +26,6 @@ pub one_line : (last : ℕ) (row : Row) (lines : List (List ℕ)) (line : List �
 one_line last row lines line at b there is tells =
     subst (λ ls. Decides b (Fit last (row ∷ []) ls)) (sym (drop-cons lines at [] there))
     (λ t. (subst (IsRow last row) (sym is) (tells.0 t), tt), λ h. tells.1 (subst (IsRow last row) is h.0))
-
--- the lines behind references
-abbrev pub seen : List (Bor (List ℕ)) → List (List ℕ)
-seen lines = map (λ (l : Bor (List ℕ)). l.now) lines
-
-pub seen_at : (lines : List (Bor (List ℕ))) (line : Bor (List ℕ)) (at : ℕ) → at < length lines
-    → line ≡ get_or lines at line → get_or (map (λ l. l.now) lines) at [] ≡ line.now
-seen_at lines line at there is =
-    get_or-map (λ (l : Bor (List ℕ)). l.now) lines at line [] there
-    ∙ ap (λ (l : Bor (List ℕ)). l.now) (sym is)
-
-pub length_seen : (lines : List (Bor (List ℕ))) → length (map (λ l. l.now) lines) ≡ length lines
-length_seen lines = length-map lines (λ (l : Bor (List ℕ)). l.now)
 
 -- ---- rows behind rows
 

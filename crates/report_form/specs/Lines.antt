@@ -3,8 +3,10 @@ use Rattle.std.specs.Prelude.{◌≡◌, ℕ, suc, ◌+◌, ◌≤◌, ◌⊎◌
 use Rattle.std.specs.Prelude.{Ok, Err}
 use Rattle.std.specs.List.{flat_map}
 use Rattle.report_form.specs.declared.lines.Part.{Part}
+use Rattle.report_form.specs.declared.places.Place.{Place}
 use Rattle.report_form.specs.declared.rows.Row.{Row}
 use Rattle.report_form.specs.Rows.{IsRow}
+use Rattle.report_form.specs.Text.{lines_of, IsPlace}
 
 -- the rows one by one
 abbrev pub rows_of : List Part → List Row
@@ -42,7 +44,7 @@ pub record Stops (last : ℕ) (rows : List Row) (lines : List (List ℕ)) (at pl
   pub counted : place + 1 ≡ at + before
   pub within : place ≤ length lines
 
--- what a walk along the rows finds from a place on
-abbrev pub Finds : ℕ → List Row → List (List ℕ) → ℕ → Result ℕ ℕ → Type 0
-Finds last rows lines at (Ok behind) = Passes last rows lines at behind
-Finds last rows lines at (Err place) = Stops last rows lines at place
+-- what a walk along the rows finds in a text from a place on
+abbrev pub Finds : ℕ → List Row → List ℕ → ℕ → Result Place ℕ → Type 0
+Finds last rows text at (Ok behind) = Passes last rows (lines_of text) at behind.line × IsPlace text behind
+Finds last rows text at (Err place) = Stops last rows (lines_of text) at place × (place ≤ length text)

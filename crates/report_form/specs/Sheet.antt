@@ -15,6 +15,7 @@ use Rattle.report_form.specs.declared.sheet.FormFault.{FormFault}
 use Rattle.report_form.specs.declared.sheet.FormFault.TheVariants.{Memory, Line}
 use Rattle.report_form.specs.Words.{name_text}
 use Rattle.report_form.specs.Lines.{rows_of, Fit, Faulty}
+use Rattle.report_form.specs.Text.{IsPlace, IsNext}
 
 -- ---- the rows that are due
 
@@ -153,4 +154,9 @@ IsRefused image lines (Line number) = IsFirstFault image lines number
 pub record IsSheet (image : Content) (lines : List (List ℕ)) (s : Sheet) : Type 0 where
   pub events : ℕ
   pub form : HasForm image lines s.entries events
-  pub begins : s.history ≡ history_at image + 1
+  pub begins : s.history.line ≡ history_at image + 1
+
+-- the count of entries and the entries begin where the sheet says
+pub record HasPlaces (text : List ℕ) (s : Sheet) : Type 0 where
+  pub count : IsPlace text s.count
+  pub history : IsNext text s.count s.history

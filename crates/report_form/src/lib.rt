@@ -4,6 +4,7 @@
 
 mod laws;
 mod lines;
+mod places;
 mod rows;
 mod sheet;
 mod spelling;
@@ -12,6 +13,7 @@ mod words;
 
 pub use laws::lines_have_a_form_or_one_fault;
 pub use lines::Part;
+pub use places::{Line, Place, line_at, start};
 pub use rows::{Row, fits};
 pub use sheet::{FormFault, Sheet, read};
 pub use steps::step_cpu;

@@ -1,12 +1,13 @@
 //! The form of a whole report.
-ghost use Rattle.std.specs.Prelude.{◌≡◌, ◌++◌, ◌+◌, ◌<◌, ◌≤◌, ◌^◌, ◌≢◌, ℕ, IfOk, IfErr, IfSome, IfNone, OnOk, length};
-ghost use Rattle.std.specs.Prelude.{map};
+ghost use Rattle.std.specs.Prelude.{◌≡◌, ◌++◌, ◌+◌, ◌<◌, ◌^◌, ◌≢◌, ℕ, IfOk, IfErr, IfSome, IfNone, OnOk};
 ghost use Rattle.std.specs.List.{flat_map};
 ghost use Rattle.report_form.specs.Sheet.{cpu_parts, cpus_parts, show_parts, head_parts, schedule_parts};
 ghost use Rattle.report_form.specs.Sheet.{count_line, Counts, HasHead, HasHistory, HasForm, history_at};
-ghost use Rattle.report_form.specs.Sheet.{schedule_at, IsRefused, IsSheet};
+ghost use Rattle.report_form.specs.Sheet.{schedule_at, IsRefused, IsSheet, HasPlaces};
+ghost use Rattle.report_form.specs.Text.{lines_of, IsPlace, IsNext};
 
 use crate::lines::{Part, follow};
+use crate::places::{Place, line_at, start};
 use crate::rows::Row;
 use crate::spelling::cut;
 use crate::words::Name;
@@ -16,8 +17,10 @@ use tx_journal::{Image, Show, read_number};
 /// Where the parts of a report begin that has its form.
 #[derive(Clone, Copy, Debug, PartialEq, Eq)]
 pub struct Sheet {
-    /// The place of the first entry among the lines, counted from 0.
-    pub history: usize,
+    /// The place of the count of entries.
+    pub count: Place,
+    /// The place of the first entry.
+    pub history: Place,
     /// How many entries there are.
     pub entries: u64,
 }
@@ -192,60 +195,76 @@ fn count_in(name: Name, line: &[u8]) -> Option<u64>
     read_number(digits)
 }
 
+/// A count, and the place behind its line.
+#[derive(Clone, Copy)]
+struct Counted {
+    number: u64,
+    behind: Place,
+}
+
 /// The count that the line at a place gives behind a name; None exactly where it gives none.
-fn count_at(name: Name, lines: &[&[u8]], at: usize) -> Option<u64>
-    ensures some { IfSome result (λ n. Counts name (map (λ l. l.now) lines.now) at n) }
-    ensures none { IfNone result ((n : ℕ) → ¬ Counts name (map (λ l. l.now) lines.now) at n) }
+fn count_at(name: Name, text: &[u8], at: Place) -> Option<Counted>
+    requires { IsPlace text.now at }
+    ensures some { IfSome result (λ c. Counts name (lines_of text.now) at.line c.number) }
+    ensures behind { IfSome result (λ c. IsNext text.now at c.behind) }
+    ensures none { IfNone result ((n : ℕ) → ¬ Counts name (lines_of text.now) at.line n) }
 {
-    if at >= lines.len() {
+    let Some(line) = line_at(text, at) else {
         return None;
-    }
-    count_in(name, lines[at])
+    };
+    let Some(number) = count_in(name, line.text) else {
+        return None;
+    };
+    Some(Counted {
+        number,
+        behind: line.behind,
+    })
 }
 
 /// Where the entries begin and how many they are, by the count in front of them.
-fn read_head(alloc: Global, image: &Image, lines: &[&[u8]]) -> Result<Sheet, FormFault>
-    ensures head { IfOk result (λ s. HasHead image.now (map (λ l. l.now) lines.now) s.entries) }
-    ensures begins { IfOk result (λ s. s.history ≡ history_at image.now + 1) }
-    ensures within { IfOk result (λ s. s.history ≤ length lines.now) }
-    ensures fault { IfErr result (λ f. IsRefused image.now (map (λ l. l.now) lines.now) f) }
+fn read_head(alloc: Global, image: &Image, text: &[u8]) -> Result<Sheet, FormFault>
+    ensures head { IfOk result (λ s. HasHead image.now (lines_of text.now) s.entries) }
+    ensures begins { IfOk result (λ s. s.history.line ≡ history_at image.now + 1) }
+    ensures places { IfOk result (λ s. HasPlaces text.now s) }
+    ensures fault { IfErr result (λ f. IsRefused image.now (lines_of text.now) f) }
 {
     let last = image.cpu_count() - 1;
     let Ok(parts) = head_parts(alloc, image) else {
         return Err(FormFault::Memory);
     };
-    match follow(&parts, last, lines, 0) {
-        Err(place) => Err(FormFault::Line(place as u64 + 1)),
-        Ok(place) => match count_at(Name::History, lines, place) {
-            None => Err(FormFault::Line(place as u64 + 1)),
+    match follow(&parts, last, text, start(text)) {
+        Err(line) => Err(FormFault::Line(line as u64 + 1)),
+        Ok(place) => match count_at(Name::History, text, place) {
+            None => Err(FormFault::Line(place.line as u64 + 1)),
             Some(entries) => Ok(Sheet {
-                history: place + 1,
-                entries,
+                count: place,
+                history: entries.behind,
+                entries: entries.number,
             }),
         },
     }
 }
 
 /// Where the events begin and how many they are, by the count in front of them, behind so many entries.
-fn read_history(image: &Image, lines: &[&[u8]], sheet: Sheet) -> Result<(usize, u64), FormFault>
-    requires head { HasHead image.now (map (λ l. l.now) lines.now) sheet.entries }
-    requires begins { sheet.history ≡ history_at image.now + 1 }
-    requires within { sheet.history ≤ length lines.now }
-    ensures history { IfOk result (λ r. HasHistory image.now (map (λ l. l.now) lines.now) sheet.entries r.1) }
-    ensures begins { IfOk result (λ r. r.0 ≡ schedule_at image.now sheet.entries + 1) }
-    ensures within { IfOk result (λ r. r.0 ≤ length lines.now) }
-    ensures fault { IfErr result (λ f. IsRefused image.now (map (λ l. l.now) lines.now) f) }
+fn read_history(image: &Image, text: &[u8], sheet: Sheet) -> Result<Counted, FormFault>
+    requires head { HasHead image.now (lines_of text.now) sheet.entries }
+    requires begins { sheet.history.line ≡ history_at image.now + 1 }
+    requires place { IsPlace text.now sheet.history }
+    ensures history { IfOk result (λ c. HasHistory image.now (lines_of text.now) sheet.entries c.number) }
+    ensures begins { IfOk result (λ c. c.behind.line ≡ schedule_at image.now sheet.entries + 1) }
+    ensures place { IfOk result (λ c. IsPlace text.now c.behind) }
+    ensures fault { IfErr result (λ f. IsRefused image.now (lines_of text.now) f) }
 {
     let last = image.cpu_count() - 1;
     let parts = [Part {
         row: Row::Entry,
         count: sheet.entries,
     }];
-    match follow(&parts, last, lines, sheet.history) {
-        Err(place) => Err(FormFault::Line(place as u64 + 1)),
-        Ok(place) => match count_at(Name::Schedule, lines, place) {
-            None => Err(FormFault::Line(place as u64 + 1)),
-            Some(events) => Ok((place + 1, events)),
+    match follow(&parts, last, text, sheet.history) {
+        Err(line) => Err(FormFault::Line(line as u64 + 1)),
+        Ok(place) => match count_at(Name::Schedule, text, place) {
+            None => Err(FormFault::Line(place.line as u64 + 1)),
+            Some(events) => Ok(events),
         },
     }
 }
@@ -253,37 +272,38 @@ fn read_history(image: &Image, lines: &[&[u8]], sheet: Sheet) -> Result<(usize, 
 /// So many events stand from a place on, and then the end.
 fn read_schedule(
     image: &Image,
-    lines: &[&[u8]],
+    text: &[u8],
     entries: u64,
-    at: usize,
+    at: Place,
     events: u64,
 ) -> Result<(), FormFault>
-    requires history { HasHistory image.now (map (λ l. l.now) lines.now) entries events }
-    requires begins { at ≡ schedule_at image.now entries + 1 }
-    requires within { at ≤ length lines.now }
-    ensures form { OnOk result (HasForm image.now (map (λ l. l.now) lines.now) entries events) }
-    ensures fault { IfErr result (λ f. IsRefused image.now (map (λ l. l.now) lines.now) f) }
+    requires history { HasHistory image.now (lines_of text.now) entries events }
+    requires begins { at.line ≡ schedule_at image.now entries + 1 }
+    requires place { IsPlace text.now at }
+    ensures form { OnOk result (HasForm image.now (lines_of text.now) entries events) }
+    ensures fault { IfErr result (λ f. IsRefused image.now (lines_of text.now) f) }
 {
     let last = image.cpu_count() - 1;
-    match follow(&schedule_parts(events), last, lines, at) {
-        Err(place) => Err(FormFault::Line(place as u64 + 1)),
+    match follow(&schedule_parts(events), last, text, at) {
+        Err(line) => Err(FormFault::Line(line as u64 + 1)),
         Ok(end) => {
-            if end < lines.len() {
-                return Err(FormFault::Line(end as u64 + 1));
+            if end.byte < text.len() {
+                return Err(FormFault::Line(end.line as u64 + 1));
             }
             Ok(())
         }
     }
 }
 
-/// Where the entries of a report begin, whose lines, with their ends, these are. Otherwise the first line that is
-/// missing, of another form or too many; the counts of entries and events are believed where they stand.
-pub fn read(alloc: Global, image: &Image, lines: &[&[u8]]) -> Result<Sheet, FormFault>
-    ensures sheet { IfOk result (λ s. IsSheet image.now (map (λ l. l.now) lines.now) s) }
-    ensures fault { IfErr result (λ f. IsRefused image.now (map (λ l. l.now) lines.now) f) }
+/// Where the entries of a report begin, whose text this is. Otherwise the first line that is missing, of another form
+/// or too many; the counts of entries and events are believed where they stand. No list of the lines is made.
+pub fn read(alloc: Global, image: &Image, text: &[u8]) -> Result<Sheet, FormFault>
+    ensures sheet { IfOk result (λ s. IsSheet image.now (lines_of text.now) s) }
+    ensures places { IfOk result (λ s. HasPlaces text.now s) }
+    ensures fault { IfErr result (λ f. IsRefused image.now (lines_of text.now) f) }
 {
-    let sheet = read_head(alloc, image, lines)?;
-    let (at, events) = read_history(image, lines, sheet)?;
-    read_schedule(image, lines, sheet.entries, at, events)?;
+    let sheet = read_head(alloc, image, text)?;
+    let events = read_history(image, text, sheet)?;
+    read_schedule(image, text, sheet.entries, events.behind, events.number)?;
     Ok(sheet)
 }

@@ -1,19 +1,25 @@
 -- Marked items laid one after the other, by the marks below a place.
-use Rattle.std.proofs.Common.{◌≡◌, ◌≢◌, ℕ, ◌+◌, ◌*◌, ◌/◌, ◌%◌, ◌<◌, ◌≤◌, Bool, false, cond}
-use Rattle.std.proofs.Common.{List, length, get_or, take, Some, None, sym, ap}
+use Rattle.std.proofs.Common.{◌≡◌, ◌≢◌, ℕ, ◌+◌, ◌*◌, ◌/◌, ◌%◌, ◌<◌, ◌≤◌, Bool, true, false, cond}
+use Rattle.std.proofs.Common.{List, length, get_or, take, drop, Some, None, refl, sym, ap}
 use Rattle.std.proofs.Common.{◌∙◌, arith}
-use Rattle.std.proofs.lemmas.Bool.{cases_lt, cond-true}
-use Rattle.std.proofs.lemmas.List.{get_or-take, get_or_past, length-take}
+use Rattle.std.specs.Prelude.{◌||◌}
+use Rattle.std.proofs.lemmas.Bool.{cases_lt, cond-true, or_right}
+use Rattle.std.proofs.lemmas.List.{get_or-take, get_or_past, length-take, length-take-le, length-drop}
 use Rattle.std.proofs.lemmas.Nat.{mul-add-lt}
 use Rattle.std.proofs.Math.Nat.{mod-lt, mul_comm}
-use Rattle.bit_set.specs.Bits.{IsNext, NoneMarked}
+use Rattle.bit_set.specs.Bits.{IsNext, NoneMarked, lies_in}
+use Rattle.bit_set.proofs.Runs.{lies_inside, lies_before, lies_behind}
 use Rattle.slot_index.specs.Slots.{slot_in}
 use borrow.Enum.Arm.{by_way}
 use Rattle.slot_index.proofs.Found.{slot_in-has, slot_cases}
-use Rattle.store_cache.specs.Overlay.{nothing, with_one}
+use Rattle.z_regs.specs.Written.{range_at}
+use Rattle.z_regs.proofs.OneArea.{in_range}
+use Rattle.store_cache.specs.Sizes.{block_size}
+use Rattle.store_cache.specs.Overlay.{nothing, with_one, with_bytes}
 use Rattle.store_cache.specs.Entries.{items_of}
 use Rattle.store_cache.proofs.Overlays.{with_one-is}
 use Rattle.store_cache.proofs.Cells.{cell_of, item_in, items_of-at, items_of-none, same_place}
+use Rattle.store_cache.proofs.Runs.{or_false, run_shown}
 
 -- the marks below a place
 below : (marks : List Bool) (n cell : ℕ) → cell < n
@@ -73,6 +79,51 @@ one_below size pos blocks items marks from end cell place slot next found is =
         ∙ sym (items_of-at size blocks items (take from marks) q at.0 at.1))
         (λ absent. items_of-none size blocks items (take (cell + 1) marks) q absent
         ∙ sym (items_of-none size blocks items (take from marks) q absent))
+
+pub length-range_at : (items : List ℕ) (cell n : ℕ) → cell + n ≤ length items → length (range_at items cell n) ≡ n
+length-range_at items cell n room = length-take-le n (drop cell items) (omega (arith, length-drop cell items))
+
+-- the next marked bytes, all of one block
+pub run_below : (blocks items : List ℕ) (marks : List Bool) (from end cell n place slot : ℕ)
+    → IsNext marks from end cell
+    → ((k : ℕ) → cell ≤ k → k < cell + n → get_or marks k false ≡ true) → cell + n ≤ length items
+    → slot_in blocks (place / block_size) ≡ Some slot → cell ≡ cell_of block_size slot place
+    → place % block_size + n ≤ block_size
+    → items_of block_size blocks items (take (cell + n) marks)
+    ≡ with_bytes (items_of block_size blocks items (take from marks)) place (range_at items cell n)
+run_below blocks items marks from end cell n place slot next run room found is fits =
+    run_shown blocks items (take from marks) items (take (cell + n) marks) place slot cell
+    (range_at items cell n) found is (omega (arith, size, fits)) (record {
+      bytes_are = λ k lt. sym (in_range items cell n k (omega (arith, size, lt)));
+      before = λ k lt. refl;
+      behind = λ k le. refl;
+      marks_are = λ k. ap (λ m. get_or (take (cell + m) marks) k false) (sym size) ∙ marked k;
+    })
+  where
+    size : length (range_at items cell n) ≡ n
+    size = length-range_at items cell n room
+
+    was : (k : ℕ) → cell ≤ k → get_or (take from marks) k false ≡ false
+    was k le = past marks from k (omega (arith, le, next.from_on))
+
+    marked : (k : ℕ) → get_or (take (cell + length (range_at items cell n)) marks) k false
+        ≡ (get_or (take from marks) k false || lies_in cell (cell + length (range_at items cell n)) k)
+    marked k =
+        let stop = cell + length (range_at items cell n) in
+        by_way (cases_lt k cell)
+        (λ low.
+        below marks stop k (omega (arith, low))
+        ∙ by_way (cases_lt k from)
+        (λ lt. sym (below marks from k lt))
+        (λ le. next.first k le low ∙ sym (past marks from k le))
+        ∙ sym (or_false (get_or (take from marks) k false) (lies_in cell stop k) (lies_before cell stop k low)))
+        (λ le. by_way (cases_lt k stop)
+        (λ under.
+        below marks stop k under ∙ run k le (omega (arith, under, size))
+        ∙ sym (or_right (get_or (take from marks) k false) (lies_in cell stop k) (lies_inside cell stop k le under)))
+        (λ over.
+        past marks stop k over ∙ sym (was k le)
+        ∙ sym (or_false (get_or (take from marks) k false) (lies_in cell stop k) (lies_behind cell stop k over))))
 
 -- no marked item is left
 pub all_below : (size : ℕ) → 0 < size → (blocks items : List ℕ) (marks : List Bool) (from end : ℕ)

@@ -11,6 +11,8 @@ use Rattle.std.proofs.lemmas.List.{get_or_push, get_or_append_left}
 use Rattle.std.proofs.lemmas.List.FromFn.{length-map-range_with_len, get_or-map-range_with_len}
 use Rattle.std.proofs.lemmas.Option.{slice_get-get_or}
 use Rattle.byteorder.specs.Endian.{big_bytes}
+use Rattle.z_regs.specs.Written.{written}
+use Rattle.z_regs.proofs.Writes.{length-written, below, above, inside}
 use borrow.Enum.Arm.{by_way}
 use Rattle.store_cache.specs.Overlay.{Overlay, nothing, with_one, with_bytes, byte_through, bytes_through}
 use Rattle.store_cache.specs.Overlay.{Store, overlay_of, stored_in}
@@ -152,6 +154,45 @@ bytes_through-with_one overlay base address byte =
         (λ ne. ap (λ o. unwrap_or o (get_or base k 0)) (with_one-other overlay address byte k ne)
         ∙ sym (get_or-set_other (bytes_through overlay base) address k byte 0 ne
         ∙ get_or-bytes_through overlay base k lt))
+
+-- bytes that are stored together
+pub bytes_through-with_bytes : (overlay : Overlay) (base : List ℕ) (first : ℕ) (bytes : List ℕ)
+    → first + length bytes ≤ length base
+    → bytes_through (with_bytes overlay first bytes) base ≡ written (bytes_through overlay base) first bytes
+bytes_through-with_bytes overlay base first bytes within =
+    ext_get_or 0 (bytes_through (with_bytes overlay first bytes) base)
+    (written (bytes_through overlay base) first bytes)
+    (length-bytes_through (with_bytes overlay first bytes) base
+    ∙ sym (length-written (bytes_through overlay base) first bytes room ∙ size))
+    (λ k lt. at_place k (omega (arith, lt, length-bytes_through (with_bytes overlay first bytes) base)))
+  where
+    size : length (bytes_through overlay base) ≡ length base
+    size = length-bytes_through overlay base
+
+    room : first + length bytes ≤ length (bytes_through overlay base)
+    room = omega (arith, size, within)
+
+    in_base : first ≤ length (bytes_through overlay base)
+    in_base = omega (arith, room)
+
+    at_place : (k : ℕ) → k < length base
+        → get_or (bytes_through (with_bytes overlay first bytes) base) k 0 ≡ get_or
+        (written (bytes_through overlay base) first bytes) k 0
+    at_place k lt =
+        get_or-bytes_through (with_bytes overlay first bytes) base k lt
+        ∙ by_way (cases_lt k first)
+        (λ low. ap (λ o. unwrap_or o (get_or base k 0)) (with_bytes-before overlay first bytes k low)
+        ∙ sym (below (bytes_through overlay base) first bytes k in_base low
+        ∙ get_or-bytes_through overlay base k lt))
+        (λ from. by_way (cases_lt k (first + length bytes))
+        (λ under.
+        let there : first + (k - first) ≡ k = omega (arith, from) in
+        ap (λ o. unwrap_or o (get_or base k 0)) (with_bytes-inside overlay first bytes k from under)
+        ∙ sym (inside (bytes_through overlay base) first bytes (k - first) in_base (omega (arith, from, under)))
+        ∙ ap (λ n. get_or (written (bytes_through overlay base) first bytes) n 0) there)
+        (λ past. ap (λ o. unwrap_or o (get_or base k 0)) (with_bytes-behind overlay first bytes k past)
+        ∙ sym (above (bytes_through overlay base) first bytes k in_base past
+        ∙ get_or-bytes_through overlay base k lt)))
 
 stored_over : (stores : List Store) (overlay : Overlay) (base : List ℕ)
     → stored_in (bytes_through overlay base) stores ≡ bytes_through

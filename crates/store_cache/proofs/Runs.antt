@@ -19,15 +19,13 @@ use Rattle.store_cache.proofs.Kept.{Entered, has_block-with_bytes}
 -- bytes and marks of entries, with a run of bytes at a cell
 pub record IsRun (items : List ℕ) (marks : List Bool) (now : List ℕ) (marked : List Bool) (cell : ℕ)
     (bytes : List ℕ) : Type 0 where
-  pub size : length now ≡ length items
-  pub mark_size : length marked ≡ length marks
   pub bytes_are : (k : ℕ) → k < length bytes → get_or now (cell + k) 0 ≡ get_or bytes k 0
   pub before : (k : ℕ) → k < cell → get_or now k 0 ≡ get_or items k 0
   pub behind : (k : ℕ) → cell + length bytes ≤ k → get_or now k 0 ≡ get_or items k 0
   pub marks_are : (k : ℕ)
       → get_or marked k false ≡ (get_or marks k false || lies_in cell (cell + length bytes) k)
 
-or_false : (a b : Bool) → b ≡ false → (a || b) ≡ a
+pub or_false : (a b : Bool) → b ≡ false → (a || b) ≡ a
 or_false true b e = refl
 or_false false b e = e
 
@@ -140,13 +138,14 @@ module _ (old index : Slots) (bytes : List ℕ) (marks : List Bool) (values : Li
       → Entered old index bytes marks values value_marks (address / block_size)
       → slot_in index.keys (address / block_size) ≡ Some slot → cell ≡ slot * block_size + address % block_size
       → address % block_size + length run ≤ block_size → 0 < length run → (now : List ℕ) (marked : List Bool)
-      → IsRun bytes marks now marked cell run → IsKept index now marked values value_marks
-  run_kept kept in_entry found is fits some now marked is_run =
+      → IsRun bytes marks now marked cell run → length now ≡ length bytes → length marked ≡ length marks
+      → IsKept index now marked values value_marks
+  run_kept kept in_entry found is fits some now marked is_run size mark_size =
       record {
         limit = in_entry.limit ∙ kept.limit;
         most = in_entry.most ∙ kept.most;
-        byte_room = is_run.size ∙ kept.byte_room;
-        mark_room = is_run.mark_size ∙ kept.mark_room;
+        byte_room = size ∙ kept.byte_room;
+        mark_room = mark_size ∙ kept.mark_room;
         value_room = kept.value_room;
         value_mark_room = kept.value_mark_room;
         unmarked = λ k le.

@@ -1,17 +1,36 @@
 //! Marked items of entries, laid over storage and unmarked.
 
-ghost use Rattle.std.specs.Prelude.{◌≡◌, ℕ, ◌+◌, ◌*◌, ◌<◌, ◌≤◌, if◌then◌else◌, nat_lt, length};
-ghost use Rattle.std.specs.Prelude.{slice_index_or, false, List};
-ghost use Rattle.slot_index.specs.Slots.{slot_in, is_key};
-ghost use Rattle.store_cache.specs.Overlay.{Overlay, with_bytes, bytes_through};
+ghost use Rattle.std.specs.Prelude.{◌≡◌, ℕ, ◌+◌, ◌*◌, ◌%◌, ◌<◌, ◌≤◌, length, slice_index_or, true, false};
+ghost use Rattle.store_cache.specs.Overlay.{bytes_through};
 ghost use Rattle.store_cache.specs.Stores.{lasting_bytes};
 ghost use Rattle.store_cache.specs.Entries.{items_of};
 
 use crate::cache::{BLOCK_SIZE, DOUBLEWORDS};
 use bit_set::BitSet;
-use byteorder::{BigEndian, ByteOrder};
 use slot_index::SlotIndex;
-use z_regs::{Bytes, STORAGE_SIZE};
+use z_regs::{Bytes, STORAGE_SIZE, number_in};
+
+/// How many bytes from a marked one on are stored together: those of a doubleword or of a word where all of them
+/// are marked, and else one.
+fn marked_from(marks: &BitSet, cell: usize, end: usize) -> u8
+    requires within { end ≤ length marks.now }
+    requires whole { end % 8 ≡ 0 }
+    requires cell { cell < end }
+    requires marked { slice_index_or marks.now cell false ≡ true }
+    ensures low { 1 ≤ result }
+    ensures high { result ≤ 8 }
+    ensures within { cell + result ≤ end }
+    ensures block { cell % BLOCK_SIZE + result ≤ BLOCK_SIZE }
+    ensures marked { (k : ℕ) → cell ≤ k → k < cell + result → slice_index_or marks.now k false ≡ true }
+{
+    if cell % 8 == 0 && marks.has_run(cell, cell + 8) {
+        return 8;
+    }
+    if cell % 4 == 0 && marks.has_run(cell, cell + 4) {
+        return 4;
+    }
+    1
+}
 
 /// Stores the marked bytes of the entries.
 pub fn lay_bytes<V: Bytes>(index: &SlotIndex, bytes: &[u8], marks: &BitSet, into: &mut V)
@@ -25,9 +44,10 @@ pub fn lay_bytes<V: Bytes>(index: &SlotIndex, bytes: &[u8], marks: &BitSet, into
     let end = index.count() * BLOCK_SIZE;
     let mut from = 0;
     while let Some(cell) = marks.next(from, end) {
-        let block = index.key_at(cell / BLOCK_SIZE);
-        into.put((block * BLOCK_SIZE + cell % BLOCK_SIZE) as u64, bytes[cell]);
-        from = cell + 1;
+        let address = index.key_at(cell / BLOCK_SIZE) * BLOCK_SIZE + cell % BLOCK_SIZE;
+        let count = marked_from(marks, cell, end);
+        into.put_word(address as u64, count, number_in(bytes, cell, count));
+        from = cell + usize::from(count);
     }
 }
 
@@ -46,21 +66,7 @@ pub fn lay_values<V: Bytes>(index: &SlotIndex, values: &[u64], marks: &BitSet, i
     while let Some(cell) = marks.next(from, end) {
         let block = index.key_at(cell / DOUBLEWORDS);
         let doubleword = block * DOUBLEWORDS + cell % DOUBLEWORDS;
-        let mut bytes = [0u8; 8];
-        BigEndian::write_u64(&mut bytes, values[cell]);
-        put_all(into, doubleword as u64 * 8, &bytes);
+        into.put_word(doubleword as u64 * 8, 8, values[cell]);
         from = cell + 1;
-    }
-}
-
-/// Stores bytes from an address on.
-fn put_all<V: Bytes>(into: &mut V, address: u64, bytes: &[u8])
-    requires storage { length (V.bytes into.old) ≡ STORAGE_SIZE }
-    requires within { address + length bytes.now ≤ STORAGE_SIZE }
-    ensures { (overlay : Overlay) (base : List ℕ) → V.bytes into.old ≡ bytes_through overlay base
-        → V.bytes into.new ≡ bytes_through (with_bytes overlay address bytes.now) base }
-{
-    for (at, byte) in bytes.iter().enumerate() {
-        into.put(address + at as u64, *byte);
     }
 }

@@ -70,6 +70,7 @@ fn end_of(answer: Result<(), Exception>) -> Ended
 }
 
 /// Executes an instruction that is not about transactions on storage as it is.
+#[inline(always)]
 pub fn execute_plain<V: Bytes>(
     instr: &Instr,
     need: &Touches,

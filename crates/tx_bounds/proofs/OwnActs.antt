@@ -52,7 +52,8 @@ use Rattle.tx_bounds.proofs.Barred.{AbortsNot, permitted_not}
 use Rattle.tx_bounds.proofs.OwnEnds.{EndsIt, cause_so}
 use Rattle.tx_bounds.proofs.Paid.{left_of, left_now, left_more, left_started, left_begun}
 use Rattle.tx_progress.proofs.Parts.{not_live}
-use Rattle.tx_bounds.proofs.Running.{is_service, keeps_running}
+use Rattle.z_effect.specs.Facts.{is_service}
+use Rattle.tx_keeping.proofs.Running.{keeps_running}
 use Rattle.tx_bounds.proofs.Resuming.{Leads, leads, leads_on}
 use Rattle.tx_bounds.proofs.UnderWay.{HoldsOf, AmidOf, lives, holds_same}
 use Rattle.tx_bounds.proofs.UnderWay.{holds_quiet, put_here, SameParts}

@@ -1,8 +1,8 @@
 -- How many lines there can be, and how great the number of a faulty line.
-use Rattle.std.proofs.Common.{◌≡◌, ap, ℕ, suc, ◌+◌, ◌≤◌, arith, Bool, true, false}
-use Rattle.std.proofs.Common.{List, [], ◌∷◌, length, drop, inl, inr}
+use Rattle.std.proofs.Common.{◌≡◌, ℕ, suc, ◌+◌, ◌≤◌, arith, Bool, true, false}
+use Rattle.std.proofs.Common.{List, [], ◌∷◌, length, take, drop, inl, inr}
 use Rattle.std.specs.Prelude.{◌==◌, if◌then◌else◌}
-use Rattle.std.proofs.lemmas.List.{length-drop}
+use Rattle.std.proofs.lemmas.List.{length-drop, length-take}
 use Rattle.tx_journal.specs.Content.{Content}
 use Rattle.report_form.specs.declared.rows.Row.{Row}
 use Rattle.report_form.specs.declared.lines.Part.{Part}
@@ -10,12 +10,11 @@ use Rattle.report_form.specs.Lines.{Faulty, Fit, rows_of}
 use Rattle.report_form.specs.Sheet.{IsFirstFault, FaultyAt, in_head, no_history, in_history, no_schedule, in_schedule}
 use Rattle.report_form.specs.Sheet.{head_parts, history_parts, schedule_parts}
 use Rattle.report_form.specs.Sheet.{too_many, last_of, history_at, schedule_at}
-use Rattle.std.proofs.Common.{map}
-use denote.Ref.{Bor}
-use Rattle.report_form.proofs.Walks.{length_seen}
 use Rattle.report_form.specs.Sheet.{HasForm}
 use Rattle.tx_check.proofs.FormLines.{history_size}
-use Rattle.tx_check.specs.Lines.{lines_of, in_front}
+use Rattle.tx_replay.specs.Replay.{IsFirstMisfit}
+use Rattle.report_form.specs.declared.places.Place.{Place}
+use Rattle.report_form.specs.Text.{lines_of, in_front}
 
 front_more : (byte : ℕ) (ls : List (List ℕ)) → length (in_front byte ls) ≤ suc (length ls)
 front_more byte [] = omega arith
@@ -74,17 +73,27 @@ fault_number image lines k (in_schedule entries events h f) =
     parts_low image lines (schedule_parts events) (schedule_at image entries + 1) k (omega (arith, t)) f
 fault_number image lines k (too_many entries events h f less is) = omega (arith, less, is)
 
--- as many lines as are read
-pub few_read : (lines : List (Bor (List ℕ))) (report : List ℕ)
-    → map (λ (l : Bor (List ℕ)). l.now) lines ≡ lines_of report → length lines ≤ length report
-few_read lines report are =
-    let low = few_lines report in
-    let size : length (map (λ (l : Bor (List ℕ)). l.now) lines) ≡ length (lines_of report) = ap length are in
-    let same = length_seen lines in
-    omega (arith, low, size, same)
-
 -- no more entries than lines
 pub few_entries : (image : Content) (lines : List (List ℕ)) (entries events : ℕ)
     → HasForm image lines entries events → entries ≤ length lines
 few_entries image lines entries events form =
     let whole = form.whole in let size = history_size image entries in omega (arith, whole, size)
+
+-- the entries stand in a text that has the form
+pub entries_there : (image : Content) (text : List ℕ) (p : Place) (entries events : ℕ)
+    → HasForm image (lines_of text) entries events → p.line ≡ history_at image + 1
+    → entries ≤ length (drop p.line (lines_of text))
+entries_there image text p entries events form begins =
+    let whole = form.whole in
+    let size = history_size image entries in
+    let behind = length-drop p.line (lines_of text) in
+    omega (arith, whole, size, behind, begins)
+
+-- the number of an entry that does not fit is no greater than their number
+pub misfit_low : (image : Content) (lines : List (List ℕ)) (entries number : ℕ)
+    → IsFirstMisfit image (take entries lines) number → number ≤ length lines
+misfit_low image lines entries number h =
+    let there = h.within in
+    let counted = h.counted in
+    let few = length-take entries lines in
+    omega (arith, there, counted, few)

@@ -1,10 +1,7 @@
 -- What a CPU can have, and what is told of it.
-use Rattle.std.proofs.Common.{◌≡◌, ◌∙◌, ap, ap₂, sym, refl, subst, ℕ, ◌+◌, ◌<◌, ◌≤◌, arith, Bool, true}
-use Rattle.std.proofs.Common.{List, length, map, get_or, take, drop, [], Option, Some, None, ◌++◌, ◌∷◌, zero, suc}
+use Rattle.std.proofs.Common.{◌≡◌, ◌∙◌, ap, ap₂, sym, refl, subst, ℕ, ◌+◌, ◌<◌, ◌≤◌, Bool, true}
+use Rattle.std.proofs.Common.{List, length, map, get_or, [], Option, Some, None, ◌++◌, ◌∷◌, zero, suc}
 use Rattle.std.specs.Prelude.{is_none, ◌&&◌, slice_get}
-use Rattle.std.specs.List.{take-map, drop-map}
-use Rattle.std.proofs.Common.{◌-◌}
-use Rattle.std.proofs.lemmas.List.{length-drop, take_all}
 use Rattle.tx_journal.specs.declared.image.Show.{Show}
 use Rattle.report_text.specs.Report.{state_part}
 use Rattle.tx_check.specs.Seen.{shown_seen}
@@ -22,7 +19,6 @@ use Rattle.report_form.specs.declared.rows.Row.TheVariants as row
 use Rattle.report_form.specs.Rows.{IsRow}
 use Rattle.tx_check.specs.declared.writing.Seen.{Seen}
 use Rattle.tx_check.specs.Told.{IsLive}
-use denote.Ref.{Bor}
 use Rattle.tx_check.specs.Sound.{cpu_place}
 use Rattle.tx_check.proofs.FormLines.{HasRow, cpu_line}
 
@@ -95,29 +91,6 @@ each_more P [] x each here (suc i) s at = absurd cc
 each_more P (y ∷ ys) x each here zero s at = each 0 s at
 each_more P (y ∷ ys) x each here (suc i) s at =
     each_more (λ k. P (suc k)) ys x (λ k. each (suc k)) here i s at
-
--- ---- a part of the lines
-
-pub part_of : (lines : List (Bor (List ℕ))) (texts : List (List ℕ)) (from count size place : ℕ)
-    → texts ≡ map (λ (l : Bor (List ℕ)). l.now) (take count (drop from lines)) → count ≡ size → from ≡ place
-    → texts ≡ take size (drop place (map (λ (l : Bor (List ℕ)). l.now) lines))
-part_of lines texts from count size place is many begins =
-    is ∙ sym (take-map (λ (l : Bor (List ℕ)). l.now) count (drop from lines))
-    ∙ ap (take count) (sym (drop-map (λ (l : Bor (List ℕ)). l.now) from lines))
-    ∙ ap₂ (λ n a. take n (drop a (map (λ (l : Bor (List ℕ)). l.now) lines))) many begins
-
-pub behind_of : (lines : List (Bor (List ℕ))) (place : ℕ)
-    → map (λ (l : Bor (List ℕ)). l.now) (take (length lines - place) (drop place lines))
-    ≡ drop place (map (λ (l : Bor (List ℕ)). l.now) lines)
-behind_of lines place =
-    let all = length-drop place lines in
-    ap (map (λ (l : Bor (List ℕ)). l.now)) (take_all (length lines - place) (drop place lines) (omega (arith, all)))
-    ∙ sym (drop-map (λ (l : Bor (List ℕ)). l.now) place lines)
-
--- lines up to a place
-pub before_of : (lines : List (Bor (List ℕ))) (place : ℕ)
-    → map (λ (l : Bor (List ℕ)). l.now) (take place lines) ≡ take place (map (λ (l : Bor (List ℕ)). l.now) lines)
-before_of lines place = sym (take-map (λ (l : Bor (List ℕ)). l.now) place lines)
 
 -- the text, by what it is written of
 pub written_as : (text : List ℕ) (cs cpus : List Seen) (shows : List Show) (st bytes : List ℕ)

@@ -1,5 +1,5 @@
 -- The report that is expected, of what the code finds.
-use Rattle.std.proofs.Common.{◌≡◌, ◌∙◌, ap, sym, refl, subst, ℕ, ◌+◌, ◌-◌, ◌≤◌, arith, List, length, take, drop}
+use Rattle.std.proofs.Common.{◌≡◌, ◌∙◌, ap, sym, refl, subst, ℕ, ◌+◌, ◌≤◌, arith, List, length, take, drop}
 use Rattle.std.proofs.Common.{◌++◌, map, Option, Some, None, inl, inr}
 use Rattle.std.specs.Prelude.{slice_get}
 use Rattle.std.specs.Option.{option_map}
@@ -75,14 +75,15 @@ pub due_text : (image : Content) (lines : List (List ℕ)) (s : Sheet) (history 
     → length cpus ≡ length image.cpus
     → ((i : ℕ) (c : Seen) → slice_get cpus i ≡ Some c → IsTold after history i (shown_seen c))
     → ((i : ℕ) (c : Seen) → slice_get cpus i ≡ Some c → IsTaken lines (cpu_place i) after i (shown_seen c))
+    → s.history.line ≡ s.count.line + 1
     → text ≡ state_part (map shown_seen cpus) image.shows (bytes_of after.storage)
-    ++ joined (drop (s.history - 1) lines)
+    ++ joined (drop s.count.line lines)
     → IsDueText image lines s.entries text
 unfolding report_text
-due_text image lines s history after cpus text sheet replayed many told taken is =
+due_text image lines s history after cpus text sheet replayed many told taken next is =
     let es : HasEvents image lines s.entries = events_read image lines s.entries sheet.events sheet.form in
     let size = entries_size image lines s.entries sheet.events history sheet.form replayed.texts in
-    let begins : s.history - 1 ≡ history_at image = let b = sheet.begins in omega (arith, b) in
+    let begins : s.count.line ≡ history_at image = let b = sheet.begins in omega (arith, b, next) in
     let run = run_told image lines s.entries sheet.events history es.events sheet.form replayed.texts size es.told in
     record {
       shown = record {

@@ -1,18 +1,18 @@
 //! Whether a report is sound, and else where it first is not.
-ghost use Rattle.std.specs.Prelude.{◌≡◌, ◌<◌, ◌≤◌, ◌+◌, ◌-◌, ◌^◌, ◌++◌, IfOk, IfErr, length, map, take, drop};
-ghost use Rattle.tx_journal.specs.Lines.{entry_text};
-ghost use Rattle.report_form.specs.Sheet.{HasForm, IsSheet, history_at};
+ghost use Rattle.std.specs.Prelude.{◌≡◌, ◌<◌, ◌+◌, ◌-◌, ◌^◌, ◌++◌, IfOk, IfErr, length, map, take, drop};
+ghost use Rattle.report_form.specs.Sheet.{IsSheet, HasPlaces, history_at};
+ghost use Rattle.report_form.specs.Text.{IsPlace};
 ghost use Rattle.z_regs.specs.Prefix.{storage_size};
 ghost use Rattle.report_text.specs.Report.{state_part};
 ghost use Rattle.tx_flat.specs.Machine.{state_of};
 ghost use Rattle.tx_check.specs.Seen.{shown_seen};
 ghost use Rattle.tx_check.specs.Sound.{joined};
-ghost use Rattle.tx_replay.specs.Replay.{IsReplay};
+ghost use Rattle.tx_replay.specs.Replay.{IsReplayed};
 ghost use Rattle.tx_check.specs.Lines.{lines_of};
 ghost use Rattle.tx_check.specs.Sound.{IsSound};
 ghost use Rattle.tx_check.specs.Answers.{IsRefused, IsAccepted, IsDueText, HasNoForm, HasNoHistory};
 
-use crate::lines::{cut_lines, first_unexpected};
+use crate::lines::first_unexpected;
 use crate::telling::seen_cpus;
 use crate::writing::{Seen, add_state};
 use report_form::{FormFault, Sheet, read};
@@ -34,36 +34,36 @@ pub enum CheckFault {
     State(u32),
 }
 
-/// Where the entries of a report stand, by its lines; or the first line that leaves the form.
-fn sheet_of(alloc: Global, image: &Image, lines: &[&[u8]]) -> Result<Sheet, CheckFault>
-    requires { length lines.now < 2 ^ 32 - 1 }
-    ensures sheet { IfOk result (λ s. IsSheet image.now (map (λ l. l.now) lines.now) s) }
-    ensures fault { IfErr result (λ fault. HasNoForm image.now (map (λ l. l.now) lines.now) fault) }
+/// Where the entries of a report stand, or the first line that leaves the form.
+fn sheet_of(alloc: Global, image: &Image, report: &[u8]) -> Result<Sheet, CheckFault>
+    requires { length report.now < 2 ^ 32 - 1 }
+    ensures sheet { IfOk result (λ s. IsSheet image.now (lines_of report.now) s) }
+    ensures places { IfOk result (λ s. HasPlaces report.now s) }
+    ensures fault { IfErr result (λ fault. HasNoForm image.now (lines_of report.now) fault) }
 {
-    match read(alloc, image, lines) {
+    match read(alloc, image, report) {
         Ok(sheet) => Ok(sheet),
         Err(FormFault::Memory) => Err(CheckFault::Memory),
         Err(FormFault::Line(number)) => Err(CheckFault::Form(number as u32)),
     }
 }
 
-/// The history in a report's lines, and what it leaves; or the first entry that does not fit.
+/// What the history in a report leaves; or the first entry that does not fit.
 fn history_of(
     alloc: Global,
     image: &Image,
-    lines: &[&[u8]],
+    report: &[u8],
     sheet: Sheet,
 ) -> Result<Replayed, CheckFault>
-    requires few { length lines.now < 2 ^ 32 - 1 }
-    requires sheet { IsSheet image.now (map (λ l. l.now) lines.now) sheet }
-    ensures replay { IfOk result (λ r. IsReplay image.now
-        (take sheet.entries (drop (history_at image.now + 1) (map (λ l. l.now) lines.now))) r.entries.items
-        (state_of r.flat)) }
+    requires few { length report.now < 2 ^ 32 - 1 }
+    requires sheet { IsSheet image.now (lines_of report.now) sheet }
+    requires place { IsPlace report.now sheet.history }
+    ensures replayed { IfOk result (λ r. IsReplayed image.now
+        (take sheet.entries (drop (history_at image.now + 1) (lines_of report.now))) (state_of r.flat) r.ends) }
     ensures cpus { IfOk result (λ r. length r.flat.slots ≡ length image.now.cpus) }
-    ensures fault { IfErr result (λ fault. HasNoHistory image.now (map (λ l. l.now) lines.now) fault) }
+    ensures fault { IfErr result (λ fault. HasNoHistory image.now (lines_of report.now) fault) }
 {
-    let end = sheet.history + sheet.entries as usize;
-    match replay(alloc, image, &lines[sheet.history..end]) {
+    match replay(alloc, image, &report[sheet.history.byte..], sheet.entries) {
         Ok(replayed) => Ok(replayed),
         Err(ReplayFault::Memory) => Err(CheckFault::Memory),
         Err(ReplayFault::Entry(number)) => Err(CheckFault::Entry(number as u32)),
@@ -87,24 +87,25 @@ fn written(
     Ok(text)
 }
 
-/// The state that is expected in front of the history of a report with these lines. The report's own history and
-/// events stand behind it in the report that is expected.
+/// The state that is expected in front of the history of a report. The report's own history and events stand behind it
+/// in the report that is expected.
 fn expected_state(
     alloc: Global,
     image: &Image,
-    lines: &[&[u8]],
+    report: &[u8],
     sheet: Sheet,
     replayed: &Replayed,
 ) -> Result<Vec<u8>, NoMemory>
-    requires sheet { IsSheet image.now (map (λ l. l.now) lines.now) sheet }
-    requires replay { IsReplay image.now
-        (take sheet.entries (drop (history_at image.now + 1) (map (λ l. l.now) lines.now)))
-        replayed.now.entries.items (state_of replayed.now.flat) }
+    requires sheet { IsSheet image.now (lines_of report.now) sheet }
+    requires places { HasPlaces report.now sheet }
+    requires replayed { IsReplayed image.now
+        (take sheet.entries (drop (history_at image.now + 1) (lines_of report.now))) (state_of replayed.now.flat)
+        replayed.now.ends }
     requires cpus { length replayed.now.flat.slots ≡ length image.now.cpus }
-    ensures { IfOk result (λ state. IsDueText image.now (map (λ l. l.now) lines.now) sheet.entries
-        (state.items ++ joined (drop (sheet.history - 1) (map (λ l. l.now) lines.now)))) }
+    ensures { IfOk result (λ state. IsDueText image.now (lines_of report.now) sheet.entries
+        (state.items ++ joined (drop sheet.count.line (lines_of report.now)))) }
 {
-    let cpus = seen_cpus(alloc, image, lines, sheet, replayed)?;
+    let cpus = seen_cpus(alloc, image, report, sheet, replayed)?;
     let storage = replayed.flat.storage();
     let Ok(text) = written(alloc, image, cpus.as_slice(), storage) else {
         return Err(NoMemory);
@@ -122,17 +123,14 @@ pub fn check(alloc: Global, image: &Image, report: &[u8]) -> Result<u32, CheckFa
     ensures accepted { IfOk result (λ entries. IsAccepted image.now report.now entries) }
     ensures fault { IfErr result (λ fault. IsRefused image.now report.now fault) }
 {
-    let Ok(lines) = cut_lines(alloc, report) else {
-        return Err(CheckFault::Memory);
-    };
-    let sheet = sheet_of(alloc, image, &lines)?;
-    let replayed = history_of(alloc, image, &lines, sheet)?;
-    let state = expected_state(alloc, image, &lines, sheet, &replayed);
+    let sheet = sheet_of(alloc, image, report)?;
+    let replayed = history_of(alloc, image, report, sheet)?;
+    let state = expected_state(alloc, image, report, sheet, &replayed);
     drop(replayed);
     let Ok(state) = state else {
         return Err(CheckFault::Memory);
     };
-    let Ok(place) = first_unexpected(alloc, &lines, sheet.history - 1, state) else {
+    let Ok(place) = first_unexpected(report, sheet.count, state) else {
         return Err(CheckFault::Memory);
     };
     match place {

@@ -1,6 +1,6 @@
 //! What a report has to tell of each CPU: what its history leaves, and beside it what the lines claim.
-ghost use Rattle.std.specs.Prelude.{◌≡◌, ◌<◌, ◌+◌, ℕ, IfOk, IfSome, IfNone, Option, Some, length, map, count_by};
-ghost use Rattle.std.specs.Prelude.{slice_get, OnOk, ◌++◌, ◌∷◌, []};
+ghost use Rattle.std.specs.Prelude.{◌≡◌, ◌<◌, ◌+◌, ℕ, IfOk, IfSome, IfNone, Option, Some, length, count_by};
+ghost use Rattle.std.specs.Prelude.{slice_get, get_or, List, OnOk, ◌++◌, ◌∷◌, []};
 ghost use Rattle.z_regs.specs.Cpu.{cpu_of};
 ghost use Rattle.tx_serial.specs.Apply.{may_act, is_running};
 ghost use Rattle.tx_serial.specs.Flat.{Pending, address_of};
@@ -9,20 +9,24 @@ ghost use Rattle.tx_meaning.specs.Shown.{commits_of, aborts_of};
 ghost use Rattle.tx_flat.specs.Machine.{state_of};
 ghost use Rattle.report_form.specs.Sheet.{IsSheet};
 ghost use Rattle.report_text.specs.Shown.{ShownCpu};
+ghost use Rattle.tx_replay.specs.Ends.{AreEnds};
+ghost use Rattle.tx_journal.specs.declared.entries.Entry.{Entry};
+ghost use Rattle.tx_check.specs.Lines.{lines_of};
 ghost use Rattle.tx_check.specs.Claims.{attempt_of, claim_of, counts_of};
 ghost use Rattle.tx_check.specs.Told.{IsLive, IsTold, cpu_in};
 ghost use Rattle.tx_check.specs.Sound.{Believes, IsPrinted, IsTaken, cpu_place};
 ghost use Rattle.tx_check.specs.Seen.{shown_seen};
 
 use crate::claims::{Claim, Tally, read_attempt, read_counts};
+use crate::lines::nth_line;
 use crate::writing::Seen;
 use report_form::Sheet;
 use report_text::Attempt;
 use std::alloc::Global;
 use tx_flat::Flat;
 use tx_flat::showing::OpenRun;
-use tx_journal::{Entry, Image};
-use tx_replay::Replayed;
+use tx_journal::Image;
+use tx_replay::{Ends, Replayed};
 use z_regs::{CpuImage, NoMemory, RunState};
 
 /// Lines in front of the first CPU's.
@@ -35,9 +39,9 @@ const ATTEMPT_LINE: usize = 8;
 
 const COUNTS_LINE: usize = 10;
 
-/// How many commits and aborts of a CPU are in a history.
+/// How many transactions of a CPU have been committed, and how many aborted.
 #[derive(Clone, Copy)]
-struct Ends {
+struct EndCounts {
     commits: u64,
     aborts: u64,
 }
@@ -83,40 +87,16 @@ fn is_finished(image: &CpuImage, pending: Option<u64>) -> bool
     }
 }
 
-/// Whether an entry is a commit of a CPU.
-fn is_commit(entry: Entry, cpu: u32) -> bool
-    ensures { result ≡ commits_of cpu entry }
-{
-    match entry {
-        Entry::Commit(other, _) => other == cpu,
-        _ => false,
-    }
-}
-
-/// Whether an entry is an abort of a CPU.
-fn is_abort(entry: Entry, cpu: u32) -> bool
-    ensures { result ≡ aborts_of cpu entry }
-{
-    match entry {
-        Entry::Abort(other, _, _) => other == cpu,
-        _ => false,
-    }
-}
-
 /// How the transactions of a CPU have ended.
-fn ends_of(history: &[Entry], cpu: u32) -> Ends
-    ensures commits { result.commits ≡ count_by (commits_of cpu) history.now }
-    ensures aborts { result.aborts ≡ count_by (aborts_of cpu) history.now }
+fn ended(ends: &Ends, cpu: u32) -> EndCounts
+    requires commits { cpu < length ends.now.commits.items }
+    requires aborts { cpu < length ends.now.aborts.items }
+    ensures commits { result.commits ≡ get_or ends.now.commits.items cpu 0 }
+    ensures aborts { result.aborts ≡ get_or ends.now.aborts.items cpu 0 }
 {
-    Ends {
-        commits: history
-            .iter()
-            .filter(|entry| is_commit(**entry, cpu))
-            .count() as u64,
-        aborts: history
-            .iter()
-            .filter(|entry| is_abort(**entry, cpu))
-            .count() as u64,
+    EndCounts {
+        commits: ends.commits[cpu as usize],
+        aborts: ends.aborts[cpu as usize],
     }
 }
 
@@ -174,12 +154,14 @@ fn believed(
 fn seen_of(
     alloc: Global,
     flat: &Flat,
-    history: &[Entry],
     cpu: u32,
+    ended: EndCounts,
     claimed: Claimed,
 ) -> Result<Seen, NoMemory>
     requires { cpu < length flat.now.slots }
-    ensures told { IfOk result (λ s. IsTold (state_of flat.now) history.now cpu (shown_seen s)) }
+    ensures told { IfOk result (λ s. (history : List Entry) → ended.commits ≡ count_by (commits_of cpu) history
+        → ended.aborts ≡ count_by (aborts_of cpu) history
+        → IsTold (state_of flat.now) history cpu (shown_seen s)) }
     ensures believes { IfOk result (λ s. Believes (state_of flat.now) cpu (claim_of claimed.attempt) s.attempt) }
     ensures turns { IfOk result (λ s. s.counts.turns ≡ claimed.counts.turns) }
     ensures asked { IfOk result (λ s. s.counts.asked ≡ claimed.counts.asked) }
@@ -187,7 +169,6 @@ fn seen_of(
 {
     let (attempt, image) = believed(alloc, flat, cpu, claimed.attempt)?;
     let pending = flat.pending(cpu);
-    let ends = ends_of(history, cpu);
     Ok(Seen {
         image,
         attempt,
@@ -196,24 +177,24 @@ fn seen_of(
             turns: claimed.counts.turns,
             asked: claimed.counts.asked,
             rejected: claimed.counts.rejected,
-            commits: ends.commits,
-            aborts: ends.aborts,
+            commits: ended.commits,
+            aborts: ended.aborts,
         },
         finished: is_finished(&image, pending),
     })
 }
 
 /// What the lines of a CPU claim.
-fn claims_of(image: &Image, lines: &[&[u8]], sheet: Sheet, cpu: u32) -> Claimed
-    requires sheet { IsSheet image.now (map (λ l. l.now) lines.now) sheet }
+fn claims_of(image: &Image, report: &[u8], sheet: Sheet, cpu: u32) -> Claimed
+    requires sheet { IsSheet image.now (lines_of report.now) sheet }
     requires known { cpu < length image.now.cpus }
-    ensures { IsPrinted (map (λ l. l.now) lines.now) (cpu_place cpu) (claim_of result.attempt)
+    ensures { IsPrinted (lines_of report.now) (cpu_place cpu) (claim_of result.attempt)
         (counts_of result.counts) }
 {
     let first = HEAD_LINES + CPU_LINES * cpu as usize;
     Claimed {
-        attempt: read_attempt(lines[first + ATTEMPT_LINE]),
-        counts: read_counts(lines[first + COUNTS_LINE]),
+        attempt: read_attempt(nth_line(report, first + ATTEMPT_LINE)),
+        counts: read_counts(nth_line(report, first + COUNTS_LINE)),
     }
 }
 
@@ -228,28 +209,25 @@ fn add_seen(seen: &mut Vec<Seen>, one: Seen) -> Result<(), NoMemory>
 pub(crate) fn seen_cpus(
     alloc: Global,
     image: &Image,
-    lines: &[&[u8]],
+    report: &[u8],
     sheet: Sheet,
     replayed: &Replayed,
 ) -> Result<Vec<Seen>, NoMemory>
-    requires sheet { IsSheet image.now (map (λ l. l.now) lines.now) sheet }
+    requires sheet { IsSheet image.now (lines_of report.now) sheet }
     requires cpus { length replayed.now.flat.slots ≡ length image.now.cpus }
+    requires ends { (history : List Entry) × AreEnds history (length image.now.cpus) replayed.now.ends }
     ensures count { IfOk result (λ seen. length seen.items ≡ length image.now.cpus) }
-    ensures told { IfOk result (λ seen. (i : ℕ) (s : Seen) → slice_get seen.items i ≡ Some s
-        → IsTold (state_of replayed.now.flat) replayed.now.entries.items i (shown_seen s)) }
+    ensures told { IfOk result (λ seen. (history : List Entry)
+        → AreEnds history (length image.now.cpus) replayed.now.ends → (i : ℕ) (s : Seen)
+        → slice_get seen.items i ≡ Some s → IsTold (state_of replayed.now.flat) history i (shown_seen s)) }
     ensures taken { IfOk result (λ seen. (i : ℕ) (s : Seen) → slice_get seen.items i ≡ Some s
-        → IsTaken (map (λ l. l.now) lines.now) (cpu_place i) (state_of replayed.now.flat) i (shown_seen s)) }
+        → IsTaken (lines_of report.now) (cpu_place i) (state_of replayed.now.flat) i (shown_seen s)) }
 {
     let mut seen = Vec::new(alloc);
     for cpu in 0..image.cpu_count() {
-        let claimed = claims_of(image, lines, sheet, cpu);
-        let one = seen_of(
-            alloc,
-            &replayed.flat,
-            replayed.entries.as_slice(),
-            cpu,
-            claimed,
-        )?;
+        let claimed = claims_of(image, report, sheet, cpu);
+        let ended = ended(&replayed.ends, cpu);
+        let one = seen_of(alloc, &replayed.flat, cpu, ended, claimed)?;
         add_seen(&mut seen, one)?;
     }
     Ok(seen)

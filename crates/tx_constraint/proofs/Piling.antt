@@ -171,6 +171,12 @@ pub with_octowords-none : (found : List ℕ) → with_octowords found [] ≡ fou
 unfolding with_octowords
 with_octowords-none found = refl
 
+-- the octowords of operands are added one after the other
+pub with_octowords-pieces : (found : List ℕ) (ranges : List Range) →
+    with_octowords found ranges ≡ fold with_octoword found (flat_map (pieces 32) ranges)
+unfolding with_octowords
+with_octowords-pieces found ranges = refl
+
 pub with_octowords_grows : (found : List ℕ) (ranges : List Range) →
     length found ≤ length (with_octowords found ranges)
 unfolding with_octowords

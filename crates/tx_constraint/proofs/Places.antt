@@ -43,7 +43,7 @@ ends xs o i end within so =
 -- ---- an octoword that is there, and one that is not
 
 -- a number is below another, is the same, or is above it
-data Order (x o : ℕ) : Type 0 where
+pub data Order (x o : ℕ) : Type 0 where
   Below : x < o → Order x o
   Same : x ≡ o → Order x o
   Above : o < x → Order x o
@@ -53,16 +53,16 @@ order_by x o true more p q = Below (grind (arith, nat_tests))
 order_by x o false true p q = Above (grind (arith, nat_tests))
 order_by x o false false p q = Same (grind (arith, nat_tests))
 
-order : (x o : ℕ) → Order x o
+pub order : (x o : ℕ) → Order x o
 order x o = order_by x o (nat_lt x o) (nat_lt o x) refl refl
 
-below_is : (x : ℕ) (rest : List ℕ) (o : ℕ) → x < o → with_octoword (x ∷ rest) o ≡ x ∷ with_octoword rest o
+pub below_is : (x : ℕ) (rest : List ℕ) (o : ℕ) → x < o → with_octoword (x ∷ rest) o ≡ x ∷ with_octoword rest o
 below_is x rest o h = grind (arith, nat_tests)
 
-same_is : (rest : List ℕ) (o : ℕ) → with_octoword (o ∷ rest) o ≡ o ∷ rest
+pub same_is : (rest : List ℕ) (o : ℕ) → with_octoword (o ∷ rest) o ≡ o ∷ rest
 same_is rest o = grind (arith, nat_tests)
 
-above_is : (x : ℕ) (rest : List ℕ) (o : ℕ) → o < x → with_octoword (x ∷ rest) o ≡ o ∷ x ∷ rest
+pub above_is : (x : ℕ) (rest : List ℕ) (o : ℕ) → o < x → with_octoword (x ∷ rest) o ≡ o ∷ x ∷ rest
 above_is x rest o h = grind (arith, nat_tests)
 
 one_is : (o : ℕ) → with_octoword [] o ≡ o ∷ []

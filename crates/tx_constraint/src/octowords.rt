@@ -1,5 +1,5 @@
 //! The octowords that operands lie in, each once, and at most four.
-ghost use Rattle.std.specs.Prelude.{◌≡◌, ◌-◌, ◌≤◌, ◌↔◌, nat_le, length, take, slice_get, IsTrue, Some};
+ghost use Rattle.std.specs.Prelude.{◌≡◌, ◌+◌, ◌-◌, ◌≤◌, ◌↔◌, ℕ, List, nat_le, length, take, slice_get, IfSome, IsTrue, Some};
 ghost use Rattle.std.specs.Bool.{OnTrue};
 ghost use Rattle.std.specs.List.{fold, range_with_len};
 ghost use Rattle.arrayvec.specs.ArrayVec.{array_vec_len};
@@ -113,12 +113,58 @@ impl Octowords {
         true
     }
 
-    /// Whether there would be room for the octowords of the operands too.
+    /// Whether the octoword is there already.
+    fn has(&self, octoword: u64) -> bool
+        ensures { OnTrue result (with_octoword self.now octoword ≡ self.now) }
+    {
+        let at = place(self.numbers.as_slice(), octoword);
+        is_at(self.numbers.as_slice(), at, octoword)
+    }
+
+    /// How much of the room is left when each of the octowords that is not there has taken a place; nothing
+    /// where there are more of these. The octowords take no more places than that, also beside others that
+    /// were added before.
+    fn room_left(&self, pieces: Pieces, room: usize) -> Option<usize>
+        requires { pieces.first ≤ pieces.end }
+        ensures { IfSome result (λ left. (before : List ℕ) →
+            length (fold with_octoword (fold with_octoword self.now before)
+            (range_with_len pieces.first (pieces.end - pieces.first))) + left ≤
+            length (fold with_octoword self.now before) + room) }
+    {
+        let mut left = room;
+        for octoword in pieces.first..pieces.end {
+            if self.has(octoword) {
+                continue;
+            }
+            if left == 0 {
+                return None;
+            }
+            left -= 1;
+        }
+        Some(left)
+    }
+
+    /// Whether there is room even if an octoword that is not there takes a place for each operand in it.
+    fn has_ample_room(&self, touches: &Touches) -> bool
+        ensures { OnTrue result (length (with_octowords self.now touches.now) ≤ 4) }
+    {
+        let mut room = self.numbers.remaining_capacity();
+        for i in 0..touches.count() {
+            match self.room_left(pieces_of(touches.at(i), OCTOWORD_SIZE), room) {
+                Some(left) => room = left,
+                None => return false,
+            }
+        }
+        true
+    }
+
+    /// Whether there would be room for the octowords of the operands too. They are added to a copy only where
+    /// counting does not show that there is.
     pub fn has_room(&self, touches: &Touches) -> bool
         ensures { result ≡ nat_le (length (with_octowords self.now touches.now)) 4 }
     {
-        if touches.count() == 0 {
-            return self.numbers.len() <= MOST;
+        if self.has_ample_room(touches) {
+            return true;
         }
         let mut all = Octowords::none();
         all.copy_from(self);

@@ -111,7 +111,7 @@ fn is_reached(shape: Shape, first: u64, guard: &Guard) -> bool
 }
 
 /// Whether the constraints of a constrained attempt admit an instruction at an address, with its operand.
-#[inline(never)]
+#[inline(always)]
 fn admits_constrained(attempt: &Attempt, ready: &Ready, at: u64, first: u64) -> bool
     ensures text { result ≡ true → constraint_refusal (λ kept. next_text_breach kept ready.now.instr at)
         ready.now.instr attempt.now.constraint ≡ None }

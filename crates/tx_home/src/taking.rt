@@ -63,7 +63,7 @@ fn bring(works: &mut Works, run: &Run)
     run.is_lent();
     let slot = &mut works.slots[run.cpu() as usize];
     slot.tally.turns += run.steps();
-    works.lines.bring(run, &mut slot.cpu);
+    works.lines.bring(run.cpu(), run, &mut slot.cpu);
 }
 
 /// The turns of a run are turns of its CPU: they are recorded and counted, and what they have made is there.

@@ -1,5 +1,6 @@
 -- What is needed of one CPU, and the proof that the machine that keeps says what the meaning says.
 pub mod Interrupted
+pub mod Running
 pub mod Awaited
 pub mod Stores
 pub mod Needed

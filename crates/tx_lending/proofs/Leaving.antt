@@ -4,10 +4,6 @@ use Rattle.std.specs.Prelude.{if◌then◌else◌, nat_lt}
 use Rattle.z_regs.specs.Cpu.{Cpu}
 use Rattle.z_regs.specs.declared.ranges.Range.{Range}
 use Rattle.z_instr.specs.declared.instr.Instr.{Instr}
-use Rattle.z_instr.specs.declared.kind.Kind.{Kind}
-use Rattle.z_instr.specs.declared.kind.Kind.TheVariants as kind
-use Rattle.z_instr.specs.declared.kind.Branch.{Branch}
-use Rattle.z_instr.specs.declared.kind.Branch.TheVariants as branch
 use Rattle.z_instr.specs.Roles.{begins, is_end, stores_lastingly, asks_for_time}
 use Rattle.z_instr.specs.Table.{entry_at, kind_at}
 use Rattle.z_effect.specs.Outcome.{Outcome, Did, Divides, Aborts}
@@ -21,8 +17,7 @@ use Rattle.tx_progress.specs.Progress.{is_live, advanced, seen_through}
 use Rattle.tx_progress.specs.Trial.{outcome_by}
 use Rattle.tx_progress.specs.declared.done.Done.TheVariants.{Stepped}
 use Rattle.tx_progress.proofs.Parts.{not_live}
-use Rattle.tx_bounds.proofs.Running.{Keeps, keeps_running}
-use Rattle.tx_bounds.proofs.Running as bounds
+use Rattle.tx_keeping.proofs.Running.{Keeps, keeps_running}
 use Rattle.tx_lending.specs.Away.{is_abort, is_service, is_plain}
 use Rattle.tx_lending.proofs.Along.{not_true, no_begin}
 use Rattle.tx_lending.proofs.OneMore.{more_live}
@@ -31,23 +26,12 @@ use Rattle.tx_lending.proofs.Touching.{on}
 
 -- ---- no service call
 
-same_branch : (b : Branch) → is_service (kind.Branch b) ≡ false → bounds.is_service (kind.Branch b) ≡ false
-same_branch branch.ServiceCall h = h
-same_branch b h = refl
-
-same_service : (k : Kind) → is_service k ≡ false → bounds.is_service k ≡ false
-same_service (kind.General g) h = refl
-same_service (kind.Storage s) h = refl
-same_service (kind.Branch b) h = same_branch b h
-same_service (kind.Transaction t) h = refl
-
-no_service : (i : Instr) → is_plain i ≡ true → bounds.is_service (kind_at i.op.number) ≡ false
+no_service : (i : Instr) → is_plain i ≡ true → is_service (kind_at i.op.number) ≡ false
 unfolding kind_at
 no_service i h =
     let e = entry_at i.op.number in
-    same_service e.kind
-    (or_second (asks_for_time e) _ (or_second (stores_lastingly e) _ (or_second (is_abort e.kind) _
-    (or_second (is_end e) _ (or_second (begins e) _ (not_true _ h))))))
+    or_second (asks_for_time e) _ (or_second (stores_lastingly e) _ (or_second (is_abort e.kind) _
+    (or_second (is_end e) _ (or_second (begins e) _ (not_true _ h)))))
 
 -- ---- what is left
 

@@ -4,11 +4,11 @@ use Rattle.std.specs.Prelude.{◌++◌, All, Option, None}
 use Rattle.z_regs.specs.declared.ranges.Range.{Range}
 use Rattle.z_instr.specs.declared.instr.Instr.{Instr}
 use Rattle.z_instr.specs.declared.kind.Kind.{Kind}
-use Rattle.z_instr.specs.declared.kind.Kind.TheVariants.{Branch, Transaction}
-use Rattle.z_instr.specs.declared.kind.Branch.TheVariants.{ServiceCall}
+use Rattle.z_instr.specs.declared.kind.Kind.TheVariants.{Transaction}
 use Rattle.z_instr.specs.declared.kind.Transaction.TheVariants.{Abort}
 use Rattle.z_instr.specs.Table.{Entry, entry_at}
 use Rattle.z_instr.specs.Roles.{begins, is_end, stores_lastingly, asks_for_time}
+pub use Rattle.z_effect.specs.Facts.{is_service}
 use Rattle.tx_serial.specs.Fate.{Fate, Goes, Ends, Stops}
 use Rattle.tx_serial.specs.Flat.{Storage}
 use Rattle.tx_progress.specs.Progress.{Progress, is_live}
@@ -27,11 +27,6 @@ use Rattle.tx_lending.specs.Places.{is_among, text_places, operand_places, store
 abbrev pub is_abort : Kind → Bool
 is_abort (Transaction Abort) = true
 is_abort _ = false
-
--- it ends the program
-abbrev pub is_service : Kind → Bool
-is_service (Branch ServiceCall) = true
-is_service _ = false
 
 -- it begins or ends a transaction or aborts it, its stores outlive an abort, it asks for time, or it ends the
 -- program

@@ -69,11 +69,12 @@ impl Lines {
         run.first_difference(cpu, &self.lines)
     }
 
-    /// Gives what the steps of a run have made to a CPU and to storage. The CPU goes on like the one that was lent, and sees the
+    /// Gives what the steps of a run have made to the CPU of this number and to storage. The CPU goes on like the one that was lent, and sees the
     /// same wherever the steps have looked. Then it has made as many turns as the run has steps, each of which could have been
     /// made away, with the lines that the run has needed: turns by any text pages that are those of the run's image where the
     /// steps have looked. No mode changes.
-    pub fn bring(&mut self, run: &Run, into: &mut Cpu)
+    pub fn bring(&mut self, number: u32, run: &Run, into: &mut Cpu)
+        requires number { number < self.old.cpus }
         requires like { GoesOnLike (local_of run.now.made.start).attempt (local_of into.old).attempt }
         requires alike { SeeAlike (is_touched run.now.made.own) (local_of run.now.made.start).attempt.overlay
             (given run.now.made.own) (local_of into.old).attempt.overlay (storage_in self.old) }
@@ -85,6 +86,6 @@ impl Lines {
         ensures cpus { self.new.cpus ≡ self.old.cpus }
         ensures held { holders_in self.new ≡ holders_in self.old }
     {
-        bring_in::<Brand>(&mut self.lines, run, into);
+        bring_in::<Brand>(&mut self.lines, number, run, into);
     }
 }

@@ -212,7 +212,8 @@ impl Lines {
     /// Executes an instruction that the CPU has found to go, with its operands, and tells what came of it. Where
     /// it ends its transaction by a cause, nothing is aborted yet.
     #[inline(always)]
-    pub fn execute(&mut self, cpu: &mut Cpu, instr: &Instr, need: &Touches) -> Done
+    pub fn execute(&mut self, number: u32, cpu: &mut Cpu, instr: &Instr, need: &Touches) -> Done
+        requires number { number < self.old.cpus }
         requires prepared { IsPrepared (local_of cpu.old).attempt instr.now need.now }
         requires count { (local_of cpu.old).attempt.count + 1 < 2 ^ 32 }
         ensures value { record { after = with_lines cpu.new self.new; told = result } ≡
@@ -221,13 +222,14 @@ impl Lines {
         ensures cpus { self.new.cpus ≡ self.old.cpus }
         ensures held { holders_in self.new ≡ holders_in self.old }
     {
-        let Handback { value, .. } = execute_in::<Brand>(&mut self.lines, cpu, instr, need);
+        let Handback { value, .. } = execute_in::<Brand>(&mut self.lines, number, cpu, instr, need);
         value
     }
 
     /// Aborts the live attempt of a CPU by this cause; `at` is the address that the diagnostic block tells. What
     /// NTSTG stored goes into storage. Gives how many instructions the attempt had completed.
-    pub fn abort(&mut self, cpu: &mut Cpu, why: Why, at: u64) -> u32
+    pub fn abort(&mut self, number: u32, cpu: &mut Cpu, why: Why, at: u64) -> u32
+        requires number { number < self.old.cpus }
         requires live { is_live (local_of cpu.old).attempt ≡ true }
         requires code { HasRoom why }
         ensures count { result ≡ (local_of cpu.old).attempt.count }
@@ -235,26 +237,28 @@ impl Lines {
         ensures cpus { self.new.cpus ≡ self.old.cpus }
         ensures held { holders_in self.new ≡ holders_in self.old }
     {
-        let Handback { value, .. } = abort_in::<Brand>(&mut self.lines, cpu, why, at);
+        let Handback { value, .. } = abort_in::<Brand>(&mut self.lines, number, cpu, why, at);
         value
     }
 
     /// Stores the block that is pending for a CPU; nothing is pending afterwards.
-    pub fn store_block(&mut self, cpu: &mut Cpu)
+    pub fn store_block(&mut self, number: u32, cpu: &mut Cpu)
+        requires number { number < self.old.cpus }
         ensures value { with_lines cpu.new self.new ≡ block_stored (with_lines cpu.old self.old) }
         ensures cpus { self.new.cpus ≡ self.old.cpus }
         ensures held { holders_in self.new ≡ holders_in self.old }
     {
-        store_block_in::<Brand>(&mut self.lines, cpu);
+        store_block_in::<Brand>(&mut self.lines, number, cpu);
     }
 
     /// A CPU without a live attempt takes the interruption that waits for it.
-    pub fn take(&mut self, cpu: &mut Cpu)
-        requires { is_live (local_of cpu.old).attempt ≡ false }
+    pub fn take(&mut self, number: u32, cpu: &mut Cpu)
+        requires number { number < self.old.cpus }
+        requires rests { is_live (local_of cpu.old).attempt ≡ false }
         ensures value { with_lines cpu.new self.new ≡ interruption_taken (with_lines cpu.old self.old) }
         ensures cpus { self.new.cpus ≡ self.old.cpus }
         ensures held { holders_in self.new ≡ holders_in self.old }
     {
-        take_in::<Brand>(&mut self.lines, cpu);
+        take_in::<Brand>(&mut self.lines, number, cpu);
     }
 }

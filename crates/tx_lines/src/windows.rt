@@ -1,4 +1,5 @@
-//! What a CPU does on lines with copies, each through a window on them, so that no mode changes.
+//! What a CPU does on lines with copies, each through its own window on them: it fetches from its copies, and no mode
+//! changes.
 ghost use Rattle.std.specs.Prelude.{◌≡◌, ℕ, ◌<◌, List, false, true, ◌+◌, ◌^◌};
 ghost use Rattle.line_copies.specs.Seen.{holdings_of};
 ghost use Rattle.tx_progress.specs.Local.{aborted, block_stored, interruption_taken};
@@ -24,12 +25,14 @@ use z_regs::Touches;
 #[inline(always)]
 pub(crate) fn execute_in<'a, H: Held>(
     lines: &'a mut CoherentLines,
+    number: u32,
     cpu: &mut Cpu,
     instr: &Instr,
     need: &Touches,
 ) -> Handback<'a, Done>
     requires holds { holdings_of lines.old ≡ H.held }
     requires name { lines.ghost_name ≡ H.name }
+    requires number { number < lines.old.cpus }
     requires prepared { IsPrepared (local_of cpu.old).attempt instr.now need.now }
     requires count { (local_of cpu.old).attempt.count + 1 < 2 ^ 32 }
     ensures value { record { after = beside cpu.new result.lines.now.bytes; told = result.value } ≡
@@ -38,7 +41,7 @@ pub(crate) fn execute_in<'a, H: Held>(
     ensures held { holdings_of result.lines.now ≡ holdings_of lines.old }
     ensures same_reference { result.lines.ghost_name ≡ lines.entry.ghost_name }
 {
-    let mut window: Window<'a, H> = Window::open(lines, None);
+    let mut window: Window<'a, H> = Window::open(lines, number);
     let done = cpu.execute(instr, need, &mut window);
     window.close(done)
 }
@@ -46,12 +49,14 @@ pub(crate) fn execute_in<'a, H: Held>(
 /// Aborts the live attempt of a CPU.
 pub(crate) fn abort_in<'a, H: Held>(
     lines: &'a mut CoherentLines,
+    number: u32,
     cpu: &mut Cpu,
     why: Why,
     at: u64,
 ) -> Handback<'a, u32>
     requires holds { holdings_of lines.old ≡ H.held }
     requires name { lines.ghost_name ≡ H.name }
+    requires number { number < lines.old.cpus }
     requires live { is_live (local_of cpu.old).attempt ≡ true }
     requires code { HasRoom why }
     ensures count { result.value ≡ (local_of cpu.old).attempt.count }
@@ -59,7 +64,7 @@ pub(crate) fn abort_in<'a, H: Held>(
     ensures held { holdings_of result.lines.now ≡ holdings_of lines.old }
     ensures same_reference { result.lines.ghost_name ≡ lines.entry.ghost_name }
 {
-    let mut window: Window<'a, H> = Window::open(lines, None);
+    let mut window: Window<'a, H> = Window::open(lines, number);
     let count = cpu.abort(why, at, &mut window);
     window.close(count)
 }
@@ -67,30 +72,37 @@ pub(crate) fn abort_in<'a, H: Held>(
 /// Stores the block that is pending for a CPU.
 pub(crate) fn store_block_in<'a, H: Held>(
     lines: &'a mut CoherentLines,
+    number: u32,
     cpu: &mut Cpu,
 ) -> Handback<'a, ()>
     requires holds { holdings_of lines.old ≡ H.held }
     requires name { lines.ghost_name ≡ H.name }
+    requires number { number < lines.old.cpus }
     ensures value { beside cpu.new result.lines.now.bytes ≡ block_stored (beside cpu.old lines.old.bytes) }
     ensures held { holdings_of result.lines.now ≡ holdings_of lines.old }
     ensures same_reference { result.lines.ghost_name ≡ lines.entry.ghost_name }
 {
-    let mut window: Window<'a, H> = Window::open(lines, None);
+    let mut window: Window<'a, H> = Window::open(lines, number);
     cpu.store_block(&mut window);
     window.close(())
 }
 
 /// A CPU without a live attempt takes the interruption that waits for it.
-pub(crate) fn take_in<'a, H: Held>(lines: &'a mut CoherentLines, cpu: &mut Cpu) -> Handback<'a, ()>
+pub(crate) fn take_in<'a, H: Held>(
+    lines: &'a mut CoherentLines,
+    number: u32,
+    cpu: &mut Cpu,
+) -> Handback<'a, ()>
     requires holds { holdings_of lines.old ≡ H.held }
     requires name { lines.ghost_name ≡ H.name }
+    requires number { number < lines.old.cpus }
     requires rests { is_live (local_of cpu.old).attempt ≡ false }
     ensures value { beside cpu.new result.lines.now.bytes
         ≡ interruption_taken (beside cpu.old lines.old.bytes) }
     ensures held { holdings_of result.lines.now ≡ holdings_of lines.old }
     ensures same_reference { result.lines.ghost_name ≡ lines.entry.ghost_name }
 {
-    let mut window: Window<'a, H> = Window::open(lines, None);
+    let mut window: Window<'a, H> = Window::open(lines, number);
     cpu.take(&mut window);
     window.close(())
 }
@@ -98,11 +110,13 @@ pub(crate) fn take_in<'a, H: Held>(lines: &'a mut CoherentLines, cpu: &mut Cpu) 
 /// Gives what the steps of a run have made to a CPU and to the lines.
 pub(crate) fn bring_in<'a, H: Held>(
     lines: &'a mut CoherentLines,
+    number: u32,
     run: &Run,
     into: &mut Cpu,
 ) -> Handback<'a, ()>
     requires holds { holdings_of lines.old ≡ H.held }
     requires name { lines.ghost_name ≡ H.name }
+    requires number { number < lines.old.cpus }
     requires like { GoesOnLike (local_of run.now.made.start).attempt (local_of into.old).attempt }
     requires alike { SeeAlike (is_touched run.now.made.own) (local_of run.now.made.start).attempt.overlay
         (given run.now.made.own) (local_of into.old).attempt.overlay (bytes_at lines.old.bytes) }
@@ -114,7 +128,7 @@ pub(crate) fn bring_in<'a, H: Held>(
     ensures held { holdings_of result.lines.now ≡ holdings_of lines.old }
     ensures same_reference { result.lines.ghost_name ≡ lines.entry.ghost_name }
 {
-    let mut window: Window<'a, H> = Window::open(lines, None);
+    let mut window: Window<'a, H> = Window::open(lines, number);
     run.give(into, &mut window);
     window.close(())
 }

@@ -7,7 +7,7 @@ use std::sync::atomic::{AtomicU64, Ordering};
 use std::thread::yield_now;
 use tx_machine::NoMemory;
 
-/// How many turns a CPU may have more than the one that has had the fewest, before its worker lets others run.
+/// How many turns a CPU may have more than twice as many as the one that has had the fewest, before its worker lets others run.
 const MOST_AHEAD: u64 = 256;
 
 /// The turns that each CPU has had from its worker. Each number lies in a line of the real machine's cache of its own.
@@ -53,10 +53,11 @@ impl Paces {
         }
     }
 
-    /// Whether some CPU has had far fewer turns than this many.
+    /// Whether some CPU has had far fewer turns than this many: less than half of them, but for the first few.
     fn is_far_ahead(&self, turns: u64) -> bool {
         for other in self.turns.iter() {
-            if other.load(Ordering::SeqCst).saturating_add(MOST_AHEAD) < turns {
+            let fewest = other.load(Ordering::SeqCst);
+            if fewest.saturating_mul(2).saturating_add(MOST_AHEAD) < turns {
                 return true;
             }
         }

@@ -3,3 +3,4 @@ mod ToldCauses
 mod EntryNumbers
 mod Longer
 mod OneAnswer
+mod Counted

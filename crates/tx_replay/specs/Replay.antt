@@ -7,8 +7,10 @@ use Rattle.tx_journal.specs.declared.entries.Entry.{Entry}
 use Rattle.tx_serial.specs.Flat.{FlatState}
 use Rattle.tx_serial.specs.History.{replay}
 use Rattle.history_laws.specs.Fitting.{Fits}
+use Rattle.tx_replay.specs.declared.ends.Ends.{Ends}
 use Rattle.tx_replay.specs.declared.replaying.ReplayFault.{ReplayFault}
 use Rattle.tx_replay.specs.declared.replaying.ReplayFault.TheVariants.{Memory, Entry as AtEntry}
+use Rattle.tx_replay.specs.Ends.{AreEnds}
 
 -- these are entries that a machine can write, one line is the text of each, and applied in order from the
 -- image on they leave the state
@@ -17,6 +19,12 @@ pub record IsReplay (image : Content) (lines : List (List ℕ)) (entries : List 
   pub sound : All IsSound entries
   pub texts : map entry_text entries ≡ lines
   pub replayed : replay image entries ≡ Some after
+
+-- the lines have a history, which leaves the state and has ended so many transactions
+pub record IsReplayed (image : Content) (lines : List (List ℕ)) (after : FlatState) (ends : Ends) : Type 0 where
+  pub entries : List Entry
+  pub replay : IsReplay image lines entries after
+  pub ended : AreEnds entries (length image.cpus) ends
 
 -- the line is the text of no such entry that can come next
 abbrev pub NoneFits : FlatState → List ℕ → Type 0

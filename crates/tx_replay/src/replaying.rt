@@ -1,24 +1,24 @@
 //! The lines of a history, one after the other.
-ghost use Rattle.std.specs.Prelude.{◌≡◌, IfOk, IfErr, Some, All, length, map};
-ghost use Rattle.tx_journal.specs.Lines.{entry_text};
-ghost use Rattle.tx_journal.specs.Sound.{IsSound};
-ghost use Rattle.tx_serial.specs.History.{IsLegal, replay as replay_of};
+ghost use Rattle.std.specs.Prelude.{◌≡◌, ◌≤◌, IfOk, IfErr, length, take};
+ghost use Rattle.report_form.specs.Text.{lines_of};
 ghost use Rattle.tx_flat.specs.Machine.{state_of};
-ghost use Rattle.tx_replay.specs.Replay.{IsRefused};
+ghost use Rattle.tx_replay.specs.Replay.{IsReplayed, IsRefused};
 
+use crate::ends::{Ends, count_end, no_ends};
 use crate::entries::apply_line;
+use report_form::{line_at, start};
 use std::alloc::Global;
 use tx_flat::Flat;
 use tx_flat::slot::ApplyFault;
-use tx_journal::{Entry, Image};
+use tx_journal::Image;
 
-/// A history that was read back, and the machine behind it.
+/// What a history leaves that was read back. The entries are not kept.
 #[derive(Drop)]
 pub struct Replayed {
     /// The machine on flat storage, behind the last entry.
     pub flat: Flat,
-    /// The entries, in order.
-    pub entries: Vec<Entry>,
+    /// How the transactions have ended.
+    pub ends: Ends,
 }
 
 /// Why lines were not replayed.
@@ -30,36 +30,42 @@ pub enum ReplayFault {
     Entry(u64),
 }
 
-/// The history of an image that these lines tell, each with its line feed: the entries, and the machine
-/// behind them. A line does not tell all of an exception; the entry that fits is meant, and there is one at
-/// most.
+/// The history of an image that the first lines of a text tell, so many of them, each with its line feed: the machine
+/// behind them, and how transactions have ended. A line does not tell all of an exception; the entry that fits is meant,
+/// and there is one at most.
 ///
 /// `Entry` comes exactly at the first line that is the text of no entry which can come next; no entry of a
 /// CPU that the image lacks can. `Memory` comes for want of memory.
-pub fn replay(alloc: Global, image: &Image, lines: &[&[u8]]) -> Result<Replayed, ReplayFault>
-    ensures legal { IfOk result (λ r. IsLegal image.now r.entries.items) }
-    ensures sound { IfOk result (λ r. All IsSound r.entries.items) }
-    ensures texts { IfOk result (λ r. map entry_text r.entries.items ≡ map (λ l. l.now) lines.now) }
-    ensures state { IfOk result (λ r. replay_of image.now r.entries.items ≡ Some (state_of r.flat)) }
+pub fn replay(
+    alloc: Global,
+    image: &Image,
+    text: &[u8],
+    count: u64,
+) -> Result<Replayed, ReplayFault>
+    requires { count ≤ length (lines_of text.now) }
+    ensures replayed { IfOk result (λ r. IsReplayed image.now (take count (lines_of text.now)) (state_of r.flat)
+        r.ends) }
     ensures cpus { IfOk result (λ r. length r.flat.slots ≡ length image.now.cpus) }
-    ensures fault { IfErr result (λ f. IsRefused image.now (map (λ l. l.now) lines.now) f) }
+    ensures fault { IfErr result (λ f. IsRefused image.now (take count (lines_of text.now)) f) }
 {
     let Ok(mut flat) = Flat::open(alloc, image) else {
         return Err(ReplayFault::Memory);
     };
-    let Ok(mut entries) = Vec::with_capacity(alloc, lines.len()) else {
+    let cpus = image.cpu_count() as usize;
+    let Ok(mut ends) = no_ends(alloc, cpus) else {
         return Err(ReplayFault::Memory);
     };
-    for (k, line) in lines.iter().enumerate() {
-        match apply_line(&mut flat, alloc, *line) {
+    let mut place = start(text);
+    for k in 0..count {
+        let Some(line) = line_at(text, place) else {
+            unreachable!();
+        };
+        match apply_line(&mut flat, alloc, line.text) {
             Err(ApplyFault::Memory) => return Err(ReplayFault::Memory),
-            Err(ApplyFault::Misfit) => return Err(ReplayFault::Entry(k as u64 + 1)),
-            Ok(entry) => {
-                let Ok(_) = entries.push(entry) else {
-                    return Err(ReplayFault::Memory);
-                };
-            }
+            Err(ApplyFault::Misfit) => return Err(ReplayFault::Entry(k + 1)),
+            Ok(entry) => count_end(&mut ends, entry),
         }
+        place = line.behind;
     }
-    Ok(Replayed { flat, entries })
+    Ok(Replayed { flat, ends })
 }

@@ -6,18 +6,19 @@ use Rattle.std.specs.List.{list_any}
 use Rattle.std.proofs.lemmas.Bool.{or_left, or_right, true≢false}
 use Rattle.std.proofs.lemmas.List.Folds.{list_any-append}
 use Rattle.z_instr.specs.Table.{entry_at}
+use Rattle.z_regs.specs.declared.image.RunState.{RunState}
 use Rattle.z_regs.specs.declared.ranges.Range.{Range}
 use Rattle.z_instr.specs.declared.instr.Instr.{Instr}
 use Rattle.z_effect.specs.Outcome.{Outcome, Did, Divides, Aborts}
 use Rattle.z_effect.specs.Outcome as outcome
-use Rattle.z_effect.specs.After.{cpu_after}
-use Rattle.z_effect.proofs.Prefix.{keeps_prefix}
+use Rattle.z_effect.proofs.Lasting.{lasts}
 use Rattle.store_cache.specs.Overlay.{Store}
-use Rattle.tx_serial.specs.Flat.{Storage, FlatState, at_put, laid_over, operand_bytes, operand_stores}
+use Rattle.tx_serial.specs.Flat.{Storage, FlatState, at_put, laid_over, operand_stores}
 use Rattle.tx_serial.specs.Attempt.{Run, Mark, Open, Committed, Overflowed, Missing}
 use Rattle.tx_serial.specs.Fate.{Fate, Goes, Ends, Stops, fate}
 use Rattle.tx_serial.specs.Run.{run, more, more_of, after_fate, after_where, after, may_follow, outcome_of}
 use Rattle.tx_serial.specs.Run.{lasting_of}
+use Rattle.tx_serial.proofs.Lasting.{run_lasts}
 use Rattle.z_instr.specs.Roles.{stores_lastingly}
 
 -- ---- stores
@@ -78,40 +79,10 @@ run_copy f i (suc k) = copy_more f.storage (run f i k).mark f.text (run f i k) (
 
 -- ---- the prefix
 
-abbrev HasPrefix : Option ℕ → Run → Type 0
-HasPrefix prefix p = p.cpu.prefix ≡ prefix
-
-prefix_after : (prefix : Option ℕ) (i : Instr) (ranges : List Range) (p : Run) (o : Outcome)
-    → (cpu_after p.cpu o).prefix ≡ p.cpu.prefix → HasPrefix prefix p → HasPrefix prefix (after i ranges p o)
-prefix_after prefix i ranges p (Did c bytes) keeps e = keeps ∙ e
-prefix_after prefix i ranges p (outcome.Overflowed c bytes) keeps e = keeps ∙ e
-prefix_after prefix i ranges p Divides keeps e = e
-prefix_after prefix i ranges p (Aborts code) keeps e = e
-
-prefix_where : (prefix : Option ℕ) (b : Bool) (i : Instr) (ranges : List Range) (p : Run)
-    → HasPrefix prefix p → HasPrefix prefix (after_where b i ranges p)
-prefix_where prefix true i ranges p e =
-    prefix_after prefix i ranges p (outcome_of i ranges p) (keeps_prefix i p.cpu _ (operand_bytes
-    p.cpu.prefix p.copy ranges)) e
-prefix_where prefix false i ranges p e = e
-
-prefix_fate : (prefix : Option ℕ) (o : Fate) (p : Run) → HasPrefix prefix p
-    → HasPrefix prefix (after_fate o p)
-prefix_fate prefix (Goes i ranges) p e = prefix_where prefix (may_follow p.nest i) i ranges p e
-prefix_fate prefix (Ends why) p e = e
-prefix_fate prefix (Stops x) p e = e
-
-prefix_more : (prefix : Option ℕ) (m : Mark) (text : List ℕ) (p : Run) → HasPrefix prefix p
-    → HasPrefix prefix (more_of m text p)
-prefix_more prefix Open text p e = prefix_fate prefix (fate text p) p e
-prefix_more prefix Committed text p e = e
-prefix_more prefix Overflowed text p e = e
-prefix_more prefix Missing text p e = e
-
 pub run_prefix : (f : FlatState) (i k : ℕ) → (run f i k).cpu.prefix ≡ (f.cpus i).prefix
-unfolding run more
-run_prefix f i zero = refl
-run_prefix f i (suc k) = prefix_more (f.cpus i).prefix (run f i k).mark f.text (run f i k) (run_prefix f i k)
+run_prefix f i k =
+    let Same : RunState → Option ℕ → Type 0 = λ state prefix. prefix ≡ (f.cpus i).prefix in
+    run_lasts Same (λ text p instr ranges follows goes. lasts Same instr p.cpu _ _ (λ service h. h)) f i k refl
 
 -- ---- the stores of NTSTG
 

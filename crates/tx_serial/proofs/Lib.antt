@@ -1,6 +1,7 @@
 -- Worked values, copies and stores, runs on states that agree, what entries change, and causes.
 pub mod Examples
 mod Neighbours
+pub mod Lasting
 pub mod Copies
 mod FreeCauses
 pub mod Frame

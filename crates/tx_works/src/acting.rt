@@ -88,7 +88,7 @@ impl Works {
         ensures books { KeepsBooks self.old self.new }
     {
         let slot = &mut self.slots[cpu as usize];
-        self.lines.store_block(&mut slot.cpu);
+        self.lines.store_block(cpu, &mut slot.cpu);
     }
 
     /// The block that is pending for the CPU is stored, and this is written down.
@@ -114,7 +114,7 @@ impl Works {
         ensures books { KeepsBooks self.old self.new }
     {
         let slot = &mut self.slots[cpu as usize];
-        self.lines.take(&mut slot.cpu);
+        self.lines.take(cpu, &mut slot.cpu);
     }
 
     /// The interruption that waits for the CPU is taken, and this is written down. No attempt is live.

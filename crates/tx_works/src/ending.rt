@@ -171,7 +171,7 @@ impl Works {
         ensures books { KeepsBooks self.old self.new }
     {
         let slot = &mut self.slots[cpu as usize];
-        self.lines.abort(&mut slot.cpu, why, at)
+        self.lines.abort(cpu, &mut slot.cpu, why, at)
     }
 
     /// The live attempt of a CPU is aborted for this cause; `at` is the address of the instruction that the

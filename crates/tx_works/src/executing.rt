@@ -45,7 +45,7 @@ impl Works {
         ensures books { KeepsBooks self.old self.new }
     {
         let slot = &mut self.slots[cpu as usize];
-        self.lines.execute(&mut slot.cpu, instr, need)
+        self.lines.execute(cpu, &mut slot.cpu, instr, need)
     }
 
     /// An attempt of this kind has begun.

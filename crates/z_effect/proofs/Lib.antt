@@ -1,5 +1,6 @@
 pub mod Stored
 pub mod Storeless
 pub mod Examples
+pub mod Lasting
 pub mod Prefix
 mod TransactionExamples

@@ -5,5 +5,6 @@ pub mod Swaps
 pub mod Bytewise
 pub mod Moves
 pub mod Order
+pub mod Combined
 pub mod Whole
 pub mod Executing

@@ -83,7 +83,7 @@ moved (suc k) n a b h l =
     ∙ sym (take_more b k 0 (omega (arith, l)))
     ∙ ap (λ j. take j b) (add-one k)
 
-no_lead : (n a b : ℕ) → Apart n a b → lead n a b ≡ n
+pub no_lead : (n a b : ℕ) → Apart n a b → lead n a b ≡ n
 no_lead n a b o = elim (lead_cases n a b) [
   | inl (x, y, z) ↦ absurd (elim o [ inl low ↦ omega (arith, x, low) | inr high ↦ omega (arith, y, high) ])
   | inr (x, z) ↦ z

@@ -1,55 +1,202 @@
--- Steps of the comparison from the left.
-use Rattle.std.proofs.Common.{◌≡◌, ℕ, suc, ◌<◌, ◌≤◌, ◌+◌, ◌-◌, List, ◌∷◌, length, get_or, take, drop, true}
-use Rattle.std.proofs.Common.{false, nat_eq, refl, sym, ap, ◌∙◌, arith, eq-eqb, ne_eqb, ◌≢◌}
-use Rattle.std.specs.Prelude.{if◌then◌else◌}
-use Rattle.std.proofs.lemmas.List.{drop_more}
+-- The order of bytes: some of them at a time, and as the numbers that they are.
+use Rattle.std.proofs.Common.{◌≡◌, ℕ, zero, suc, ◌<◌, ◌≤◌, ◌+◌, ◌-◌, ◌*◌, ◌^◌, List, [], ◌∷◌, ◌++◌, length}
+use Rattle.std.proofs.Common.{take, drop, true, false, nat_eq, nat_lt, slice_index, refl, sym, ap, subst, ◌∙◌, arith, eq-eqb}
+use Rattle.std.proofs.Common.{ne_eqb, ◌≢◌, drop-drop}
+use Rattle.std.proofs.lemmas.Bool.{cases_eq, cases_lt, lt-ltb, le-ltb}
+use Rattle.std.proofs.Math.Nat.{add-mul, mul-le-mul_right, mod-lt}
+use Rattle.std.proofs.Math.Seq.{take-add}
+use Rattle.byteorder.specs.Endian.{big_from, big_bytes, big_number}
+use Rattle.byteorder.specs.Numbers.{big_from-cons, big_from-lt, length-bytes_high_first}
+use borrow.Enum.Arm.{by_way}
 use Rattle.z_arith.specs.Comparison.{compare_logical_of}
 use Rattle.z_effect.specs.StorageEffect.{order_of_bytes}
 use Rattle.z_effect.specs.After.{range_at}
+use Rattle.z_storage.proofs.Moves.{many}
 
--- what is left of both operands after k bytes
-abbrev pub left : List ℕ → ℕ → ℕ → ℕ → ℕ → ℕ
-left s a b k n = order_of_bytes (range_at s (a + k) (n - k)) (range_at s (b + k) (n - k))
+-- ---- two numbers
 
-range_front : (s : List ℕ) (a k n : ℕ) → k < n → a + n ≤ length s →
-    range_at s (a + k) (n - k) ≡ get_or s (a + k) 0 ∷ range_at s (a + (k + 1)) (n - (k + 1))
-range_front s a k n h p =
-    let e : n - k ≡ suc (n - (k + 1)) = omega arith in
-    let f : a + k + 1 ≡ a + (k + 1) = omega arith in
-    ap (λ j. take j (drop (a + k) s)) e
-    ∙ ap (take (suc (n - (k + 1)))) (drop_more s (a + k) 0 (omega arith))
-    ∙ ap (λ j. get_or s (a + k) 0 ∷ take (n - (k + 1)) (drop j s)) f
+code_low : (a b : ℕ) → a < b → compare_logical_of a b ≡ 1
+unfolding compare_logical_of
+code_low a b h = let e : nat_lt a b ≡ true = lt-ltb a b h in rw e refl
 
-order_front : (s : List ℕ) (a b k n : ℕ) → k < n → a + n ≤ length s → b + n ≤ length s
-    → left s a b k n ≡ (if nat_eq (get_or s (a + k) 0) (get_or s (b + k) 0) then left s a b (k + 1) n
-    else compare_logical_of (get_or s (a + k) 0) (get_or s (b + k) 0))
+code_equal : (a b : ℕ) → a ≡ b → compare_logical_of a b ≡ 0
+unfolding compare_logical_of
+code_equal a b h =
+    let e : nat_lt a b ≡ false = le-ltb a b (omega (arith, h)) in
+    let f : nat_eq a b ≡ true = eq-eqb a b h in
+    rw (e, f) refl
+
+code_high : (a b : ℕ) → b < a → compare_logical_of a b ≡ 2
+unfolding compare_logical_of
+code_high a b h =
+    let e : nat_lt a b ≡ false = le-ltb a b (omega arith) in
+    let f : nat_eq a b ≡ false = ne_eqb a b (λ w. absurd (omega (arith, w, h))) in
+    rw (e, f) refl
+
+code_differs : (a b : ℕ) → a ≢ b → compare_logical_of a b ≢ 0
+code_differs a b ne zero_code =
+    by_way (cases_lt a b)
+    (λ low. absurd (omega (arith, code_low a b low, zero_code)))
+    (λ from. absurd (omega (arith, code_high a b (omega (arith, from, ne)), zero_code)))
+
+-- the same numbers in front
+code_behind : (p x y : ℕ) → compare_logical_of x y ≡ compare_logical_of (p + x) (p + y)
+code_behind p x y =
+    by_way (cases_lt x y)
+    (λ low. code_low x y low ∙ sym (code_low (p + x) (p + y) (omega (arith, low))))
+    (λ from. by_way (cases_eq x y)
+    (λ e. code_equal x y e ∙ sym (code_equal (p + x) (p + y) (omega (arith, e))))
+    (λ ne. code_high x y (omega (arith, from, ne))
+    ∙ sym (code_high (p + x) (p + y) (omega (arith, from, ne)))))
+
+-- ---- lists
+
+order_front_equal : (x y : ℕ) (a b : List ℕ) → x ≡ y → order_of_bytes (x ∷ a) (y ∷ b) ≡ order_of_bytes a b
 unfolding order_of_bytes
-order_front s a b k n h p q =
-    ap (λ x. order_of_bytes x (range_at s (b + k) (n - k))) (range_front s a k n h p)
-    ∙ ap (order_of_bytes (get_or s (a + k) 0 ∷ range_at s (a + (k + 1)) (n - (k + 1))))
-    (range_front s b k n h q)
+order_front_equal x y a b e = let t : nat_eq x y ≡ true = eq-eqb x y e in rw t refl
+
+order_front_differs : (x y : ℕ) (a b : List ℕ) → x ≢ y
+    → order_of_bytes (x ∷ a) (y ∷ b) ≡ compare_logical_of x y
+unfolding order_of_bytes
+order_front_differs x y a b ne = let t : nat_eq x y ≡ false = ne_eqb x y ne in rw t refl
+
+order_none : (b : List ℕ) → order_of_bytes [] b ≡ 0
+unfolding order_of_bytes
+order_none b = refl
 
 -- equal bytes leave it to those behind them
-pub order_equal : (s : List ℕ) (a b k n x y : ℕ) → k < n → a + n ≤ length s → b + n ≤ length s →
-    x ≡ get_or s (a + k) 0 → y ≡ get_or s (b + k) 0
-    → x ≡ y → left s a b k n ≡ left s a b (k + 1) n
-order_equal s a b k n x y h p q e f g =
-    let t : nat_eq (get_or s (a + k) 0) (get_or s (b + k) 0) ≡ true =
-    eq-eqb (get_or s (a + k) 0) (get_or s (b + k) 0) (sym e ∙ g ∙ f) in
-    order_front s a b k n h p q ∙ rw t refl
+order_behind : (a b c d : List ℕ) → length a ≡ length c → order_of_bytes a c ≡ 0
+    → order_of_bytes (a ++ b) (c ++ d) ≡ order_of_bytes b d
+order_behind [] b [] d size equal = refl
+order_behind [] b (y ∷ c) d size equal = absurd (omega (arith, size))
+order_behind (x ∷ a) b [] d size equal = absurd (omega (arith, size))
+order_behind (x ∷ a) b (y ∷ c) d size equal =
+    by_way (cases_eq x y)
+    (λ e. order_front_equal x y (a ++ b) (c ++ d) e
+    ∙ order_behind a b c d (omega (arith, size)) (sym (order_front_equal x y a c e) ∙ equal))
+    (λ ne. absurd (code_differs x y ne (sym (order_front_differs x y a c ne) ∙ equal)))
 
 -- unequal ones decide
-pub order_differs : (s : List ℕ) (a b k n x y : ℕ) → k < n → a + n ≤ length s → b + n ≤ length s →
-    x ≡ get_or s (a + k) 0 → y ≡ get_or s (b + k) 0
-    → x ≢ y → left s a b k n ≡ compare_logical_of x y
-order_differs s a b k n x y h p q e f g =
-    let t : nat_eq (get_or s (a + k) 0) (get_or s (b + k) 0) ≡ false =
-    ne_eqb (get_or s (a + k) 0) (get_or s (b + k) 0) (λ w. g (e ∙ w ∙ sym f)) in
-    order_front s a b k n h p q ∙ rw t (ap (λ u. compare_logical_of u (get_or s (b + k) 0)) (sym e) ∙
-    ap (compare_logical_of x) (sym f))
+order_before : (a b c d : List ℕ) → length a ≡ length c → order_of_bytes a c ≢ 0
+    → order_of_bytes (a ++ b) (c ++ d) ≡ order_of_bytes a c
+order_before [] b c d size differ = absurd (differ (order_none c))
+order_before (x ∷ a) b [] d size differ = absurd (omega (arith, size))
+order_before (x ∷ a) b (y ∷ c) d size differ =
+    by_way (cases_eq x y)
+    (λ e. order_front_equal x y (a ++ b) (c ++ d) e
+    ∙ order_before a b c d (omega (arith, size)) (λ w. differ (order_front_equal x y a c e ∙ w))
+    ∙ sym (order_front_equal x y a c e))
+    (λ ne. order_front_differs x y (a ++ b) (c ++ d) ne ∙ sym (order_front_differs x y a c ne))
+
+-- ---- two ranges
+
+-- what is left of both operands after j bytes
+abbrev pub left : List ℕ → ℕ → ℕ → ℕ → ℕ → ℕ
+left s a b j n = order_of_bytes (range_at s (a + j) (n - j)) (range_at s (b + j) (n - j))
+
+range_split : (s : List ℕ) (a j c n : ℕ) → j + c ≤ n
+    → range_at s (a + j) (n - j) ≡ range_at s (a + j) c ++ range_at s (a + (j + c)) (n - (j + c))
+range_split s a j c n h =
+    let e : n - j ≡ c + (n - (j + c)) = omega arith in
+    let f : a + j + c ≡ a + (j + c) = omega arith in
+    ap (λ k. take k (drop (a + j) s)) e
+    ∙ take-add c (n - (j + c)) (drop (a + j) s)
+    ∙ ap (λ u. range_at s (a + j) c ++ take (n - (j + c)) u) (drop-drop c (a + j) s)
+    ∙ ap (λ k. range_at s (a + j) c ++ range_at s k (n - (j + c))) f
+
+module _ (s : List ℕ) (a b j c n : ℕ) where
+  split_both : j + c ≤ n → left s a b j n
+      ≡ order_of_bytes (range_at s (a + j) c ++ range_at s (a + (j + c)) (n - (j + c)))
+      (range_at s (b + j) c ++ range_at s (b + (j + c)) (n - (j + c)))
+  split_both h =
+      ap (λ x. order_of_bytes x (range_at s (b + j) (n - j))) (range_split s a j c n h)
+      ∙ ap (order_of_bytes (range_at s (a + j) c ++ range_at s (a + (j + c)) (n - (j + c))))
+      (range_split s b j c n h)
+
+  same_size : j + c ≤ n → a + n ≤ length s → b + n ≤ length s
+      → length (range_at s (a + j) c) ≡ length (range_at s (b + j) c)
+  same_size h p q = many s (a + j) c (omega arith) ∙ sym (many s (b + j) c (omega arith))
+
+  pub order_equal : j + c ≤ n → a + n ≤ length s → b + n ≤ length s
+      → order_of_bytes (range_at s (a + j) c) (range_at s (b + j) c) ≡ 0
+      → left s a b j n ≡ left s a b (j + c) n
+  order_equal h p q equal =
+      split_both h
+      ∙ order_behind (range_at s (a + j) c) (range_at s (a + (j + c)) (n - (j + c)))
+      (range_at s (b + j) c) (range_at s (b + (j + c)) (n - (j + c))) (same_size h p q) equal
+
+  pub order_differs : j + c ≤ n → a + n ≤ length s → b + n ≤ length s
+      → order_of_bytes (range_at s (a + j) c) (range_at s (b + j) c) ≢ 0
+      → left s a b j n ≡ order_of_bytes (range_at s (a + j) c) (range_at s (b + j) c)
+  order_differs h p q differ =
+      split_both h
+      ∙ order_before (range_at s (a + j) c) (range_at s (a + (j + c)) (n - (j + c)))
+      (range_at s (b + j) c) (range_at s (b + (j + c)) (n - (j + c))) (same_size h p q) differ
+
+  -- the last ones
+  pub order_last : j + c ≡ n
+      → left s a b j n ≡ order_of_bytes (range_at s (a + j) c) (range_at s (b + j) c)
+  order_last h =
+      let e : n - j ≡ c = omega (arith, h) in
+      ap (λ k. order_of_bytes (range_at s (a + j) k) (range_at s (b + j) k)) e
 
 -- lists of no bytes are equal
-pub order_end : (s : List ℕ) (a b k n : ℕ) → n ≤ k → left s a b k n ≡ 0
+pub order_end : (s : List ℕ) (a b j n : ℕ) → n ≤ j → left s a b j n ≡ 0
 unfolding order_of_bytes
-order_end s a b k n h = let e : n - k ≡ 0 =
-    omega arith in ap (λ j. order_of_bytes (range_at s (a + k) j) (range_at s (b + k) j)) e
+order_end s a b j n h =
+    let e : n - j ≡ 0 = omega arith in
+    ap (λ k. order_of_bytes (range_at s (a + j) k) (range_at s (b + j) k)) e
+
+-- ---- numbers in bytes
+
+-- the bytes in front decide
+in_front : (p x y u v : ℕ) → x < y → u < p → x * p + u < y * p + v
+in_front p x y u v h below =
+    let most : (x + 1) * p ≤ y * p = mul-le-mul_right p (omega arith) in
+    let expand : (x + 1) * p ≡ x * p + 1 * p = add-mul x 1 p in
+    omega (arith, most, expand, below)
+
+-- numbers have the order of their bytes, the leftmost first
+order_as_numbers : (n : ℕ) (xs ys : List ℕ) → length xs ≡ n → length ys ≡ n
+    → ((k : ℕ) → slice_index xs k < 256) → ((k : ℕ) → slice_index ys k < 256)
+    → order_of_bytes xs ys ≡ compare_logical_of (big_number n xs) (big_number n ys)
+order_as_numbers zero [] ys size other small few = order_none ys ∙ sym (code_equal 0 0 refl)
+order_as_numbers zero (x ∷ xs) ys size other small few = absurd (omega (arith, size))
+order_as_numbers (suc n) [] ys size other small few = absurd (omega (arith, size))
+order_as_numbers (suc n) (x ∷ xs) [] size other small few = absurd (omega (arith, other))
+order_as_numbers (suc n) (x ∷ xs) (y ∷ ys) size other small few =
+    let p = 256 ^ n in
+    let u = big_from 0 n xs in
+    let v = big_from 0 n ys in
+    let first : big_number (suc n) (x ∷ xs) ≡ x * p + u = ap (λ w. x * p + w) (big_from-cons 0 n x xs) in
+    let second : big_number (suc n) (y ∷ ys) ≡ y * p + v = ap (λ w. y * p + w) (big_from-cons 0 n y ys) in
+    let u_in : u < p = big_from-lt 0 n xs (λ k. small (suc k)) in
+    let v_in : v < p = big_from-lt 0 n ys (λ k. few (suc k)) in
+    let rest = order_as_numbers n xs ys (omega (arith, size)) (omega (arith, other)) (λ k. small (suc k))
+    (λ k. few (suc k)) in
+    by_way (cases_eq x y)
+    (λ e. order_front_equal x y xs ys e ∙ rest ∙ code_behind (x * p) u v
+    ∙ ap (λ w. compare_logical_of (x * p + u) (w * p + v)) e)
+    (λ ne. order_front_differs x y xs ys ne ∙ by_way (cases_lt x y)
+    (λ low. code_low x y low ∙ sym (code_low (x * p + u) (y * p + v) (in_front p x y u v low u_in)))
+    (λ from. let high : y < x = omega (arith, from, ne) in
+    code_high x y high ∙ sym (code_high (x * p + u) (y * p + v) (in_front p y x v u high v_in))))
+    ∙ ap (λ w. compare_logical_of w (y * p + v)) (sym first)
+    ∙ ap (compare_logical_of (big_number (suc n) (x ∷ xs))) (sym second)
+
+small_bytes : (n x k : ℕ) → slice_index (big_bytes n x) k < 256
+small_bytes zero x k = omega arith
+small_bytes (suc zero) x zero = mod-lt x (omega arith)
+small_bytes (suc (suc n)) x zero = mod-lt _ (omega arith)
+small_bytes (suc n) x (suc k) = small_bytes n x k
+
+-- two ranges as the numbers that were read of them
+pub order_of_words : (n x y : ℕ) (xs ys : List ℕ) → big_bytes n x ≡ xs → big_bytes n y ≡ ys
+    → x ≡ big_number n xs → y ≡ big_number n ys → compare_logical_of x y ≡ order_of_bytes xs ys
+order_of_words n x y xs ys e f g h =
+    ap (λ w. compare_logical_of w y) g
+    ∙ ap (compare_logical_of (big_number n xs)) h
+    ∙ sym (order_as_numbers n xs ys (ap length (sym e) ∙ length-bytes_high_first n x)
+    (ap length (sym f) ∙ length-bytes_high_first n y)
+    (subst (λ (l : List ℕ). (k : ℕ) → slice_index l k < 256) e (small_bytes n x))
+    (subst (λ (l : List ℕ). (k : ℕ) → slice_index l k < 256) f (small_bytes n y)))

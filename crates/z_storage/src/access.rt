@@ -18,6 +18,7 @@ use z_instr::operand::Size;
 use z_regs::Bytes;
 
 /// The number in an item of storage.
+#[inline(always)]
 pub fn fetch<V: Bytes>(view: &V, address: u64, size: Size) -> u64
     requires size { length (V.bytes view.now) ≡ storage_size }
     requires inside { address + bytes_of size ≤ length (V.bytes view.now) }
@@ -28,6 +29,7 @@ pub fn fetch<V: Bytes>(view: &V, address: u64, size: Size) -> u64
 }
 
 /// The number in an item that has a register's width.
+#[inline(always)]
 pub fn fetch_item<V: Bytes>(view: &V, address: u64, w: Width) -> u64
     requires size { length (V.bytes view.now) ≡ storage_size }
     requires inside { address + bytes_of (item_of w) ≤ length (V.bytes view.now) }
@@ -41,6 +43,7 @@ pub fn fetch_item<V: Bytes>(view: &V, address: u64, w: Width) -> u64
 }
 
 /// The number in an item, brought to a width.
+#[inline(always)]
 pub fn fetch_piece<V: Bytes>(view: &V, address: u64, w: Width, part: Part) -> u64
     requires size { length (V.bytes view.now) ≡ storage_size }
     requires inside { address + bytes_of (size_of part) ≤ length (V.bytes view.now) }
@@ -51,6 +54,7 @@ pub fn fetch_piece<V: Bytes>(view: &V, address: u64, w: Width, part: Part) -> u6
 }
 
 /// A byte of storage.
+#[inline(always)]
 pub fn fetch_byte<V: Bytes>(view: &V, address: u64) -> u8
     requires size { length (V.bytes view.now) ≡ storage_size }
     requires inside { address + 1 ≤ length (V.bytes view.now) }
@@ -67,6 +71,7 @@ pub fn immediate_byte(instr: &Instr) -> u8
 }
 
 /// Stores the rightmost bytes of a number, as many as the item has.
+#[inline(always)]
 pub fn store<V: Bytes>(view: &mut V, address: u64, size: Size, value: u64)
     requires size { length (V.bytes view.old) ≡ storage_size }
     requires inside { address + bytes_of size ≤ length (V.bytes view.old) }

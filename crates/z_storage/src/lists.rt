@@ -7,7 +7,7 @@ ghost use Rattle.z_instr.specs.Operands.{length_of};
 ghost use Rattle.z_instr.specs.Ranges.{is_within, bounds};
 ghost use Rattle.z_regs.specs.Cpu.{cpu_of};
 ghost use Rattle.z_instr.specs.declared.kind.Storage.TheVariants.{ByteByByte, CompareBytes};
-ghost use Rattle.z_instr.specs.declared.kind.Combination.TheVariants.{Move};
+ghost use Rattle.z_instr.specs.declared.kind.Combination.TheVariants.{Move, Logic as Bitwise};
 ghost use Rattle.z_effect.specs.StorageEffect.{mixed, lead, results, with_code_of, order_of_bytes};
 ghost use Rattle.z_effect.specs.After.{range_at, written, AreInside};
 ghost use Rattle.z_storage.specs.Performs.{ranges, Performs};
@@ -17,7 +17,7 @@ use z_arith::Width;
 use z_effect::{advance, compare, logic};
 use z_instr::addresses::{first_address, second_address};
 use z_instr::instr::Instr;
-use z_instr::kind::{Combination, Order};
+use z_instr::kind::{Combination, Logic, Order};
 use z_regs::{Bytes, CpuImage};
 
 /// How many bytes each operand has, 1 to 256.
@@ -74,7 +74,74 @@ fn are_apart(target: u64, source: u64, count: u64) -> bool
     target <= source || source + count <= target
 }
 
+/// Combines one to eight bytes of two operands as numbers. The answer is whether all results are zero.
+#[inline(always)]
+fn combine_item<V: Bytes>(kind: Logic, view: &mut V, target: u64, source: u64, count: u8) -> bool
+    requires low { 1 ≤ count }
+    requires high { count ≤ 8 }
+    requires target_in { target + count ≤ length (V.bytes view.old) }
+    requires source_in { source + count ≤ length (V.bytes view.old) }
+    ensures stored { V.bytes view.new ≡
+        written (V.bytes view.old) target (results count (Bitwise kind) count
+        (range_at (V.bytes view.old) target count) (range_at (V.bytes view.old) source count)) }
+    ensures zero { result ≡ list_all (λ b. nat_eq b 0) (results count (Bitwise kind) count
+        (range_at (V.bytes view.old) target count) (range_at (V.bytes view.old) source count)) }
+{
+    let first = view.word(target, count);
+    let second = view.word(source, count);
+    let value = logic(kind, first, second);
+    view.put_word(target, count, value);
+    value == 0
+}
+
+/// Combines `count` bytes of two operands, eight at a time and then the rest. The answer is whether all results
+/// are zero.
+fn combine_apart<V: Bytes>(kind: Logic, view: &mut V, target: u64, source: u64, count: u64) -> bool
+    requires size { length (V.bytes view.old) ≡ storage_size }
+    requires target_in { target + count ≤ storage_size }
+    requires source_in { source + count ≤ storage_size }
+    requires apart { (nat_le target source || nat_le (source + count) target) ≡ true }
+    ensures stored { V.bytes view.new ≡
+        written (V.bytes view.old) target (results count (Bitwise kind) count
+        (range_at (V.bytes view.old) target count) (range_at (V.bytes view.old) source count)) }
+    ensures zero { result ≡ list_all (λ b. nat_eq b 0) (results count (Bitwise kind) count
+        (range_at (V.bytes view.old) target count) (range_at (V.bytes view.old) source count)) }
+{
+    let whole = count / 8;
+    let mut zero = true;
+    for k in 0..whole {
+        let item = combine_item(kind, view, target + 8 * k, source + 8 * k, 8);
+        zero &= item;
+    }
+    let rest = (count % 8) as u8;
+    if rest == 0 {
+        return zero;
+    }
+    let last = combine_item(kind, view, target + 8 * whole, source + 8 * whole, rest);
+    zero & last
+}
+
+/// Combines `count` bytes as if one by one from the left: eight at a time where that is the same. The answer is
+/// whether all results are zero.
+fn combine_logic<V: Bytes>(kind: Logic, view: &mut V, target: u64, source: u64, count: u64) -> bool
+    requires size { length (V.bytes view.old) ≡ storage_size }
+    requires target_in { target + count ≤ storage_size }
+    requires source_in { source + count ≤ storage_size }
+    ensures stored { V.bytes view.new ≡
+        written (V.bytes view.old) target (results count (Bitwise kind) (lead count target source)
+        (range_at (V.bytes view.old) target count) (range_at (V.bytes view.old) source count)) }
+    ensures zero { result ≡ list_all (λ b. nat_eq b 0) (results count (Bitwise kind) (lead count target source)
+        (range_at (V.bytes view.old) target count) (range_at (V.bytes view.old) source count)) }
+{
+    if are_apart(target, source, count) {
+        combine_apart(kind, view, target, source, count)
+    } else {
+        combine_bytes(Combination::Logic(kind), view, target, source, count)
+    }
+}
+
 /// Moves one to eight bytes.
+#[inline(always)]
 fn move_item<V: Bytes>(view: &mut V, target: u64, source: u64, count: u8)
     requires low { 1 ≤ count }
     requires high { count ≤ 8 }
@@ -122,7 +189,24 @@ fn move_bytes<V: Bytes>(view: &mut V, target: u64, source: u64, count: u64)
     }
 }
 
-/// Compares `count` bytes from the left: 0 equal, 1 where the first list is low, 2 where it is high.
+/// Compares one to eight bytes as the numbers that they are, which have the order of their bytes.
+#[inline(always)]
+fn order_of_item<V: Bytes>(view: &V, first: u64, second: u64, count: u8) -> u8
+    requires low { 1 ≤ count }
+    requires high { count ≤ 8 }
+    requires first_in { first + count ≤ length (V.bytes view.now) }
+    requires second_in { second + count ≤ length (V.bytes view.now) }
+    ensures order { result ≡ order_of_bytes (range_at (V.bytes view.now) first count)
+        (range_at (V.bytes view.now) second count) }
+    ensures code { result < 4 }
+{
+    let a = view.word(first, count);
+    let b = view.word(second, count);
+    compare(Order::Logical, Width::Double, a, b)
+}
+
+/// Compares `count` bytes from the left, eight at a time and then the rest: 0 equal, 1 where the first list is
+/// low, 2 where it is high.
 fn order_in<V: Bytes>(view: &V, first: u64, second: u64, count: u64) -> u8
     requires size { length (V.bytes view.now) ≡ storage_size }
     requires first_in { first + count ≤ storage_size }
@@ -131,12 +215,16 @@ fn order_in<V: Bytes>(view: &V, first: u64, second: u64, count: u64) -> u8
         (range_at (V.bytes view.now) second count) }
     ensures code { result < 4 }
 {
-    for k in 0..count {
-        let a = view.get(first + k);
-        let b = view.get(second + k);
-        if a != b {
-            return compare(Order::Logical, Width::Word, u64::from(a), u64::from(b));
+    let whole = count / 8;
+    for k in 0..whole {
+        let order = order_of_item(view, first + 8 * k, second + 8 * k, 8);
+        if order != 0 {
+            return order;
         }
+    }
+    let rest = (count % 8) as u8;
+    if rest > 0 {
+        return order_of_item(view, first + 8 * whole, second + 8 * whole, rest);
     }
     0
 }
@@ -173,8 +261,8 @@ fn combine<V: Bytes>(
 {
     match combination {
         Combination::Move => move_bytes(view, target, source, count),
-        Combination::Logic(_) => {
-            let zero = combine_bytes(combination, view, target, source, count);
+        Combination::Logic(kind) => {
+            let zero = combine_logic(kind, view, target, source, count);
             set_code(combination, zero, image);
         }
     }

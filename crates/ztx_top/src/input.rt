@@ -1,14 +1,30 @@
-//! Requests on an input: it is read to its end, and then what is due to it is written.
+//! Texts written to the sink, and requests on an input: it is read to its end, and then what is due to it is written.
 ghost use Rattle.std.specs.Prelude.{◌≡◌, ◌≢◌, ℕ, ◌≤◌, ◌⊎◌, List, Option, length};
-ghost use Rattle.std.specs.Io.KnownBytes.{IsAtEnd, Keeps};
+ghost use Rattle.std.specs.Io.KnownBytes.{Appends, IsAtEnd, Keeps};
 ghost use Rattle.ztx_answers.specs.Requests.{IsAllowed, IsDue, most_of};
 ghost use Rattle.ztx_io.specs.Faults.{Rose};
+ghost use Rattle.ztx_io.specs.Writes.{AppendsPrefix};
 ghost use Rattle.ztx_top.specs.Answers.{IsDone, IsInput, IsLong, IsWhole, Wrote, WasCut};
 
-use crate::output::tell;
 use std::alloc::Global;
 use ztx_answers::{Request, answer_to, most_bytes, refuse_long};
-use ztx_io::{InFault, Sink, Source, read_all};
+use ztx_io::{InFault, OutFault, Sink, Source, read_all, write_all};
+
+/// Writes a text, and answers the status, or 1 or 3 where it was not written whole.
+pub fn tell<K: Sink>(sink: &mut K, text: &[u8], status: u8) -> u8
+    requires { (status ≢ 1) × (status ≢ 3) }
+    ensures statuses { (result ≡ status) ⊎ ((result ≡ 1) ⊎ (result ≡ 3)) }
+    ensures done { result ≡ status → Appends (K.held sink.old) (K.held sink.new) text.now }
+    ensures cut { ((result ≡ 1) ⊎ (result ≡ 3)) → AppendsPrefix (K.held sink.old) (K.held sink.new) text.now }
+    ensures fault { result ≡ 3 → Rose (K.faults sink.old) (K.faults sink.new) }
+    ensures count { K.faults sink.old ≤ K.faults sink.new }
+{
+    match write_all(sink, text) {
+        Ok(()) => status,
+        Err(OutFault::Memory) => 1,
+        Err(OutFault::Write) => 3,
+    }
+}
 
 /// Writes what is due to an input that is too long.
 fn tell_long<K: Sink>(alloc: Global, request: Request, sink: &mut K) -> u8

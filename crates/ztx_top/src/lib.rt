@@ -3,13 +3,10 @@
 
 mod errand;
 mod input;
-mod output;
 mod race;
-mod sure;
 mod top;
 
-pub use sure::sure_top;
-pub use top::ztx_top;
+pub use top::{sure_top, ztx_top};
 
 #[cfg(test)]
 mod tests;

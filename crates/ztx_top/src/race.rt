@@ -7,7 +7,7 @@ ghost use Rattle.run_answers.specs.Runs.{AreLimits};
 ghost use Rattle.ztx_io.specs.Faults.{Rose};
 ghost use Rattle.ztx_top.specs.Answers.{IsInput, IsLong, IsWhole, Wrote, WasCut};
 
-use crate::output::tell;
+use crate::input::tell;
 use listing_answers::{Answer, NoMemory};
 use run_answers::{NoRace, prepare_race, refuse_long_race, report_race};
 use std::alloc::Global;

@@ -1,23 +1,23 @@
-//! The top call.
-ghost use Rattle.std.specs.Prelude.{◌≡◌, ◌≢◌, ℕ, ◌≤◌, ◌⊎◌, List, Option, map, string_bytes, true, false};
+//! The top call, and the same over a source and a sink that never fail.
+ghost use Rattle.std.specs.Prelude.{◌≡◌, ◌≢◌, ℕ, ◌≤◌, ◌⊎◌, IfSome, List, Option, map, string_bytes, true, false};
 ghost use Rattle.std.specs.Io.KnownBytes.{IsAtEnd, Keeps};
 ghost use Rattle.listing_answers.specs.Due.{IsGenerated};
 ghost use Rattle.run_answers.specs.Reports.{IsSummary};
 ghost use Rattle.ztx_io.specs.Faults.{Rose};
-ghost use Rattle.ztx_top.specs.Answers.{IsDone, IsWhole, Wrote, WasCut};
-ghost use Rattle.ztx_top.specs.Asked.{IsBadWords, IsReady, asked, due, reads};
+ghost use Rattle.ztx_top.specs.Answers.{IsDone, IsWhole, Tells, Wrote, WasCut};
+ghost use Rattle.ztx_top.specs.Asked.{IsBadWords, IsReady, asked, due, is_settled, reads};
 
 use crate::errand::{Errand, errand_of};
-use crate::input::answer_input;
-use crate::output::tell;
+use crate::input::{answer_input, tell};
 use crate::race::race_input;
+use answer_laws::laws::one_answer_is_due;
 use listing_answers::generate;
 use run_answers::summary;
 use std::alloc::Global;
 use std::sync::Wait;
 use std::thread::Threads;
 use tx_race::Gate;
-use ztx_io::{Sink, Source};
+use ztx_io::{Sink, Source, SureSink, SureSource};
 use ztx_words::read_words;
 
 const BAD_WORDS: &[u8] = b"ztx: bad words\n";
@@ -155,4 +155,29 @@ pub fn ztx_top<R: Threads + Wait + Sync, S: Source, K: Sink, G: Gate>(
         Ok(command) => answer(rt, alloc, errand_of(command), source, sink, gate),
         Err(_) => 1,
     }
+}
+
+/// The same over a source and a sink that never fail. A text that is due came whole, or 1 for want of memory. But
+/// for a race words and input alone say what comes: the one status and the one text that are due, or 1, with a
+/// beginning of that text, perhaps nothing.
+pub fn sure_top<R: Threads + Wait + Sync, G: Gate>(
+    rt: &R,
+    alloc: Global,
+    words: &[String],
+    source: &mut SureSource,
+    sink: &mut SureSink,
+    gate: &G,
+) -> u8
+    ensures statuses { (result ≤ 7) × (result ≢ 2) × (result ≢ 3) }
+    ensures whole { result ≢ 1 → Wrote (due (asked (map string_bytes words.now)))
+        (⟦<SureSource as Source>⟧.left source.old) result (⟦<SureSink as Sink>⟧.held sink.old)
+        (⟦<SureSink as Sink>⟧.held sink.new) }
+    ensures answer { is_settled (asked (map string_bytes words.now)) ≡ true → (status : ℕ) (text : List ℕ)
+        → IfSome (⟦<SureSource as Source>⟧.left source.old) (λ input.
+        due (asked (map string_bytes words.now)) input status text
+        → Tells result status text (⟦<SureSink as Sink>⟧.held sink.old)
+        (⟦<SureSink as Sink>⟧.held sink.new)) }
+{
+    one_answer_is_due();
+    ztx_top(rt, alloc, words, source, sink, gate)
 }

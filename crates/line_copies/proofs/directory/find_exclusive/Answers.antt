@@ -25,5 +25,6 @@ returns-in-Some-Exclusive c =
 pub returns-in-Some-Shared : goal.returns-in-Some-Shared
 returns-in-Some-Shared c =
     sym (ap number_of (none_beside_shared (mode_in c.args.table.now) c.args.table.now.cpus c.in-Some.holder
-    c.args.line c.in-Some-Shared.ensures.sound
+    c.args.line
+    (λ k _ is ne. c.in-Some-Shared.ensures.sound.alone k c.in-Some.holder c.args.line is ne)
     (sym c.in-Some-Shared.ensures.value ∙ ap Some c.in-Some-Shared.field-0-is)))

@@ -1,12 +1,12 @@
-use Rattle.std.proofs.Common.{◌≡◌, ◌*◌, ◌/◌, ◌%◌, ◌+◌, List, ℕ, length, take, set, get_or, Some, ap, sym, ◌∙◌}
+use Rattle.std.proofs.Common.{◌≡◌, ◌*◌, ◌/◌, ◌%◌, ◌+◌, ◌≤◌, List, ℕ, length, take, Some, ap, sym, ◌∙◌}
 use Rattle.std.proofs.Common.{arith}
-use Rattle.std.proofs.lemmas.List.{length-set}
 use Rattle.slot_index.specs.Slots.{slot_in}
+use Rattle.z_regs.specs.Written.{range_at, written}
 use Rattle.store_cache.specs.Sizes.{block_size}
 use Rattle.store_cache.specs.Overlay.{Overlay, bytes_through}
 use Rattle.store_cache.specs.Entries.{items_of}
-use Rattle.store_cache.proofs.Overlays.{bytes_through-nothing, bytes_through-with_one}
-use Rattle.store_cache.proofs.Laid.{none_below, one_below, all_below}
+use Rattle.store_cache.proofs.Overlays.{bytes_through-nothing, bytes_through-with_bytes, length-bytes_through}
+use Rattle.store_cache.proofs.Laid.{none_below, run_below, all_below, length-range_at}
 use Rattle.store_cache.proofs.laying.lay_bytes.Goals as goal
 
 pub loop-cell-init : goal.loop-cell-init
@@ -24,24 +24,37 @@ loop-cell-preserved g c =
     let base = g.V.Bytes.bytes c.args.into.now in
     let keys = c.args.index.now.keys in
     let cell = c.in-Some.cell in
-    let address = c.key_at-block.result * block_size + cell % block_size in
-    let block : address / block_size ≡ c.key_at-block.result = omega arith in
+    let count = c.marked_from-count.result in
+    let address = c.key_at.result * block_size + cell % block_size in
+    let block : address / block_size ≡ c.key_at.result = omega arith in
     let found : slot_in keys (address / block_size) ≡ Some (cell / block_size) = ap (slot_in keys) block
-    ∙ c.key_at-block.ensures.slot in
+    ∙ c.key_at.ensures.slot in
+    let room : cell + count ≤ length c.args.bytes.now = omega arith in
+    let stored : List ℕ = range_at c.args.bytes.now cell count in
+    let size : length stored ≡ count = length-range_at c.args.bytes.now cell count room in
     let before : Overlay = items_of block_size keys c.args.bytes.now (take c.loop-cell.from c.args.marks.now)
     in
-    let step = one_below block_size (omega arith) keys c.args.bytes.now c.args.marks.now c.loop-cell.from
-    (c.count-end.result * block_size) cell address (cell / block_size) c.in-Some.ensures.found found
-    (omega arith) in
+    let step = run_below keys c.args.bytes.now c.args.marks.now c.loop-cell.from
+    (c.count-end.result * block_size) cell count address (cell / block_size) c.in-Some.ensures.found
+    c.marked_from-count.ensures.marked room found (omega arith) (omega arith) in
+    let laid : g.V.Bytes.bytes c.put_word.new.self ≡ bytes_through
+    (items_of block_size keys c.args.bytes.now (take (cell + count) c.args.marks.now)) base
+    =
+    c.put_word.ensures
+    ∙ ap (λ (bytes : List ℕ). written (g.V.Bytes.bytes c.loop-cell.into) address bytes) c.number_in.ensures.bytes
+    ∙ ap (λ (now : List ℕ). written now address stored) c.loop-cell.invariant.laid
+    ∙ sym (bytes_through-with_bytes before base address stored (omega (arith, size)))
+    ∙ ap (λ (o : Overlay). bytes_through o base) (sym step) in
+    let all : g.V.Bytes.bytes c.put_word.new.self ≡ bytes_through
+    (items_of block_size keys c.args.bytes.now (take (cell + c.from.result) c.args.marks.now)) base
+    =
+    laid ∙ ap (λ n. bytes_through (items_of block_size keys c.args.bytes.now (take (cell + n) c.args.marks.now)) base)
+    (sym c.from.ensures) in
     record {
-      laid =
-          c.put.ensures
-          ∙ ap (λ (bytes : List ℕ). set bytes address (get_or c.args.bytes.now cell 0))
-          c.loop-cell.invariant.laid
-          ∙ sym (bytes_through-with_one before base address (get_or c.args.bytes.now cell 0))
-          ∙ ap (λ (o : Overlay). bytes_through o base) (sym step);
-      size = ap length c.put.ensures ∙ length-set (g.V.Bytes.bytes c.loop-cell.into) address
-          (get_or c.args.bytes.now cell 0) ∙ c.loop-cell.invariant.size;
+      laid = all;
+      size = ap length all ∙ length-bytes_through
+          (items_of block_size keys c.args.bytes.now (take (cell + c.from.result) c.args.marks.now))
+          base ∙ c.requires.storage;
     }
 
 pub returns : goal.returns

@@ -2,10 +2,12 @@ use Rattle.std.proofs.Common.{◌≡◌, ◌*◌, ◌/◌, ◌%◌, ◌+◌, Lis
 use Rattle.std.proofs.Common.{arith}
 use Rattle.slot_index.specs.Slots.{slot_in}
 use Rattle.store_cache.specs.Sizes.{block_doublewords}
-use Rattle.store_cache.specs.Overlay.{Overlay, bytes_through, with_bytes}
+use Rattle.byteorder.specs.Endian.{big_bytes}
+use Rattle.z_regs.specs.Written.{written}
+use Rattle.store_cache.specs.Overlay.{Overlay, bytes_through}
 use Rattle.store_cache.specs.Stores.{lasting_bytes}
 use Rattle.store_cache.specs.Entries.{items_of}
-use Rattle.store_cache.proofs.Overlays.{bytes_through-nothing, length-bytes_through, lasting_bytes-nothing}
+use Rattle.store_cache.proofs.Overlays.{bytes_through-nothing, bytes_through-with_bytes, length-bytes_through, lasting_bytes-nothing}
 use Rattle.store_cache.proofs.Overlays.{lasting_bytes-with_one}
 use Rattle.store_cache.proofs.Laid.{none_below, one_below, all_below}
 use Rattle.store_cache.proofs.laying.lay_values.Goals as goal
@@ -37,12 +39,13 @@ loop-cell-preserved g c =
     let step = one_below block_doublewords (omega arith) keys c.args.values.now c.args.marks.now c.loop-cell.from
     (c.count-end.result * block_doublewords) cell doubleword (cell / block_doublewords) c.in-Some.ensures.found found
     (omega arith) in
-    let laid : g.V.Bytes.bytes c.put_all.new.into ≡ bytes_through
+    let stored : List ℕ = big_bytes 8 value in
+    let laid : g.V.Bytes.bytes c.put_word.new.self ≡ bytes_through
     (lasting_bytes (items_of block_doublewords keys c.args.values.now (take (cell + 1) c.args.marks.now))) base
     =
-    c.put_all.ensures (lasting_bytes before) base c.loop-cell.invariant.laid
-    ∙ ap (λ (bytes : List ℕ). bytes_through (with_bytes (lasting_bytes before) (doubleword * 8) bytes) base)
-    c.write_u64.ensures
+    c.put_word.ensures
+    ∙ ap (λ (now : List ℕ). written now (doubleword * 8) stored) c.loop-cell.invariant.laid
+    ∙ sym (bytes_through-with_bytes (lasting_bytes before) base (doubleword * 8) stored (omega arith))
     ∙ ap (λ (o : Overlay). bytes_through o base) (sym (lasting_bytes-with_one before doubleword value))
     ∙ ap (λ (o : Overlay). bytes_through (lasting_bytes o) base) (sym step) in
     record {

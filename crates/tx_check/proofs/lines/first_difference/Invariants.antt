@@ -1,9 +1,14 @@
-use Rattle.std.proofs.Common.{◌≡◌, ◌≤◌, ◌++◌, map, take, drop, length}
-use Rattle.tx_check.specs.Lines.{lines_of}
+use Rattle.std.proofs.Common.{◌≡◌, ◌-◌, take, length}
+use Rattle.report_form.specs.Text.{lines_of, IsPlace}
 use Rattle.tx_check.proofs.lines.first_difference.Given as goal
 
-abbrev pub invariant-loop-k : goal.invariant-loop-k
-invariant-loop-k l = record {
-  within : l.from ≤ length l.text;
-  so_far : take l.k (map (λ x. x.now) l.lines) ++ lines_of (drop l.from l.text) ≡ lines_of l.text;
+abbrev pub invariant-loop-place : goal.invariant-loop-place
+invariant-loop-place l = record {
+  place : IsPlace l.some l.place;
+  there : IsPlace l.other l.there;
+  beside : l.there.line ≡ l.place.line;
+  same : take l.place.line (lines_of l.some) ≡ take l.place.line (lines_of l.other);
 }
+
+abbrev pub decreases-loop-place : goal.decreases-loop-place
+decreases-loop-place l = length (lines_of l.some) - l.place.line

@@ -1,53 +1,77 @@
-use Rattle.std.proofs.Common.{◌≡◌, ℕ, suc, ◌+◌, ◌<◌, List, [], arith, length, refl, sym, subst, ◌∙◌}
-use Rattle.std.specs.Prelude.{map, take}
-use Rattle.std.proofs.lemmas.List.{get_or-map, length-map}
-use denote.Ref.{Bor}
+use Rattle.std.proofs.Common.{◌≡◌, ◌<◌, arith, length, sym, subst, take, ◌∙◌}
+use Rattle.std.proofs.lemmas.List.{length-take-le, take_all}
+use Rattle.report_form.specs.Text.{lines_of}
 use Rattle.tx_flat.specs.Machine.{state_of}
-use Rattle.tx_replay.specs.Replay.{IsReplay, NoneFits}
-use Rattle.tx_replay.proofs.Longer.{nothing_read, one_more}
+use Rattle.tx_replay.specs.Replay.{IsReplayed}
+use Rattle.tx_replay.proofs.Longer.{entries_few, line_read, none_replayed, one_replayed, misfit_found}
 use Rattle.tx_replay.proofs.replaying.replay.Goals as goal
 
 pub loop-k-init : goal.loop-k-init
-loop-k-init c = (
-  subst (λ es. IsReplay c.args.image.now [] es (state_of c.in-Ok.flat)) (sym c.in-Ok-with_capacity.ensures.items)
-      (nothing_read c.args.image.now (map (λ (l : Bor (List ℕ)). l.now) c.args.lines.now)
-      (state_of c.in-Ok.flat) c.in-Ok.ensures.state),
-  c.in-Ok.ensures.cpus,
-)
+loop-k-init c = record {
+  at = c.start-place.ensures.line;
+  place = c.start-place.ensures.place;
+  replayed =
+      none_replayed c.args.image.now (take c.args.count (lines_of c.args.text.now)) (state_of c.in-Ok.flat)
+      c.cpu_count-cpus.result c.in-Ok-no_ends.ends c.in-Ok.ensures.state c.cpu_count-cpus.ensures.count
+      c.in-Ok-no_ends.ensures;
+  cpus = c.in-Ok.ensures.cpus;
+}
+
+pub count_end-requires : goal.count_end-requires
+count_end-requires c =
+    let lines = take c.args.count (lines_of c.args.text.now) in
+    let many : length lines ≡ c.args.count = length-take-le c.args.count (lines_of c.args.text.now) c.requires in
+    let before = c.loop-k.invariant.replayed in
+    let size =
+    entries_few c.args.image.now lines c.loop-k.k before.entries (state_of c.loop-k.flat) (omega (arith, many))
+    before.replay in
+    let fits = c.ranges.count.fits in
+    record {
+      few = (
+        before.entries,
+        length c.args.image.now.cpus,
+        before.ended,
+        omega (arith, size, fits),
+      );
+    }
 
 pub loop-k-preserved : goal.loop-k-preserved
 loop-k-preserved c =
-    let there : c.loop-k.k < length c.args.lines.now = omega arith in
-    let after = state_of c.apply_line.new.flat in
-    let lines = map (λ (l : Bor (List ℕ)). l.now) c.args.lines.now in
-    let within : c.loop-k.k < length lines =
-    subst (λ n. c.loop-k.k < n) (sym (length-map c.args.lines.now (λ (l : Bor (List ℕ)). l.now))) there in
-    let more : suc c.loop-k.k ≡ c.loop-k.k + 1 = omega arith in (
-      subst (λ n. IsReplay c.args.image.now (take n lines) c.push.new.self.items after) more
-          (subst (λ es. IsReplay c.args.image.now (take (suc c.loop-k.k) lines) es after)
-          (sym c.in-Ok-push.ensures.items)
-          (one_more c.args.image.now lines c.loop-k.k c.loop-k.entries.items (state_of c.loop-k.flat) after
-          c.in-Ok-apply_line.entry within c.loop-k.invariant.0
+    let lines = take c.args.count (lines_of c.args.text.now) in
+    let many : length lines ≡ c.args.count = length-take-le c.args.count (lines_of c.args.text.now) c.requires in
+    let next = c.in-Some.ensures.behind in
+    let line = next.line in
+    let there : c.loop-k.k < c.args.count = omega arith in
+    record {
+      at = omega (arith, line, c.loop-k.invariant.at);
+      place = next.place;
+      replayed =
+          one_replayed c.args.image.now lines c.loop-k.k (state_of c.loop-k.flat)
+          (state_of c.apply_line.new.flat) c.in-Ok-apply_line.entry c.loop-k.ends c.count_end.new.ends
+          (omega (arith, many, there)) c.loop-k.invariant.replayed
           c.in-Ok-apply_line.ensures.sound
           (c.in-Ok-apply_line.ensures.text
-          ∙ sym (get_or-map (λ (l : Bor (List ℕ)). l.now) c.args.lines.now c.loop-k.k _ [] there))
-          c.in-Ok-apply_line.ensures.applied)),
-      c.in-Ok-apply_line.ensures.cpus ∙ c.loop-k.invariant.1,
-    )
+          ∙ sym (line_read c.args.text.now c.args.count c.loop-k.k c.loop-k.place.line c.in-Some.line.text.now there
+          c.loop-k.invariant.at c.in-Some.ensures.some))
+          c.in-Ok-apply_line.ensures.applied (λ h. c.count_end.ensures h (length c.args.image.now.cpus));
+      cpus = c.in-Ok-apply_line.ensures.cpus ∙ c.loop-k.invariant.cpus;
+    }
 
 pub returns-in-Err-Misfit-clause-fault : goal.returns-in-Err-Misfit-clause-fault
 returns-in-Err-Misfit-clause-fault c =
-    let there : c.loop-k.k < length c.args.lines.now = omega arith in
-    let lines = map (λ (l : Bor (List ℕ)). l.now) c.args.lines.now in
-    record {
-      before = c.loop-k.k;
-      counted = refl;
-      within = subst (λ n. c.loop-k.k < n) (sym (length-map c.args.lines.now (λ (l : Bor (List ℕ)). l.now))) there;
-      entries = c.loop-k.entries.items;
-      after = state_of c.loop-k.flat;
-      replays = c.loop-k.invariant.0;
-      none =
-          subst (NoneFits (state_of c.loop-k.flat))
-          (sym (get_or-map (λ (l : Bor (List ℕ)). l.now) c.args.lines.now c.loop-k.k _ [] there))
-          (c.in-Err-Misfit.ensures.misfit cc);
-    }
+    let lines = take c.args.count (lines_of c.args.text.now) in
+    let many : length lines ≡ c.args.count = length-take-le c.args.count (lines_of c.args.text.now) c.requires in
+    let there : c.loop-k.k < c.args.count = omega arith in
+    misfit_found c.args.image.now lines c.loop-k.k (state_of c.loop-k.flat) c.loop-k.ends c.in-Some.line.text.now
+    (omega (arith, many, there)) c.loop-k.invariant.replayed
+    (line_read c.args.text.now c.args.count c.loop-k.k c.loop-k.place.line c.in-Some.line.text.now there
+    c.loop-k.invariant.at c.in-Some.ensures.some)
+    (c.in-Err-Misfit.ensures.misfit cc)
+
+pub returns-clause-replayed : goal.returns-clause-replayed
+returns-clause-replayed c =
+    let lines = take c.args.count (lines_of c.args.text.now) in
+    let many : length lines ≡ c.args.count = length-take-le c.args.count (lines_of c.args.text.now) c.requires in
+    let all : c.loop-k.k ≡ c.args.count = omega arith in
+    subst (λ ls. IsReplayed c.args.image.now ls (state_of c.loop-k.flat) c.loop-k.ends)
+    (take_all c.loop-k.k lines (omega (arith, many, all))) c.loop-k.invariant.replayed

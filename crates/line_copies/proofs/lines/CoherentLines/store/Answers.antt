@@ -72,16 +72,16 @@ returns-in-Some-clause-bytes c =
 
 -- the copies go back into their place
 back : (c : goal.After-self-in-None-1)
-    → take c.self.inside.copies.len (c.lay_in_copies.new.copies ++ drop (length c.lay_in_copies.new.copies)
-    c.self.inside.copies.items) ≡ c.lay_in_copies.new.copies
+    → take c.self.inside.copies.len (c.lay_everywhere.new.copies ++ drop (length c.lay_everywhere.new.copies)
+    c.self.inside.copies.items) ≡ c.lay_everywhere.new.copies
 back c =
-    written_whole c.self.inside.copies.len c.lay_in_copies.new.copies c.self.inside.copies.items
-    (c.lay_in_copies.auto.copies ∙ ap length c.deref_mut.ensures.value)
+    written_whole c.self.inside.copies.len c.lay_everywhere.new.copies c.self.inside.copies.items
+    (c.lay_everywhere.auto.copies ∙ ap length c.deref_mut.ensures.value)
     (sym c.deref_mut.ensures.len ∙ ap length c.deref_mut.ensures.value)
 
 in_all : (c : goal.After-self-in-None-1)
-    → IsKept c.lay-in-None.new.self c.self.inside.table c.lay_in_copies.new.copies
-    × (seen_bytes c.lay-in-None.new.self c.self.inside.table c.lay_in_copies.new.copies
+    → IsKept c.lay_everywhere.new.storage c.self.inside.table c.lay_everywhere.new.copies
+    × (seen_bytes c.lay_everywhere.new.storage c.self.inside.table c.lay_everywhere.new.copies
     ≡ written (seen_bytes c.self.inside.storage c.self.inside.table c.self.inside.copies.items)
     (c.args.address / line_size * line_size + c.args.address % line_size) c.args.bytes.now)
 in_all c =
@@ -89,24 +89,25 @@ in_all c =
     let at = c.args.address % line_size in
     let bytes = c.args.bytes.now in
     let items = c.self.inside.copies.items in
-    all_stored c.self.inside.table items c.lay_in_copies.new.copies c.self.inside.storage
-    c.lay-in-None.new.self
+    all_stored c.self.inside.table items c.lay_everywhere.new.copies c.self.inside.storage
+    c.lay_everywhere.new.storage
     bytes line at c.self.invariant (omega (arith, c.requires.inside)) (sym c.in-None.ensures)
     c.requires.one_line
-    (c.lay_in_copies.auto.copies ∙ ap length c.deref_mut.ensures.value)
-    (c.lay-in-None.ensures ∙ ap (λ a. written c.self.inside.storage a bytes) (sym (whole c.args.address)))
-    (λ k low. c.lay_in_copies.ensures k (omega (arith, low, ap length c.deref_mut.ensures.value))
+    (c.lay_everywhere.auto.copies ∙ ap length c.deref_mut.ensures.value)
+    (c.lay_everywhere.ensures.storage ∙ ap (λ a. written c.self.inside.storage a bytes) (sym (whole
+    c.args.address)))
+    (λ k low. c.lay_everywhere.ensures.copies k (omega (arith, low, ap length c.deref_mut.ensures.value))
     ∙ ap (λ (i : List Kept). with_copy (copied i k) line (option_map (λ b. laid b at bytes) (copied i k
     line)))
     c.deref_mut.ensures.value)
 
 pub invariant_of-self-in-None : goal.invariant_of-self-in-None
 invariant_of-self-in-None c =
-    subst (IsKept c.lay-in-None.new.self c.self.inside.table) (sym (back c)) (in_all c).0
+    subst (IsKept c.lay_everywhere.new.storage c.self.inside.table) (sym (back c)) (in_all c).0
 
 pub returns-in-None-clause-bytes : goal.returns-in-None-clause-bytes
 returns-in-None-clause-bytes c =
-    ap (seen_bytes c.lay-in-None.new.self c.self.inside.table) (back c)
+    ap (seen_bytes c.lay_everywhere.new.storage c.self.inside.table) (back c)
     ∙ (in_all c).1
     ∙ ap (λ a. written (seen_bytes c.self.inside.storage c.self.inside.table c.self.inside.copies.items) a
     c.args.bytes.now) (whole c.args.address)

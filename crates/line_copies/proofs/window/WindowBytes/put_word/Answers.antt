@@ -1,6 +1,5 @@
 -- What a window keeps, after a number is stored through it.
-use Rattle.std.proofs.Common.{ℕ, ◌<◌, Option, length, sym, ap, subst, ◌∙◌, arith}
-use Rattle.std.specs.Prelude.{IfSome}
+use Rattle.std.proofs.Common.{length, ap, ◌∙◌, arith}
 use Rattle.byteorder.specs.Endian.{big_bytes}
 use Rattle.byteorder.specs.Numbers.{length-bytes_high_first}
 use Rattle.z_regs.proofs.Writes.{length-written}
@@ -13,10 +12,7 @@ invariant_of-self g c =
     record {
       holds = c.put_word.ensures.held ∙ before.holds;
       same_reference = c.put_word.ensures.same_reference ∙ before.same_reference;
-      in_range = subst (λ (who : Option ℕ). IfSome who (λ cpu. cpu < c.put_word.new.self.lines.now.cpus))
-          (sym c.put_word.ensures.who)
-          (subst (λ (n : ℕ). IfSome before.reach.who (λ cpu. cpu < n))
-          (sym (ap (λ h. h.cpus) c.put_word.ensures.held)) before.in_range);
+      in_range = omega (arith, c.put_word.ensures.who, ap (λ h. h.cpus) c.put_word.ensures.held, before.in_range);
       size = ap length c.put_word.ensures.bytes
           ∙ length-written before.reach.lines.now.bytes c.args.address (big_bytes c.args.count c.args.value)
           (omega (arith, many, c.requires.inside))

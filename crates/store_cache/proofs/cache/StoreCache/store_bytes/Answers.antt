@@ -42,8 +42,6 @@ in_entry c =
 copied : (c : After-insert_run) → IsRun c.self.inside.bytes.items c.self.inside.marks c.copy_into.new.others
     c.insert_run.new.self (c.slot_for-slot.result * block_size + c.args.address % block_size) c.args.bytes.now
 copied c = record {
-  size = c.copy_into.ensures.size ∙ ap length c.deref_mut.ensures.value;
-  mark_size = c.insert_run.ensures.size;
   bytes_are = c.copy_into.ensures.bytes;
   before = λ k lt. c.copy_into.ensures.before k lt ∙ ap (λ (bs : List ℕ). get_or bs k 0) c.deref_mut.ensures.value;
   behind = λ k le. c.copy_into.ensures.behind k le ∙ ap (λ (bs : List ℕ). get_or bs k 0) c.deref_mut.ensures.value;
@@ -60,7 +58,8 @@ invariant_of-self c =
     c.self.inside.values.items c.self.inside.value_marks c.args.address c.slot_for-slot.result
     (c.slot_for-slot.result * block_size + c.args.address % block_size) c.args.bytes.now c.self.invariant
     (in_entry c) c.slot_for-slot.ensures.slot refl c.requires.block c.requires.some c.copy_into.new.others
-    c.insert_run.new.self (copied c))
+    c.insert_run.new.self (copied c) (c.copy_into.ensures.size ∙ ap length c.deref_mut.ensures.value)
+    c.insert_run.ensures.size)
 
 pub returns : goal.returns
 returns c =
