@@ -9,6 +9,14 @@ import tempfile
 HERE = os.path.dirname(os.path.abspath(__file__))
 EXAMPLES = os.path.join(HERE, '..', 'examples')
 
+MEASURING = '''
+import os, subprocess, sys
+with open(sys.argv[1], 'wb') as output:
+    child = subprocess.Popen(sys.argv[2:], stdout=output)
+_, status, used = os.wait4(child.pid, 0)
+print(used.ru_maxrss * 1024, os.waitstatus_to_exitcode(status))
+'''
+
 
 def built_program():
     """The built program as a command; ends the script where there is none."""
@@ -35,13 +43,13 @@ def answer(command, words, text, seconds=600):
 
 
 def memory_of(command, source):
-    """The most bytes of resident memory that a command holds on a file; its exit status and standard output."""
-    with open(source, 'rb') as file, tempfile.TemporaryFile() as output:
-        child = subprocess.Popen(command, stdin=file, stdout=output)
-        _, status, used = os.wait4(child.pid, 0)
-        child.returncode = -os.WTERMSIG(status) if os.WIFSIGNALED(status) else os.WEXITSTATUS(status)
-        output.seek(0)
-        return used.ru_maxrss * 1024, child.returncode, output.read()
+    """The most bytes of resident memory that a command holds on a file; its exit status and standard output. What the process
+    that makes it holds counts as its own, so a new and small one does."""
+    with open(source, 'rb') as file, tempfile.NamedTemporaryFile() as output:
+        made = subprocess.run([sys.executable, '-c', MEASURING, output.name, *command], stdin=file, stdout=subprocess.PIPE,
+                              check=True)
+        memory, status = map(int, made.stdout.split())
+        return memory, status, output.read()
 
 
 def read(path):
