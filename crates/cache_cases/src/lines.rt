@@ -16,8 +16,9 @@ const FIRST: u32 = 36864;
 /// the first to hold it, and which line the first CPU holds first.
 type Looks = (usize, u8, u64, Option<Mode>, Option<u32>, Option<u32>);
 
-/// Adds one to the number in eight bytes, and copies its last byte to the end of the next eight, in code that
-/// knows bytes alone. Gives the number as it was.
+/// Adds one to the number in eight bytes, and copies its last byte to the end of the next eight. Then, of all
+/// sixteen as one operand, the first becomes what the last is, and the ninth what the eighth is. This is code
+/// that knows bytes alone. Gives the number as it was.
 fn count_up<V: Bytes>(view: &mut V, address: u64) -> u64
     requires inside { address + 16 ≤ length (V.bytes view.old) }
     requires low { address < 1048576 }
@@ -26,6 +27,11 @@ fn count_up<V: Bytes>(view: &mut V, address: u64) -> u64
     view.put_word(address, 8, number.wrapping_add(1));
     let last = view.get(address + 7);
     view.put(address + 15, last);
+    let mut sixteen = [0u8; 16];
+    view.read_into(address, &mut sixteen);
+    sixteen[0] = sixteen[15];
+    sixteen[8] = sixteen[7];
+    view.put_all(address, &sixteen);
     number
 }
 
@@ -112,10 +118,19 @@ fn an_exclusive_copy_is_seen_by_all(rt: HostRuntime) -> Result<(), Fail> {
     let ([inside, across, shared, last], between) = seen(rt.alloc(), &bytes)?;
     assert_eq!(rt;
         between,
-        (1_048_576, 1, 0, Some(Mode::Exclusive), Some(0), Some(144))
+        (
+            1_048_576,
+            1,
+            0x100_0000,
+            Some(Mode::Exclusive),
+            Some(0),
+            Some(144)
+        )
     );
-    assert_eq!(rt; inside, [0, 0, 1, 1]);
-    assert_eq!(rt; across, [1, 1, 0x1_0000_0001, 0x1_0000_0001]);
+    let (low, first) = (0x100_0000, 0x100_0000_0000_0001);
+    assert_eq!(rt; inside, [low, low, first, first]);
+    let (low, first) = (0x100_0000_0100_0001, 0x100_0001_0100_0001);
+    assert_eq!(rt; across, [low, low, first, first]);
     assert_eq!(rt; [shared, last], [across, across]);
     Ok(())
 }

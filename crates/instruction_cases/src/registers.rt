@@ -134,6 +134,26 @@ fn a_view_by_real_addresses(rt: HostRuntime) -> Result<(), Fail> {
     Ok(())
 }
 
+/// Four bytes that are put over the edge of an area, with the bytes beside them, as they are read again.
+fn read_again(storage: Storage) -> [u8; 6] {
+    let mut view = RealView::new(storage, Some(0xa000));
+    view.put_all(0x1ffe, &[1, 2, 3, 4]);
+    let mut six = [0; 6];
+    view.read_into(0x1ffd, &mut six);
+    six
+}
+
+/// The same in storage of zeros.
+fn read_in_zeros(alloc: Global) -> Result<[u8; 6], Fail> {
+    Ok(read_again(zeros(alloc)?))
+}
+
+#[test]
+fn an_operand_over_an_edge(rt: HostRuntime) -> Result<(), Fail> {
+    assert_eq!(rt; read_in_zeros(rt.alloc())?, [0, 1, 2, 3, 4, 0]);
+    Ok(())
+}
+
 /// The third byte of a program status word with code 3, the state that it loads, and the state of one that waits.
 fn loaded() -> (u8, [RunState; 2]) {
     let mut image = CpuImage::entering(0x4000);

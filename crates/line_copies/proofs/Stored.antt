@@ -2,7 +2,7 @@
 use Rattle.std.proofs.Common.{◌≡◌, ◌≢◌, ℕ, ◌+◌, ◌-◌, ◌*◌, ◌/◌, ◌%◌, ◌<◌, ◌≤◌, true, false, eqb, List, ◌++◌}
 use Rattle.std.proofs.Common.{length, get_or, take, drop}
 use Rattle.std.proofs.Common.{Option, Some, None, is_some, refl, sym, ap, subst, ◌∙◌, arith, inl, inr}
-use Rattle.std.proofs.Common.{append-nil}
+use Rattle.std.proofs.Common.{append-nil, take-add}
 use Rattle.std.specs.Prelude.{◌⊎◌, unwrap_or}
 use Rattle.std.specs.Option.{option_map}
 use Rattle.std.proofs.lemmas.Bool.{cases_eq, cases_lt, cond-true, cond-false, eq-eqb, ne_eqb}
@@ -252,6 +252,15 @@ range_of_line bytes line at count fits =
     ∙ ap (take count) (drop-take at (line_size - at) (drop (line * line_size) bytes))
     ∙ take-take count (line_size - at) (drop at (drop (line * line_size) bytes)) (omega (arith, fits))
     ∙ ap (take count) (drop-drop at (line * line_size) bytes)
+
+-- bytes of two lines are those of the first and those of the second
+pub range_in_two : (bytes : List ℕ) (first room count : ℕ) → room ≤ count
+    → range_at bytes first room ++ range_at bytes (first + room) (count - room) ≡ range_at bytes first count
+range_in_two bytes first room count low =
+    let whole : room + (count - room) ≡ count = omega (arith, low) in
+    ap (λ (t : List ℕ). range_at bytes first room ++ take (count - room) t) (sym (drop-drop room first bytes))
+    ∙ sym (take-add room (count - room) (drop first bytes))
+    ∙ ap (range_at bytes first) whole
 
 -- ---- storage, table and copies as they are kept, after a store
 

@@ -36,6 +36,16 @@ impl Bytes for CoherentLines {
         let _size = self.size();
         self.store_word(address as u32, count, value);
     }
+
+    fn read_into(&self, address: u64, into: &mut [u8]) {
+        let _size = self.size();
+        self.fetch_bytes(None, address as u32, into);
+    }
+
+    fn put_all(&mut self, address: u64, items: &[u8]) {
+        let _size = self.size();
+        self.store_across(address as u32, items);
+    }
 }
 
 impl CoherentLines {
@@ -103,6 +113,50 @@ impl CoherentLines {
         BigEndian::read_uint(&item, count)
     }
 
+    /// Copies the bytes from an address on, one to 256 of them, as a CPU fetches them, or somebody from outside.
+    #[inline(always)]
+    pub fn fetch_bytes(&self, who: Option<u32>, address: u32, into: &mut [u8])
+        requires cpu { IfSome who (λ cpu. cpu < self.now.cpus) }
+        requires some { 1 ≤ length into.old }
+        requires few { length into.old ≤ 256 }
+        requires inside { address + length into.old ≤ storage_size }
+        ensures { into.new ≡ range_at self.now.bytes address (length into.old) }
+    {
+        let room = LINE_SIZE - address as usize % LINE_SIZE;
+        if into.len() <= room {
+            return self.fetch_in_line(who, address, into);
+        }
+        self.fetch_in_two(who, address, room, into);
+    }
+
+    /// Copies bytes of one line.
+    #[inline(always)]
+    fn fetch_in_line(&self, who: Option<u32>, address: u32, into: &mut [u8])
+        requires cpu { IfSome who (λ cpu. cpu < self.now.cpus) }
+        requires inside { address < storage_size }
+        requires one_line { address % line_size + length into.old ≤ line_size }
+        ensures { into.new ≡ range_at self.now.bytes address (length into.old) }
+    {
+        let line = self.line_for(who, address / LINE_SIZE as u32);
+        let at = address as usize % LINE_SIZE;
+        into.copy_from_slice(&line[at..at + into.len()]);
+    }
+
+    /// Copies bytes of two lines, the first of which has so many of them.
+    #[inline(never)]
+    fn fetch_in_two(&self, who: Option<u32>, address: u32, room: usize, into: &mut [u8])
+        requires cpu { IfSome who (λ cpu. cpu < self.now.cpus) }
+        requires few { length into.old ≤ line_size }
+        requires room { room ≡ line_size - address % line_size }
+        requires more { room < length into.old }
+        requires inside { address + length into.old ≤ storage_size }
+        ensures { into.new ≡ range_at self.now.bytes address (length into.old) }
+    {
+        let (first, second) = into.split_at_mut(room);
+        self.fetch_in_line(who, address, first);
+        self.fetch_in_line(who, address + room as u32, second);
+    }
+
     /// Changes bytes of one line: in the copy of the CPU that holds the line exclusively, and where there is
     /// none, in storage and every copy.
     #[inline(always)]
@@ -143,7 +197,7 @@ impl CoherentLines {
 
     /// Changes bytes of one line or of two.
     #[inline(always)]
-    fn store_across(&mut self, address: u32, bytes: &[u8])
+    pub(crate) fn store_across(&mut self, address: u32, bytes: &[u8])
         requires few { length bytes.now ≤ line_size }
         requires some { 1 ≤ length bytes.now }
         requires inside { address + length bytes.now ≤ storage_size }

@@ -82,6 +82,32 @@ impl Reach<'_> {
     {
         self.lines.store_word(address as u32, count, value);
     }
+
+    /// Copies the bytes from an address on.
+    #[inline(always)]
+    fn read_into(&self, address: u64, into: &mut [u8])
+        requires who { self.now.who < self.now.lines.now.cpus }
+        requires some { 1 ≤ length into.old }
+        requires few { length into.old ≤ 256 }
+        requires inside { address + length into.old ≤ storage_size }
+        ensures { into.new ≡ range_at self.now.lines.now.bytes address (length into.old) }
+    {
+        self.lines.fetch_bytes(Some(self.who), address as u32, into);
+    }
+
+    /// Changes the bytes from an address on to these.
+    #[inline(always)]
+    fn put_all(&mut self, address: u64, items: &[u8])
+        requires some { 1 ≤ length items.now }
+        requires few { length items.now ≤ 256 }
+        requires inside { address + length items.now ≤ storage_size }
+        ensures bytes { self.new.lines.now.bytes ≡ written self.old.lines.now.bytes address items.now }
+        ensures held { holdings_of self.new.lines.now ≡ holdings_of self.old.lines.now }
+        ensures who { self.new.who ≡ self.old.who }
+        ensures same_reference { self.new.lines.ghost_name ≡ self.old.lines.ghost_name }
+    {
+        self.lines.store_across(address as u32, items);
+    }
 }
 
 /// Lines as one CPU sees them, for code that knows bytes alone: whatever it does, nobody gets or loses a
@@ -157,5 +183,15 @@ impl<'a, H: Held> Bytes for Window<'a, H> {
     #[inline(always)]
     fn put_word(&mut self, address: u64, count: u8, value: u64) {
         self.reach.put_word(address, count, value);
+    }
+
+    #[inline(always)]
+    fn read_into(&self, address: u64, into: &mut [u8]) {
+        self.reach.read_into(address, into);
+    }
+
+    #[inline(always)]
+    fn put_all(&mut self, address: u64, items: &[u8]) {
+        self.reach.put_all(address, items);
     }
 }

@@ -8,7 +8,7 @@ pub mod Effects
 pub mod Stored
 pub mod Returning
 pub mod Lent
-pub mod Pieces
+pub mod Small
 pub mod Bare
 pub mod Laying
 pub mod GatheredBlocks

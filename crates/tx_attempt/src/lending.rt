@@ -1,8 +1,6 @@
 //! Storage lends the places of operands to an attempt: while an instruction is performed, the bytes that the attempt
 //! sees there stand in storage, and then those of storage come back.
-ghost use Rattle.byteorder.specs.Endian.{big_bytes};
-ghost use Rattle.std.specs.Prelude.{◌++◌};
-ghost use Rattle.std.specs.Prelude.{List, ℕ, true, ◌≡◌, ◌≤◌, ◌+◌, length, take, drop, slice_get, get_or};
+ghost use Rattle.std.specs.Prelude.{List, ℕ, true, ◌≡◌, ◌≤◌, ◌+◌, length, slice_get, get_or};
 ghost use Rattle.std.specs.Prelude.{IsTrue, All};
 ghost use Rattle.z_regs.specs.Prefix.{is_prefix, storage_size};
 ghost use Rattle.z_regs.specs.Absolute.{IsAccessible};
@@ -14,7 +12,7 @@ ghost use Rattle.tx_attempt.specs.Storages.{storage_of};
 ghost use Rattle.tx_attempt.specs.Performed.{no_range, IsFetched};
 
 use crate::attempt::Attempt;
-use byteorder::{BigEndian, ByteOrder};
+use crate::performing::MOST_BYTES;
 use z_regs::{Bytes, Range, Touches, place_of};
 
 /// The operand with that number; no bytes where there is none.
@@ -53,46 +51,15 @@ pub fn are_bare(attempt: &Attempt, need: &Touches, prefix: Option<u32>) -> bool
     attempt.is_bare(second.first, second.length)
 }
 
-/// The number in the eight bytes from a place on.
-fn doubleword_at(bytes: &[u8], at: usize) -> u64
-    requires { at + 8 ≤ length bytes.now }
-    ensures { big_bytes 8 result ≡ range_at bytes.now at 8 }
-{
-    u64::from_be_bytes([
-        bytes[at],
-        bytes[at + 1],
-        bytes[at + 2],
-        bytes[at + 3],
-        bytes[at + 4],
-        bytes[at + 5],
-        bytes[at + 6],
-        bytes[at + 7],
-    ])
-}
-
-/// The bytes of storage from an address on, got one by one.
-fn fetch_bytes<V: Bytes>(bytes: &mut [u8], first: u64, base: &V)
-    requires end { first + length bytes.old ≤ length (V.bytes base.now) }
-    requires size { length (V.bytes base.now) ≡ storage_size }
-    ensures { bytes.new ≡ range_at (V.bytes base.now) first (length bytes.old) }
-{
-    for k in 0..bytes.len() {
-        bytes[k] = base.get(first + k as u64);
-    }
-}
-
-/// The bytes of storage from an address on: eight at a time, and then the rest.
+/// The bytes of storage from an address on, at most 256.
 pub fn fetch<V: Bytes>(bytes: &mut [u8], first: u64, base: &V)
+    requires few { length bytes.old ≤ 256 }
     requires end { first + length bytes.old ≤ length (V.bytes base.now) }
-    requires size { length (V.bytes base.now) ≡ storage_size }
     ensures { bytes.new ≡ range_at (V.bytes base.now) first (length bytes.old) }
 {
-    let whole = bytes.len() / 8;
-    for k in 0..whole {
-        let item = base.word(first + 8 * k as u64, 8);
-        BigEndian::write_u64(&mut bytes[8 * k..], item);
+    if !bytes.is_empty() {
+        base.read_into(first, bytes);
     }
-    fetch_bytes(&mut bytes[8 * whole..], first + 8 * whole as u64, base);
 }
 
 /// The bytes that the attempt sees from a real address on, looked up one by one.
@@ -114,9 +81,10 @@ fn see_bytes<V: Bytes>(
     }
 }
 
-/// The bytes that the attempt sees from a real address on: those of storage where it has stored nothing
+/// The bytes that the attempt sees from a real address on, at most 256: those of storage where it has stored nothing
 /// in their blocks.
 pub fn see<V: Bytes>(attempt: &Attempt, bytes: &mut [u8], first: u64, prefix: Option<u32>, base: &V)
+    requires few { length bytes.old ≤ 256 }
     requires prefix_in { IsTrue (is_prefix prefix) }
     requires end { first + length bytes.old ≤ storage_size }
     requires size { length (V.bytes base.now) ≡ storage_size }
@@ -129,44 +97,19 @@ pub fn see<V: Bytes>(attempt: &Attempt, bytes: &mut [u8], first: u64, prefix: Op
     fetch(bytes, first, base);
 }
 
-/// The bytes change places with those of storage from an address on, one by one.
-fn exchange_bytes<V: Bytes>(bytes: &mut [u8], first: u64, base: &mut V)
-    requires end { first + length bytes.old ≤ length (V.bytes base.old) }
-    requires size { length (V.bytes base.old) ≡ storage_size }
-    ensures bytes { bytes.new ≡ range_at (V.bytes base.old) first (length bytes.old) }
-    ensures storage { V.bytes base.new ≡ written (V.bytes base.old) first bytes.old }
-{
-    for k in 0..bytes.len() {
-        let address = first + k as u64;
-        let byte = base.get(address);
-        base.put(address, bytes[k]);
-        bytes[k] = byte;
-    }
-}
-
-/// The first eight bytes change places with those of storage from an address on.
-fn exchange_doubleword<V: Bytes>(bytes: &mut [u8], first: u64, base: &mut V)
-    requires eight { 8 ≤ length bytes.old }
-    requires end { first + 8 ≤ length (V.bytes base.old) }
-    ensures bytes { bytes.new ≡ range_at (V.bytes base.old) first 8 ++ drop 8 bytes.old }
-    ensures storage { V.bytes base.new ≡ written (V.bytes base.old) first (take 8 bytes.old) }
-{
-    let item = doubleword_at(bytes, 0);
-    let other = base.word(first, 8);
-    base.put_word(first, 8, item);
-    BigEndian::write_u64(bytes, other);
-}
-
-/// The bytes change places with those of storage from an address on: eight at a time, and then the rest.
+/// The bytes, at most 256, change places with those of storage from an address on.
 pub fn exchange<V: Bytes>(bytes: &mut [u8], first: u64, base: &mut V)
+    requires few { length bytes.old ≤ 256 }
     requires end { first + length bytes.old ≤ length (V.bytes base.old) }
-    requires size { length (V.bytes base.old) ≡ storage_size }
     ensures bytes { bytes.new ≡ range_at (V.bytes base.old) first (length bytes.old) }
     ensures storage { V.bytes base.new ≡ written (V.bytes base.old) first bytes.old }
 {
-    let whole = bytes.len() / 8;
-    for k in 0..whole {
-        exchange_doubleword(&mut bytes[8 * k..], first + 8 * k as u64, base);
+    if bytes.is_empty() {
+        return;
     }
-    exchange_bytes(&mut bytes[8 * whole..], first + 8 * whole as u64, base);
+    let mut room = [0; MOST_BYTES];
+    let kept = &mut room[..bytes.len()];
+    kept.copy_from_slice(bytes);
+    base.read_into(first, bytes);
+    base.put_all(first, kept);
 }

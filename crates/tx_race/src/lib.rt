@@ -2,15 +2,10 @@
 //! machine, and a ledger beside it keeps how many events each thread has made.
 #![tactic(auto)]
 
-mod calls;
 mod gate;
-mod paces;
 mod racing;
 mod workers;
 
 pub use gate::{Gate, OpenGate};
 pub use racing::race;
 pub use tx_board::{Blank, Board, Raced, Share};
-
-#[cfg(test)]
-mod tests;

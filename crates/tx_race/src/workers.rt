@@ -1,15 +1,14 @@
 //! The workers: each makes the turns of one CPU, away from the machine and under its lock.
 ghost use Rattle.std.specs.Prelude.{◌≡◌, ◌≤◌, IfOk, vec_len};
 
-use crate::calls::Calls;
 use crate::gate::Gate;
-use crate::paces::Paces;
 use std::alloc::Global;
 use std::sync::ledger::Ledger;
 use std::sync::{Mutex, Wait};
 use tx_board::{Board, Share, cpu_count};
 use tx_machine::{Home, Lend, NoMemory};
 use tx_meaning::Outcome;
+use tx_pace::{Calls, Paces};
 use tx_run::{Run, RunStep};
 
 /// The most steps of a run.

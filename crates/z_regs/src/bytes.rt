@@ -36,4 +36,18 @@ pub trait Bytes {
         requires high { count ≤ 8 }
         requires inside { address + count ≤ length (bytes self.old) }
         ensures { bytes self.new ≡ written (bytes self.old) address (big_bytes count value) };
+
+    /// Copies the bytes from an address on, one to 256 of them, as many as `into` has.
+    fn read_into(&self, address: u64, into: &mut [u8])
+        requires some { 1 ≤ length into.old }
+        requires few { length into.old ≤ 256 }
+        requires inside { address + length into.old ≤ length (bytes self.now) }
+        ensures { into.new ≡ range_at (bytes self.now) address (length into.old) };
+
+    /// Changes the bytes from an address on to these, one to 256 of them.
+    fn put_all(&mut self, address: u64, items: &[u8])
+        requires some { 1 ≤ length items.now }
+        requires few { length items.now ≤ 256 }
+        requires inside { address + length items.now ≤ length (bytes self.old) }
+        ensures { bytes self.new ≡ written (bytes self.old) address items.now };
 }

@@ -81,6 +81,17 @@ impl<V: Bytes> RealView<V> {
             self.put_byte(address + k as u64, *byte);
         }
     }
+
+    /// Copies bytes that may lie in two areas, one by one.
+    fn read_across(&self, address: u64, into: &mut [u8])
+        requires { address + length into.old ≤ storage_size }
+        ensures { into.new ≡
+            range_at (seen_by self.now.prefix (V.bytes self.now.below)) address (length into.old) }
+    {
+        for k in 0..into.len() {
+            into[k] = self.byte(address + k as u64);
+        }
+    }
 }
 
 impl<V: Bytes> Bytes for RealView<V> {
@@ -95,7 +106,7 @@ impl<V: Bytes> Bytes for RealView<V> {
     }
 
     fn word(&self, address: u64, count: u8) -> u64 {
-        if are_in_one_area(address, count) {
+        if are_in_one_area(address, count as u64) {
             self.below.word(place_of(self.prefix, address), count)
         } else {
             self.number_across(address, count)
@@ -103,7 +114,7 @@ impl<V: Bytes> Bytes for RealView<V> {
     }
 
     fn put_word(&mut self, address: u64, count: u8, value: u64) {
-        if are_in_one_area(address, count) {
+        if are_in_one_area(address, count as u64) {
             self.below
                 .put_word(place_of(self.prefix, address), count, value);
         } else {
@@ -111,11 +122,28 @@ impl<V: Bytes> Bytes for RealView<V> {
             self.put_across(address, &item[MOST - usize::from(count)..]);
         }
     }
+
+    fn read_into(&self, address: u64, into: &mut [u8]) {
+        if are_in_one_area(address, into.len() as u64) {
+            self.below.read_into(place_of(self.prefix, address), into);
+        } else {
+            self.read_across(address, into);
+        }
+    }
+
+    fn put_all(&mut self, address: u64, items: &[u8]) {
+        if are_in_one_area(address, items.len() as u64) {
+            self.below.put_all(place_of(self.prefix, address), items);
+        } else {
+            self.put_across(address, items);
+        }
+    }
 }
 
-/// Whether so many bytes from an address on lie in one area, so that no prefix takes them apart.
-fn are_in_one_area(address: u64, count: u8) -> bool
+/// Whether so many bytes from an address on, at most 256, lie in one area, so that no prefix takes them apart.
+fn are_in_one_area(address: u64, count: u64) -> bool
+    requires { count ≤ 256 }
     ensures { result ≡ nat_le (address % area_size + count) area_size }
 {
-    address % AREA_SIZE + u64::from(count) <= AREA_SIZE
+    address % AREA_SIZE + count <= AREA_SIZE
 }

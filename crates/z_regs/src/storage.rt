@@ -91,4 +91,15 @@ impl Bytes for Storage {
             _ => self.lay(first, &item[8 - usize::from(count)..]),
         }
     }
+
+    #[inline(always)]
+    fn read_into(&self, address: u64, into: &mut [u8]) {
+        let first = address as usize;
+        into.copy_from_slice(&self.bytes[first..first + into.len()]);
+    }
+
+    #[inline(always)]
+    fn put_all(&mut self, address: u64, items: &[u8]) {
+        self.lay(address as usize, items);
+    }
 }

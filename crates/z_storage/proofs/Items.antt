@@ -1,7 +1,7 @@
 -- The items of several registers, one after the other.
 use Rattle.std.proofs.Common.{◌≡◌, ℕ, zero, suc, ◌<◌, ◌≤◌, ◌+◌, ◌-◌, ◌*◌, ◌%◌, List, length, take, drop, refl}
 use Rattle.std.proofs.Common.{sym, ap, ◌∙◌, arith, length-append}
-use Rattle.std.proofs.lemmas.List.{drop-take, drop-drop, take_all}
+use Rattle.std.proofs.lemmas.List.{drop-take, drop-drop, take_all, take_at}
 use Rattle.std.proofs.Math.Numerals.{add-one}
 use Rattle.std.proofs.Math.Nat.{zero-mul}
 use Rattle.byteorder.specs.Endian.{big_from}
@@ -49,6 +49,10 @@ pub none_stored : (w : Width) (r : ℕ) (s : List ℕ) (address : ℕ) (c : Cpu)
     s ≡ written s address (items zero w r c)
 unfolding items
 none_stored w r s address c = written_none s address
+
+-- bytes that are written at the beginning stand there
+pub first_written : (n : ℕ) (s bytes : List ℕ) → length bytes ≡ n → take n (written s 0 bytes) ≡ bytes
+first_written n s bytes e = take_at bytes (drop (0 + length bytes) s) n e
 
 -- a step of the loop that stores registers
 pub store_step : (k : ℕ) (w : Width) (r : ℕ) (s now new : List ℕ) (address : ℕ) (c : Cpu) →

@@ -1,15 +1,12 @@
 -- Bytes that are moved several at a time.
-use Rattle.std.proofs.Common.{◌≡◌, ℕ, zero, suc, ◌<◌, ◌≤◌, ◌+◌, ◌-◌, List, ◌∷◌, [], ◌++◌, length, get_or, take, drop, true, ◌||◌, nat_lt, nat_le}
-use Rattle.std.proofs.Common.{◌⊎◌, inl, inr, refl, sym, ap, ◌∙◌, arith, length-drop, drop-drop}
+use Rattle.std.proofs.Common.{◌≡◌, ℕ, zero, suc, ◌≤◌, ◌+◌, ◌-◌, List, ◌∷◌, [], ◌++◌, length, get_or, take, drop, true, ◌||◌, nat_lt, nat_le}
+use Rattle.std.proofs.Common.{◌⊎◌, inl, inr, refl, sym, ap, ◌∙◌, arith, length-drop}
 use Rattle.std.specs.Prelude.{if◌then◌else◌}
 use Rattle.std.proofs.lemmas.Bool.{cases_lt, lt-ltb}
 use Rattle.std.proofs.lemmas.Bool.Decides.{nat_tests}
-use Rattle.std.proofs.lemmas.List.{ext_get_or, length-take-le, take_all, take_more}
+use Rattle.std.proofs.lemmas.List.{length-take-le, take_all, take_more}
 use Rattle.std.proofs.Math.Numerals.{add-one}
-use Rattle.std.proofs.Math.Seq.{take-add}
-use Rattle.z_regs.specs.Written.{range_at, written}
-use Rattle.z_regs.proofs.OneArea.{in_range}
-use Rattle.z_regs.proofs.Writes.{above, below, length-written, written_then}
+use Rattle.z_regs.specs.Written.{range_at}
 use Rattle.z_instr.specs.declared.kind.Combination.TheVariants.{Move}
 use Rattle.z_effect.specs.StorageEffect.{lead, results}
 use Rattle.z_storage.proofs.Bytewise.{lead_cases}
@@ -25,48 +22,8 @@ apart_cases n target source h = elim (cases_lt source target) [
   | inl more ↦ inr (grind (arith, nat_tests))
 ]
 
--- and fewer bytes neither
-pub sooner : (k n target source : ℕ) → k ≤ n → Apart n target source → Apart k target source
-sooner k n target source h (inl low) = inl low
-sooner k n target source h (inr high) = inr (omega (arith, h, high))
-
 pub many : (s : List ℕ) (a n : ℕ) → a + n ≤ length s → length (range_at s a n) ≡ n
 many s a n h = length-take-le n (drop a s) (omega (arith, length-drop a s))
-
--- what is fetched later is as it was
-unchanged : (s : List ℕ) (t b c n : ℕ) → t + (c + n) ≤ length s → b + (c + n) ≤ length s →
-    Apart (c + n) t b → range_at (written s t (range_at s b c)) (b + c) n ≡ range_at s (b + c) n
-unchanged s t b c n h k o =
-    let xs = range_at s b c in
-    let size : length xs ≡ c = many s b c (omega (arith, k)) in
-    let whole : length (written s t xs) ≡ length s = length-written s t xs (omega (arith, h, size)) in
-    let left : length (range_at (written s t xs) (b + c) n) ≡ n =
-    many (written s t xs) (b + c) n (omega (arith, k, whole)) in
-    let right : length (range_at s (b + c) n) ≡ n = many s (b + c) n (omega (arith, k)) in
-    ext_get_or 0 _ _ (left ∙ sym right) (λ i l.
-    let less : i < n = omega (arith, l, left) in
-    in_range (written s t xs) (b + c) n i less
-    ∙ elim o [
-      | inl low ↦ above s t xs (b + c + i) (omega (arith, h)) (omega (arith, size, low))
-      | inr high ↦ below s t xs (b + c + i) (omega (arith, h)) (omega (arith, high, less))
-    ]
-    ∙ sym (in_range s (b + c) n i less))
-
--- some bytes more
-pub move_step : (s now new : List ℕ) (t b c n : ℕ) → t + (c + n) ≤ length s → b + (c + n) ≤ length s →
-    Apart (c + n) t b → now ≡ written s t (range_at s b c) →
-    new ≡ written now (t + c) (range_at now (b + c) n) → new ≡ written s t (range_at s b (c + n))
-move_step s now new t b c n h k o e f =
-    let xs = range_at s b c in
-    let size : length xs ≡ c = many s b c (omega (arith, k)) in
-    let joined : range_at s b (c + n) ≡ xs ++ range_at s (b + c) n =
-    take-add c n (drop b s) ∙ ap (λ u. take c (drop b s) ++ take n u) (drop-drop c b s) in
-    f
-    ∙ ap (λ u. written u (t + c) (range_at u (b + c) n)) e
-    ∙ ap (written (written s t xs) (t + c)) (unchanged s t b c n h k o)
-    ∙ ap (λ j. written (written s t xs) (t + j) (range_at s (b + c) n)) (sym size)
-    ∙ written_then s t xs (range_at s (b + c) n) (omega (arith, h))
-    ∙ ap (written s t) (sym joined)
 
 -- ---- the results of a move
 

@@ -20,10 +20,14 @@ use z_instr::instr::Instr;
 use z_instr::kind::{Combination, Logic, Order};
 use z_regs::{Bytes, CpuImage};
 
+/// The most bytes that an operand has.
+const MOST_BYTES: usize = 256;
+
 /// How many bytes each operand has, 1 to 256.
 fn bytes_named(instr: &Instr) -> u64
     requires { is_within (bounds 0 256) instr.now.imm ≡ true }
     ensures count { result ≡ length_of instr.now }
+    ensures some { 1 ≤ result }
     ensures few { result ≤ 256 }
 {
     instr.imm as u64 + 1
@@ -140,41 +144,25 @@ fn combine_logic<V: Bytes>(kind: Logic, view: &mut V, target: u64, source: u64, 
     }
 }
 
-/// Moves one to eight bytes.
-#[inline(always)]
-fn move_item<V: Bytes>(view: &mut V, target: u64, source: u64, count: u8)
-    requires low { 1 ≤ count }
-    requires high { count ≤ 8 }
+/// Moves `count` bytes, all at once.
+fn move_apart<V: Bytes>(view: &mut V, target: u64, source: u64, count: u64)
+    requires some { 1 ≤ count }
+    requires few { count ≤ 256 }
     requires target_in { target + count ≤ length (V.bytes view.old) }
     requires source_in { source + count ≤ length (V.bytes view.old) }
     ensures { V.bytes view.new ≡
         written (V.bytes view.old) target (range_at (V.bytes view.old) source count) }
 {
-    let value = view.word(source, count);
-    view.put_word(target, count, value);
+    let mut item = [0; MOST_BYTES];
+    let bytes = &mut item[..count as usize];
+    view.read_into(source, bytes);
+    view.put_all(target, bytes);
 }
 
-/// Moves `count` bytes, eight at a time and then the rest.
-fn move_apart<V: Bytes>(view: &mut V, target: u64, source: u64, count: u64)
-    requires size { length (V.bytes view.old) ≡ storage_size }
-    requires target_in { target + count ≤ storage_size }
-    requires source_in { source + count ≤ storage_size }
-    requires apart { (nat_le target source || nat_le (source + count) target) ≡ true }
-    ensures { V.bytes view.new ≡
-        written (V.bytes view.old) target (range_at (V.bytes view.old) source count) }
-{
-    let whole = count / 8;
-    for k in 0..whole {
-        move_item(view, target + 8 * k, source + 8 * k, 8);
-    }
-    let rest = (count % 8) as u8;
-    if rest > 0 {
-        move_item(view, target + 8 * whole, source + 8 * whole, rest);
-    }
-}
-
-/// Moves `count` bytes as if one by one from the left: eight at a time where that is the same.
+/// Moves `count` bytes as if one by one from the left: all at once where that is the same.
 fn move_bytes<V: Bytes>(view: &mut V, target: u64, source: u64, count: u64)
+    requires some { 1 ≤ count }
+    requires few { count ≤ 256 }
     requires size { length (V.bytes view.old) ≡ storage_size }
     requires target_in { target + count ≤ storage_size }
     requires source_in { source + count ≤ storage_size }
@@ -249,6 +237,8 @@ fn combine<V: Bytes>(
     source: u64,
     count: u64,
 )
+    requires some { 1 ≤ count }
+    requires few { count ≤ 256 }
     requires size { length (V.bytes view.old) ≡ storage_size }
     requires target_in { target + count ≤ storage_size }
     requires source_in { source + count ≤ storage_size }

@@ -4,19 +4,21 @@ ghost use Rattle.z_regs.specs.Prefix.{storage_size};
 ghost use Rattle.z_instr.specs.Operands.{bytes_of};
 ghost use Rattle.z_regs.specs.Cpu.{cpu_of};
 ghost use Rattle.z_instr.specs.declared.kind.Storage.TheVariants.{LoadMany, StoreMany};
-ghost use Rattle.z_effect.specs.StorageEffect.{items, with_items};
+ghost use Rattle.z_effect.specs.StorageEffect.{items, stored, with_items};
 ghost use Rattle.z_instr.specs.Kinds.{item as item_of};
 ghost use Rattle.z_effect.specs.After.{AreInside, range_at, written};
 ghost use Rattle.z_storage.specs.Performs.{ranges, Performs};
 
-use crate::access::{fetch_item, store};
 use tx_control::Exception;
 use z_arith::Width;
 use z_effect::{advance, put, register};
 use z_instr::addresses::{first_address, registers_named};
 use z_instr::instr::Instr;
 use z_instr::kind::item;
-use z_regs::{Bytes, CpuImage};
+use z_regs::{Bytes, CpuImage, number_in};
+
+/// The most bytes that sixteen registers have.
+const MOST_BYTES: usize = 128;
 
 /// The address of an item behind `k` others.
 fn place(address: u64, w: Width, k: u8) -> u64
@@ -29,6 +31,31 @@ fn place(address: u64, w: Width, k: u8) -> u64
     }
 }
 
+/// Puts an item at a place among bytes.
+fn put_item(into: &mut [u8], at: usize, w: Width, value: u64)
+    requires { at + bytes_of (item_of w) ≤ length into.old }
+    ensures { into.new ≡ written into.old at (stored (item_of w) value) }
+{
+    let bytes = value.to_be_bytes();
+    match w {
+        Width::Word => into[at..at + 4].copy_from_slice(&bytes[4..]),
+        Width::Double => into[at..at + 8].copy_from_slice(&bytes),
+    }
+}
+
+/// Puts the items of some registers, from the register `first` on, at the beginning of bytes.
+fn put_items(w: Width, first: u8, count: u8, image: &CpuImage, into: &mut [u8])
+    requires first_in { first < 16 }
+    requires few { count < 17 }
+    requires room { count * bytes_of (item_of w) ≤ length into.old }
+    ensures { into.new ≡ written into.old 0 (items count w first (cpu_of image.now)) }
+{
+    for k in 0..count {
+        let value = register(image, (first + k) % 16);
+        put_item(into, place(0, w, k) as usize, w, value);
+    }
+}
+
 /// Stores the items of some registers, from the register `first` on.
 fn store_registers<V: Bytes>(
     w: Width,
@@ -38,15 +65,28 @@ fn store_registers<V: Bytes>(
     address: u64,
     view: &mut V,
 )
-    requires size { length (V.bytes view.old) ≡ storage_size }
     requires first_in { first < 16 }
+    requires some { 1 ≤ count }
     requires few { count < 17 }
     requires inside { address + count * bytes_of (item_of w) ≤ length (V.bytes view.old) }
     ensures { V.bytes view.new ≡ written (V.bytes view.old) address (items count w first (cpu_of image.now)) }
 {
+    let mut bytes = [0; MOST_BYTES];
+    put_items(w, first, count, image, &mut bytes);
+    view.put_all(address, &bytes[..place(0, w, count) as usize]);
+}
+
+/// Loads items, which stand at the beginning of bytes, into some registers, from the register `first` on.
+fn take_items(w: Width, first: u8, count: u8, image: &mut CpuImage, from: &[u8])
+    requires first_in { first < 16 }
+    requires few { count < 17 }
+    requires room { count * bytes_of (item_of w) ≤ length from.now }
+    ensures { cpu_of image.new ≡
+        with_items count w first (range_at from.now 0 (count * bytes_of (item_of w))) (cpu_of image.old) }
+{
     for k in 0..count {
-        let value = register(image, (first + k) % 16);
-        store(view, place(address, w, k), item(w), value);
+        let value = number_in(from, place(0, w, k) as usize, item(w).bytes());
+        put(image, w, (first + k) % 16, value);
     }
 }
 
@@ -59,18 +99,18 @@ fn load_registers<V: Bytes>(
     address: u64,
     view: &V,
 )
-    requires size { length (V.bytes view.now) ≡ storage_size }
     requires first_in { first < 16 }
+    requires some { 1 ≤ count }
     requires few { count < 17 }
     requires inside { address + count * bytes_of (item_of w) ≤ length (V.bytes view.now) }
     ensures { cpu_of image.new ≡
         with_items count w first (range_at (V.bytes view.now) address (count * bytes_of (item_of w)))
         (cpu_of image.old) }
 {
-    for k in 0..count {
-        let value = fetch_item(view, place(address, w, k), w);
-        put(image, w, (first + k) % 16, value);
-    }
+    let mut room = [0; MOST_BYTES];
+    let bytes = &mut room[..place(0, w, count) as usize];
+    view.read_into(address, bytes);
+    take_items(w, first, count, image, bytes);
 }
 
 /// Loads the registers from R1 up to R3.

@@ -35,7 +35,16 @@ impl Bytes for Watched {
 
     fn put_word(&mut self, address: u64, count: u8, value: u64) {
         self.storage.put_word(address, count, value);
-        self.remember_all(address, count);
+        self.remember_all(address, u64::from(count));
+    }
+
+    fn read_into(&self, address: u64, into: &mut [u8]) {
+        self.storage.read_into(address, into);
+    }
+
+    fn put_all(&mut self, address: u64, items: &[u8]) {
+        self.storage.put_all(address, items);
+        self.remember_all(address, items.len() as u64);
     }
 }
 
@@ -64,11 +73,11 @@ impl Watched {
     }
 
     /// Remembers that so many bytes were put from an address on.
-    fn remember_all(&mut self, address: u64, count: u8)
+    fn remember_all(&mut self, address: u64, count: u64)
         requires { address + count ≤ storage_size }
         ensures { self.new.storage ≡ self.old.storage }
     {
-        for k in 0..u64::from(count) {
+        for k in 0..count {
             self.remember(address + k);
         }
     }

@@ -1,4 +1,4 @@
-use Rattle.std.proofs.Common.{◌≡◌, ◌*◌, ◌/◌, ◌%◌, ◌+◌, ◌≤◌, List, ℕ, length, take, Some, ap, sym, ◌∙◌}
+use Rattle.std.proofs.Common.{◌≡◌, ◌*◌, ◌/◌, ◌%◌, ◌+◌, ◌-◌, ◌≤◌, List, ℕ, length, take, drop, Some, ap, sym, ◌∙◌}
 use Rattle.std.proofs.Common.{arith}
 use Rattle.slot_index.specs.Slots.{slot_in}
 use Rattle.z_regs.specs.Written.{range_at, written}
@@ -37,23 +37,20 @@ loop-cell-preserved g c =
     let step = run_below keys c.args.bytes.now c.args.marks.now c.loop-cell.from
     (c.count-end.result * block_size) cell count address (cell / block_size) c.in-Some.ensures.found
     c.marked_from-count.ensures.marked room found (omega arith) (omega arith) in
-    let laid : g.V.Bytes.bytes c.put_word.new.self ≡ bytes_through
+    let piece : take (cell + count - cell) (drop cell c.args.bytes.now) ≡ stored =
+    ap (λ n. take n (drop cell c.args.bytes.now)) (omega arith) in
+    let laid : g.V.Bytes.bytes c.put_all.new.self ≡ bytes_through
     (items_of block_size keys c.args.bytes.now (take (cell + count) c.args.marks.now)) base
     =
-    c.put_word.ensures
-    ∙ ap (λ (bytes : List ℕ). written (g.V.Bytes.bytes c.loop-cell.into) address bytes) c.number_in.ensures.bytes
+    c.put_all.ensures
+    ∙ ap (written (g.V.Bytes.bytes c.loop-cell.into) address) piece
     ∙ ap (λ (now : List ℕ). written now address stored) c.loop-cell.invariant.laid
     ∙ sym (bytes_through-with_bytes before base address stored (omega (arith, size)))
     ∙ ap (λ (o : Overlay). bytes_through o base) (sym step) in
-    let all : g.V.Bytes.bytes c.put_word.new.self ≡ bytes_through
-    (items_of block_size keys c.args.bytes.now (take (cell + c.from.result) c.args.marks.now)) base
-    =
-    laid ∙ ap (λ n. bytes_through (items_of block_size keys c.args.bytes.now (take (cell + n) c.args.marks.now)) base)
-    (sym c.from.ensures) in
     record {
-      laid = all;
-      size = ap length all ∙ length-bytes_through
-          (items_of block_size keys c.args.bytes.now (take (cell + c.from.result) c.args.marks.now))
+      laid = laid;
+      size = ap length laid ∙ length-bytes_through
+          (items_of block_size keys c.args.bytes.now (take (cell + count) c.args.marks.now))
           base ∙ c.requires.storage;
     }
 

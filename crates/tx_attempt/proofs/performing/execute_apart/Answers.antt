@@ -1,5 +1,5 @@
 -- The bytes that are stored are kept apart, and those that were there come back.
-use Rattle.std.proofs.Common.{◌≡◌, List, ℕ, ap, sym, subst, ◌∙◌, arith, length, get_or}
+use Rattle.std.proofs.Common.{◌≡◌, List, ℕ, ap, sym, subst, ◌∙◌, arith, length, take, get_or}
 use Rattle.std.proofs.lemmas.List.{length-take-le}
 use Rattle.z_regs.specs.Cpu.{cpu_of}
 use Rattle.z_regs.specs.declared.ranges.Range.{Range}
@@ -8,8 +8,20 @@ use Rattle.tx_attempt.specs.Performed.{StoresFirst, no_range}
 use Rattle.tx_attempt.proofs.Bare.{apart-so, brought-back}
 use Rattle.tx_attempt.proofs.Fetching.{all-inside}
 use Rattle.tx_attempt.proofs.Returning.{operand-end, kept-apart, length-range}
+use Rattle.tx_attempt.proofs.Small.{small-so, part-small, range-small}
 use Rattle.tx_attempt.proofs.Stored.{operands-first}
 use Rattle.tx_attempt.proofs.performing.execute_apart.Goals as goal
+
+pub fetch-requires-clause-few : goal.fetch-requires-clause-few
+fetch-requires-clause-few g c =
+    part-small c.operand-first.result.length c.args.stored.now
+    (small-so c.args.image.now.prefix c.args.need.now 0 _ c.requires.accessible c.operand-first.ensures)
+
+pub exchange-requires-clause-few : goal.exchange-requires-clause-few
+exchange-requires-clause-few g c =
+    range-small (g.V.Bytes.bytes c.args.base.now) c.operand-first.result.first
+    (length (take c.operand-first.result.length c.args.stored.now)) c.fetch.new.bytes c.fetch.ensures (part-small c.operand-first.result.length c.args.stored.now
+    (small-so c.args.image.now.prefix c.args.need.now 0 _ c.requires.accessible c.operand-first.ensures))
 
 pub execute_plain-ended-requires-clause-inside : goal.execute_plain-ended-requires-clause-inside
 execute_plain-ended-requires-clause-inside g c =

@@ -1,5 +1,5 @@
 -- The bytes of the operand are lent, the instruction is executed, and they come back.
-use Rattle.std.proofs.Common.{◌≡◌, ◌≤◌, ℕ, List, [], ap, sym, subst, ◌∙◌, arith, length, get_or}
+use Rattle.std.proofs.Common.{◌≡◌, ◌≤◌, ℕ, List, [], ap, sym, subst, ◌∙◌, arith, length, take, get_or}
 use Rattle.std.proofs.lemmas.List.{length-take-le}
 use Rattle.z_regs.specs.Cpu.{cpu_of}
 use Rattle.z_regs.specs.Prefix.{absolute_of}
@@ -13,8 +13,29 @@ use Rattle.tx_attempt.specs.Storages.{storage_of}
 use Rattle.tx_attempt.specs.Performed.{StoresFirst, no_range}
 use Rattle.tx_attempt.proofs.Lent.{now-inside, lent-outcome, lent-image, nothing-seen, nothing-kept, nothing-long}
 use Rattle.tx_attempt.proofs.Returning.{operand-end, returned, length-seen, length-range}
+use Rattle.tx_attempt.proofs.Small.{small-so, part-small, range-small, seen-small}
 use Rattle.tx_attempt.proofs.Stored.{operands-first}
 use Rattle.tx_attempt.proofs.performing.execute_lent_one.Goals as goal
+
+pub see-requires-clause-few : goal.see-requires-clause-few
+see-requires-clause-few g c =
+    part-small c.operand-first.result.length c.args.stored.now
+    (small-so c.args.image.now.prefix c.args.need.now 0 _ c.requires.accessible c.operand-first.ensures)
+
+pub exchange-requires-clause-few : goal.exchange-requires-clause-few
+exchange-requires-clause-few g c =
+    seen-small (λ a. seen_through (stores_of c.args.attempt.now.stores).overlay (storage_of (g.V.Bytes.bytes c.args.base.now))
+    (absolute_of c.args.image.now.prefix a)) c.operand-first.result.first (length (take c.operand-first.result.length c.args.stored.now))
+    c.see.new.bytes c.see.ensures (part-small c.operand-first.result.length c.args.stored.now
+    (small-so c.args.image.now.prefix c.args.need.now 0 _ c.requires.accessible c.operand-first.ensures))
+
+pub exchange-requires-2-clause-few : goal.exchange-requires-2-clause-few
+exchange-requires-2-clause-few g c =
+    range-small (g.V.Bytes.bytes c.args.base.now) c.operand-first.result.first (length c.see.new.bytes) c.exchange.new.bytes c.exchange.ensures.bytes
+    (seen-small (λ a. seen_through (stores_of c.args.attempt.now.stores).overlay (storage_of (g.V.Bytes.bytes c.args.base.now))
+    (absolute_of c.args.image.now.prefix a)) c.operand-first.result.first (length (take c.operand-first.result.length c.args.stored.now))
+    c.see.new.bytes c.see.ensures (part-small c.operand-first.result.length c.args.stored.now
+    (small-so c.args.image.now.prefix c.args.need.now 0 _ c.requires.accessible c.operand-first.ensures)))
 
 pub execute_plain-ended-requires-clause-inside : goal.execute_plain-ended-requires-clause-inside
 execute_plain-ended-requires-clause-inside g c =

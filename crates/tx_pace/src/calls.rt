@@ -2,9 +2,8 @@
 ghost use Rattle.std.specs.Prelude.{◌≡◌, IfOk, vec_len};
 
 use crossbeam_utils::CachePadded;
-use std::alloc::Global;
+use std::alloc::{AllocError, Global};
 use std::sync::atomic::{AtomicU64, Ordering};
-use tx_machine::NoMemory;
 
 /// A flag for each CPU. Each lies in a line of the real machine's cache of its own.
 #[derive(Drop)]
@@ -14,11 +13,11 @@ pub struct Calls {
 
 impl Calls {
     /// Flags for so many CPUs, none of them raised. The error is want of memory.
-    pub fn open(alloc: Global, cpus: u32) -> Result<Calls, NoMemory> {
+    pub fn open(alloc: Global, cpus: u32) -> Result<Calls, AllocError> {
         let mut flags = Vec::new(alloc);
         for _ in 0..cpus {
             if flags.push(CachePadded::new(AtomicU64::new(0))).is_err() {
-                return Err(NoMemory);
+                return Err(AllocError);
             }
         }
         Ok(Calls { flags })

@@ -2,10 +2,9 @@
 ghost use Rattle.std.specs.Prelude.{◌≡◌, ◌≤◌, IfOk, vec_len};
 
 use crossbeam_utils::CachePadded;
-use std::alloc::Global;
+use std::alloc::{AllocError, Global};
 use std::sync::atomic::{AtomicU64, Ordering};
 use std::thread::yield_now;
-use tx_machine::NoMemory;
 
 /// How many turns a CPU may have more than twice as many as the one that has had the fewest, before its worker lets others run.
 const MOST_AHEAD: u64 = 256;
@@ -18,11 +17,11 @@ pub struct Paces {
 
 impl Paces {
     /// No turns of so many CPUs. The error is want of memory.
-    pub fn open(alloc: Global, cpus: u32) -> Result<Paces, NoMemory> {
+    pub fn open(alloc: Global, cpus: u32) -> Result<Paces, AllocError> {
         let mut turns = Vec::new(alloc);
         for _ in 0..cpus {
             if turns.push(CachePadded::new(AtomicU64::new(0))).is_err() {
-                return Err(NoMemory);
+                return Err(AllocError);
             }
         }
         Ok(Paces { turns })

@@ -1,0 +1,5 @@
+//! Cases of races.
+#![tactic(auto)]
+
+#[cfg(test)]
+mod races;
