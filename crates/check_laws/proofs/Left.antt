@@ -25,6 +25,7 @@ use Rattle.report_text.specs.declared.processors.Attempt.{Attempt}
 use Rattle.tx_report.specs.Shown.{attempt_shown, cpu_shown, cpus_shown, shown_in}
 use Rattle.tx_check.specs.Told.{IsTold, IsLeft, AreLive, cpu_in}
 use Rattle.sound_laws.proofs.Sound.{all_sound}
+use Rattle.tx_check.proofs.OneAnswer.{some_same}
 
 -- ---- one CPU
 
@@ -45,9 +46,6 @@ record Shows (f : FlatState) (i n : ℕ) (a : Attempt) : Type 0 where
   live : nat_lt 0 n ≡ true
   depth : length (run f i n).nest ≡ a.depth
   completed : n ≡ a.completed
-
-some_same : {A : Type 0} {x y : A} → Some x ≡ Some y → x ≡ y
-some_same e = cc
 
 shows_by : (f : FlatState) (i n : ℕ) (a : Attempt) (b : Bool) → nat_lt 0 n ≡ b
     → attempt_shown (if b then Some (length (run f i n).nest, n) else None) ≡ Some a → Shows f i n a

@@ -10,7 +10,7 @@ use Rattle.std.proofs.lemmas.List.Elements.{All-nil, All-head, All-tail, All-con
 use Rattle.z_deck.specs.Columns.{type_of}
 use Rattle.z_deck.specs.Reading.{IsDeck, IsPart, IsText, address_of, bytes_of, count_of}
 use Rattle.z_deck.specs.Reading.{covers, is_text, byte_on, byte_from, over}
-use Rattle.z_deck.proofs.Loaded.{text_bytes, length_bytes}
+use Rattle.z_deck.proofs.Loaded.{text_bytes, length_bytes, over_none}
 use Rattle.deck_laws.specs.Alike.{AreAlike, AllAlike}
 use Rattle.deck_laws.specs.Texts.{AreBytes, AreApart, NamesSamePlace, NameSamePlaces, texts_in}
 use Rattle.deck_laws.proofs.Alike.{none_on, all_bytes, enters_same}
@@ -23,11 +23,6 @@ pub record IsTextOfBytes (origin : ℕ) (card : List ℕ) : Type 0 where
   pub size : length card ≡ 80
   pub text : IsText origin card
   pub small : AreBytes card
-
--- nothing behind leaves what was there
-over_none : (o : Option ℕ) → over o None ≡ o
-over_none (Some x) = refl
-over_none None = refl
 
 -- ---- the texts of a deck
 

@@ -2,6 +2,7 @@
 
 use std::test::Fail;
 use z_instr::addresses::{first_address, is_selected, registers_named, second_address};
+use z_instr::form::has_target;
 use z_instr::format::{Format, Place, length_in, place_of};
 use z_instr::instr::{Fields, Instr};
 use z_instr::limits::field_limits;
@@ -80,7 +81,7 @@ fn operands_and_demand(op: Op) -> (Operands, Demand) {
 
 /// Whether an operand of the operation is relative to its address.
 fn is_relative(op: Op) -> bool {
-    line(op).relative
+    has_target(line(op).form)
 }
 
 #[test]

@@ -32,9 +32,8 @@ use Rattle.form_laws.proofs.Lists.{head_list, report_list, report_lines}
 use Rattle.form_laws.proofs.Numbers.{decimal_tells, word_first, word_only, number_first, within}
 use Rattle.form_laws.proofs.Places.{head_length, attempt_at, counts_at, entries_counted, entries_at}
 use Rattle.form_laws.proofs.Places.{events_at}
-
-some_same : {A : Type 0} {x y : A} → Some x ≡ Some y → x ≡ y
-some_same e = cc
+use Rattle.tx_check.proofs.OneAnswer.{some_same}
+use Rattle.tx_check.proofs.Due.{live_where}
 
 -- ---- numbers in lines of the form
 
@@ -186,14 +185,6 @@ accepted image report entries h =
 
 -- ---- and back
 
-is_believed : (f : FlatState) (i : ℕ) (claim o : Option Attempt) (a : Attempt) → Believes f i claim o
-    → o ≡ Some a
-    → IsLive f i a
-is_believed f i None o a h is = absurd (let no : None ≡ Some a = sym h ∙ is in cc)
-is_believed f i (Some b) o a (inl h) is =
-    let same : b ≡ a = some_same (sym h.0 ∙ is) in subst (IsLive f i) same h.1
-is_believed f i (Some b) o a (inr h) is = absurd (let no : None ≡ Some a = sym h.0 ∙ is in cc)
-
 pub sound : (image : Content) (report : List ℕ) (entries : ℕ) → IsAccepted image report entries
     → IsSound image report entries
 sound image report entries h = record {
@@ -203,6 +194,6 @@ sound image report entries h = record {
   after = h.due.after;
   left = h.due.expected.left;
   live = λ i c a at is.
-      let t = h.due.expected.taken i c at in is_believed h.due.after i t.claim c.attempt a t.believed is;
+      let t = h.due.expected.taken i c at in live_where h.due.after i t.claim c.attempt a t.believed is;
   text = h.due.told;
 }

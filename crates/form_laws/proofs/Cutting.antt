@@ -1,7 +1,7 @@
 -- Texts whose lines are known: each row is one line, and lines one behind the other are the lines of their
 -- text.
 use Rattle.std.proofs.Common.{◌≡◌, ◌≢◌, ◌∙◌, ap, ap₂, sym, refl, ℕ, zero, suc, ◌+◌, ◌/◌, ◌%◌, ◌<◌}
-use Rattle.std.proofs.Common.{arith, Bool, true, false, List, [], ◌∷◌, ◌++◌, append_assoc, length}
+use Rattle.std.proofs.Common.{arith, Bool, true, false, List, [], ◌∷◌, ◌++◌, append_assoc}
 use Rattle.std.proofs.Common.{slice_index}
 use Rattle.std.specs.Prelude.{◌==◌, if◌then◌else◌, nat_lt, codes}
 use Rattle.std.specs.List.{flat_map, list_all}
@@ -11,18 +11,15 @@ use Rattle.hex.specs.Hex.{encode_with, encode_lower, lower_digits}
 use Rattle.tx_journal.specs.Numbers.{Lacks}
 use Rattle.tx_journal.proofs.Decimals.{lacks_rest}
 use Rattle.tx_check.specs.Lines.{lines_of, in_front}
+use Rattle.report_form.proofs.WordLemmas.{lacks_more}
+use Rattle.report_form.proofs.TextLines.{other_byte}
 
 -- ---- bytes that a text lacks
-
-pub cons_lacks : (c x : ℕ) (xs : List ℕ) → x ≢ c → Lacks c xs
-    → (i : ℕ) → i < length (x ∷ xs) → slice_index (x ∷ xs) i ≢ c
-cons_lacks c x xs other lacks zero within = other
-cons_lacks c x xs other lacks (suc i) within = lacks i (omega arith)
 
 pub both_lack : (c : ℕ) (xs ys : List ℕ) → Lacks c xs → Lacks c ys → Lacks c (xs ++ ys)
 both_lack c [] ys one two = two
 both_lack c (x ∷ xs) ys one two =
-    cons_lacks c x (xs ++ ys) (one 0 (omega arith)) (both_lack c xs ys (lacks_rest c x xs one) two)
+    lacks_more c x (xs ++ ys) (one 0 (omega arith)) (both_lack c xs ys (lacks_rest c x xs one) two)
 
 -- letters, digits and blanks
 pub plain_lack : (xs : List ℕ) → list_all (λ b. nat_lt 31 b) xs ≡ true → Lacks 10 xs
@@ -31,7 +28,7 @@ plain_lack (x ∷ xs) above =
     let head : nat_lt 31 x ≡ true = grind (arith, above) in
     let tail : list_all (λ b. nat_lt 31 b) xs ≡ true = grind (arith, above) in
     let other : x ≢ 10 = λ e. grind (arith, nat_tests) in
-    cons_lacks 10 x xs other (plain_lack xs tail)
+    lacks_more 10 x xs other (plain_lack xs tail)
 
 -- ---- numbers of any size
 
@@ -41,13 +38,13 @@ glyph_other c d low false = λ e. omega (arith, e)
 
 -- a digit is above a blank
 pub digit_lacks : (c d : ℕ) → c < 48 → Lacks c (digit_glyph false d ∷ [])
-digit_lacks c d low = cons_lacks c (digit_glyph false d) [] (glyph_other c d low (nat_lt d 10))
+digit_lacks c d low = lacks_more c (digit_glyph false d) [] (glyph_other c d low (nat_lt d 10))
     (λ i within. absurd (omega arith))
 
 onto_lacks : (c k n : ℕ) (acc : List ℕ) → c < 48 → Lacks c acc → Lacks c (digits_onto k 10 false n acc)
 onto_lacks c zero n acc low lacks = lacks
 onto_lacks c (suc k) n acc low lacks =
-    let more = cons_lacks c (digit_glyph false (n % 10)) acc (glyph_other c (n % 10) low (nat_lt
+    let more = lacks_more c (digit_glyph false (n % 10)) acc (glyph_other c (n % 10) low (nat_lt
     (n % 10) 10)) lacks in
     by (n / 10 == 0) more (onto_lacks c k (n / 10) (digit_glyph false (n % 10) ∷ acc) low more)
   where
@@ -76,9 +73,9 @@ pub hex_lacks : (bytes : List ℕ) → Lacks 10 (encode_lower bytes)
 unfolding encode_with
 hex_lacks [] = λ i within. absurd (omega arith)
 hex_lacks (b ∷ bytes) =
-    cons_lacks 10 (slice_index lower_digits (b / 16)) (slice_index lower_digits (b % 16) ∷ encode_lower bytes)
+    lacks_more 10 (slice_index lower_digits (b / 16)) (slice_index lower_digits (b % 16) ∷ encode_lower bytes)
     (other_at lower_digits refl (b / 16))
-    (cons_lacks 10 (slice_index lower_digits (b % 16)) (encode_lower bytes) (other_at lower_digits refl
+    (lacks_more 10 (slice_index lower_digits (b % 16)) (encode_lower bytes) (other_at lower_digits refl
     (b % 16))
     (hex_lacks bytes))
 
@@ -116,9 +113,6 @@ lines_behind (l ∷ ls) more one two = (one.0, lines_behind ls more one.1 two)
 pub line_before : (l : List ℕ) (ls : List (List ℕ)) → IsLine l → AreLines ls → AreLines (l ∷ ls)
 unfolding AreLines
 line_before l ls one two = (one, two)
-
-other_byte : (b : ℕ) → b ≢ 10 → (b == 10) ≡ false
-other_byte b other = grind (arith, other)
 
 first_line : (front rest : List ℕ) → Lacks 10 front
     → lines_of (front ++ 10 ∷ rest) ≡ (front ++ 10 ∷ []) ∷ lines_of rest

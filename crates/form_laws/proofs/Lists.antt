@@ -44,8 +44,9 @@ use Rattle.report_text.specs.declared.processors.Counts.{Counts}
 use Rattle.tx_check.specs.Lines.{lines_of}
 use Rattle.form_laws.proofs.Cutting.{IsLine, AreLines, no_lines, line_before, lines_behind, line_end}
 use Rattle.form_laws.proofs.Cutting.{line_with}
-use Rattle.form_laws.proofs.Cutting.{both_lack, cons_lacks, plain_lack, digit_lacks, decimal_lacks, hex_lacks}
+use Rattle.form_laws.proofs.Cutting.{both_lack, plain_lack, digit_lacks, decimal_lacks, hex_lacks}
 use Rattle.form_laws.proofs.Cutting.{lines_joined}
+use Rattle.report_form.proofs.WordLemmas.{lacks_more}
 
 -- the text of lines
 abbrev pub joined : List (List ℕ) → List ℕ
@@ -109,7 +110,7 @@ many_lack : (f : ℕ → List ℕ) → ((v : ℕ) → Lacks 10 (f v)) → (value
 many_lack f each [] = λ i within. absurd (omega arith)
 many_lack f each (v ∷ vs) =
     both_lack 10 (32 ∷ f v) (flat_map (λ v. 32
-    ∷ f v) vs) (cons_lacks 10 32 (f v) (λ e. omega (arith, e)) (each v))
+    ∷ f v) vs) (lacks_more 10 32 (f v) (λ e. omega (arith, e)) (each v))
     (many_lack f each vs)
 
 general_is : (label values : List ℕ) → list_all (λ b. nat_lt 31 b) label ≡ true

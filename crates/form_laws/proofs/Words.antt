@@ -5,7 +5,7 @@ use Rattle.std.proofs.Common.{inr}
 use Rattle.std.specs.Prelude.{◌&&◌, replicate}
 use Rattle.std.specs.List.{flat_map}
 use Rattle.std.specs.Fmt.{decimal, digit_glyph}
-use Rattle.std.specs.Int.{to_be_bytes, bytes_high_first, byte_at}
+use Rattle.std.specs.Int.{to_be_bytes, bytes_high_first}
 use Rattle.std.proofs.lemmas.Bool.{and_parts, cases_lt}
 use mir.Syntax.{w8, w16, w32, w64}
 use Rattle.hex.specs.Hex.{IsBytes, encode_with, encode_lower, lower_digits}
@@ -14,6 +14,7 @@ use Rattle.report_form.specs.declared.words.Word.{Word}
 use Rattle.report_form.specs.declared.words.Word.TheVariants.{Digits}
 use Rattle.report_form.specs.Words.{IsWord, IsNumber, AreDigits, is_digit}
 use Rattle.report_form.specs.Spelling.{Spelled, stop_between}
+use Rattle.tx_journal.proofs.Hexadecimal.{byte_below}
 
 -- ---- words one behind the other
 
@@ -80,10 +81,6 @@ each_digit (b ∷ bytes) are =
 -- bytes have twice as many digits
 pub byte_digits : (bytes : List ℕ) → IsBytes bytes → AreDigits (2 * length bytes) (encode_lower bytes)
 byte_digits bytes are = record { size = length-encode_with lower_digits bytes; digits = each_digit bytes are }
-
-byte_below : (k n : ℕ) → byte_at k n < 256
-byte_below zero n = omega arith
-byte_below (suc k) n = omega arith
 
 high_bytes : (k n : ℕ) → IsBytes (bytes_high_first k n)
 high_bytes zero n i = omega arith

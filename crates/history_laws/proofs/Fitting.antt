@@ -1,8 +1,7 @@
 -- Of the entries that fit on a flat state, one at most has a text.
-use Rattle.std.proofs.Common.{◌≡◌, ℕ, Bool, true, false, ◌&&◌, ◌||◌, not, List, Option, Some, None, refl, sym, ap, ◌∙◌}
-use Rattle.std.proofs.Common.{subst, nat_lt, nat_eq, eqb-true}
+use Rattle.std.proofs.Common.{◌≡◌, ℕ, Bool, true, false, ◌&&◌, ◌||◌, List, Option, Some, None, refl, sym, ap, ◌∙◌}
+use Rattle.std.proofs.Common.{subst, nat_lt}
 use Rattle.std.proofs.lemmas.Bool.{and_parts}
-use Rattle.z_instr.specs.Facts.{agree}
 use Rattle.tx_control.specs.declared.exceptions.Exception.{Exception}
 use Rattle.tx_control.specs.declared.causes.Why.{Why}
 use Rattle.tx_control.specs.declared.causes.Why.TheVariants.{External, Program, FetchConflict, StoreConflict}
@@ -15,28 +14,14 @@ use Rattle.tx_journal.specs.declared.entries.Entry.TheVariants as entry
 use Rattle.tx_journal.proofs.ToldEntries.{told_apart}
 use Rattle.tx_serial.specs.Apply.{apply, only_where, may_act}
 use Rattle.tx_serial.specs.Attempt.{Run}
-use Rattle.tx_serial.specs.Ending.{fits, ending, is_cause, is_same_cause, is_same_exception, is_open}
+use Rattle.tx_serial.specs.Ending.{fits, ending, is_cause, is_open}
 use Rattle.tx_serial.specs.Flat.{FlatState}
 use Rattle.tx_serial.specs.Remains.{remains}
 use Rattle.tx_serial.specs.Run.{run}
 use Rattle.history_laws.specs.Fitting.{Fits}
+use Rattle.tx_serial.proofs.SameCauses.{same_exception}
 
 -- ---- exceptions
-
-agreeing : (a b : Bool) → agree a b ≡ true → a ≡ b
-agreeing true true h = refl
-agreeing true false h = absurd cc
-agreeing false true h = absurd cc
-agreeing false false h = refl
-
-same_exception : (d e : Exception) → is_same_exception d e ≡ true → d ≡ e
-same_exception d e h =
-    let parts = and_parts (nat_eq d.code e.code) (agree d.fetch e.fetch && nat_eq d.length e.length) h in
-    let rest = and_parts (agree d.fetch e.fetch) (nat_eq d.length e.length) parts.1 in
-    let code = eqb-true d.code e.code parts.0 in
-    let fetch = agreeing d.fetch e.fetch rest.0 in
-    let length = eqb-true d.length e.length rest.1 in
-    λ i. record { code = code i; fetch = fetch i; length = length i }
 
 -- an exception is one by which the attempt ends by itself
 pub ends_so : (x y : Bool) → (x || (y && false)) ≡ true → x ≡ true
@@ -107,7 +92,7 @@ module _ (text : List ℕ) (p : Run) where
 
 -- ---- entries
 
-passed : {A : Type 0} (b : Bool) (o : Option A) (x : A) → only_where b o ≡ Some x → b ≡ true
+pub passed : {A : Type 0} (b : Bool) (o : Option A) (x : A) → only_where b o ≡ Some x → b ≡ true
 passed true o x h = refl
 passed false o x h = absurd cc
 

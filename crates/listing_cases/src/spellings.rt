@@ -3,8 +3,9 @@
 use std::test::Fail;
 use z_assemble::assemble;
 use z_decode::{decode, length_of};
+use z_instr::form::Slot;
 use z_instr::instr::Instr;
-use z_list::{Operand, instruction_text, listing, operands};
+use z_list::{Operand, instruction_text, listing, operand_at};
 
 /// The bytes of an instruction, and its mnemonic and operands.
 struct Case {
@@ -84,8 +85,8 @@ fn instructions_are_spelled(rt: HostRuntime) -> Result<(), Fail> {
 #[test]
 fn targets_are_in_bytes(rt: HostRuntime) {
     let instr = instr_of(&[0xA7, 0x94, 0xE2, 0x3B]).expect(&rt, "a reading");
-    let operands = operands(&instr);
-    assert!(rt; operands.as_slice() == [Operand::Number(9), Operand::Target(-15242)].as_slice());
+    assert!(rt; operand_at(Slot::Mask, &instr) == Operand::Number(9));
+    assert!(rt; operand_at(Slot::Target, &instr) == Operand::Target(-15242));
 }
 
 /// A program at hex 4000, and its listing by the model.

@@ -6,15 +6,16 @@ use Rattle.std.specs.Prelude.{ℤ, pos, negsuc, ◌-ℤ◌, Ok, Err, if◌then�
 use Rattle.std.specs.Prelude.{option_and_then}
 use Rattle.std.specs.List.{list_any}
 use Rattle.std.proofs.lemmas.Int.{ints}
+use Rattle.z_instr.specs.declared.form.Slot.TheVariants as slot
 use Rattle.z_instr.specs.declared.instr.Fields.{Fields}
+use Rattle.z_instr.specs.Forms.{slots}
 use Rattle.z_instr.specs.Made.{no_fields}
 use Rattle.z_instr.specs.Ranges.{is_within, bounds}
 use Rattle.z_instr.specs.Table.{Entry, table, entry_at}
 use Rattle.z_instr.proofs.Named.{number_of}
 use Rattle.z_fields.specs.Chain.{◌>>=◌}
 use Rattle.z_operands.specs.Code.{code_of, code_for}
-use Rattle.z_operands.specs.declared.operand.Slot.TheVariants as slot
-use Rattle.z_operands.specs.Operands.{with_slot, instruction_in, has_form, form_of, lacks_value, fields_from}
+use Rattle.z_operands.specs.Operands.{with_slot, instruction_in, has_form, lacks_value, fields_from}
 use Rattle.z_operands.specs.Operands.{allowed, are_allowed, half, jump, immediate}
 use Rattle.z_operands.specs.Operations.{operation_named, directive_named, row_named, size_of_row}
 use Rattle.z_fields.specs.declared.fault.Kind.TheVariants.{OutOfRange, UnknownLabel, WrongOperands}
@@ -53,15 +54,15 @@ unfoldable pub svc : ℕ
 svc = number_of (codes "SVC")
 
 -- bytes come of operands of the right form with allowed fields
-pub coded : (e : Entry) (here : ℕ) (os : List Operand) (f : Fields) → has_form (form_of e) os ≡ true
+pub coded : (e : Entry) (here : ℕ) (os : List Operand) (f : Fields) → has_form (slots e.form) os ≡ true
     → list_any lacks_value os ≡ false
-    → fields_from here (form_of e) os no_fields ≡ Some f → are_allowed e f ≡ true → code_for e None here os ≡
+    → fields_from here (slots e.form) os no_fields ≡ Some f → are_allowed e f ≡ true → code_for e None here os ≡
     Ok (code_of e f)
 unfolding instruction_in
 coded e here os f form known given allows =
     ap (λ b. (if not b then Err WrongOperands else (if list_any lacks_value os then Err UnknownLabel else
-    allowed e (fields_from here (form_of e) os no_fields))) >>= λ g. Ok (code_of e g)) form
-    ∙ ap (λ b. (if b then Err UnknownLabel else allowed e (fields_from here (form_of e) os no_fields)) >>= λ
+    allowed e (fields_from here (slots e.form) os no_fields))) >>= λ g. Ok (code_of e g)) form
+    ∙ ap (λ b. (if b then Err UnknownLabel else allowed e (fields_from here (slots e.form) os no_fields)) >>= λ
     g. Ok (code_of e g)) known
     ∙ ap (λ o. allowed e o >>= λ g. Ok (code_of e g)) given
     ∙ ap (λ b. (if b then Ok f else Err OutOfRange) >>= λ g. Ok (code_of e g)) allows

@@ -1,6 +1,6 @@
 -- The printed line of an instruction: its tokens, its operation, and its bytes again.
 use Rattle.std.proofs.Common.{◌≡◌, ℕ, ◌<◌, ◌≤◌, ◌^◌, true, false, not, ◌&&◌}
-use Rattle.std.proofs.Common.{◌||◌, List, [], ◌∷◌, ◌++◌, length, map}
+use Rattle.std.proofs.Common.{List, [], ◌∷◌, ◌++◌, length, map}
 use Rattle.std.proofs.Common.{Option, Some, None, is_none, refl, sym, ap, ap₂, ◌∙◌, arith, lt-ltb}
 use Rattle.std.proofs.Common.{length-append, cond}
 use Rattle.std.specs.Prelude.{ℤ, pos, ◌+ℤ◌, ◌-◌, Ok, Err, nat_lt, nat_le, if◌then◌else◌}
@@ -10,7 +10,8 @@ use Rattle.std.proofs.lemmas.Bool.{and_parts, leb-true, not-true}
 use Rattle.z_text.specs.Line.{is_name, keeps_operands_whole}
 use Rattle.z_instr.specs.declared.instr.Instr.{Instr}
 use Rattle.z_instr.specs.declared.table.TheConstants.{ROWS}
-use Rattle.z_instr.specs.Made.{no_fields}
+use Rattle.z_instr.specs.Forms.{slots}
+use Rattle.z_instr.specs.Made.{no_fields, fields_of}
 use Rattle.z_instr.specs.Reading.{spelling}
 use Rattle.z_instr.specs.Table.{Entry, entry_at}
 use Rattle.z_instr.proofs.Within.{instr_fits}
@@ -18,7 +19,7 @@ use Rattle.z_instr.proofs.TableFacts.{passes_row, fitting_name}
 use Rattle.z_fields.specs.Chain.{◌>>=◌}
 use Rattle.z_operands.specs.Code.{code_of, code_for}
 use Rattle.z_operands.specs.Operands.{operands_from, operands_of as read_operands, instruction_in}
-use Rattle.z_operands.specs.Operands.{form_of, lacks_value, fields_from, allowed}
+use Rattle.z_operands.specs.Operands.{lacks_value, fields_from, allowed}
 use Rattle.z_operands.specs.Operands.{goes_on_rightly, with_operand}
 use Rattle.z_operands.specs.Operations.{operation_named, directive_named, instruction, or_else}
 use Rattle.z_operands.specs.Operations.{extended, branch_mask}
@@ -33,7 +34,7 @@ use Rattle.z_operands.specs.declared.operation.Operation.TheVariants.{Instructio
 use Rattle.z_operands.proofs.Rows.{row_found}
 use Rattle.z_list.specs.declared.parts.Operand.{Operand}
 use Rattle.z_list.specs.declared.parts.Operand.TheVariants.{Number, Target, Indexed, Based, Counted}
-use Rattle.z_list.specs.Operands.{fields_of, operands_of, instruction_text}
+use Rattle.z_list.specs.Operands.{operands_of, instruction_text}
 use Rattle.listing_laws.proofs.Words.{Word, tokens_for}
 use Rattle.listing_laws.proofs.Lines.{field, line_with, IsSaid, words_at}
 use Rattle.listing_laws.proofs.Lines.{words_lie}
@@ -94,13 +95,6 @@ operation_is n h =
     (branch_mask name))))
     (no_directive n h) (sym (row_found name n h refl))
 
--- relative rows have a sign, and no row has both a mask and no second register
-signs_are : (n : ℕ) → n < ROWS → (not (entry_at n).relative || (entry_at n).signed) ≡ true
-signs_are = passes_row (λ (e : Entry). not e.relative || e.signed) refl
-
-single_is : (n : ℕ) → n < ROWS → ((entry_at n).masked && (entry_at n).single) ≡ false
-single_is n h = not-true _ (passes_row (λ (e : Entry). not (e.masked && e.single)) refl n h)
-
 -- ---- the line
 
 module _ (i : Instr) where
@@ -114,11 +108,7 @@ module _ (i : Instr) where
   words = words_of (operands_of i)
 
   few : AreAllFew (operands_of i)
-  few = let e = entry_at i.op.number in few_operands e.format e.relative e.masked e.single i
-
-  few_of_them : length (operands_of i) ≤ 4
-  few_of_them = let e = entry_at i.op.number in
-      at_most_four e.format e.relative e.masked e.single (fields_of i)
+  few = few_operands (slots (entry_at i.op.number).form) i
 
   pub said : IsSaid [] name words
   said = record {
@@ -134,7 +124,7 @@ module _ (i : Instr) where
       name_short i.op.number i.op.known,
       field_short
           (operands_of i) few,
-      few_of_them,
+      at_most_four i,
     );
   }
 
@@ -227,13 +217,10 @@ module _ (i : Instr) (labels : Table) (here : ℕ) where
   code_is low =
       let e = entry_at i.op.number in
       let os = map (made here) (operands_of i) in
-      let form = has_its_form here e.format e.relative e.masked e.single (fields_of i) in
-      let fields = given here low e.format e.signed e.relative e.masked e.single i (single_is i.op.number
-      i.op.known)
-      (signs_are i.op.number i.op.known) (instr_fits i) in
+      let form = has_its_form here (slots e.form) (fields_of i) in
       ap (λ b. (if not b then Err WrongOperands else (if list_any lacks_value os then Err UnknownLabel
-      else allowed e (fields_from here (form_of e) os no_fields))) >>= λ f. Ok (code_of e f)) form
-      ∙ ap (λ b. (if b then Err UnknownLabel else allowed e (fields_from here (form_of e) os no_fields))
+      else allowed e (fields_from here (slots e.form) os no_fields))) >>= λ f. Ok (code_of e f)) form
+      ∙ ap (λ b. (if b then Err UnknownLabel else allowed e (fields_from here (slots e.form) os no_fields))
       >>= λ f. Ok (code_of e f)) (all_have_values here (operands_of i))
-      ∙ ap (λ o. allowed e o >>= λ f. Ok (code_of e f)) fields
+      ∙ ap (λ o. allowed e o >>= λ f. Ok (code_of e f)) (given here low i)
       ∙ ap (λ b. (if b then Ok (fields_of i) else Err OutOfRange) >>= λ f. Ok (code_of e f)) (instr_fits i)

@@ -20,7 +20,7 @@ use Rattle.z_assemble.proofs.Images.{stands_for_image}
 use Rattle.run_answers.specs.Reports.{IsReport}
 use Rattle.run_answers.specs.Races.{IsRaceReport, racing}
 use Rattle.run_answers.specs.Runs.{AreLimits, running, externals_in}
-use Rattle.answer_laws.proofs.Answered.{reports}
+use Rattle.ztx_answers.proofs.Answered.{reports}
 use Rattle.run_answers.proofs.Plans.{planned_known}
 use Rattle.schedule_laws.specs.Taken.{with_schedule}
 use Rattle.schedule_laws.proofs.Whole.{taken}

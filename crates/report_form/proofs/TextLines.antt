@@ -10,7 +10,7 @@ use Rattle.tx_journal.proofs.Decimals.{lacks_rest}
 use Rattle.report_form.specs.declared.places.Place.{Place}
 use Rattle.report_form.specs.Text.{lines_of, in_front, IsPlace, IsLineAt, IsNext}
 
-other_byte : (b : ℕ) → b ≢ 10 → (b == 10) ≡ false
+pub other_byte : (b : ℕ) → b ≢ 10 → (b == 10) ≡ false
 other_byte b other = grind (arith, other)
 
 -- a line with its line feed, and what stands behind it

@@ -60,7 +60,7 @@ other_first text rest first byte is other more e = let same : first ≡ byte = c
 
 -- ---- bytes that no word has
 
-lacks_more : (c x : ℕ) (xs : List ℕ) → x ≢ c → Lacks c xs
+pub lacks_more : (c x : ℕ) (xs : List ℕ) → x ≢ c → Lacks c xs
     → (i : ℕ) → i < length (x ∷ xs) → slice_index (x ∷ xs) i ≢ c
 lacks_more c x xs other lacks zero within = other
 lacks_more c x xs other lacks (suc i) within = lacks i (omega arith)

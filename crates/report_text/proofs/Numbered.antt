@@ -7,7 +7,7 @@ use Rattle.report_text.specs.declared.processors.Processor.{Processor}
 use Rattle.report_text.specs.Processor.{cpu_lines, cpus_text}
 use Rattle.report_text.specs.Shown.{ShownCpu, shown_cpu}
 
-enumerate_more : {X : Type 0} (n : ℕ) (xs : List X) (x : X)
+pub enumerate_more : {X : Type 0} (n : ℕ) (xs : List X) (x : X)
     → enumerate_from n (xs ++ x ∷ []) ≡ enumerate_from n xs ++ (n + length xs, x) ∷ []
 enumerate_more n [] x = ap (λ m. (m, x) ∷ []) (omega arith)
 enumerate_more n (y ∷ xs) x =

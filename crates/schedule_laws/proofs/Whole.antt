@@ -1,8 +1,8 @@
 -- A listing with a printed schedule at its head.
-use Rattle.std.proofs.Common.{◌≡◌, ℕ, zero, suc, ◌+◌, ◌-◌, ◌*◌, ◌/◌, ◌<◌, ◌≤◌, Bool, true, false, List, [], ◌∷◌, ◌++◌}
+use Rattle.std.proofs.Common.{◌≡◌, ℕ, zero, suc, ◌+◌, ◌-◌, ◌*◌, ◌/◌, ◌<◌, ◌≤◌, true, false, List, [], ◌∷◌, ◌++◌}
 use Rattle.std.proofs.Common.{length, map, take, drop, replicate, refl, sym, ap, ap₂, ◌∙◌, arith, subst, le-ltb}
 use Rattle.std.proofs.Common.{append_assoc, length-append, length-drop}
-use Rattle.std.specs.Prelude.{Ok, All, nat_lt, ◌==◌, codes}
+use Rattle.std.specs.Prelude.{Ok, All}
 use Rattle.std.specs.Char.{to_ascii_uppercase}
 use Rattle.std.proofs.lemmas.List.{append-nil, map-append, length-take, length-replicate, take_all}
 use Rattle.std.proofs.Math.Seq.{take-add}
@@ -12,10 +12,10 @@ use Rattle.tx_journal.specs.Content.{Content}
 use Rattle.tx_journal.specs.Image.{cpu_of_event}
 use Rattle.tx_journal.specs.Schedule.{row_text, rows_text, schedule_text}
 use Rattle.tx_journal.specs.declared.events.Event.{Event}
-use Rattle.z_fields.specs.Pieces.{pieces_by, without_end}
+use Rattle.z_fields.specs.Pieces.{pieces_by}
 use Rattle.z_operands.specs.declared.operation.Operation.TheVariants.{Sched}
 use Rattle.z_reading.specs.Listing.{Plan, Task, line_gives}
-use Rattle.z_setup.specs.Machine.{Machine, Known, task_gives}
+use Rattle.z_setup.specs.Machine.{Machine, Known}
 use Rattle.z_reading.specs.Text.{lines_of}
 use Rattle.z_assemble.specs.Whole.{blank, ready, ready_for, known_in, image_of, First, Second, Stands}
 use Rattle.z_assemble.proofs.Images.{AreRead, are_read}
@@ -27,7 +27,8 @@ use Rattle.schedule_laws.proofs.Marks.{AreBelow, all_below, fewer}
 use Rattle.schedule_laws.proofs.Row as rows
 use Rattle.schedule_laws.proofs.Row.{line_of, row, capital, line_kept, events_taken}
 use Rattle.schedule_laws.proofs.Moved.{later, moved, first_moves}
-use Rattle.schedule_laws.proofs.Again.{AreScheds, scheds_over, second_over, given, behind, second_given}
+use Rattle.schedule_laws.proofs.Again.{AreScheds, scheds_over, second_over, given, second_given}
+use Rattle.statement_laws.proofs.Lines.{no_events_first}
 
 -- ---- lists
 
@@ -57,11 +58,6 @@ pieces_before (r ∷ rs) rest =
     ap (pieces_by 10) (append_assoc (ended r) (text_of_rows rs) rest)
     ∙ one_piece r.text (text_of_rows rs ++ rest) r.visible
     ∙ ap (λ (ps : List (List ℕ)). ended r ∷ ps) (pieces_before rs rest)
-
--- nothing is scheduled at first, and each CPU is there
-unscheduled : (storage : List ℕ) (n : ℕ) → (ready_for storage n).schedule ≡ []
-unfolding ready_for
-unscheduled storage n = refl
 
 all_there : (storage : List ℕ) (n : ℕ) → length (ready_for storage n).cpus ≡ n
 unfolding ready_for
@@ -300,7 +296,7 @@ module _ (text : List ℕ) (image : Content) (events : List Event) (may : MayTak
   second =
       second_over (known_in after) front (map (later size front) plan.tasks) (ready plan)
       (given size front events (ready plan)) (given size front events machine)
-      (front_passed (known_in after) (ready plan) (unscheduled plan.storage plan.cpus)
+      (front_passed (known_in after) (ready plan) (no_events_first plan.storage plan.cpus)
       (all_there plan.storage plan.cpus))
       (second_given size front events (all_scheds count few) (known_in plan) plan.tasks (ready plan) machine
       may.stands.second image_free)

@@ -1,5 +1,5 @@
 -- Entries of legal histories are of CPUs that there are, and abort for causes that a machine finds.
-use Rattle.std.proofs.Common.{◌≡◌, ◌≢◌, ℕ, zero, suc, ◌<◌, ◌≤◌, Bool, true, false, List, [], ◌∷◌, length}
+use Rattle.std.proofs.Common.{◌≡◌, ◌≢◌, ℕ, zero, suc, ◌<◌, ◌≤◌, true, false, List, [], ◌∷◌, length}
 use Rattle.std.proofs.Common.{Option, Some, None, refl, sym, ap, ◌∙◌, arith}
 use Rattle.std.specs.Prelude.{◌&&◌, All, nat_lt, is_none}
 use Rattle.std.proofs.lemmas.Bool.{and_parts, cases_lt, true≢false}
@@ -11,7 +11,7 @@ use Rattle.tx_journal.specs.Content.{Content}
 use Rattle.tx_journal.specs.Image.{IsImage}
 use Rattle.tx_journal.specs.declared.entries.Entry.{Entry}
 use Rattle.tx_journal.specs.declared.entries.Entry.TheVariants.{Step, Commit, Abort, Tdb, Interrupt}
-use Rattle.tx_serial.specs.Apply.{apply, only_where, may_act, is_running, after_block, after_interruption}
+use Rattle.tx_serial.specs.Apply.{apply, may_act, is_running, after_block, after_interruption}
 use Rattle.tx_serial.specs.Changes.{cpu_of_entry}
 use Rattle.tx_serial.specs.Ending.{fits}
 use Rattle.tx_serial.specs.Flat.{FlatState, Pending}
@@ -23,6 +23,7 @@ use Rattle.tx_serial.proofs.Starting.{start_kept}
 use Rattle.tx_serial.proofs.TextKept.{entry_keeps}
 use Rattle.sound_laws.specs.Parts.{HasCause}
 use Rattle.sound_laws.proofs.Causes.{fitting_is}
+use Rattle.history_laws.proofs.Fitting.{passed}
 
 -- ---- CPUs that are not there
 
@@ -52,11 +53,6 @@ starts_so image is = record {
 }
 
 -- ---- one entry
-
--- where an entry fits, its test has passed
-passed : {A : Type 0} (b : Bool) (o : Option A) (x : A) → only_where b o ≡ Some x → b ≡ true
-passed true o x h = refl
-passed false o x h = absurd cc
 
 -- who acts is there
 acts_not : {P : Type 0} (f : FlatState) (i : ℕ) → IsAbsent f i → may_act f i ≡ true → P

@@ -1,6 +1,6 @@
 -- Only TABORT aborts its own transaction. Its code is the address of its operand: above 255, since a test has
 -- asked for that, and below 2 ^ 64, as every address.
-use Rattle.std.proofs.Common.{◌≡◌, ℕ, ◌+◌, ◌*◌, ◌<◌, ◌≤◌, ◌^◌, Bool, true, false, List, [], Option, Some}
+use Rattle.std.proofs.Common.{◌≡◌, ℕ, ◌+◌, ◌*◌, ◌<◌, ◌≤◌, ◌^◌, Bool, true, false, List, []}
 use Rattle.std.proofs.Common.{None}
 use Rattle.std.proofs.Common.{refl, sym, subst, Result, Ok, Err, not, arith, lit<, length}
 use Rattle.std.specs.Prelude.{◌&&◌, ◌||◌, nat_eq, nat_le, nat_lt, if◌then◌else◌}
@@ -44,12 +44,13 @@ use Rattle.z_instr.specs.Table.{kind_at}
 use Rattle.z_effect.specs.One.{one, effect, length_of}
 use Rattle.z_effect.specs.Outcome.{Outcome, Did, Divides, Aborts, ended}
 use Rattle.z_effect.specs.Outcome as outcome
-use Rattle.tx_progress.proofs.Rows.{any_row}
+use Rattle.tx_progress.proofs.Rows.{any_row, implied}
 use Rattle.tx_progress.proofs.Standing.{tests_find_nothing}
 use Rattle.tx_serial.specs.Attempt.{Run}
-use Rattle.tx_serial.specs.Fate.{Goes, fate, excepted}
+use Rattle.tx_serial.specs.Fate.{Goes, fate}
 use Rattle.tx_serial.specs.Run.{outcome_of}
 use Rattle.tx_serial.proofs.Passing.{passes}
+use Rattle.tx_serial.proofs.FreeOperands.{not_excepted}
 
 -- ---- which instruction aborts, and with which code
 
@@ -171,18 +172,13 @@ tests_code e = not (aborts_itself e.kind) || demands_code e.demand
 code_rows : (n : ℕ) → tests_code (entry_at n) ≡ true
 code_rows = any_row tests_code refl refl
 
--- of an implication that holds
-second_so : (a b : Bool) → (not a || b) ≡ true → a ≡ true → b ≡ true
-second_so true b h e = h
-second_so false b h e = absurd (true≢false (sym e))
-
 -- what an instruction does aborts only where a code is asked for
 one_by : (i : Instr) (c : Cpu) (depth : ℕ) (bytes : List ℕ)
     → AbortsBy (demands_code (entry_at i.op.number).demand) (first_address i c.general) (one i c depth bytes)
 unfolding kind_at
 one_by i c depth bytes =
     effect_by (demands_code (entry_at i.op.number).demand) (kind_at i.op.number) (length_of i) i c depth bytes
-    (second_so (aborts_itself (entry_at i.op.number).kind) _ (code_rows i.op.number))
+    (implied (aborts_itself (entry_at i.op.number).kind) _ (code_rows i.op.number))
 
 -- neither of two tests has found anything wrong
 neither_wrong : (a b : Bool) → where_wrong a special_operation (where_wrong b specification None) ≡ None
@@ -204,11 +200,6 @@ high_code demand.Boundary o i general depth is h = absurd (true≢false (sym is)
 high_code demand.Begin o i general depth is h = absurd (true≢false (sym is))
 high_code demand.BeginConstrained o i general depth is h = absurd (true≢false (sym is))
 high_code demand.ServiceZero o i general depth is h = absurd (true≢false (sym is))
-
--- where there is no exception there is no code of one
-not_excepted : (i : Instr) (o : Option ℕ) → excepted i o ≡ None → o ≡ None
-not_excepted i None h = refl
-not_excepted i (Some code) h = absurd cc
 
 -- ---- the code of an instruction that goes
 

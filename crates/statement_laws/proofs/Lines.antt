@@ -1,11 +1,11 @@
 -- What holds of the lines of a text that stands for an image.
-use Rattle.std.proofs.Common.{◌≡◌, ℕ, ℤ, ◌+◌, ◌<◌, Bool, true, false, List, [], ◌∷◌, ◌++◌}
+use Rattle.std.proofs.Common.{◌≡◌, ℕ, ℤ, ◌+◌, ◌<◌, true, false, List, [], ◌∷◌, ◌++◌}
 use Rattle.std.proofs.Common.{length}
 use Rattle.std.proofs.Common.{get_or, Option, Some, Ok, inl, inr, refl, sym, ap, ◌∙◌, ◌↔◌}
 use Rattle.std.proofs.Common.{subst, arith}
 use Rattle.std.specs.Prelude.{All, AllPairs}
 use Rattle.std.specs.List.{Contains, flat_map}
-use Rattle.std.proofs.lemmas.Bool.{false≢true, cases_lt, cases_eq}
+use Rattle.std.proofs.lemmas.Bool.{false≢true, cases_lt, cases_eq, false_from_ne_true}
 use Rattle.std.proofs.lemmas.List.{get_or_default}
 use Rattle.std.proofs.lemmas.List.Elements.{All-cons, All-nil, All-contains, All-contains_itself}
 use Rattle.tx_journal.specs.Content.{Content}
@@ -269,10 +269,6 @@ bytes_placed text image s =
 
 -- ---- the other bytes
 
-not_true : (t : Bool) → (t ≡ true → ⊥) → t ≡ false
-not_true true n = absurd (n refl)
-not_true false n = refl
-
 lays_covers : (text : List ℕ) (image : Content) (s : Stands text image) (line : Statement) (at : ℕ) →
     Contains (statements_of text) line → LaysAt line at → Covers s.plan.labels line at
 lays_covers text image s line at c l =
@@ -290,7 +286,7 @@ others_zero text image s at none =
     let w = walked text image s in
     let f = first_fits 1 (lines_of text) s.plan s.first in
     let free : get_or s.plan.taken at false ≡ false =
-    not_true (get_or s.plan.taken at false) (λ t. elim (marks_from ss blank s.plan w blank_clean at t) [
+    false_from_ne_true (get_or s.plan.taken at false) (λ t. elim (marks_from ss blank s.plan w blank_clean at t) [
       | inl o ↦ blank_free at o
       | inr a ↦ All-contains (λ line. Covers s.plan.labels line at → ⊥) ss a.statement none a.among
           (lays_covers text image s a.statement at a.among a.lays)
@@ -344,7 +340,7 @@ starts_hold text image s at = (
 
 -- ---- events
 
-no_events_first : (storage : List ℕ) (n : ℕ) → (ready_for storage n).schedule ≡ []
+pub no_events_first : (storage : List ℕ) (n : ℕ) → (ready_for storage n).schedule ≡ []
 unfolding ready_for
 no_events_first storage n = refl
 

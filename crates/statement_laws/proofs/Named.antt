@@ -1,11 +1,10 @@
 -- The labels that statements leave.
 use Rattle.std.proofs.Common.{◌≡◌, ◌≢◌, ℕ, ℤ, pos, Bool, true, false, List, [], ◌∷◌, length, Option, Some}
-use Rattle.std.proofs.Common.{None}
 use Rattle.std.proofs.Common.{Ok, refl, sym, ap, ◌∙◌, subst, arith, inl, inr, ◌⊎◌}
 use Rattle.std.specs.Prelude.{if◌then◌else◌, All, AllPairs, is_some}
 use Rattle.std.specs.List.{Contains}
 use Rattle.std.specs.Str.{bytes_eq}
-use Rattle.std.proofs.lemmas.Bool.{false≢true}
+use Rattle.std.proofs.lemmas.Bool.{false≢true, false_from_ne_true}
 use Rattle.std.proofs.lemmas.Slice.Eq.{bytes_eq-Decides}
 use Rattle.std.proofs.lemmas.List.Elements.{All-cons, All-nil}
 use Rattle.std.proofs.lemmas.List.Kept.{AllPairs-cons}
@@ -26,18 +25,13 @@ use Rattle.statement_laws.specs.Statements.{Statement, Defines, Gives, value_of,
 use Rattle.statement_laws.proofs.Acted.{Acts, Walk, first_is, later_is, either_is, none_is}
 use Rattle.z_assemble.proofs.Passed.{then_ok, where_ok, unless_ok, same_ok}
 use Rattle.z_assemble.proofs.Plans.{place_holds, ds_by}
+use Rattle.std.proofs.lemmas.Option.{same_Some}
 
 -- ---- a table with one more label
 
-same_some : {X : Type 0} (a b : X) → Some a ≡ Some b → a ≡ b
-same_some a b e = cc
-
-no_some : {X : Type 0} (a : X) → None ≡ Some a → ⊥
-no_some a e = absurd (cc)
-
 chosen : (t : Bool) (old : Option ℤ) (w v : ℤ) → (if t then Some w else old) ≡ Some v →
     (old ≡ Some v) ⊎ ((t ≡ true) × (w ≡ v))
-chosen true old w v e = inr (refl, same_some w v e)
+chosen true old w v e = inr (refl, same_Some w v e)
 chosen false old w v e = inl e
 
 with_from : (label : List ℕ) (w v : ℤ) (old : Table) (name : List ℕ) → table_with label w old name ≡ Some v →
@@ -65,16 +59,12 @@ pub is_new : (label : List ℕ) (v : ℤ) (old : Table) → label ≢ [] → old
 is_new [] v old n e f = n refl
 is_new (b ∷ bs) v old n e f = false≢true (sym f ∙ ap is_some e)
 
-not_true : (t : Bool) → (t ≡ true → ⊥) → t ≡ false
-not_true true n = absurd (n refl)
-not_true false n = refl
-
 with_label_stays : (label : List ℕ) (w v : ℤ) (old : Table) (name : List ℕ) → is_defined label old ≡ false →
     old name ≡ Some v → table_with label w old name ≡ Some v
 with_label_stays [] w v old name f e = e
 with_label_stays (b ∷ bs) w v old name f e =
     let other : bytes_eq name (b ∷ bs) ≡ false =
-    not_true (bytes_eq name (b ∷ bs)) (λ t.
+    false_from_ne_true (bytes_eq name (b ∷ bs)) (λ t.
     let is : name ≡ b ∷ bs = (bytes_eq-Decides name (b ∷ bs)).0 t in
     false≢true (sym f ∙ ap is_some (subst (λ q. old q ≡ Some v) is e))) in
     ap (λ t. if t then Some w else old name) other ∙ e

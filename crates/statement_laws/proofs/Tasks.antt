@@ -9,8 +9,7 @@ use Rattle.std.specs.List.{Contains, flat_map}
 use Rattle.std.proofs.lemmas.List.Elements.{All-cons, All-nil, All-head, All-tail, Contains-append_cases}
 use Rattle.std.proofs.lemmas.List.Elements.{Contains-append_left, Contains-append_right}
 use Rattle.z_text.specs.declared.token.Token.{Token}
-use Rattle.z_instr.specs.Layout.{format_length}
-use Rattle.z_instr.specs.Table.{Entry, entry_at}
+use Rattle.z_instr.specs.Table.{entry_at}
 use Rattle.z_instr.specs.declared.instr.Fields.{Fields}
 use Rattle.z_fields.specs.Chain.{◌>>=◌}
 use Rattle.z_operands.specs.Code.{code_of, code_for}
@@ -250,9 +249,9 @@ task_step_writes : (k : Known) (t : Task) (m r : Machine) → task_gives k t m �
 unfolding task_gives
 task_step_writes k t m r e = read_step t.operation k t (tokens_in t.text) m r e
 
-code_size : (e : Entry) (f : Fields) → length (code_of e f) ≡ format_length e.format
+code_size : (row : ℕ) (f : Fields) → length (code_of (entry_at row) f) ≡ size_of_row row
 unfolding code_of
-code_size e f = size_in e f
+code_size row f = size_in row f
 
 pub bytes_size : (k : Known) (row : ℕ) (mask : Option ℕ) (here : ℕ) (text : List ℕ) (operands : List Token)
     (bytes : List ℕ) → code_on k row mask here text operands ≡ Ok bytes → length bytes ≡ size_of_row row
@@ -261,7 +260,7 @@ bytes_size k row mask here text operands bytes e =
     (code_for (entry_at row) mask here) bytes e in
     let f = then_ok (instruction_in (entry_at row) mask here g.0)
     (λ f. Ok (code_of (entry_at row) f)) bytes g.2 in
-    ap length (sym (same_ok (code_of (entry_at row) f.0) bytes f.2)) ∙ code_size (entry_at row) f.0
+    ap length (sym (same_ok (code_of (entry_at row) f.0) bytes f.2)) ∙ code_size row f.0
 
 -- an instruction's code stands where it was written, as long as later lines leave it
 settled : (op : Operation) (k : Known) (t : Task) (m r : Machine) (new : List ℕ) → IsInRoom t.here op →

@@ -18,7 +18,7 @@ use Rattle.tx_serial.specs.Run.{lasting_of}
 use Rattle.tx_progress.specs.Progress.{advanced, resting, begins_constrained, laying}
 use Rattle.tx_attempt.specs.Tracked.{Tracked, IsAtRest, progress}
 
-none-lasting : (b : Bool) → ◌≡◌ {A = List Store} (if b then [] else []) []
+pub none-lasting : (b : Bool) → ◌≡◌ {A = List Store} (if b then [] else []) []
 none-lasting true = refl
 none-lasting false = refl
 

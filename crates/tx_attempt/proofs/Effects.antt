@@ -1,5 +1,5 @@
 -- What the calls of the instruction crates tell and leave, as outcomes.
-use Rattle.std.proofs.Common.{◌≡◌, ℕ, ◌≤◌, Bool, true, false, List, [], ◌∷◌, ◌++◌, take, drop, length, refl}
+use Rattle.std.proofs.Common.{◌≡◌, ℕ, ◌≤◌, Bool, true, false, List, [], ◌++◌, take, drop, length, refl}
 use Rattle.std.proofs.Common.{sym}
 use Rattle.std.proofs.Common.{ap, subst, ◌∙◌, arith}
 use Rattle.std.specs.Prelude.{map, Result, Ok, Err}
@@ -10,7 +10,7 @@ use Rattle.z_regs.specs.Cpu.{Cpu}
 use Rattle.z_regs.specs.declared.ranges.Range.{Range}
 use Rattle.z_instr.specs.declared.instr.Instr.{Instr}
 use Rattle.z_instr.specs.Operands.{Span, first_address}
-use Rattle.z_touch.specs.Refusals.{span_of, range_of}
+use Rattle.z_touch.specs.Refusals.{span_of}
 use Rattle.z_effect.specs.Registers.{register}
 use Rattle.z_effect.specs.One.{one, length_of}
 use Rattle.z_effect.specs.After.{Raises, answer_of, told, exception, Executes, Leaves}
@@ -26,15 +26,11 @@ use Rattle.tx_control.specs.declared.exceptions.Exception.{Exception}
 use Rattle.tx_serial.specs.Fate.{operands}
 use Rattle.tx_attempt.specs.declared.performing.Ended.{Ended}
 use Rattle.tx_attempt.specs.Performed.{ended_of, ended_in, IsLeft, lasting_size}
-
--- operands as ranges and back
-pub spans-back : (ss : List Span) → map span_of (map range_of ss) ≡ ss
-spans-back [] = refl
-spans-back (s ∷ ss) = ap (λ (rest : List Span). s ∷ rest) (spans-back ss)
+use Rattle.z_touch.proofs.Reach.{spans_back}
 
 pub operand-spans : (i : Instr) (c : Cpu) (need : List Range) → need ≡ operands i c
     → map span_of need ≡ ranges_of i c
-operand-spans i c need e = ap (map span_of) e ∙ spans-back (ranges_of i c)
+operand-spans i c need e = ap (map span_of) e ∙ spans_back (ranges_of i c)
 
 raised : (x y : Exception) → Raises x ≡ Raises y → ended_in (Err x) ≡ ended_in (Err y)
 raised x y h = let same : x ≡ y = cc in ap (λ (e : Exception). ended_in (Err e)) same

@@ -2,16 +2,17 @@
 use Rattle.std.proofs.Common.{◌≡◌, ℕ, zero, suc, ◌+◌, ◌<◌, ◌≤◌, List, [], ◌∷◌, ◌++◌, Option}
 use Rattle.std.proofs.Common.{refl, sym, ap, ◌∙◌, arith, length, get_or, take, drop}
 use Rattle.std.specs.Prelude.{map, All}
-use Rattle.std.proofs.lemmas.List.{drop_more, append-nil}
+use Rattle.std.proofs.lemmas.List.{drop_more}
 use Rattle.std.proofs.lemmas.List.Elements.{All-head, All-tail}
 use Rattle.z_regs.specs.Prefix.{storage_size, absolute_of}
 use Rattle.z_regs.specs.Absolute.{IsAccessible}
 use Rattle.z_regs.specs.declared.ranges.Range.{Range}
-use Rattle.z_instr.specs.Operands.{Span, from_up}
+use Rattle.z_instr.specs.Operands.{from_up}
 use Rattle.z_touch.specs.Refusals.{span_of}
-use Rattle.z_effect.specs.After.{range_at, touched, AreInside}
+use Rattle.z_effect.specs.After.{touched, AreInside}
 use Rattle.tx_serial.specs.Flat.{Storage, operand_bytes}
 use Rattle.tx_attempt.specs.Performed.{IsFetched}
+use Rattle.tx_serial.proofs.Listed.{touched_first}
 
 pub taken-moved : (n a b : ℕ) (t : List ℕ) (f : ℕ → ℕ) → ((k : ℕ) → k < n → get_or t (a + k) 0 ≡ f (b + k))
     → a + n ≤ length t → take n (drop a t) ≡ map f (from_up b n)
@@ -37,17 +38,12 @@ pub taken-at : (n a : ℕ) (t : List ℕ) (f : ℕ → ℕ) → ((k : ℕ) → k
     → a + n ≤ length t → take n (drop a t) ≡ map f (from_up a n)
 taken-at n a t f at h = taken-moved n a a t f at h
 
-touched-first : (r : Span) (rs : List Span) (s : List ℕ) → touched (r ∷ rs) s
-    ≡ range_at s r.first r.length ++ touched rs s
-touched-first r [] s = sym (append-nil (range_at s r.first r.length))
-touched-first r (q ∷ rs) s = refl
-
 pub touched-fetched : (prefix : Option ℕ) (s : Storage) (ranges : List Range) (t : List ℕ)
     → AreInside (map span_of ranges) t → All (IsFetched prefix s t) ranges
     → touched (map span_of ranges) t ≡ operand_bytes prefix s ranges
 touched-fetched prefix s [] t inside h = refl
 touched-fetched prefix s (r ∷ rs) t inside h =
-    touched-first (span_of r) (map span_of rs) t
+    touched_first (span_of r) (map span_of rs) t
     ∙ ap (λ bs. bs ++ touched (map span_of rs) t)
     (taken-at r.length r.first t (λ a. s (absolute_of prefix a)) (All-head (IsFetched prefix s t) r rs h)
     inside.0)

@@ -1,5 +1,5 @@
 -- What an instruction stores in its first operand, as it is gathered.
-use Rattle.std.proofs.Common.{◌≡◌, ℕ, ◌%◌, Bool, true, false, List, [], ◌∷◌, Option, Some, refl, sym, ap}
+use Rattle.std.proofs.Common.{◌≡◌, ℕ, ◌%◌, true, false, List, [], ◌∷◌, Option, Some, refl, sym, ap}
 use Rattle.std.proofs.Common.{◌∙◌, arith, length, take, subst}
 use Rattle.std.specs.Prelude.{slice_get, not, cond, if◌then◌else◌, All}
 use Rattle.std.proofs.lemmas.List.Elements.{All-head}
@@ -16,6 +16,7 @@ use Rattle.tx_progress.specs.Progress.{laying}
 use Rattle.tx_attempt.specs.Gathered.{IsDoubleword}
 use Rattle.tx_attempt.specs.Performed.{StoresFirst, first_size}
 use Rattle.tx_attempt.proofs.Stored.{none-stores, first-stores, trimmed-stores}
+use Rattle.tx_attempt.proofs.Begun.{none-lasting}
 
 abbrev pub stores_by : Option ℕ → List Range → List ℕ → List Store
 stores_by prefix rs bytes = operand_stores prefix rs (take (first_size rs) bytes)
@@ -46,10 +47,6 @@ some-stores prefix (q ∷ rs) r bytes get e first =
     ∙ sym (λ i. stores_at prefix (same i).first (take (count i) bytes))
 
 -- ---- no store
-
-none-lasting : (b : Bool) → ◌≡◌ {A = List Store} (if b then [] else []) []
-none-lasting true = refl
-none-lasting false = refl
 
 pub overlay-stays : (o : Overlay) (ss : List Store) → ss ≡ [] → o ≡ laying o ss
 overlay-stays o ss h = sym (ap (laying o) h)
@@ -98,11 +95,3 @@ first-end prefix [] r h get = absurd (cc)
 first-end prefix (q ∷ rs) r h get =
     let same : q ≡ r = cc in
     subst (IsAccessible prefix) same (All-head (IsAccessible prefix) q rs h)
-
-pub not-true : (b : Bool) → not b ≡ true → b ≡ false
-not-true true h = sym h
-not-true false h = refl
-
-pub not-false : (b : Bool) → not b ≡ false → b ≡ true
-not-false true h = refl
-not-false false h = sym h

@@ -19,7 +19,7 @@ use Rattle.z_effect.specs.Outcome.{Did}
 use Rattle.z_effect.specs.Registers.{register, advanced}
 use Rattle.z_effect.specs.TransactionEffect.{transaction_effect}
 use Rattle.z_instr.specs.Roles.{stores_lastingly}
-use Rattle.tx_progress.proofs.Rows.{any_row}
+use Rattle.tx_progress.proofs.Rows.{any_row, implied}
 use Rattle.tx_attempt.specs.declared.performing.Ended.{Ended}
 use Rattle.tx_attempt.specs.Gathered.{IsDoubleword}
 use Rattle.tx_attempt.specs.Gathered.{IsStoredDoubleword}
@@ -54,10 +54,6 @@ lasting-so (kind.Transaction t) h = ap kind.Transaction (one-lasting t h)
 lasting-so (kind.General g) h = absurd (true≢false (sym h))
 lasting-so (kind.Storage s) h = absurd (true≢false (sym h))
 lasting-so (kind.Branch b) h = absurd (true≢false (sym h))
-
-implied : (a b : Bool) → (not a || b) ≡ true → a ≡ true → b ≡ true
-implied true b h e = h
-implied false b h e = absurd (true≢false (sym e))
 
 lasting-outcome : (i : Instr) (c : Cpu) (depth : ℕ) (bytes : List ℕ)
     → stores_lastingly (entry_at i.op.number) ≡ true

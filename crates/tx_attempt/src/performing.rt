@@ -86,13 +86,12 @@ pub fn execute_plain<V: Bytes>(
         (V.bytes base.old) (V.bytes base.new) result }
     ensures size { length (V.bytes base.new) ≡ storage_size }
 {
-    if z_storage::is_mine(instr.op) {
-        return end_of(z_storage::execute(instr, image, base));
+    match kind_of(instr.op) {
+        Kind::Storage(kind) => end_of(z_storage::execute_kind(kind, instr, image, base)),
+        Kind::General(kind) => end_of(z_general::execute_kind(kind, instr, image, base)),
+        Kind::Branch(kind) => end_of(z_branch::execute_kind(kind, instr, image, base)),
+        Kind::Transaction(_) => unreachable!(),
     }
-    if z_general::is_mine(instr.op) {
-        return end_of(z_general::execute(instr, image, base));
-    }
-    end_of(z_branch::execute(instr, image, base))
 }
 
 /// Executes an instruction about transactions, apart from beginning and ending them.

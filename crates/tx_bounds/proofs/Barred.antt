@@ -134,7 +134,7 @@ is_barred e = not (e.permitted && aborts_itself e.kind)
 barred_rows : (n : ℕ) → is_barred (entry_at n) ≡ true
 barred_rows = any_row is_barred refl refl
 
-not_second : (a b : Bool) → not (a && b) ≡ true → a ≡ true → b ≡ false
+pub not_second : (a b : Bool) → not (a && b) ≡ true → a ≡ true → b ≡ false
 not_second true true h e = absurd (true≢false (sym h))
 not_second true false h e = refl
 not_second false b h e = absurd (true≢false (sym e))

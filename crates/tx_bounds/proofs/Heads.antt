@@ -31,7 +31,7 @@ use Rattle.tx_bounds.proofs.Stretched.{some_starve, under_way, left_is, cost_of}
 
 -- ---- the head
 
-first_waits : (q : List ℕ) (c : ℕ) → is_first c q ≡ true → waits_in q c ≡ true
+pub first_waits : (q : List ℕ) (c : ℕ) → is_first c q ≡ true → waits_in q c ≡ true
 first_waits [] c h = absurd (true≢false (sym h))
 first_waits (head ∷ rest) c h = or_left (head == c) (waits_in rest c) h
 

@@ -71,7 +71,7 @@ not_ended c before now n =
     ap (λ h. list_any (is_end_of c) (drop (length before.history) h)) n.is
     ∙ ap (list_any (is_end_of c)) (dropped before.history n.entries) ∙ n.none
 
-and_off : (a : Bool) → (a && false) ≡ false
+pub and_off : (a : Bool) → (a && false) ≡ false
 and_off true = refl
 and_off false = refl
 

@@ -9,27 +9,23 @@ use Rattle.tx_control.specs.declared.causes.Why.{Why}
 use Rattle.tx_control.specs.declared.causes.Why.TheVariants.{External, Program}
 use Rattle.tx_ladder.specs.Rungs.{Standing, rejecting, descended}
 use Rattle.tx_journal.specs.declared.entries.Entry.TheVariants.{Step, Commit, Abort, Tdb, Interrupt}
-use Rattle.tx_serial.specs.Flat.{at_put}
 use Rattle.tx_progress.specs.Local.{Local, left_behind, aborted}
 use Rattle.tx_meaning.specs.Limits.{Setting}
 use Rattle.tx_meaning.specs.State.{Numbers, State, is_live}
 use Rattle.tx_meaning.specs.Stretches.{is_end_by, left_by}
 use Rattle.tx_meaning.specs.Changes.{with_numbers, without_attempt, aborting}
-use Rattle.tx_meaning.proofs.Walk.{at_put_case, at_put_kept, cause_case, conflict_on}
+use Rattle.tx_meaning.proofs.Walk.{at_put_kept, cause_case, conflict_on}
 use Rattle.tx_keeping.specs.Kept.{Kept}
 use Rattle.tx_keeping.specs.Moves.{standing_after, k_aborting, k_rejecting, k_rejected}
 use Rattle.tx_keeping.specs.Turn.{k_external, k_interrupting, k_turn, k_idle, next_address}
 use Rattle.tx_bounds.proofs.Resuming.{Leads}
 use Rattle.tx_bounds.proofs.UnderWay.{HoldsOf, HoldsOfBelow, Amid, SameStanding, holds_same, holds_quiet}
-use Rattle.tx_bounds.proofs.UnderWay.{amid_same, amid_left, abort_rung, put_here, lives, Rung}
+use Rattle.tx_bounds.proofs.UnderWay.{amid_same, amid_left, abort_rung, lives, Rung}
 use Rattle.tx_bounds.proofs.Paid.{left_of, left_same, live_left, dead_left, climbed}
 use Rattle.tx_bounds.proofs.News.{NoEnd, Calm, same_news, one_more, abort_news, aborted_history}
 use Rattle.tx_bounds.proofs.News.{standing_calm, standing_ended}
 use Rattle.tx_bounds.proofs.Walk.{Walk, in_a_turn}
-
-pub put_other : {A : Type 0} (table : ℕ → A) (i : ℕ) (v : A) (c : ℕ) → c ≢ i → at_put table i v c ≡ table c
-put_other {A} table i v c ne =
-    at_put_case (λ (x : A). x ≡ table c) table i v c (λ e. absurd (ne e)) (λ _. refl)
+use Rattle.tx_serial.proofs.Entries.{at_put_other, at_put_same}
 
 -- ---- an abort of the CPU's own attempt
 
@@ -48,9 +44,9 @@ unfolding aborting
 aborted_number f i st n w s still =
     let t = without_attempt i s in
     let here : f (t.numbers i) ≡ f (record (s.numbers i) { completed = 0 }) =
-    ap f (put_here s.numbers i (record (s.numbers i) { completed = 0 })) in
+    ap f (at_put_same s.numbers i (record (s.numbers i) { completed = 0 })) in
     cause_case (λ r. f (r.numbers i) ≡ f (record (s.numbers i) { completed = 0 })) i st w t here
-    (λ d. ap f (put_here t.numbers i (record (t.numbers i) { delay = d })) ∙ still (t.numbers i) d ∙ here)
+    (λ d. ap f (at_put_same t.numbers i (record (t.numbers i) { delay = d })) ∙ still (t.numbers i) d ∙ here)
     here here
 
 module _ (m : Setting) (c : ℕ) (k : Kept) (w : Why) (at : ℕ) where
@@ -68,11 +64,11 @@ module _ (m : Setting) (c : ℕ) (k : Kept) (w : Why) (at : ℕ) where
 
   aborted_standing : (k_aborting c w at k).standings c ≡ standing_after w (k.standings c)
   unfolding k_aborting
-  aborted_standing = put_here k.standings c (standing_after w (k.standings c))
+  aborted_standing = at_put_same k.standings c (standing_after w (k.standings c))
 
   aborted_local : (k_aborting c w at k).locals c ≡ left_behind (k.locals c).cpu (k.locals c).attempt w at
   unfolding k_aborting aborted
-  aborted_local = put_here k.locals c (left_behind (k.locals c).cpu (k.locals c).attempt w at)
+  aborted_local = at_put_same k.locals c (left_behind (k.locals c).cpu (k.locals c).attempt w at)
 
   pub aborted_quiet : (most : ℕ) (busy : Bool) → HoldsOfBelow m most busy c k
       → HoldsOf m false c (k_aborting c w at k)
@@ -212,7 +208,7 @@ goes_on_behind true line = refl
 goes_on_behind false line = refl
 
 -- a conflict aborts the CPU's attempt
-conflict_counts : (stored : Bool) (line : ℕ) (st : Standing) → st.constrained ≡ true
+pub conflict_counts : (stored : Bool) (line : ℕ) (st : Standing) → st.constrained ≡ true
     → (standing_after (conflict_on stored line) st).aborts ≡ st.aborts + 1
 conflict_counts true line st kind = ap (λ b. if b then st.aborts + 1 else st.aborts) kind
 conflict_counts false line st kind = ap (λ b. if b then st.aborts + 1 else st.aborts) kind
@@ -279,20 +275,20 @@ module _ (m : Setting) (busy : Bool) (c : ℕ) (before : State) (most i : ℕ) (
       (aborted_history i (k.standings i) count w k.state) n
 
   numbers_elsewhere : (v : Numbers) (s : State) → (with_numbers i v s).numbers c ≡ s.numbers c
-  numbers_elsewhere v s = put_other s.numbers i v c other
+  numbers_elsewhere v s = at_put_other s.numbers i v c other
 
   pub aborted_elsewhere : (j : ℕ) (w : Why) (at : ℕ) (k : Kept) → c ≢ j → SameAt c k (k_aborting j w at k)
   unfolding k_aborting aborting
   aborted_elsewhere j w at k ne =
       let s = k.state in
       let t = without_attempt j s in
-      let here : t.numbers c ≡ s.numbers c = put_other s.numbers j
+      let here : t.numbers c ≡ s.numbers c = at_put_other s.numbers j
       (record (s.numbers j) { completed = 0 }) c ne
       in
       same_parts c k (k_aborting j w at k)
       (cause_case (λ r. r.numbers c ≡ s.numbers c) j (k.standings j) w t here
-      (λ d. put_other t.numbers j (record (t.numbers j) { delay = d }) c ne ∙ here) here here)
-      (put_other k.standings j _ c ne) (put_other k.locals j _ c ne)
+      (λ d. at_put_other t.numbers j (record (t.numbers j) { delay = d }) c ne ∙ here) here here)
+      (at_put_other k.standings j _ c ne) (at_put_other k.locals j _ c ne)
 
   aborted_paid : (stored : Bool) (line at : ℕ) (k : Kept) → is_live k.state c ≡ true → P k → busy ≡ true
       → left_of m c (k_aborting c (conflict_on stored line) at k) ≤ most
@@ -341,14 +337,14 @@ module _ (m : Setting) (busy : Bool) (c : ℕ) (before : State) (most i : ℕ) (
       → ((v : Numbers) (g : ℕ) → f (record v { given = g }) ≡ f v)
       → f ((k_rejected i (k_rejecting j k)).state.numbers c) ≡ f (k.state.numbers c)
   rejected_number f k j still =
-      ap f (put_other (k_rejecting j k).state.numbers i _ c other)
+      ap f (at_put_other (k_rejecting j k).state.numbers i _ c other)
       ∙ at_put_kept f k.state.numbers j _ (still (k.state.numbers j) _) c
 
   rejected_standing : {B : Type 0} (f : Standing → B) (k : Kept) (j : ℕ)
       → f (rejecting (k.standings j)) ≡ f (k.standings j)
       → f ((k_rejected i (k_rejecting j k)).standings c) ≡ f (k.standings c)
   rejected_standing f k j still =
-      ap f (put_other (k_rejecting j k).standings i _ c other)
+      ap f (at_put_other (k_rejecting j k).standings i _ c other)
       ∙ at_put_kept f k.standings j (rejecting (k.standings j)) still c
 
   rejected_elsewhere : (k : Kept) (j : ℕ) → SameAt c k (k_rejected i (k_rejecting j k))
@@ -410,27 +406,27 @@ module _ (m : Setting) (busy : Bool) (c : ℕ) (before : State) (most i : ℕ) (
         same_kept m busy c before most k _ (aborted_elsewhere i _ at k other) (abort_other _ at k) p;
     nothing = λ k p. p;
     leaves = λ k after p.
-        elsewhere k _ refl refl (put_other k.locals i _ c other) (λ n. same_news refl n) p;
+        elsewhere k _ refl refl (at_put_other k.locals i _ c other) (λ n. same_news refl n) p;
     ends = λ k w at own p.
         same_kept m busy c before most k _ (aborted_elsewhere i w at k other) (abort_other w at k) p;
     steps = λ k after p.
-        elsewhere k _ refl refl (put_other k.locals i _ c other) (λ n. one_more (Step i) refl refl n) p;
+        elsewhere k _ refl refl (at_put_other k.locals i _ c other) (λ n. one_more (Step i) refl refl n) p;
     pauses = λ k after turns p.
-        elsewhere k _ (numbers_elsewhere _ k.state) refl (put_other k.locals i _ c other)
+        elsewhere k _ (numbers_elsewhere _ k.state) refl (at_put_other k.locals i _ c other)
         (λ n. one_more (Step i) refl refl n) p;
     stores = λ k p.
-        elsewhere k _ refl refl (put_other k.locals i _ c other) (λ n. one_more (Tdb i) refl refl n) p;
+        elsewhere k _ refl refl (at_put_other k.locals i _ c other) (λ n. one_more (Tdb i) refl refl n) p;
     takes = λ k p.
-        elsewhere k _ refl refl (put_other k.locals i _ c other) (λ n. one_more (Interrupt i) refl refl n) p;
+        elsewhere k _ refl refl (at_put_other k.locals i _ c other) (λ n. one_more (Interrupt i) refl refl n) p;
     starts = λ k after live p.
-        elsewhere k _ (numbers_elsewhere _ k.state) (put_other k.standings i _ c other)
-        (put_other k.locals i _ c other) (λ n. same_news refl n) p;
+        elsewhere k _ (numbers_elsewhere _ k.state) (at_put_other k.standings i _ c other)
+        (at_put_other k.locals i _ c other) (λ n. same_news refl n) p;
     continues = λ k after live p.
-        elsewhere k _ (numbers_elsewhere _ k.state) refl (put_other k.locals i _ c other)
+        elsewhere k _ (numbers_elsewhere _ k.state) refl (at_put_other k.locals i _ c other)
         (λ n. same_news refl n) p;
     commits = λ k n after live p.
-        elsewhere k _ (numbers_elsewhere _ k.state) (put_other k.standings i _ c other)
-        (put_other k.locals i _ c other)
+        elsewhere k _ (numbers_elsewhere _ k.state) (at_put_other k.standings i _ c other)
+        (at_put_other k.locals i _ c other)
         (λ h. one_more (Commit i n) (ne_eqb i c (λ e. other (sym e))) refl h) p;
     waits = λ k p. elsewhere k _ (numbers_elsewhere _ k.state) refl refl (λ n. same_news refl n) p;
     interrupted = λ k p.

@@ -56,9 +56,10 @@ use Rattle.z_effect.specs.Facts.{is_service}
 use Rattle.tx_keeping.proofs.Running.{keeps_running}
 use Rattle.tx_bounds.proofs.Resuming.{Leads, leads, leads_on}
 use Rattle.tx_bounds.proofs.UnderWay.{HoldsOf, AmidOf, lives, holds_same}
-use Rattle.tx_bounds.proofs.UnderWay.{holds_quiet, put_here, SameParts}
+use Rattle.tx_bounds.proofs.UnderWay.{holds_quiet, SameParts}
 use Rattle.tx_bounds.proofs.OtherTurns.{parms_always_by}
 use Rattle.tx_bounds.proofs.OwnTurns.{After, Own, stays, plain, over, own_abort, ends_last, known_kind}
+use Rattle.tx_serial.proofs.Entries.{at_put_same}
 
 -- what an instruction outside transactions tells, that begins none
 abbrev StepTells : Done → Type 0
@@ -87,7 +88,7 @@ module _ (m : Setting) (c : ℕ) (busy : Bool) (most : ℕ) (before : State) (l 
   with_local : (t : Kept) (after : Beside) → Own m c busy most before l t → SameParts (t.locals c) after.local
       → HoldsOf m busy c (with_beside c after t)
   with_local t after p parts =
-      let now = put_here t.locals c after.local in
+      let now = at_put_same t.locals c after.local in
       holds_same m busy (t.state.numbers c).completed (t.state.numbers c).delay (t.state.numbers c).completed
       (t.state.numbers c).delay (t.standings c) (t.standings c) (t.locals c)
       ((with_beside c after t).locals c) refl refl
@@ -110,7 +111,7 @@ module _ (m : Setting) (c : ℕ) (busy : Bool) (most : ℕ) (before : State) (l 
       → F (k_aborting c w at (with_beside c after t))
   ends_inside t after w at p live parts leads ends =
       own_abort m c busy 1 most before m.image.parms.starve (with_beside c after t) w at live
-      (with_local t after p parts) (λ kind. subst Leads (sym (put_here t.locals c after.local)) (leads kind))
+      (with_local t after p parts) (λ kind. subst Leads (sym (at_put_same t.locals c after.local)) (leads kind))
       p.news (after_calm t after p) p.started (λ is goes. absurd (true≢false (sym (ends is) ∙ goes)))
 
   committed_history : (t : Kept) (n : ℕ) (after : Beside) → Own m c busy most before l t
@@ -122,22 +123,22 @@ module _ (m : Setting) (c : ℕ) (busy : Bool) (most : ℕ) (before : State) (l 
       → is_live t.state c ≡ true
       → Calm c (k_committing c n after t)
   committed_calm t n after p live = record {
-    none = ap (λ (s : Standing). s.aborts) (put_here t.standings c _)
+    none = ap (λ (s : Standing). s.aborts) (at_put_same t.standings c _)
         ∙ lowered_calm (t.standings c)
         (known_kind m c busy 1 most before t (λ is. (p.holds.amid is).kind live) p.calm);
     free = λ alive. absurd (true≢false (sym alive
         ∙ ap (λ (v : Numbers). lives v.completed)
-        (put_here t.state.numbers c (record (t.state.numbers c) { completed = 0 }))));
+        (at_put_same t.state.numbers c (record (t.state.numbers c) { completed = 0 }))));
   }
 
   commits : (t : Kept) (n : ℕ) (after : Beside) → Own m c busy most before l t → is_live t.state c ≡ true
       → F (k_committing c n after t)
   commits t n after p live =
       let u = k_committing c n after t in
-      let now = put_here t.state.numbers c (record (t.state.numbers c) { completed = 0 }) in
+      let now = at_put_same t.state.numbers c (record (t.state.numbers c) { completed = 0 }) in
       let off : lives (u.state.numbers c).completed ≡ false = ap (λ (v : Numbers). lives v.completed) now in
       let parms : (u.standings c).parms ≡ m.image.parms =
-      ap (λ (s : Standing). s.parms) (put_here t.standings c _)
+      ap (λ (s : Standing). s.parms) (at_put_same t.standings c _)
       ∙ parms_always_by (t.standings c).constrained (t.standings c) ∙ p.holds.parms in
       over m c busy 1 most before u (committed_history t n after p)
       (holds_quiet m (u.state.numbers c).completed (u.state.numbers c).delay (u.standings c)
@@ -155,7 +156,7 @@ module _ (m : Setting) (c : ℕ) (busy : Bool) (most : ℕ) (before : State) (l 
       → (busy ≡ true → l.attempt.count ≤ 33) → busy ≡ true → left_of m c (k_continuing c after t) + 1 ≤ most
   continued_paid t after p live few is =
       let n = (t.state.numbers c).completed in
-      let now = put_here t.state.numbers c (record (t.state.numbers c) { completed = n + 1 }) in
+      let now = at_put_same t.state.numbers c (record (t.state.numbers c) { completed = n + 1 }) in
       let kind = (p.holds.amid is).kind live in
       let same : left_of m c (k_continuing c after t)
       ≡ left_now m.image.parms (n + 1) (t.state.numbers c).delay (t.standings c) =
@@ -170,10 +171,10 @@ module _ (m : Setting) (c : ℕ) (busy : Bool) (most : ℕ) (before : State) (l 
       → F (k_continuing c after t)
   continues t after p live parts few =
       let u = k_continuing c after t in
-      let now = put_here t.state.numbers c (record (t.state.numbers c) {
+      let now = at_put_same t.state.numbers c (record (t.state.numbers c) {
         completed = (t.state.numbers c).completed + 1;
       }) in
-      let here = put_here t.locals c after.local in
+      let here = at_put_same t.locals c after.local in
       stays m c busy 1 most before u
       (holds_same m busy (t.state.numbers c).completed (t.state.numbers c).delay (u.state.numbers c).completed
       (u.state.numbers c).delay (t.standings c) (u.standings c) (t.locals c) (u.locals c)
@@ -274,7 +275,7 @@ module _ (m : Setting) (c : ℕ) (busy : Bool) (most : ℕ) (before : State) (l 
       (dead_holds t (k_outside c after t (done.Interrupted code)).kept p off refl refl) p.started
       (λ quiet. let calm = p.calm quiet in record { none = calm.none; free = calm.free })
   steps t after (done.Paused turns) never p off is =
-      let now = put_here t.state.numbers c (record (t.state.numbers c) { delay = turns }) in
+      let now = at_put_same t.state.numbers c (record (t.state.numbers c) { delay = turns }) in
       plain m c busy 1 most before _ never
       (dead_holds t (k_outside c after t (done.Paused turns)).kept p off
       (ap (λ (v : Numbers). v.completed) now) refl)
@@ -305,9 +306,9 @@ module _ (m : Setting) (c : ℕ) (busy : Bool) (most : ℕ) (before : State) (l 
       → is_constrained after.local.attempt.nest ≡ true → AmidOf m c (k_starting c after t)
   begun_amid t after i p is goes pending waiting parts kind =
       let u = k_starting c after t in
-      let here = put_here t.locals c after.local in
+      let here = at_put_same t.locals c after.local in
       let none : (u.state.numbers c).delay ≡ 0 =
-      ap (λ (v : Numbers). v.delay) (put_here t.state.numbers c _) ∙ p.rests in
+      ap (λ (v : Numbers). v.delay) (at_put_same t.state.numbers c _) ∙ p.rests in
       record {
         begin = i;
         is = is;
@@ -317,11 +318,11 @@ module _ (m : Setting) (c : ℕ) (busy : Bool) (most : ℕ) (before : State) (l 
             ∙ pending;
         waiting = ap (λ (x : Local). x.waiting) here ∙ parts.waiting ∙ ap (λ (x : Local). x.waiting) p.local
             ∙ waiting;
-        kind = λ live. ap (λ (s : Standing). s.constrained) (put_here t.standings c _) ∙ kind;
+        kind = λ live. ap (λ (s : Standing). s.constrained) (at_put_same t.standings c _) ∙ kind;
         short = omega (arith, none);
         queued = λ full. none;
         running = λ off.
-            absurd (true≢false (sym (ap (λ (v : Numbers). lives v.completed) (put_here t.state.numbers c _))
+            absurd (true≢false (sym (ap (λ (v : Numbers). lives v.completed) (at_put_same t.state.numbers c _))
             ∙ off));
       }
 
@@ -349,10 +350,10 @@ module _ (m : Setting) (c : ℕ) (busy : Bool) (most : ℕ) (before : State) (l 
   starts_holds : (t : Kept) (after : Beside) → 0 < m.image.parms.starve → Own m c busy most before l t
       → HoldsOf m false c (k_starting c after t)
   starts_holds t after some p =
-      let now = put_here t.standings c (begun (is_constrained after.local.attempt.nest) (t.standings c)) in
+      let now = at_put_same t.standings c (begun (is_constrained after.local.attempt.nest) (t.standings c)) in
       record {
         parms = ap (λ (s : Standing). s.parms) now ∙ p.holds.parms;
-        rests = λ live. ap (λ (v : Numbers). v.delay) (put_here t.state.numbers c _) ∙ p.rests;
+        rests = λ live. ap (λ (v : Numbers). v.delay) (at_put_same t.state.numbers c _) ∙ p.rests;
         fewer = λ live kind.
             subst (λ x. x < m.image.parms.starve) (sym (ap (λ (s : Standing). s.requests_rejected) now)) some;
         amid = λ is. absurd (true≢false (sym is));
@@ -363,7 +364,7 @@ module _ (m : Setting) (c : ℕ) (busy : Bool) (most : ℕ) (before : State) (l 
   started_paid t after some p off is =
       let kind = is_constrained after.local.attempt.nest in
       let n = t.state.numbers c in
-      let now = put_here t.state.numbers c (record n {
+      let now = at_put_same t.state.numbers c (record n {
         completed = 1;
         attempts = n.attempts + 1;
         given = 0;
@@ -372,7 +373,7 @@ module _ (m : Setting) (c : ℕ) (busy : Bool) (most : ℕ) (before : State) (l 
       let same : left_of m c (k_starting c after t)
       ≡ left_now m.image.parms 1 n.delay (begun kind (t.standings c)) =
       (λ k. left_now m.image.parms (now k).completed (now k).delay
-      (put_here t.standings c (begun kind (t.standings c)) k)) in
+      (at_put_same t.standings c (begun kind (t.standings c)) k)) in
       let step = left_started m.image.parms n.completed n.delay kind (t.standings c)
       (not_live n.completed off) some
       in
@@ -384,7 +385,7 @@ module _ (m : Setting) (c : ℕ) (busy : Bool) (most : ℕ) (before : State) (l 
   begun_paid t after some p =
       let kind = is_constrained after.local.attempt.nest in
       let n = t.state.numbers c in
-      let now = put_here t.state.numbers c (record n {
+      let now = at_put_same t.state.numbers c (record n {
         completed = 1;
         attempts = n.attempts + 1;
         given = 0;
@@ -393,7 +394,7 @@ module _ (m : Setting) (c : ℕ) (busy : Bool) (most : ℕ) (before : State) (l 
       let same : left_of m c (k_starting c after t)
       ≡ left_by m.image.parms (t.standings c).aborts n.delay 1 0 =
       (λ k. left_now m.image.parms (now k).completed (now k).delay
-      (put_here t.standings c (begun kind (t.standings c)) k)) in
+      (at_put_same t.standings c (begun kind (t.standings c)) k)) in
       let step = left_begun m.image.parms (t.standings c).aborts n.delay p.rests some in
       omega (arith, same, step)
 
@@ -403,7 +404,7 @@ module _ (m : Setting) (c : ℕ) (busy : Bool) (most : ℕ) (before : State) (l 
       → Calm c (k_starting c after t) ⊎ IsBegun c before (k_starting c after t)
   begun_or_calm t after p quiet true e =
       let n = t.state.numbers c in
-      let now = put_here t.state.numbers c (record n {
+      let now = at_put_same t.state.numbers c (record n {
         completed = 1;
         attempts = n.attempts + 1;
         given = 0;
@@ -414,13 +415,13 @@ module _ (m : Setting) (c : ℕ) (busy : Bool) (most : ℕ) (before : State) (l 
         more = ap (λ (v : Numbers). nat_lt (before.numbers c).attempts v.attempts) now
             ∙ lt-ltb (before.numbers c).attempts (n.attempts + 1) (omega (arith, first));
         live = ap (λ (v : Numbers). lives v.completed) now;
-        kind = ap (λ (x : Standing). x.constrained) (put_here t.standings c _) ∙ e;
+        kind = ap (λ (x : Standing). x.constrained) (at_put_same t.standings c _) ∙ e;
       })
   begun_or_calm t after p quiet false e =
       let calm = p.calm quiet in
       inl (record {
-        none = ap (λ (x : Standing). x.aborts) (put_here t.standings c _) ∙ calm.none;
-        free = λ live. ap (λ (x : Standing). x.constrained) (put_here t.standings c _) ∙ e;
+        none = ap (λ (x : Standing). x.aborts) (at_put_same t.standings c _) ∙ calm.none;
+        free = λ live. ap (λ (x : Standing). x.constrained) (at_put_same t.standings c _) ∙ e;
       })
 
   starts : (t : Kept) (i : Instr) (ranges : List Range) (o : Outcome) → 0 < m.image.parms.starve
@@ -445,7 +446,7 @@ module _ (m : Setting) (c : ℕ) (busy : Bool) (most : ℕ) (before : State) (l 
             });
         starts = λ is more live constrained.
             let same : is_constrained after.local.attempt.nest ≡ true =
-            sym (ap (λ (s : Standing). s.constrained) (put_here t.standings c _)) ∙ constrained in
+            sym (ap (λ (s : Standing). s.constrained) (at_put_same t.standings c _)) ∙ constrained in
             let so = constrained_demand (entry_at i.op.number).demand (sym kind ∙ same) in
             record {
               amid = begun_amid t after i p so (n.at_start quiet so) n.pending n.waiting parts same;

@@ -17,7 +17,7 @@ use Rattle.tx_control.specs.declared.causes.Why.{Why}
 use Rattle.tx_control.specs.declared.causes.Why.TheVariants.{Program, Filtered, FetchOverflow, StoreOverflow}
 use Rattle.tx_control.specs.declared.causes.Why.TheVariants.{Restricted, Depth}
 use Rattle.tx_control.specs.declared.exceptions.Exception.{Exception}
-use Rattle.tx_constraint.specs.Constraints.{Step, first_of}
+use Rattle.tx_constraint.specs.Constraints.{Step}
 use Rattle.tx_constraint.specs.Kept as constraint
 use Rattle.tx_constraint.specs.Kept.{next_text_breach}
 use Rattle.tx_constraint.specs.Operations.{is_permitted}
@@ -39,9 +39,11 @@ use Rattle.tx_progress.specs.Trial.{place_refusal_by, overflow_refusal_by, tests
 use Rattle.tx_progress.specs.Trial.{fate_by_progress}
 use Rattle.tx_progress.proofs.Facts.{keeps_constraints}
 use Rattle.tx_progress.proofs.Rows.{any_row}
-use Rattle.tx_progress.proofs.Standing.{Stands, is_begun_so, run_stands}
+use Rattle.tx_progress.proofs.Standing.{Stands, is_begun_so, run_stands, no_text_breach}
 use Rattle.tx_meaning.specs.Stretches.{is_end_by}
 use Rattle.tx_bounds.proofs.Room.{has_room}
+use Rattle.z_instr.proofs.Passing.{and_left}
+use Rattle.tx_serial.proofs.FreeOperands.{found_none}
 
 -- ---- the nest
 
@@ -80,16 +82,6 @@ free_of (b ∷ bs) n h =
     not_both (entry_at n).permitted (entry_at n).restricted (sets_access_register (entry_at n))
     (not (effective_a (b ∷ bs))) (free_rows n) h
 
-left_part : (a b : Bool) → (a && b) ≡ true → a ≡ true
-left_part true b h = refl
-left_part false b h = h
-
-no_breach : (x y p : Bool) → first_of x 1 (first_of y 2 (first_of (not p) 3 None)) ≡ None → p ≡ true
-no_breach x y true h = refl
-no_breach true y false h = absurd (cc)
-no_breach false true false h = absurd (cc)
-no_breach false false false h = absurd (cc)
-
 breach_none : (i : Instr) (o : Option ℕ) → breach_refusal i o ≡ None → o ≡ None
 breach_none i None h = refl
 breach_none i (Some n) h = absurd (cc)
@@ -100,7 +92,7 @@ unfolding next_text_breach
 permitted_of q i kept some h =
     let none = breach_none i (next_text_breach kept i q.cpu.address)
     (ap (constraint_refusal (λ k. next_text_breach k i q.cpu.address) i) (sym some) ∙ h) in
-    left_part (entry_at i.op.number).permitted _ (no_breach _ _ (is_permitted i) none)
+    and_left (entry_at i.op.number).permitted _ (no_text_breach _ _ (is_permitted i) none)
 
 no_depth : (b : Bool) (n : ℕ) → n ≡ 1 → (b && nat_le 16 n) ≡ false
 no_depth true n e = ap (nat_le 16) e
@@ -266,10 +258,6 @@ ends_or_stops (b ∷ bs) (Excepts e) i ranges h = cc
 ends_or_stops [] (Because w) i ranges h = cc
 ends_or_stops (b ∷ bs) (Because w) i ranges h = cc
 
-first_none : (o : Option Refusal) (rest : List (Option Refusal)) → first_refusal (o ∷ rest) ≡ None → o ≡ None
-first_none None rest h = refl
-first_none (Some r) rest h = absurd (cc)
-
 tried_goes : (q : Progress) (j i : Instr) (o : Option Refusal) (ranges : List Range)
     → tried q j o ≡ Goes i ranges → (o ≡ None) × (j ≡ i)
 tried_goes q j i None ranges h = (refl, cc)
@@ -282,7 +270,7 @@ fetched_goes text storage q (Some code) read i ranges h = absurd (ends_or_stops 
 fetched_goes text storage q None None i ranges h = absurd (ends_or_stops q.nest (Excepts _) i ranges h)
 fetched_goes text storage q None (Some j) i ranges h =
     let both = tried_goes q j i (first_refusal (tests_by text storage q j)) ranges h in
-    subst (λ (x : Instr). text_refusal_by q x ≡ None) both.1 (first_none (text_refusal_by q j) _ both.0)
+    subst (λ (x : Instr). text_refusal_by q x ≡ None) both.1 (found_none (text_refusal_by q j) _ both.0)
 
 pub goes_permitted : (text : List ℕ) (storage : Storage) (q : Progress) (i : Instr) (ranges : List Range)
     (kept : constraint.Kept) → q.constraint ≡ Some kept → fate_by_progress text storage q ≡ Goes i ranges

@@ -44,9 +44,10 @@ use Rattle.tx_bounds.proofs.OtherTurns.{aborted_completed}
 use Rattle.tx_bounds.proofs.OwnEnds.{goes_permitted, pifc_none, ends_the_transaction}
 use Rattle.tx_bounds.proofs.Paid.{left_of, left_now, left_waited, left_outside}
 use Rattle.tx_bounds.proofs.Resuming.{Resumes, leads, resumes}
-use Rattle.tx_bounds.proofs.UnderWay.{HoldsOf, AmidOf, Amid, lives, put_here}
+use Rattle.tx_bounds.proofs.UnderWay.{HoldsOf, AmidOf, Amid, lives}
 use Rattle.tx_bounds.proofs.OwnTurns.{After, Own, Continues, Attempted, stays, plain, own_abort, lines_own}
 use Rattle.tx_bounds.proofs.OwnActs.{Known, Next, executes}
+use Rattle.tx_serial.proofs.Entries.{at_put_same}
 
 -- what an interruption from outside gives in addition
 abbrev pub extra : Bool → ℕ → ℕ
@@ -90,9 +91,9 @@ module _ (m : Setting) (s : IsSetting m) (c : ℕ) (busy : Bool) (before : State
       let kind = (h.amid is).kind live in
       let gone = aborted_completed m c k External (next_address k c) in
       let still : (u.state.numbers c).delay ≡ n.delay =
-      ap (λ (v : Numbers). v.delay) (put_here k.state.numbers c (record n { completed = 0 })) in
+      ap (λ (v : Numbers). v.delay) (at_put_same k.state.numbers c (record n { completed = 0 })) in
       let aborts : (u.standings c).aborts ≡ (k.standings c).aborts =
-      ap (λ (s : Standing). s.aborts) (put_here k.standings c (k.standings c)) in
+      ap (λ (s : Standing). s.aborts) (at_put_same k.standings c (k.standings c)) in
       let few : n.completed ≤ 33 = subst (λ x. x ≤ 33) (sym (t.each c).count) (few_now live kind) in
       let step = left_outside m.image.parms n.completed n.delay (u.state.numbers c).delay (k.standings c)
       (u.standings c) aborts still (h.rests live) live few (h.fewer live kind) in
@@ -168,7 +169,7 @@ module _ (m : Setting) (s : IsSetting m) (c : ℕ) (busy : Bool) (before : State
       → After m c busy 1 most before (with_state (waiting_turn c k.state) k)
   own_wait most waits h news calm same low paid =
       let u = with_state (waiting_turn c k.state) k in
-      let now = put_here k.state.numbers c
+      let now = at_put_same k.state.numbers c
       (record (k.state.numbers c) { delay = (k.state.numbers c).delay - 1 })
       in
       let completed : (u.state.numbers c).completed ≡ (k.state.numbers c).completed =

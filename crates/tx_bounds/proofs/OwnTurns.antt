@@ -33,17 +33,18 @@ use Rattle.tx_keeping.specs.Turn.{KTurned, k_ends_by, next_address, k_refused_tu
 use Rattle.tx_keeping.specs.Turn.{k_with_lines}
 use Rattle.tx_bounds.proofs.Resuming.{Resumes, Leads, leads}
 use Rattle.tx_bounds.proofs.UnderWay.{HoldsOf, HoldsOfBelow, AmidOf, lives, holds_less}
-use Rattle.tx_bounds.proofs.UnderWay.{put_here, amid_same}
+use Rattle.tx_bounds.proofs.UnderWay.{amid_same}
 use Rattle.tx_bounds.proofs.News.{NoEnd, Calm, Settles, settles_on, settles_calm, same_news, abort_news}
 use Rattle.tx_bounds.proofs.News.{grown}
 use Rattle.tx_bounds.proofs.News.{aborted_history}
-use Rattle.tx_bounds.proofs.OtherTurns.{put_other, aborted_attempts, same_left, conflict_left, same_calm}
+use Rattle.tx_bounds.proofs.OtherTurns.{aborted_attempts, same_left, conflict_left, same_calm}
 use Rattle.tx_bounds.proofs.OtherTurns.{goes_on_behind, aborted_calm, ended_calm}
 use Rattle.tx_bounds.proofs.OtherTurns.{aborted_quiet, aborted_holds, SameAt, same_parts}
 use Rattle.tx_bounds.proofs.OtherTurns.{same_holds, aborted_elsewhere}
 use Rattle.tx_bounds.proofs.Paid.{left_of, left_now, left_refused, live_left}
 use Rattle.tx_bounds.proofs.Stopping.{first_joined}
 use Rattle.tx_bounds.proofs.Walk.{Asks, lines_got, Behind}
+use Rattle.tx_serial.proofs.Entries.{at_put_other, at_put_same}
 
 not_more : {A : Type 0} (a b : ℕ) → b ≡ a → nat_lt a b ≡ true → A
 not_more a b e h = let less = ltb-true a b h in absurd (omega (arith, e, less))
@@ -227,7 +228,7 @@ module _ (m : Setting) (c : ℕ) (busy : Bool) (most : ℕ) (before : State) whe
         → v.delay ≡ (u.state.numbers c).delay → v.attempts ≡ (u.state.numbers c).attempts → P u
         → P (with_state (with_numbers c v u.state) u)
     own_number u v completed delay started p =
-        let now = put_here u.state.numbers c v in
+        let now = at_put_same u.state.numbers c v in
         own_same u (with_state (with_numbers c v u.state) u) (record {
           completed = ap (λ (n : Numbers). n.completed) now ∙ completed;
           delay = ap (λ (n : Numbers). n.delay) now ∙ delay;
@@ -247,8 +248,8 @@ module _ (m : Setting) (c : ℕ) (busy : Bool) (most : ℕ) (before : State) whe
     holder_rejects : (u : Kept) (j : ℕ) → j ≢ c → P u → P (k_rejecting j u)
     holder_rejects u j ne p =
         let other : c ≢ j = λ e. ne (sym e) in
-        own_parts u (k_rejecting j u) (put_other u.state.numbers j _ c other)
-        (put_other u.standings j _ c other)
+        own_parts u (k_rejecting j u) (at_put_other u.state.numbers j _ c other)
+        (at_put_other u.standings j _ c other)
         refl (λ n. same_news refl n) (λ h. h) p
 
     own_asks : Asks c P (Rejected m c busy most before l)
@@ -284,12 +285,12 @@ module _ (m : Setting) (c : ℕ) (busy : Bool) (most : ℕ) (before : State) whe
         → f (rejected (u.standings c)) ≡ f (u.standings c)
         → f ((k_rejected c u).standings c) ≡ f (u.standings c)
     rejected_standing f u same =
-        ap f (put_here u.standings c _) ∙ rejected_kept f u (is_live u.state c) same
+        ap f (at_put_same u.standings c _) ∙ rejected_kept f u (is_live u.state c) same
 
     refused_now : (u : Kept) → is_live u.state c ≡ true
         → ((k_rejected c u).standings c).requests_rejected ≡ (rejected (u.standings c)).requests_rejected
     refused_now u live =
-        ap (λ (s : Standing). s.requests_rejected) (put_here u.standings c _)
+        ap (λ (s : Standing). s.requests_rejected) (at_put_same u.standings c _)
         ∙ ap (λ b. (if b then rejected (u.standings c) else u.standings c).requests_rejected) live
 
     rejected_amid : (u : Kept) → P u → busy ≡ true → AmidOf m c (k_rejected c u)

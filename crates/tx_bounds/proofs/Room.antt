@@ -1,11 +1,11 @@
--- A constrained attempt has room in its footprint: its operands lie in few octowords, so in few lines and
+-- A constrained attempt has room in its footprint: its operands lie in few octowords, implied in few lines and
 -- blocks.
 use Rattle.std.proofs.Common.{◌≡◌, ◌≢◌, ℕ, zero, suc, ◌+◌, ◌*◌, ◌/◌, ◌≤◌, Bool, true, false, eqb}
 use Rattle.std.proofs.Common.{List, [], ◌∷◌, ◌++◌, length, map, Option, Some, None, refl, sym, ap, ◌∙◌, subst}
 use Rattle.std.proofs.Common.{arith}
-use Rattle.std.specs.Prelude.{◌||◌, ◌&&◌, not, ◌==◌, nat_eq, nat_lt, if◌then◌else◌, Ok, Err}
+use Rattle.std.specs.Prelude.{◌||◌, ◌&&◌, not, ◌==◌, nat_lt, if◌then◌else◌, Ok, Err}
 use Rattle.std.specs.List.{list_any, flat_map, fold, range_with_len}
-use Rattle.std.proofs.lemmas.Bool.{true≢false, or_left, or_right, or_cases, eqb-true, ltb-false, le-ltb}
+use Rattle.std.proofs.lemmas.Bool.{true≢false, or_left, or_right, or_cases, ltb-false, le-ltb}
 use Rattle.std.proofs.lemmas.List.{length-map}
 use Rattle.std.proofs.lemmas.List.Folds.{list_any-append}
 use Rattle.std.proofs.lemmas.List.Concat.{flat_map-append}
@@ -18,12 +18,9 @@ use Rattle.z_regs.specs.Absolute.{absolute_range, absolute_ranges, addresses_of}
 use Rattle.z_regs.specs.declared.ranges.Range.{Range}
 use Rattle.z_regs.proofs.MovedBytes.{same_octowords}
 use Rattle.z_instr.specs.declared.instr.Instr.{Instr}
-use Rattle.z_instr.specs.declared.operand.Operands.{Operands}
-use Rattle.z_instr.specs.declared.operand.Operands.TheVariants.{Absent}
-use Rattle.z_instr.specs.Operands.{from_up, spans_in}
+use Rattle.z_instr.specs.Operands.{from_up}
 use Rattle.z_instr.specs.Roles.{begins}
-use Rattle.z_instr.specs.Table.{Entry, entry_at}
-use Rattle.z_touch.specs.Refusals.{range_of}
+use Rattle.z_instr.specs.Table.{entry_at}
 use Rattle.tx_control.specs.declared.begins.Begin.{Begin}
 use Rattle.line_table.specs.Sizes.{storage_lines}
 use Rattle.tx_constraint.specs.Bytes.{pieces}
@@ -52,8 +49,8 @@ use Rattle.tx_progress.proofs.Facts.{keeps_prefix}
 use Rattle.tx_progress.proofs.Lines.{AreSmall, any_there, range_there, run_there, small_operands}
 use Rattle.tx_progress.proofs.Lines.{either_way}
 use Rattle.tx_progress.proofs.OneMore.{went, open_is_there}
-use Rattle.tx_progress.proofs.Rows.{any_row}
 use Rattle.tx_progress.proofs.Standing.{Stands, run_stands}
+use Rattle.tx_serial.proofs.FreeOperands.{begin_bare}
 
 -- ---- octowords that are piled up
 
@@ -156,28 +153,6 @@ module _ (prefix : Option ℕ) (ok : is_prefix prefix ≡ true) (size : ℕ) (wh
 
 -- ---- the first instruction of a run has no operand
 
-abbrev is_absent : Operands → Bool
-is_absent Absent = true
-is_absent _ = false
-
-abbrev begins_bare : Entry → Bool
-begins_bare e = not (begins e) || is_absent e.operands
-
-no_spans : (o : Operands) (i : Instr) (general : List ℕ) (code : ℕ) → is_absent o ≡ true
-    → spans_in o i general code ≡ []
-unfolding spans_in
-no_spans Absent i general code h = refl
-no_spans _ i general code h = absurd (true≢false (sym h))
-
-so : (a b : Bool) → (not a || b) ≡ true → a ≡ true → b ≡ true
-so true b h e = h
-so false b h e = absurd (true≢false (sym e))
-
-bare_operands : (i : Instr) (c : Cpu) → begins (entry_at i.op.number) ≡ true → operands i c ≡ []
-bare_operands i c begin =
-    ap (map range_of) (no_spans (entry_at i.op.number).operands i c.general c.condition
-    (so (begins (entry_at i.op.number)) _ (any_row begins_bare refl refl i.op.number) begin))
-
 abbrev IsBareFirst : List Step → Type 0
 IsBareFirst [] = Unit {0}
 IsBareFirst (s ∷ ss) = s.ranges ≡ []
@@ -203,7 +178,7 @@ run_bare f i (suc k) exists =
     subst (λ (r : Run). IsBareFirst r.steps) (sym w.is)
     (bare_more p.steps (step_of w.instruction w.ranges p.cpu)
     (run_bare f i k (open_is_there p.mark w.opens))
-    (λ none. pass.touches ∙ bare_operands w.instruction p.cpu
+    (λ none. pass.touches ∙ begin_bare w.instruction p.cpu
     (first_begins (f.cpus i) p.cpu p.steps p.nest w.instruction (run_stands f i k w.opens) none w.follows)))
 
 -- ---- what the footprint of a run has

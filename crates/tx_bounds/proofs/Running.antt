@@ -22,6 +22,8 @@ use Rattle.tx_serial.proofs.Passing.{passes}
 use Rattle.tx_progress.proofs.Rows.{any_row}
 use Rattle.tx_progress.proofs.Standing.{tests_find_nothing}
 use Rattle.tx_keeping.proofs.Running.{Runs, Stays, keeps_running}
+use Rattle.tx_bounds.proofs.Barred.{not_second}
+use Rattle.tx_serial.proofs.TextStays.{or_first}
 
 -- ---- instructions of transactions
 
@@ -37,19 +39,10 @@ is_plain_begin e = not (begins e && is_service e.kind)
 plain_begins : (n : ℕ) → is_plain_begin (entry_at n) ≡ true
 plain_begins = any_row is_plain_begin refl refl
 
-not_and : (a b : Bool) → not (a && b) ≡ true → a ≡ true → b ≡ false
-not_and true true h e = absurd (true≢false (sym h))
-not_and true false h e = refl
-not_and false b h e = absurd (true≢false (sym e))
-
 or_not : (a b : Bool) → (a || not b) ≡ true → a ≡ false → b ≡ false
 or_not true b h e = absurd (true≢false e)
 or_not false true h e = absurd (true≢false (sym h))
 or_not false false h e = refl
-
-or_first : (a b : Bool) → (a || b) ≡ false → a ≡ false
-or_first true b h = absurd (true≢false h)
-or_first false b h = refl
 
 none_where : (b : Bool) (w : Why) → aborts_where b w ≡ None → b ≡ false
 none_where true w h = let n : Some (Because w) ≡ None = h in absurd (cc)
@@ -60,7 +53,7 @@ no_service : (nest : List Begin) (i : Instr) → may_follow nest i ≡ true
     → is_restricted nest (entry_at i.op.number) ≡ false → is_service (kind_at i.op.number) ≡ false
 unfolding kind_at
 no_service [] i follows h =
-    not_and (begins (entry_at i.op.number)) (is_service (entry_at i.op.number).kind)
+    not_second (begins (entry_at i.op.number)) (is_service (entry_at i.op.number).kind)
     (plain_begins i.op.number) follows
 no_service (b ∷ bs) i follows h =
     or_not (entry_at i.op.number).restricted (is_service (entry_at i.op.number).kind)

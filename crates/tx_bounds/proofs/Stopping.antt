@@ -2,7 +2,7 @@
 use Rattle.std.proofs.Common.{◌≡◌, ◌≢◌, ℕ, zero, suc, ◌+◌, ◌<◌, ◌≤◌, Bool, true, false, List, [], ◌∷◌}
 use Rattle.std.proofs.Common.{◌++◌, length, get_or, refl, sym, ap, ◌∙◌, subst, arith, inl, inr}
 use Rattle.std.specs.Prelude.{◌==◌, ◌||◌, ◌⊎◌, if◌then◌else◌, AllPairs}
-use Rattle.std.proofs.lemmas.Bool.{cases_eq, eqb-true, eqb-false, ne_eqb, eq-eqb, or_cases, or_left, or_right}
+use Rattle.std.proofs.lemmas.Bool.{cases_eq, eqb-true, eqb-false, ne_eqb, eq-eqb, or_cases, or_left, or_right, false_from_ne_true}
 use Rattle.std.proofs.lemmas.Bool.{or_parts, or_from}
 use Rattle.std.proofs.lemmas.List.Folds.{list_any-append}
 use borrow.Enum.Arm.{by_way}
@@ -16,14 +16,10 @@ unfoldable pub Once : List ℕ → Type 0
 Once [] = Unit {0}
 Once (x ∷ rest) = (waits_in rest x ≡ false) × Once rest
 
-true_or_false : (b : Bool) → (b ≡ true → ⊥) → b ≡ false
-true_or_false true never = absurd (never refl)
-true_or_false false never = refl
-
 pub never_both : (b : Bool) → b ≡ true → b ≡ false → ⊥
 never_both b here gone = let n : true ≡ false = sym here ∙ gone in cc
 
-or_last : (a b : Bool) → (a || (b || false)) ≡ (b || a)
+pub or_last : (a b : Bool) → (a || (b || false)) ≡ (b || a)
 or_last true true = refl
 or_last true false = refl
 or_last false true = refl
@@ -77,7 +73,7 @@ left_own_by : (head : ℕ) (rest : List ℕ) (i : ℕ) (b : Bool) → (head == i
     → waits_in (if b then rest else head ∷ rest) i ≡ false
 left_own_by head rest i true e out own = subst (λ k. waits_in rest k ≡ false) (eqb-true head i e) out
 left_own_by head rest i false e out own =
-    true_or_false (waits_in (head ∷ rest) i) (λ in_it. never_both (head == i) (own in_it) e)
+    false_from_ne_true (waits_in (head ∷ rest) i) (λ in_it. never_both (head == i) (own in_it) e)
 
 left_own : (q : List ℕ) (i : ℕ) → Once q → (waits_in q i ≡ true → is_first i q ≡ true)
     → waits_in (without_head i q) i ≡ false
@@ -288,7 +284,7 @@ module _ (stop : ℕ) (f : ℕ → ℕ) (queue : List ℕ) (live : ℕ → Bool)
         → ((x : ℕ) → lives x ≡ true → live x ≡ true) → Turning stop g later lives i
     turning_aborted g lives j n later other lj change climb dead less =
         let out : waits_in queue j ≡ false =
-        true_or_false (waits_in queue j) (λ in_it. other (t.others j in_it lj)) in
+        false_from_ne_true (waits_in queue j) (λ in_it. other (t.others j in_it lj)) in
         record {
           counted = counted_climbed stop f queue t.counted g j n later change out climb;
           others = λ x in_it lx.
@@ -317,7 +313,7 @@ module _ (stop : ℕ) (f : ℕ → ℕ) (queue : List ℕ) (live : ℕ → Bool)
         → ((x : ℕ) → lives x ≡ true → live x ≡ true) → Stopping stop g later lives
     stopping_starved g lives n later behind_it change climb dead less =
         let out : waits_in queue i ≡ false =
-        true_or_false (waits_in queue i) (λ in_it. never_both (is_first i queue) (t.own in_it) behind_it) in
+        false_from_ne_true (waits_in queue i) (λ in_it. never_both (is_first i queue) (t.own in_it) behind_it) in
         let never : (x : ℕ) → waits_in later x ≡ true → lives x ≡ true → ⊥ =
         λ x in_it lx.
         let is : x ≡ i =

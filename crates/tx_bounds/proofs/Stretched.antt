@@ -51,13 +51,14 @@ use Rattle.tx_bounds.proofs.Resuming.{leads, resumes}
 use Rattle.tx_bounds.proofs.Paid.{left_of}
 use Rattle.tx_bounds.proofs.Potential.{some_left}
 use Rattle.tx_bounds.proofs.Stopped.{Between, turn_begins, happened, between_first, some_stop}
-use Rattle.tx_bounds.proofs.UnderWay.{HoldsOf, AmidOf, lives, put_here, holds_quiet}
+use Rattle.tx_bounds.proofs.UnderWay.{HoldsOf, AmidOf, lives, holds_quiet}
 use Rattle.tx_bounds.proofs.OtherTurns.{Kept_at, SameAt, other_turn, interrupted_elsewhere, same_holds}
 use Rattle.tx_bounds.proofs.OtherTurns.{same_left}
-use Rattle.tx_bounds.proofs.OtherTurns.{put_other, same_calm, interrupted_news}
+use Rattle.tx_bounds.proofs.OtherTurns.{same_calm, interrupted_news}
 use Rattle.tx_bounds.proofs.News.{Calm, Settles, no_news, same_news}
 use Rattle.tx_bounds.proofs.OwnTurns.{After, stays}
 use Rattle.tx_bounds.proofs.OwnEvents.{own_external, own_ruled, extra}
+use Rattle.tx_serial.proofs.Entries.{at_put_other, at_put_same}
 
 pub some_starve : (m : Setting) → IsSetting m → 0 < m.image.parms.starve
 some_starve m s = let least = s.image.allowed.starve.0 in omega arith
@@ -119,7 +120,7 @@ module _ (m : Setting) (s : IsSetting m) (c : ℕ) (busy : Bool) (some : 0 < m.i
   begun_same : (k : Kept) → SameAt c k (begun_turn k)
   unfolding begun_turn
   begun_same k =
-      let now = put_here k.state.numbers c
+      let now = at_put_same k.state.numbers c
       (record (k.state.numbers c) { turns = (k.state.numbers c).turns + 1 })
       in
       record {
@@ -150,7 +151,7 @@ module _ (m : Setting) (s : IsSetting m) (c : ℕ) (busy : Bool) (some : 0 < m.i
       let d = turn_begins m c k e b in
       let now : n.turns ≡ (k.state.numbers c).turns + 1 =
       ap (λ (v : Numbers). v.turns)
-      (put_here k.state.numbers c (record (k.state.numbers c) { turns = (k.state.numbers c).turns + 1 })) in
+      (at_put_same k.state.numbers c (record (k.state.numbers c) { turns = (k.state.numbers c).turns + 1 })) in
       subst (λ x. After m c busy 1 (left_of m c k + extra (is_tick m.limits x) turns) k.state
       (k_by_rules (is_tick m.limits n.turns) (nat_lt 0 n.delay) m c u).kept) now
       (own_ruled m s c busy k.state u (begun_truth k t) some (small_starve m s) (some_stop m s)
@@ -185,7 +186,7 @@ module _ (m : Setting) (s : IsSetting m) (c : ℕ) (busy : Bool) (some : 0 < m.i
       let at : (k.standings c).aborts ≡ m.image.parms.stop = omega (arith, full, few) in
       let alive : is_live (with_state (with_event (event.Turn i) (counting_turn i k.state)) k).state c
       ≡ true =
-      ap (λ (v : Numbers). lives v.completed) (put_other k.state.numbers i _ c other) ∙ live in
+      ap (λ (v : Numbers). lives v.completed) (at_put_other k.state.numbers i _ c other) ∙ live in
       absurd (other (d.is.others c (b.is.counted.at_stop c at) alive)))
 
   others_by : (i : ℕ) (o : Option Outcome) (k : Kept) → k_idle m k i ≡ o → Truth m k → Between m k

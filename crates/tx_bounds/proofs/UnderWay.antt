@@ -21,18 +21,17 @@ use Rattle.tx_ladder.specs.declared.ladder.Next.TheVariants as rung
 use Rattle.tx_serial.specs.Apply.{is_running}
 use Rattle.tx_serial.specs.Attempt.{at_rest}
 use Rattle.tx_serial.specs.Fate.{Goes, fate}
-use Rattle.tx_serial.specs.Flat.{at_put}
 use Rattle.tx_serial.specs.History.{start_of}
 use Rattle.tx_progress.specs.Local.{Local, left_behind, block_at}
 use Rattle.tx_meaning.specs.Limits.{Setting}
 use Rattle.tx_meaning.specs.State.{Numbers, State}
 use Rattle.tx_meaning.specs.Stretches.{is_end_by}
 use Rattle.tx_meaning.specs.Changes.{without_attempt, after_cause, aborting, on_rung}
-use Rattle.tx_meaning.proofs.Walk.{at_put_case}
 use Rattle.tx_keeping.specs.Kept.{Kept, text_of}
 use Rattle.tx_keeping.specs.Moves.{standing_after}
 use Rattle.tx_bounds.proofs.Again.{goes_again}
 use Rattle.tx_bounds.proofs.Resuming.{Leads, interrupts_not, waits_not, no_pending}
+use Rattle.tx_serial.proofs.Entries.{at_put_same}
 
 -- ---- what is kept
 
@@ -145,9 +144,6 @@ pub data Rung (parms : Parameters) (aborts delay after later : ℕ) : Type 0 whe
       → Rung parms aborts delay after later
   Joins : aborts + 1 ≡ parms.stop → after ≡ aborts + 1 → later ≡ delay → Rung parms aborts delay after later
 
-pub put_here : {A : Type 0} (table : ℕ → A) (i : ℕ) (v : A) → at_put table i v i ≡ v
-put_here {A} table i v = at_put_case (λ (x : A). x ≡ v) table i v i (λ e. refl) (λ ne. absurd (ne refl))
-
 abbrev next_by : Standing → Bool → Bool → Next
 next_by st constrained full =
     if constrained
@@ -160,7 +156,7 @@ rung_by : (i : ℕ) (st : Standing) (s : State) (constrained full : Bool)
 rung_by i st s false full e = Stays refl refl
 rung_by i st s true true e = Joins (eqb-true _ _ e) refl refl
 rung_by i st s true false e =
-    Waits (eqb-false _ _ e) refl (ap (λ (n : Numbers). n.delay) (put_here s.numbers i _))
+    Waits (eqb-false _ _ e) refl (ap (λ (n : Numbers). n.delay) (at_put_same s.numbers i _))
 
 conflict_rung : (i : ℕ) (st : Standing) (s : State)
     → Rung st.parms st.aborts (s.numbers i).delay (after_conflict st).aborts
@@ -189,7 +185,7 @@ unfolding aborting
 abort_rung i st n w s h =
     subst (λ d. Rung st.parms st.aborts d (standing_after w st).aborts
     ((after_cause i st w (without_attempt i s)).numbers i).delay)
-    (ap (λ (v : Numbers). v.delay) (put_here s.numbers i (record (s.numbers i) { completed = 0 })))
+    (ap (λ (v : Numbers). v.delay) (at_put_same s.numbers i (record (s.numbers i) { completed = 0 })))
     (cause_rung i st w (without_attempt i s) h)
 
 -- the turns that a CPU waits behind an abort of an attempt that waited none

@@ -115,7 +115,7 @@ due_text image lines s history after cpus text sheet replayed many told taken ne
 
 -- ---- the report is the expected one
 
-live_where : (f : FlatState) (i : ℕ) (claim o : Option Attempt) (a : Attempt) → Believes f i claim o → o ≡ Some a
+pub live_where : (f : FlatState) (i : ℕ) (claim o : Option Attempt) (a : Attempt) → Believes f i claim o → o ≡ Some a
     → IsLive f i a
 live_where f i None o a none is = let no : None ≡ Some a = sym none ∙ is in absurd cc
 live_where f i (Some b) o a (inl h) is =

@@ -3,7 +3,7 @@ use Rattle.std.proofs.Common.{◌≡◌, ◌∙◌, ap, ap₂, sym, refl, subst,
 use Rattle.std.proofs.Common.{List, [], ◌∷◌, ◌++◌, append_assoc, append-nil, length, length-append, take, drop, inl, inr}
 use Rattle.std.proofs.Common.{Bool, false}
 use Rattle.std.specs.Prelude.{codes, replicate, min, ◌==◌, if◌then◌else◌}
-use Rattle.std.proofs.lemmas.List.{drop-drop, take_all}
+use Rattle.std.proofs.lemmas.List.{take_all}
 use Rattle.std.proofs.Math.Seq.{drop-append_seam, take-append_seam}
 use Rattle.tx_journal.specs.declared.events.Event.{Event}
 use Rattle.tx_journal.specs.declared.events.Event.TheVariants.{Turn, External}
@@ -18,6 +18,7 @@ use Rattle.report_form.specs.Spelling.{Spelled}
 use Rattle.report_form.specs.Rows.{IsRow, events_words}
 use Rattle.report_form.specs.Lines.{Fit}
 use Rattle.tx_check.specs.Sound.{joined}
+use Rattle.tx_journal.proofs.OneSchedule.{drop_more}
 
 -- ---- one event
 
@@ -92,9 +93,6 @@ unfolding IsRow
 full_line last line h = line_in last 15 line h
 
 -- ---- lines behind lines
-
-drop_more : (k : ℕ) (es : List Event) → drop (16 * k) (drop 16 es) ≡ drop (16 * suc k) es
-drop_more k es = drop-drop (16 * k) 16 es ∙ ap (λ n. drop n es) (omega arith)
 
 -- the first line, and the lines of the events behind it
 first_row : (k : ℕ) (es : List Event) → rows_text es (suc k) ≡ row_text (take 16 es) ++ rows_text (drop 16 es) k

@@ -3,7 +3,7 @@ use Rattle.std.proofs.Common.{◌≡◌, ◌∙◌, ap, ap₂, sym, refl, subst,
 use Rattle.std.proofs.Common.{arith, List, [], ◌∷◌, ◌++◌, append_assoc, append-nil, length, length-append, take, drop}
 use Rattle.std.proofs.Common.{get_or, map, inl, inr}
 use Rattle.std.proofs.lemmas.Bool.{cases_lt}
-use Rattle.std.specs.Prelude.{codes, replicate, slice_get, Some, ◌==◌, if◌then◌else◌}
+use Rattle.std.specs.Prelude.{codes, replicate, slice_get, Some}
 use Rattle.std.specs.Fmt.{decimal}
 use Rattle.std.specs.List.{flat_map}
 use Rattle.std.proofs.lemmas.List.{drop-drop, take-append-drop, length-replicate, length-drop}
@@ -27,6 +27,7 @@ use Rattle.report_text.specs.Digits.{labelled, number_line}
 use Rattle.report_text.specs.Report.{history_lines, schedule_lines, run_part}
 use Rattle.tx_check.specs.Sound.{joined, cpu_place}
 use Rattle.tx_check.proofs.EventLines.{AreEvents, events_lines}
+use Rattle.std.proofs.lemmas.Option.{same_Some}
 
 -- ---- a line by its row
 
@@ -36,9 +37,6 @@ pub record HasRow (last : ℕ) (r : Row) (lines : List (List ℕ)) (k : ℕ) : T
   pub there : slice_get lines k ≡ Some line
   pub row : IsRow last r line
 
-some_same : {A : Type 0} (x y : A) → Some x ≡ Some y → x ≡ y
-some_same x y is = cc
-
 pub fit_row : (last : ℕ) (rows : List Row) (lines : List (List ℕ)) (k : ℕ) (r : Row) → Fit last rows lines
     → slice_get rows k ≡ Some r → HasRow last r lines k
 fit_row last [] lines k r fit at = absurd cc
@@ -46,7 +44,7 @@ fit_row last (q ∷ rows) [] k r fit at = absurd fit
 fit_row last (q ∷ rows) (l ∷ lines) zero r fit at = record {
   line = l;
   there = refl;
-  row = subst (λ (x : Row). IsRow last x l) (some_same q r at) fit.0;
+  row = subst (λ (x : Row). IsRow last x l) (same_Some q r at) fit.0;
 }
 fit_row last (q ∷ rows) (l ∷ lines) (suc k) r fit at =
     let h = fit_row last rows lines k r fit.1 at in record { line = h.line; there = h.there; row = h.row }
@@ -137,11 +135,6 @@ first_joined lines at there =
 pub record HasEvents (image : Content) (lines : List (List ℕ)) (entries : ℕ) : Type 0 where
   pub events : List Event
   pub told : joined (drop (schedule_at image entries) lines) ≡ schedule_lines events ++ codes "END\n"
-
-schedule_rows : (events : ℕ) → rows_of (schedule_parts events)
-    ≡ replicate (events / 16) (row.Events 16)
-    ++ (replicate (if events % 16 == 0 then 0 else 1) (row.Events (events % 16)) ++ row.End ∷ [])
-schedule_rows events = refl
 
 pub events_read : (image : Content) (lines : List (List ℕ)) (entries events : ℕ)
     → HasForm image lines entries events → HasEvents image lines entries

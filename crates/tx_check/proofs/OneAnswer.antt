@@ -28,7 +28,7 @@ use Rattle.tx_check.specs.Sound.{AreSmall, IsSmall, Believes, IsTaken, IsExpecte
 use Rattle.tx_check.specs.Answers.{IsDue, IsAccepted, HasMisfit, Differs}
 use Rattle.tx_check.proofs.ClaimLines.{counts_told, live_told, none_told}
 
-some_same : {A : Type 0} {x y : A} → Some x ≡ Some y → x ≡ y
+pub some_same : {A : Type 0} {x y : A} → Some x ≡ Some y → x ≡ y
 some_same e = cc
 
 -- ---- the numbers that a line tells

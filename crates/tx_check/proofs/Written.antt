@@ -1,6 +1,6 @@
 -- The lines of CPUs with their numbers, one CPU more.
 use Rattle.std.proofs.Common.{◌≡◌, ◌∙◌, ap, refl, ℕ, zero, suc, ◌+◌, ◌<◌, List, [], ◌∷◌, ◌++◌, map, length, take, arith}
-use Rattle.std.proofs.Common.{Bool, true, false, ◌&&◌}
+use Rattle.std.proofs.Common.{Bool, true, false}
 use Rattle.std.specs.List.{slice_index_or, list_all}
 use Rattle.report_text.specs.Shown.{ShownCpu}
 use Rattle.std.proofs.lemmas.List.{take_more, map-append, length-map, length-take-le}
@@ -8,6 +8,8 @@ use Rattle.report_text.specs.Processor.{cpu_lines, cpus_text}
 use Rattle.report_text.proofs.Numbered.{text_more}
 use Rattle.tx_check.specs.declared.writing.Seen.{Seen}
 use Rattle.tx_check.specs.Seen.{shown_seen}
+use Rattle.report_text.proofs.Finished.{both_finished}
+use Rattle.std.proofs.lemmas.Bool.{and_right}
 
 pub cpus_more : (cpus : List Seen) (k : ℕ) (p : Seen) → k < length cpus → slice_index_or cpus k p ≡ p
     → cpus_text (map shown_seen (take (k + 1) cpus))
@@ -27,10 +29,6 @@ cpus_more cpus k p lt at =
 abbrev pub all_finished : List Seen → Bool
 all_finished cpus = list_all (λ (c : ShownCpu). c.finished) (map shown_seen cpus)
 
-both_finished : (a b c : Bool) → (b ≡ true → c ≡ true) → (a && b) ≡ true → (a && c) ≡ true
-both_finished true b c rest all = rest all
-both_finished false b c rest all = all
-
 finished_push : (cpus : List Seen) (p : Seen) → p.finished ≡ true → all_finished cpus ≡ true
     → all_finished (cpus ++ p ∷ []) ≡ true
 finished_push [] p is all = rw is refl
@@ -43,12 +41,8 @@ finished_more cpus k p lt at is all =
     ap all_finished (take_more cpus k p lt ∙ ap (λ y. take k cpus ++ y ∷ []) at)
     ∙ finished_push (take k cpus) p is all
 
-neither : (a b : Bool) → b ≡ false → (a && b) ≡ false
-neither true b is = is
-neither false b is = refl
-
 pub unfinished : (cpus : List Seen) (k : ℕ) (p : Seen) → k < length cpus → slice_index_or cpus k p ≡ p
     → p.finished ≡ false → all_finished cpus ≡ false
 unfinished [] k p lt at is = absurd (omega arith)
 unfinished (c ∷ cpus) zero p lt at is = rw (ap (λ (x : Seen). x.finished) at ∙ is) refl
-unfinished (c ∷ cpus) (suc k) p lt at is = neither c.finished _ (unfinished cpus k p (omega arith) at is)
+unfinished (c ∷ cpus) (suc k) p lt at is = and_right c.finished _ (unfinished cpus k p (omega arith) at is)

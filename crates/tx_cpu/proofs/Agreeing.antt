@@ -1,96 +1,22 @@
 -- The fate of the next instruction depends on the bytes of text alone.
-use Rattle.std.proofs.Common.{◌≡◌, ℕ, suc, Bool, true, false, List, [], ◌∷◌, Option, Some, None, refl, sym}
+use Rattle.std.proofs.Common.{◌≡◌, ℕ, Bool, true, false, List, Option, Some, None, refl, sym}
 use Rattle.std.proofs.Common.{ap}
-use Rattle.std.proofs.Common.{subst, ◌∙◌, arith}
-use Rattle.std.specs.Prelude.{◌||◌, ◌%◌, not, map, if◌then◌else◌, nat_eq, nat_lt, unwrap_or}
-use Rattle.std.specs.List.{list_any}
-use Rattle.std.proofs.lemmas.Bool.{or_left, or_right}
+use Rattle.std.proofs.Common.{◌∙◌}
+use Rattle.std.specs.Prelude.{◌%◌, nat_eq, unwrap_or}
 use Rattle.z_regs.specs.Prefix.{absolute_of}
 use Rattle.z_instr.specs.declared.instr.Instr.{Instr}
 use Rattle.z_instr.specs.Computing.{reading_of}
 use Rattle.z_instr.specs.Layout.{length_by}
-use Rattle.z_instr.specs.Operands.{from_up, where_wrong, specification, addressing, protection, operation}
-use Rattle.z_instr.specs.Access.{accessible_pages, text_pages, lies_in, byte_unfetched, first_some, unfetched}
+use Rattle.z_instr.specs.Operands.{from_up, where_wrong, specification, operation}
+use Rattle.z_instr.specs.Access.{accessible_pages, text_pages, byte_unfetched, unfetched}
 use Rattle.tx_serial.specs.Flat.{Storage, bytes_seen}
 use Rattle.tx_serial.specs.Fate.{Fate, Excepts, fate_after, length_at, instruction_at}
-use Rattle.tx_serial.specs.Alike.{AgreeAt, AgreeInText}
+use Rattle.tx_serial.specs.Alike.{AgreeInText}
 use Rattle.tx_progress.specs.Progress.{Progress, seen_through}
 use Rattle.tx_progress.specs.Trial.{at_hand, fetched, fate_by_progress}
-
-here : (a : ℕ) → nat_eq a a ≡ true
-here a = grind (arith)
-
--- the bytes at a list of addresses
-seen_alike : (prefix : Option ℕ) (s t : Storage) (xs : List ℕ) → AgreeAt prefix xs s t
-    → map (λ a. t (absolute_of prefix a)) xs ≡ map (λ a. s (absolute_of prefix a)) xs
-seen_alike prefix s t [] h = refl
-seen_alike prefix s t (x ∷ xs) h =
-    ap (λ b. b ∷ map (λ a. t (absolute_of prefix a)) xs) (h x (or_left (nat_eq x x) (list_any (nat_eq x)
-    xs) (here x)))
-    ∙ ap (λ bs. s (absolute_of prefix x) ∷ bs)
-    (seen_alike prefix s t xs (λ a e. h a (or_right (nat_eq a x) (list_any (nat_eq a) xs) e)))
+use Rattle.tx_serial.proofs.Frame.{seen_alike, in_text, fetched_text, blocked}
 
 -- ---- the fetch
-
--- a byte that can be fetched lies in text
-in_text : (accessible text : List ℕ) (a : ℕ) → byte_unfetched accessible text a ≡ None → lies_in text a ≡ true
-in_text accessible text a h =
-    by (not (lies_in accessible a)) (lies_in text a) h
-  where
-    by : (w l : Bool) → where_wrong w addressing (where_wrong (not l) protection None) ≡ None → l ≡ true
-    by w true h = refl
-    by true false h = grind (arith, h)
-    by false false h = grind (arith, h)
-
-some_in_text : (accessible text : List ℕ) (y x : ℕ) (o : Option ℕ) (b : Bool) (rest : List (Option ℕ))
-    (others : Bool)
-    → byte_unfetched accessible text y ≡ o → nat_eq x y ≡ b → first_some (o ∷ rest) ≡ None
-    → (b || others) ≡ true
-    → (first_some rest ≡ None → others ≡ true → lies_in text x ≡ true)
-    → lies_in text x ≡ true
-some_in_text accessible text y x (Some code) b rest others q w h e more = grind (arith, h)
-some_in_text accessible text y x None true rest others q w h e more =
-    let same : y ≡ x = grind (arith, w) in
-    subst (λ z. lies_in text z ≡ true) same (in_text accessible text y q)
-some_in_text accessible text y x None false rest others q w h e more = more h e
-
-all_in_text : (accessible text xs : List ℕ) → first_some (map (byte_unfetched accessible text) xs) ≡ None
-    → (x : ℕ) → list_any (nat_eq x) xs ≡ true → lies_in text x ≡ true
-all_in_text accessible text [] h x e = grind (arith, e)
-all_in_text accessible text (y ∷ ys) h x e =
-    some_in_text accessible text y x (byte_unfetched accessible text y) (nat_eq x y)
-    (map (byte_unfetched accessible text) ys) (list_any (nat_eq x) ys) refl refl h e
-    (λ g d. all_in_text accessible text ys g x d)
-
-no_wrong : (b : Bool) (code : ℕ) (o : Option ℕ) → where_wrong b code o ≡ None → o ≡ None
-no_wrong true code o h = grind (arith, h)
-no_wrong false code o h = h
-
-pub fetched_text : (accessible text : List ℕ) (a n : ℕ) → unfetched accessible text a n ≡ None
-    → (x : ℕ) → list_any (nat_eq x) (from_up a n) ≡ true → lies_in text x ≡ true
-unfolding unfetched
-fetched_text accessible text a n h =
-    all_in_text accessible text (from_up a n) (no_wrong (nat_eq (a % 2) 1) specification _ h)
-
--- an instruction has a byte
-pub length_some : (x y : Bool) → (m : ℕ) × ((if x then 2 else if y then 4 else 6) ≡ suc m)
-length_some true y = (1, refl)
-length_some false true = (3, refl)
-length_some false false = (5, refl)
-
--- where the first byte can't be fetched, its value does not matter
-blocked_by : (accessible text : List ℕ) (a m code : ℕ) → byte_unfetched accessible text a ≡ Some code
-    → unfetched accessible text a (suc m) ≡ where_wrong (nat_eq (a % 2) 1) specification (Some code)
-unfolding unfetched
-blocked_by accessible text a m code e =
-    ap (λ o. where_wrong (nat_eq (a % 2) 1) specification
-    (first_some (o ∷ map (byte_unfetched accessible text) (from_up (suc a) m)))) e
-
-pub blocked : (accessible text : List ℕ) (a byte code : ℕ) → byte_unfetched accessible text a ≡ Some code
-    → unfetched accessible text a (length_by byte) ≡ where_wrong (nat_eq (a % 2) 1) specification (Some code)
-blocked accessible text a byte code e =
-    let some = length_some (nat_lt byte 64) (nat_lt byte 192) in
-    ap (unfetched accessible text a) some.1 ∙ blocked_by accessible text a some.0 code e
 
 -- ---- the fate
 

@@ -1,8 +1,7 @@
 -- What is kept of a CPU where its program stops, where its attempt is aborted, where its block is stored and
 -- where its interruption is taken.
-use Rattle.std.proofs.Common.{◌≡◌, ℕ, true, false, List, Option, Some, None, sym, ap, ◌∙◌, arith}
+use Rattle.std.proofs.Common.{◌≡◌, ℕ, true, false, List, Option, Some, None, sym, ap, ◌∙◌}
 use Rattle.std.specs.Prelude.{if◌then◌else◌, nat_lt}
-use Rattle.std.proofs.lemmas.Bool.Decides.{nat_tests}
 use Rattle.z_regs.specs.Cpu.{Cpu}
 use Rattle.z_regs.specs.declared.waiting.Waiting.{Waiting}
 use Rattle.z_effect.specs.Interrupted.{interrupted_by}
@@ -25,9 +24,6 @@ use Rattle.tx_attempt.specs.Tracked.{Tracked, progress}
 use Rattle.tx_cpu.specs.Parts.{Parts, local_of, beside}
 use Rattle.tx_attempt.specs.Storages.{storage_of}
 use Rattle.tx_cpu.proofs.Settling.{local-rests}
-
-pub none_of : (n : ℕ) → nat_lt 0 n ≡ false → n ≡ 0
-none_of n h = grind (arith, nat_tests)
 
 -- without an attempt, the CPU as the history leaves it is the CPU as it is
 pub cpu-rests : (p : Parts) → nat_lt 0 p.attempt.count ≡ false → (local_of p).cpu ≡ p.image

@@ -35,28 +35,25 @@ use Rattle.tx_footprint.specs.declared.footprint.Overflow.{Overflow}
 use Rattle.tx_footprint.specs.declared.footprint.Overflow.TheVariants.{Fetch, Store}
 use Rattle.tx_serial.specs.Fate.{Fate, Goes, Ends, Stops}
 use Rattle.tx_serial.specs.Fate.{Refusal, Excepts, Because, fate_after, first_refusal}
-use Rattle.tx_serial.specs.Fate.{operands, fetch_refusal, instruction_at, unreadable, excepted, aborts_where}
+use Rattle.tx_serial.specs.Fate.{operands, fetch_refusal, instruction_at, unreadable, aborts_where}
 use Rattle.tx_serial.specs.Fate.{restricted_refusal, specified_refusal, depth_refusal, operand_refusal}
 use Rattle.tx_serial.specs.Fate.{overflow_in, overflow_of}
 use Rattle.tx_serial.specs.Flat.{Storage}
 use Rattle.z_instr.specs.Roles.{stores_lastingly}
-use Rattle.tx_serial.proofs.FreeOperands.{inside_operands, inside_block}
+use Rattle.tx_serial.proofs.FreeOperands.{inside_operands, inside_block, not_excepted}
 use Rattle.tx_progress.specs.Progress.{Progress}
 use Rattle.tx_progress.specs.Trial.{at_hand, fetched, tried, tests_by, fate_by_progress, text_refusal_by}
 use Rattle.tx_progress.specs.Trial.{place_refusal_by, overflow_refusal_by, constraint_refusal, breach_refusal}
-use Rattle.tx_progress.proofs.Rows.{any_row, begins_are_barred}
+use Rattle.tx_progress.proofs.Rows.{any_row, begins_are_barred, implied}
 use Rattle.tx_attempt.specs.Gathered.{IsStoredDoubleword}
 use Rattle.tx_cpu.specs.Going.{MayGo}
 use Rattle.tx_attempt.specs.Tracked.{Tracked, IsSound, progress}
-use Rattle.tx_cpu.proofs.Agreeing.{fetched_text, length_some}
 use Rattle.tx_attempt.proofs.Reached.{accessible_spans}
+use Rattle.tx_serial.proofs.Frame.{fetched_text, length_some}
+use Rattle.tx_serial.proofs.Passing.{no_fate}
+use Rattle.tx_progress.proofs.Standing.{none_first}
 
 -- ---- no test has found anything
-
-goes : Fate → Bool
-goes (Goes i ranges) = true
-goes (Ends why) = false
-goes (Stops e) = false
 
 instruction_in : Instr → Fate → Instr
 instruction_in d (Goes i ranges) = i
@@ -67,18 +64,6 @@ ranges_in : Fate → List Range
 ranges_in (Goes i ranges) = ranges
 ranges_in (Ends why) = []
 ranges_in (Stops e) = []
-
-stays : (nest : List Begin) (refusal : Refusal) → goes (fate_after nest refusal) ≡ false
-unfolding goes
-stays [] (Excepts e) = refl
-stays (b ∷ bs) (Excepts e) = refl
-stays [] (Because why) = refl
-stays (b ∷ bs) (Because why) = refl
-
-no_fate : {A : Type 0} (nest : List Begin) (refusal : Refusal) (i : Instr) (ranges : List Range)
-    → fate_after nest refusal ≡ Goes i ranges → A
-unfolding goes
-no_fate nest refusal i ranges h = absurd (true≢false (sym (ap goes h) ∙ stays nest refusal))
 
 -- it is fetched, no test refuses it, and the operands are its own
 pub record Found (text : List ℕ) (s : Storage) (q : Progress) (i : Instr) (need : List Range) : Type 0 where
@@ -133,16 +118,7 @@ read-touches text s q j i need reads h =
     let u = fetch_refusal text (at_hand s q) in
     fetched-touches text s q j i need u (ap (fetched text s q u) (sym reads) ∙ h)
 
-pub none-first : (o : Option Refusal) (rest : List (Option Refusal)) → first_refusal (o ∷ rest) ≡ None
-    → (o ≡ None) × (first_refusal rest ≡ None)
-none-first None rest h = (refl, h)
-none-first (Some r) rest h = absurd (cc)
-
 -- ---- what each says
-
-pub unexcepted : (i : Instr) (o : Option ℕ) → excepted i o ≡ None → o ≡ None
-unexcepted i None h = refl
-unexcepted i (Some code) h = absurd (cc)
 
 no-depth : (b : Bool) (n : ℕ) (why : Why) → aborts_where (b && nat_le 16 n) why ≡ None → b ≡ true → n < 16
 no-depth false n why h e = absurd (true≢false (sym e))
@@ -264,10 +240,6 @@ lasting-rows : (n : ℕ) → lasting_row (entry_at n) ≡ true
 unfolding is_doubleword on_boundary
 lasting-rows = any_row lasting_row refl refl
 
-implied : (a b : Bool) → (not a || b) ≡ true → a ≡ true → b ≡ true
-implied true b h e = h
-implied false b h e = absurd (true≢false (sym e))
-
 no-wrong : (b : Bool) (n : ℕ) → (if b then Some n else None) ≡ None → b ≡ false
 no-wrong true n h = absurd (cc)
 no-wrong false n h = refl
@@ -322,15 +294,15 @@ pub goes-so : (text : List ℕ) (s : Storage) (t : Tracked) (c : Cpu) (i : Instr
 goes-so text s t c i need sound h =
     let q = progress t c in
     let found = found-so text s q i need h in
-    let a = none-first (text_refusal_by q i) _ found.passed in
-    let b = none-first (restricted_refusal (at_hand s q) i) _ a.1 in
-    let d = none-first (specified_refusal (at_hand s q) i) _ b.1 in
-    let e = none-first (depth_refusal (at_hand s q) i) _ d.1 in
-    let f = none-first (operand_refusal text (at_hand s q) i) _ e.1 in
-    let g = none-first (place_refusal_by q i) _ f.1 in
-    let k = none-first (overflow_refusal_by q i) [] g.1 in
+    let a = none_first (text_refusal_by q i) _ found.passed in
+    let b = none_first (restricted_refusal (at_hand s q) i) _ a.1 in
+    let d = none_first (specified_refusal (at_hand s q) i) _ b.1 in
+    let e = none_first (depth_refusal (at_hand s q) i) _ d.1 in
+    let f = none_first (operand_refusal text (at_hand s q) i) _ e.1 in
+    let g = none_first (place_refusal_by q i) _ f.1 in
+    let k = none_first (overflow_refusal_by q i) [] g.1 in
     let passed : inaccessible i c.general c.condition (length t.nest) (accessible_pages c.prefix)
-    (text_pages c.prefix text) ≡ None = unexcepted i _ f.0 in
+    (text_pages c.prefix text) ≡ None = not_excepted i _ f.0 in
     let text_kept = unbroken-of (λ kept. next_text_breach kept i c.address) i t.constraint in
     let place_kept = unbroken-of (λ kept. next_operand_breach kept i (operands i c)) i t.constraint in
     record {
@@ -359,5 +331,5 @@ goes-so text s t c i need sound h =
             ∙ fits-so t.nest (touching (sets_of t.footprint) (absolute_ranges c.prefix
             (operands i c))) some k.0;
       };
-      lasting = λ is. lasting-so i c (length t.nest) need is (unexcepted i _ d.0) found.touches;
+      lasting = λ is. lasting-so i c (length t.nest) need is (not_excepted i _ d.0) found.touches;
     }

@@ -40,16 +40,9 @@ use Rattle.tx_attempt.specs.Storages.{storage_of}
 use Rattle.tx_attempt.proofs.Laying.{stored_in}
 use Rattle.tx_cpu.proofs.Settling.{local-rests}
 use Rattle.tx_attempt.proofs.Stored.{trimmed-stores}
+use Rattle.tx_serial.proofs.FreeOperands.{is_absent, absent}
 
 -- ---- what the table says of TEND
-
-abbrev is_absent : Operands → Bool
-is_absent Absent = true
-is_absent _ = false
-
-absent : (o : Operands) → is_absent o ≡ true → o ≡ Absent
-absent Absent h = refl
-absent _ h = absurd (cc)
 
 abbrev ends_plain : Entry → Bool
 ends_plain e = not (is_end e) || (not (begins e) && is_absent e.operands)
@@ -81,9 +74,6 @@ end-bare i c h =
 
 pub live-so : (n : ℕ) → 0 < n → nat_lt 0 n ≡ true
 live-so n h = grind (arith, nat_tests)
-
-pub equal-so : (a b : ℕ) → nat_eq a b ≡ true → a ≡ b
-equal-so a b h = grind (arith, nat_tests, h)
 
 -- with an attempt, the CPU as the history leaves it is the one that was saved
 pub cpu-saved : (p : Parts) → nat_lt 0 p.attempt.count ≡ true → (local_of p).cpu ≡ p.saved

@@ -3,12 +3,12 @@ use Rattle.std.proofs.Common.{◌≡◌, ℕ, ◌+◌, ◌-◌, ◌*◌, ◌/◌
 use Rattle.std.proofs.Common.{Some, None, Ok, refl, sym, ap, subst, ◌∙◌, arith, length}
 use Rattle.std.specs.Prelude.{◌&&◌, ◌||◌, not, cond, map, All, nat_eq, nat_lt, nat_le}
 use Rattle.std.specs.List.{list_any, list_all}
-use Rattle.std.proofs.lemmas.Bool.{true≢false, and_parts}
+use Rattle.std.proofs.lemmas.Bool.{true≢false, and_parts, not-true}
 use Rattle.std.proofs.lemmas.Bool.Decides.{nat_tests}
 use Rattle.std.proofs.lemmas.List.Elements.{All-head}
 use Rattle.z_regs.specs.Cpu.{Cpu}
 use Rattle.z_regs.specs.Prefix.{storage_size, absolute_of}
-use Rattle.z_regs.specs.Absolute.{absolute_range, absolute_ranges}
+use Rattle.z_regs.specs.Absolute.{absolute_ranges}
 use Rattle.z_regs.specs.declared.ranges.Range.{Range}
 use Rattle.z_instr.specs.declared.instr.Instr.{Instr}
 use Rattle.z_instr.specs.declared.operand.Size.{Size}
@@ -54,10 +54,7 @@ use Rattle.tx_program.specs.Shapes.{is_reached, is_admitted, is_bare_begin, is_n
 use Rattle.tx_cpu.proofs.Goes.{read-touches}
 use Rattle.tx_cpu.proofs.Programs.{plain_length, plain_reading}
 use Rattle.tx_cpu.proofs.Tests.{heads, tails, planned-read, tried-goes}
-
-not-so : (b : Bool) → not b ≡ true → b ≡ false
-not-so true h = sym h
-not-so false h = refl
+use Rattle.z_regs.proofs.MovedBytes.{ranges_stay}
 
 and-no : (b : Bool) → (b && false) ≡ false
 and-no true = refl
@@ -100,7 +97,7 @@ well-specified demand.EvenPair o i general depth known h = absurd (true≢false 
 well-specified demand.AbortCode o i general depth known h = absurd (true≢false known)
 well-specified demand.Begin o i general depth known h =
     let p = bare-begin i (shape_in o Byte i) known in
-    let filtered = not-so (nat_eq (modulo 16 i.imm % 4) 3) p.1 in
+    let filtered = not-true (nat_eq (modulo 16 i.imm % 4) 3) p.1 in
     λ k. where_wrong (filtered k || (not (p.0 k) && not (nat_eq (first_address i general % 8) 0))) specification None
 well-specified demand.BeginConstrained o i general depth known h =
     let bare = where-known (nat_eq i.b 0) (shape_in o Byte i) known in
@@ -208,7 +205,7 @@ store-passed text first n small h =
     record {
       inside = ap (λ b. b && true) (inside-line first n true small l);
       apart = ap (λ b. b || false)
-          (apart-line text first n small l (not-so (list_any (nat_eq (first / 4096)) text) parts.1));
+          (apart-line text first n small l (not-true (list_any (nat_eq (first / 4096)) text) parts.1));
     }
 
 passed-in : (o : Operands) (b : Size) (i : Instr) (general : List ℕ) (code : ℕ) (text : List ℕ)
@@ -407,12 +404,6 @@ goes-at text bytes q r first bare ready at h lets =
 
 -- ---- attempts that admit it
 
--- without a prefix real addresses are absolute ones
-bare-ranges : (need : List Range) → absolute_ranges None need ≡ need
-unfolding absolute_range
-bare-ranges [] = refl
-bare-ranges (r ∷ rs) = ap (λ (xs : List Range). r ∷ xs) (bare-ranges rs)
-
 -- where none is live
 resting-admits : (c : Cpu) (i : Instr) (ranges : List Range) → Admits (resting c) i ranges
 resting-admits c i ranges = record {
@@ -444,7 +435,7 @@ begins-none nest e h =
     no-begin : (r s b : Bool) → not (r || (s || b)) ≡ true → b ≡ false
     no-begin true s b h = absurd (true≢false (sym h))
     no-begin false true b h = absurd (true≢false (sym h))
-    no-begin false false b h = not-so b h
+    no-begin false false b h = not-true b h
 
 -- sets within the limits do not overflow
 no-overflow : (nest : List Begin) (sets : Sets) → fit_of sets ≡ Ok tt → overflow_in nest sets ≡ None
@@ -471,7 +462,7 @@ attempt-admits q i need none bare allowed text place fits = record {
   place = place;
   fits = no-overflow q.nest (touching q.footprint (absolute_ranges q.cpu.prefix need))
       (ap (λ (rs : List Range). fit_of (touching q.footprint rs))
-      (ap (λ p. absolute_ranges p need) none ∙ bare-ranges need) ∙ fits);
+      (ap (λ p. absolute_ranges p need) none ∙ ranges_stay need) ∙ fits);
 }
 
 -- ---- an instruction without an operand

@@ -4,7 +4,7 @@ use Rattle.std.proofs.Common.{refl, sym, ap}
 use Rattle.std.proofs.Common.{subst, ◌∙◌, ◌⊎◌, inl, inr, arith, length}
 use Rattle.std.specs.Prelude.{◌&&◌, ◌||◌, nat_lt, if◌then◌else◌}
 use Rattle.std.proofs.Math.Bool.{and-false}
-use Rattle.std.proofs.lemmas.Bool.{true≢false, lt-ltb}
+use Rattle.std.proofs.lemmas.Bool.{true≢false, lt-ltb, and_right}
 use Rattle.z_regs.specs.Cpu.{Cpu, cpu_of}
 use Rattle.z_regs.specs.Prefix.{storage_size}
 use Rattle.z_regs.specs.Seen.{seen_by}
@@ -248,14 +248,11 @@ may_not_abort f i n why may =
     none_where (may_act f i && (nat_lt 0 n && fits f.text (runs f i n) why)) _
     (ap (λ b. b && (nat_lt 0 n && fits f.text (runs f i n) why)) may)
 
-no_and : (a b : Bool) → b ≡ false → (a && b) ≡ false
-no_and a b e = ap (λ x. a && x) e ∙ and-false a
-
 pub none_aborted : (f : FlatState) (i n : ℕ) (why : Why) → n ≡ 0 → apply f (Abort i n why) ≡ None
 unfolding apply
 none_aborted f i n why none =
     none_where (may_act f i && (nat_lt 0 n && fits f.text (runs f i n) why)) _
-    (no_and (may_act f i) (nat_lt 0 n && fits f.text (runs f i n) why)
+    (and_right (may_act f i) (nat_lt 0 n && fits f.text (runs f i n) why)
     (ap (λ b. b && fits f.text (runs f i n) why) (ap (nat_lt 0) none)))
 
 pub unfit : (f : FlatState) (i n : ℕ) (bytes text : List ℕ) (s : Slot) (a : Attempt) (why : Why)
@@ -267,4 +264,4 @@ unfit f i n bytes text s a why answer h is fit never =
     let its : fits f.text p why ≡ false =
     ap (λ pages. fits pages p why) h.text ∙ sym (fit f.storage p (is f i h.storage h.text h.cpu)) ∙ never in
     none_where (may_act f i && (nat_lt 0 n && fits f.text p why)) _
-    (no_and (may_act f i) (nat_lt 0 n && fits f.text p why) (no_and (nat_lt 0 n) (fits f.text p why) its))
+    (and_right (may_act f i) (nat_lt 0 n && fits f.text p why) (and_right (nat_lt 0 n) (fits f.text p why) its))

@@ -79,7 +79,7 @@ copy_back base a p prefix t shows ok same e =
     seen_back p.copy prefix a.seen t ok (shows.copy ∙ ap (λ x. seen_by x (bytes_of p.copy)) same)
     shows.copy_ends e
 
-not_missing : (m : run.Mark) → m ≡ run.Committed → m ≢ run.Missing
+pub not_missing : (m : run.Mark) → m ≡ run.Committed → m ≢ run.Missing
 not_missing m e h = by (sym e ∙ h)
   where
     by : run.Committed ≡ run.Missing → ⊥

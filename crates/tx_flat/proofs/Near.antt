@@ -40,6 +40,7 @@ use Rattle.tx_private.proofs.Laid.{length-bytes}
 use Rattle.tx_private.proofs.Moving.{none_refuses}
 use Rattle.tx_private.proofs.Resting.{some_state}
 use Rattle.tx_private.proofs.Settled.{same_outcome, stored_copy}
+use Rattle.tx_serial.proofs.TextStays.{contraposed}
 
 -- ---- stores to other lines
 
@@ -60,10 +61,6 @@ laid_elsewhere (x ∷ rest) s a off =
     let parts = or_parts (x.address / line_size == a / line_size) (has_store_in line_size rest (a / line_size)) off in
     laid_elsewhere rest (at_put s x.address x.byte) a parts.1
     ∙ put_elsewhere s x a (eqb a x.address) refl parts.0
-
-never_there : (b c : Bool) → (b ≡ true → c ≡ true) → c ≡ false → b ≡ false
-never_there true c h off = absurd (let y : false ≡ true = sym off ∙ h refl in cc)
-never_there false c h off = refl
 
 -- a copy that is storage with stores laid over it, as a CPU sees it
 near_by : (prefix : Option ℕ) (test : ℕ → Bool) (bytes seen : List ℕ) (xs : List Store) → is_prefix prefix ≡ true
@@ -111,11 +108,8 @@ module _ (bytes text : List ℕ) (c : Cpu) (n : ℕ) (a : Attempt) (is : IsRunOf
     near_lasting =
         near_by a.turned (sets_of a.footprint).stored bytes a.lasting p.lasting turned_in
         (shows.lasting ∙ ap (λ x. seen_by x (bytes_of (laid_over (function_of bytes) p.lasting))) same)
-        (λ line off. never_there (has_store_in line_size p.lasting line) (has_store_in line_size p.stores line)
+        (λ line off. contraposed (has_store_in line_size p.lasting line) (has_store_in line_size p.stores line)
         (run_lasting (λ s. s.address / line_size == line) its 0 n) (unstored line off))
-
-pub committed_there : (m : run.Mark) → m ≡ run.Committed → m ≢ run.Missing
-committed_there m e h = let n : run.Committed ≡ run.Missing = sym e ∙ h in cc
 
 -- ---- one instruction outside transactions
 

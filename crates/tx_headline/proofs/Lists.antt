@@ -1,16 +1,12 @@
 -- Small lemmas on entries, flags and lists.
 use Rattle.std.proofs.Common.{◌≡◌, ◌≢◌, ℕ, zero, suc, ◌≤◌, Bool, true, false, List, [], ◌∷◌, ◌++◌}
 use Rattle.std.proofs.Common.{length, drop, refl, ◌∙◌, arith, length-append}
-use Rattle.std.specs.Prelude.{◌==◌, ◌||◌, ◌&&◌, All}
+use Rattle.std.specs.Prelude.{◌==◌, ◌||◌, All}
 use Rattle.std.specs.List.{list_any}
 use Rattle.std.proofs.lemmas.Bool.{ne_eqb, or_right}
 use Rattle.std.proofs.lemmas.List.Elements.{All-nil, All-cons, All-head, All-tail}
 use Rattle.std.proofs.lemmas.List.Folds.{list_any-append}
 use Rattle.tx_ladder.specs.Waiting.{waits_in}
-
-pub and_off : (a : Bool) → (a && false) ≡ false
-and_off true = refl
-and_off false = refl
 
 pub or_last : (a b : Bool) → b ≡ false → (a || (b || false)) ≡ a
 or_last true b off = refl

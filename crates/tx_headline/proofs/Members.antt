@@ -18,7 +18,7 @@ use Rattle.tx_journal.specs.declared.events.Event.{Event}
 use Rattle.tx_journal.specs.declared.events.Event.TheVariants as event
 use Rattle.tx_meaning.specs.Limits.{Setting}
 use Rattle.tx_meaning.specs.Meaning.{meaning, meaning_from}
-use Rattle.tx_meaning.specs.State.{State, beginning, standing_of, cpus_of, is_first}
+use Rattle.tx_meaning.specs.State.{State, beginning, standing_of, cpus_of}
 use Rattle.tx_meaning.specs.Changes.{with_event, without_head, head_to_tail, without_attempt, aborting}
 use Rattle.tx_meaning.specs.Turn.{happen}
 use Rattle.tx_meaning.proofs.Walk.{Walk, conflict_on, rung_case, leaving_case, cause_case, in_a_turn}
@@ -28,13 +28,6 @@ use Rattle.tx_bounds.proofs.Stopping.{Once}
 use Rattle.tx_headline.specs.Queue.{others_before}
 
 -- ---- lists without repetition
-
-same_cons : (x y : ℕ) (xs ys : List ℕ) → x ∷ xs ≡ y ∷ ys → x ≡ y
-same_cons x y xs ys e = cc
-
-pub first_waits : (q : List ℕ) (c : ℕ) → is_first c q ≡ true → waits_in q c ≡ true
-first_waits [] c h = absurd (true≢false (sym h))
-first_waits (head ∷ rest) c h = or_left (head == c) (waits_in rest c) h
 
 pub waits_first : (xs ys : List ℕ) (j : ℕ) → waits_in xs j ≡ true → waits_in (xs ++ ys) j ≡ true
 waits_first xs ys j h = list_any-append (λ k. k == j) xs ys ∙ or_left (waits_in xs j) (waits_in ys j) h
@@ -91,7 +84,7 @@ before_by : (b : Bool) (n most : ℕ) → (b ≡ false → n < most) → (if b t
 before_by true n most h = omega arith
 before_by false n most h = let less = h refl in omega (arith, less)
 
-rest_waits : (a b : Bool) → (a || b) ≡ true → a ≡ false → b ≡ true
+pub rest_waits : (a b : Bool) → (a || b) ≡ true → a ≡ false → b ≡ true
 rest_waits true b h off = absurd (true≢false off)
 rest_waits false b h off = h
 

@@ -30,19 +30,17 @@ use Rattle.tx_bounds.proofs.Potential.{left_at}
 use Rattle.tx_bounds.proofs.Stopped.{between, some_stop}
 use Rattle.tx_bounds.proofs.Stopping.{Once}
 use Rattle.tx_bounds.proofs.Stretched.{cost_of, most_of}
-use Rattle.tx_bounds.proofs.Heads.{queue_is_open}
+use Rattle.tx_bounds.proofs.Heads.{queue_is_open, first_waits}
 use Rattle.tx_headline.specs.Queue.{Joins, HeadGoes, Stays, Leaves, GoesLast, QueueChanges, others_before}
 use Rattle.tx_headline.proofs.After.{known_first, kept_before, kept_behind, left_behind}
-use Rattle.tx_headline.proofs.Members.{first_waits, waits_first, waits_later, once_first, parts_apart}
+use Rattle.tx_headline.proofs.Members.{waits_first, waits_later, once_first, parts_apart}
 use Rattle.tx_headline.proofs.Members.{few_once, before_few, members_known}
 use Rattle.tx_headline.proofs.QueueWalk.{Moved, Goes, turn_moves, external_moves}
 use Rattle.tx_headline.proofs.QueueWalk as moves
 use Rattle.tx_headline.proofs.Runs.{meant_more, kept_more}
+use Rattle.tx_journal.proofs.Readings.{same_head}
 
 -- ---- lists
-
-pub same_head : (x y : ℕ) (xs ys : List ℕ) → x ∷ xs ≡ y ∷ ys → x ≡ y
-same_head x y xs ys e = cc
 
 pub same_rest : (x y : ℕ) (xs ys : List ℕ) → x ∷ xs ≡ y ∷ ys → xs ≡ ys
 same_rest x y xs ys e = cc

@@ -1,5 +1,5 @@
 -- Who waits behind an event that did not wait before it, and who waits no longer.
-use Rattle.std.proofs.Common.{◌≡◌, ℕ, Bool, true, false, List, [], ◌∷◌, ◌++◌, refl, sym, ap, ◌∙◌, subst}
+use Rattle.std.proofs.Common.{◌≡◌, ℕ, true, false, List, [], ◌∷◌, ◌++◌, sym, ap, ◌∙◌, subst}
 use Rattle.std.specs.Prelude.{◌==◌, ◌||◌}
 use Rattle.std.proofs.Math.Bool.{or-false}
 use Rattle.std.proofs.lemmas.Bool.{true≢false, or_right, eqb-true}
@@ -12,19 +12,14 @@ use Rattle.tx_meaning.specs.Stretches.{ends_transaction}
 use Rattle.tx_meaning.specs.Turn.{happen}
 use Rattle.tx_headline.specs.Queue.{Joins, HeadGoes, Stays, Leaves, GoesLast, QueueChanges}
 use Rattle.tx_headline.proofs.Members.{waits_first}
+use Rattle.tx_bounds.proofs.Stopping.{or_last}
 
 -- ---- lists
-
-last_or_first : (a b : Bool) → (a || (b || false)) ≡ (b || a)
-last_or_first true true = refl
-last_or_first true false = refl
-last_or_first false true = refl
-last_or_first false false = refl
 
 -- whoever stands last instead of first waits as well
 moved_last : (head : ℕ) (rest : List ℕ) (j : ℕ) → waits_in (rest ++ head ∷ []) j ≡ waits_in (head ∷ rest) j
 moved_last head rest j =
-    list_any-append (λ k. k == j) rest (head ∷ []) ∙ last_or_first (waits_in rest j) (head == j)
+    list_any-append (λ k. k == j) rest (head ∷ []) ∙ or_last (waits_in rest j) (head == j)
 
 -- who is not in the first part is in the later one
 in_the_later : (xs ys : List ℕ) (j : ℕ) → waits_in (xs ++ ys) j ≡ true → waits_in xs j ≡ false

@@ -30,13 +30,13 @@ use Rattle.tx_keeping.specs.Moves.{standing_after}
 use Rattle.tx_keeping.specs.Turn.{k_external, k_interrupting, k_happen, k_idle, k_turn, k_turn_where}
 use Rattle.tx_keeping.specs.Turn.{k_to_tail, next_address}
 use Rattle.tx_bounds.proofs.Walk.{Walk, IsOwn, in_a_turn}
-use Rattle.tx_bounds.proofs.UnderWay.{put_here}
-use Rattle.tx_bounds.proofs.News.{aborted_history}
-use Rattle.tx_bounds.proofs.OtherTurns.{aborted_dead, aborted_elsewhere, put_other, same_left}
+use Rattle.tx_bounds.proofs.News.{aborted_history, and_off}
+use Rattle.tx_bounds.proofs.OtherTurns.{aborted_dead, aborted_elsewhere, same_left, conflict_counts}
 use Rattle.tx_bounds.proofs.Paid.{left_now, left_of}
 use Rattle.tx_bounds.proofs.Potential.{left_below, left_at}
 use Rattle.tx_headline.specs.Since.{is_conflict, is_conflict_abort_of, is_other_abort_of}
-use Rattle.tx_headline.proofs.Lists.{and_off, none_more}
+use Rattle.tx_headline.proofs.Lists.{none_more}
+use Rattle.tx_serial.proofs.Entries.{at_put_other, at_put_same}
 
 -- none of the entries since ends a transaction of the CPU
 pub record Plain (c : ℕ) (before : List Entry) (k : Kept) : Type 0 where
@@ -72,12 +72,6 @@ pub record Spends (m : Setting) (c : ℕ) (before : List Entry) (e : Event) (k :
   pub ready : k_idle m k c ≡ None
   pub less : left_of m c k ≤ left_of m c (k_happen m e k).kept
   pub plain : Plain c before (k_happen m e k).kept
-
--- a conflict abort of a constrained attempt is counted
-conflict_counts : (stored : Bool) (line : ℕ) (st : Standing) → st.constrained ≡ true
-    → (standing_after (conflict_on stored line) st).aborts ≡ st.aborts + 1
-conflict_counts true line st kind = ap (λ b. if b then st.aborts + 1 else st.aborts) kind
-conflict_counts false line st kind = ap (λ b. if b then st.aborts + 1 else st.aborts) kind
 
 conflict_no_end : (stored : Bool) (line c n : ℕ) → is_end_of c (Abort c n (conflict_on stored line)) ≡ false
 conflict_no_end true line c n = and_off (c == c)
@@ -219,7 +213,7 @@ module _ (m : Setting) (i c : ℕ) (before : List Entry) (first : Kept) where
   abort_standing : (at : ℕ) (w : Why) (k : Kept)
       → (k_aborting c w at k).standings c ≡ standing_after w (k.standings c)
   unfolding k_aborting
-  abort_standing at w k = put_here k.standings c (standing_after w (k.standings c))
+  abort_standing at w k = at_put_same k.standings c (standing_after w (k.standings c))
 
   -- of another CPU
   other_tally : (j at : ℕ) (w : Why) (k : Kept) → c ≢ j → Counts k → Counts (k_aborting j w at k)
@@ -250,7 +244,7 @@ module _ (m : Setting) (i c : ℕ) (before : List Entry) (first : Kept) where
       let n = k.state.numbers c in
       let st = k.standings c in
       let now : t.state.numbers c ≡ record n { completed = 0 } =
-      ap (λ f. f c) numbers ∙ put_here k.state.numbers c (record n { completed = 0 }) in
+      ap (λ f. f c) numbers ∙ at_put_same k.state.numbers c (record n { completed = 0 }) in
       let there : left_of m c t ≡ left_by m.image.parms st.aborts n.delay 0 0 =
       (λ x. left_now m.image.parms (now x).completed (now x).delay ((abort_standing at w k ∙ keeps) x)) in
       let most = left_most m.image.parms st.aborts n.delay n.completed
@@ -341,7 +335,7 @@ module _ (m : Setting) (i c : ℕ) (before : List Entry) (first : Kept) where
       a.tally)))
       (λ other.
       inl (tally_plain k (k_committing i n after k) (Commit i n) refl (ne_eqb i c (λ e. other (sym e))) refl
-      refl (ap (λ (s : Standing). s.aborts) (put_other k.standings i _ c other)) a.tally))
+      refl (ap (λ (s : Standing). s.aborts) (at_put_other k.standings i _ c other)) a.tally))
 
   -- ---- an interruption from outside
 

@@ -21,6 +21,7 @@ use Rattle.tx_heat.specs.Conflicts.{Conflict}
 use Rattle.tx_heat.specs.Heats.{line_heat, heats, is_reject_at, is_abort_at, is_apart_at}
 use Rattle.tx_heat.specs.Watched.{AreCounted, HasRoom, IsBelow}
 use Rattle.tx_heat.specs.declared.counting.LineHeat.{LineHeat}
+use Rattle.tx_meaning.proofs.Room.{bit_small}
 
 abbrev plus : LineHeat → ℕ → ℕ → ℕ → LineHeat
 plus h rejects aborts disjoint = record {
@@ -118,10 +119,6 @@ counted_past lines found c past before = record {
 
 -- ---- room
 
-one_at_most : (b : Bool) → one_if b ≤ 1
-one_at_most true = omega arith
-one_at_most false = omega arith
-
 pub room_here : (lines : List LineHeat) (k : ℕ) (v d : LineHeat) (n : ℕ) (r a f : Bool) → k < length lines
     → v ≡ plus (get_or lines k d) (one_if r) (one_if a) (one_if f) → HasRoom lines (n + 1)
     → HasRoom (set lines k v) n
@@ -133,9 +130,9 @@ room_here lines k v d n r a f lt is room = record {
       let it : v ≡ h = cc in
       let before = room.each k (get_or lines k d) (slice_get-get_or lines k d lt) in
       subst (λ x. IsBelow x n) (sym is ∙ it) record {
-        rejects = omega (arith, before.rejects, one_at_most r);
-        aborts = omega (arith, before.aborts, one_at_most a);
-        disjoint = omega (arith, before.disjoint, one_at_most f);
+        rejects = omega (arith, before.rejects, bit_small r);
+        aborts = omega (arith, before.aborts, bit_small a);
+        disjoint = omega (arith, before.disjoint, bit_small f);
       })
       (λ ne.
       let inside : j < length lines = omega (arith, slice_get_within (set lines k v) j h e, length-set lines k v) in

@@ -1,5 +1,5 @@
 -- How many conflicts there are: in an event not more than it adds to the history and to the recorded events.
-use Rattle.std.proofs.Common.{◌≡◌, ℕ, ◌+◌, ◌-◌, ◌<◌, ◌≤◌, ◌^◌, Bool, true, false, List, [], ◌∷◌, ◌++◌}
+use Rattle.std.proofs.Common.{◌≡◌, ℕ, ◌+◌, ◌-◌, ◌<◌, ◌≤◌, ◌^◌, Bool, false, List, [], ◌∷◌, ◌++◌}
 use Rattle.std.proofs.Common.{Option, Some}
 use Rattle.std.proofs.Common.{None, refl, sym, ap, ◌∙◌, subst, arith, length, length-append, append-nil}
 use Rattle.std.proofs.Common.{append_assoc}
@@ -15,13 +15,14 @@ use Rattle.tx_meaning.specs.Idle.{idle}
 use Rattle.tx_meaning.specs.Limits.{Setting}
 use Rattle.tx_meaning.specs.Meaning.{IsSetting, meaning, meaning_from, is_external}
 use Rattle.tx_meaning.specs.State.{State, is_live, beginning}
-use Rattle.tx_meaning.specs.Turn.{Turned, happen, turn, turn_where, external, interrupting}
+use Rattle.tx_meaning.specs.Turn.{Turned, happen, turn, turn_where, external}
 use Rattle.tx_meaning.specs.Views.{AreKnown}
 use Rattle.tx_meaning.proofs.Books.{turn_booked, external_booked, idle_or_not}
 use Rattle.tx_meaning.specs.Changes.{with_event}
 use Rattle.tx_machine.proofs.Most.{at_most, entries_at_most}
 use Rattle.tx_heat.specs.Conflicts.{conflict_where, abort_of, aborts_by, rejects_by, entries_in}
 use Rattle.tx_heat.specs.Conflicts.{conflicts_in, conflicts_from, conflicts}
+use Rattle.tx_machine.proofs.Laws.{interrupted_by}
 
 -- ---- one event
 
@@ -59,17 +60,13 @@ turn_counted m s i =
     let booked = ap length (turn_booked m i s none).recorded ∙ length-append s.events (event.Turn i ∷ []) in
     grown s (turn m i s) (omega (arith, booked))) refl
 
-unrejected_outside : (b : Bool) (m : Setting) (i : ℕ) (s : State) → (interrupting b m i s).reject ≡ None
-unrejected_outside true m i s = refl
-unrejected_outside false m i s = refl
-
 event_counted : (m : Setting) (s : State) (e : Event) → IsCounted s (happen m e s)
 unfolding happen
 event_counted m s (event.Turn i) = turn_counted m s i
 event_counted m s (event.External i) =
     let t = with_event (event.External i) s in
     let booked = ap length (external_booked m i s).recorded ∙ length-append s.events (event.External i ∷ []) in
-    unrejected s (external m i t) (unrejected_outside (is_live t i) m i t) (omega (arith, booked))
+    unrejected s (external m i t) (interrupted_by (is_live t i) m i t) (omega (arith, booked))
 
 by_reject : (m : Setting) (s : State) (e : Event) (t : Turned) (o : Option Reject) → t.reject ≡ o → IsCounted s t
     → length (rejects_by m s e o) + length s.events ≤ length t.state.events

@@ -5,7 +5,7 @@ use Rattle.std.proofs.Math.Nat.{mul-le-mul_left}
 use Rattle.std.proofs.lemmas.List.{take_all, drop_all}
 use Rattle.tx_journal.specs.declared.events.Event.{Event}
 use Rattle.tx_meaning.specs.Limits.{Setting}
-use Rattle.tx_meaning.specs.Meaning.{IsSetting, meaning, meaning_from}
+use Rattle.tx_meaning.specs.Meaning.{IsSetting, meaning}
 use Rattle.tx_meaning.specs.State.{State, beginning}
 use Rattle.tx_meaning.specs.Views.{AreKnown, GoesOnWith}
 use Rattle.tx_machine.specs.Machine.{Seen, setting_of, state_of, event_of, after, most_events}
@@ -17,10 +17,7 @@ use Rattle.tx_heat.proofs.Counted.{heats_are, room_counted}
 use Rattle.tx_heat.proofs.Few.{few_in, no_conflicts}
 use Rattle.tx_heat.proofs.Followed.{not_shorter}
 use Rattle.tx_heat.proofs.Recorded.{told_behind}
-
-begins : (m : Setting) → meaning m [] ≡ beginning
-unfolding meaning_from
-begins m = refl
+use Rattle.tx_step.proofs.Due.{none_happened}
 
 -- nothing has happened, and nothing is counted
 pub watches_first : (machine : Seen) (tracks : List Tracked) (lines : List LineHeat) → IsSetting (setting_of machine)
@@ -33,7 +30,7 @@ watches_first machine tracks lines setting unused marks size none =
     record {
       setting = setting;
       cpus = size;
-      tracks_are = subst (λ s. AreTracks m s tracks) (sym (ap (meaning m) unused ∙ begins m)) marks;
+      tracks_are = subst (λ s. AreTracks m s tracks) (sym (ap (meaning m) unused ∙ none_happened m)) marks;
       counted = subst (AreCounted lines) (sym nothing) none;
       few = omega (arith, zero);
     }

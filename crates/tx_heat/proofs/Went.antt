@@ -39,8 +39,8 @@ use Rattle.tx_keeping.proofs.Moves.{IsGood, restated, one_number}
 use Rattle.tx_keeping.proofs.Asking.{Keeps, keeps_then, keeps_restated}
 use Rattle.tx_keeping.proofs.Getting.{lines_got}
 use Rattle.tx_bounds.proofs.OtherTurns.{aborted_dead}
-use Rattle.tx_bounds.proofs.UnderWay.{put_here}
 use Rattle.tx_opacity.proofs.Own.{Saw}
+use Rattle.tx_serial.proofs.Entries.{at_put_same}
 
 abbrev pub completed : Kept → ℕ → ℕ
 completed k i = (k.state.numbers i).completed
@@ -80,10 +80,10 @@ module _ (m : Setting) (s : IsSetting m) (i : ℕ) where
   inside k mid at after done.Stepped rests t keeps =
       further k mid _ rests t keeps refl
       (ap (λ (v : Numbers). v.completed)
-      (put_here mid.state.numbers i (record (mid.state.numbers i) { completed = completed mid i + 1 })))
+      (at_put_same mid.state.numbers i (record (mid.state.numbers i) { completed = completed mid i + 1 })))
   inside k mid at after (done.Committed n) rests t keeps =
       Over (ap (λ (v : Numbers). nat_lt 0 v.completed)
-      (put_here mid.state.numbers i (record (mid.state.numbers i) { completed = 0 })))
+      (at_put_same mid.state.numbers i (record (mid.state.numbers i) { completed = 0 })))
   inside k mid at after (done.Ended w) rests t keeps =
       Over (aborted_dead m i (with_beside i after mid) w at)
   inside k mid at after done.Began rests t keeps = Same keeps.completed
@@ -96,13 +96,13 @@ module _ (m : Setting) (s : IsSetting m) (i : ℕ) where
       let n = mid.state.numbers i in
       further k mid _ rests t keeps refl
       (ap (λ (v : Numbers). v.completed)
-      (put_here mid.state.numbers i
+      (at_put_same mid.state.numbers i
       (record n { completed = 1; attempts = n.attempts + 1; given = 0; refused = 0 }))
       ∙ ap (λ c. c + 1) (sym (not_live (completed mid i) off)))
   outside k mid after done.Stepped off rests t keeps = Same keeps.completed
   outside k mid after (done.Paused turns) off rests t keeps =
       Same (ap (λ (v : Numbers). v.completed)
-      (put_here mid.state.numbers i (record (mid.state.numbers i) { delay = turns })) ∙ keeps.completed)
+      (at_put_same mid.state.numbers i (record (mid.state.numbers i) { delay = turns })) ∙ keeps.completed)
   outside k mid after (done.Interrupted code) off rests t keeps = Same keeps.completed
   outside k mid after (done.Committed n) off rests t keeps = Same keeps.completed
   outside k mid after (done.Ended w) off rests t keeps = Same keeps.completed
@@ -176,7 +176,7 @@ module _ (m : Setting) (s : IsSetting m) (i : ℕ) where
   ruled true waits k g within = interrupted k
   ruled false true k g within =
       let n = k.state.numbers i in
-      Same (ap (λ (v : Numbers). v.completed) (put_here k.state.numbers i _))
+      Same (ap (λ (v : Numbers). v.completed) (at_put_same k.state.numbers i _))
   ruled false false k g within = acted k (k.locals i).pending (k.locals i).waiting g within refl refl
 
   counted : (k : Kept) → IsGood m k → i < cpus_of m → Went m k (k_counted_turn m i k).kept i

@@ -6,14 +6,7 @@ use Rattle.std.proofs.lemmas.List.Sums.{sum_by_push}
 use Rattle.std.proofs.lemmas.Grind.{flat_map-append}
 use Rattle.tx_heat.specs.Text.{line_text_where, lines_text}
 use Rattle.tx_heat.specs.declared.counting.LineHeat.{LineHeat}
-
-enumerate_more : {X : Type 0} (n : ℕ) (xs : List X) (x : X)
-    → enumerate_from n (xs ++ x ∷ []) ≡ enumerate_from n xs ++ (n + length xs, x) ∷ []
-enumerate_more n [] x = ap (λ m. (m, x) ∷ []) (omega arith)
-enumerate_more n (y ∷ xs) x =
-    let next : (n + 1) + length xs ≡ n + length (y ∷ xs) = omega arith in
-    let last = enumerate_more (n + 1) xs x ∙ ap (λ m. enumerate_from (n + 1) xs ++ (m, x) ∷ []) next in
-    ap (λ rest. (n, y) ∷ rest) last
+use Rattle.report_text.proofs.Numbered.{enumerate_more}
 
 text_more : (xs : List LineHeat) (x : LineHeat)
     → lines_text (xs ++ x ∷ []) ≡ lines_text xs ++ line_text_where (length xs) x

@@ -3,7 +3,7 @@ use Rattle.std.proofs.Common.{◌≡◌, ℕ, ◌+◌, ◌*◌, ◌%◌, ◌/◌
 use Rattle.std.proofs.Common.{refl, sym, ap, ◌∙◌, arith}
 use Rattle.std.specs.Prelude.{◌&&◌, ◌||◌, nat_eq, nat_lt, nat_le, is_none}
 use Rattle.std.specs.FinSet.{items}
-use Rattle.std.proofs.lemmas.Bool.{and_parts, eqb-true, leb-true, ltb-true, false≢true}
+use Rattle.std.proofs.lemmas.Bool.{and_parts, eqb-true, leb-true, ltb-true, false≢true, and_right}
 use Rattle.std.proofs.lemmas.Bool.Decides.{nat_tests}
 use Rattle.std.proofs.lemmas.Nat.{div-add-mod', mod-mul-add}
 use Rattle.line_table.specs.declared.table.Mode.{Mode}
@@ -43,10 +43,6 @@ rests turns tick k j below lt =
 not-zero : (n m : ℕ) → n ≡ m + 1 → nat_eq n 0 ≡ false
 not-zero n m is = grind (arith, nat_tests)
 
-and-false : (x y : Bool) → y ≡ false → (x && y) ≡ false
-and-false true y is = is
-and-false false y is = refl
-
 -- no turn on the way is a tick
 no-tick : (limits : RunLimits) (turns k j : ℕ) → fits limits turns k ≡ true → j < k → is_tick limits (turns + j + 1) ≡ false
 no-tick limits turns k j fit lt = by-test (nat_eq limits.tick 0) refl
@@ -62,7 +58,7 @@ no-tick limits turns k j fit lt = by-test (nat_eq limits.tick 0) refl
         let below : nat_lt (turns % limits.tick + k) limits.tick ≡ true =
         sym (ap (λ none. none || nat_lt (turns % limits.tick + k) limits.tick) is) ∙ ticks in
         let rest = rests turns limits.tick k j (ltb-true (turns % limits.tick + k) limits.tick below) lt in
-        and-false (nat_lt 0 limits.tick) _ (not-zero ((turns + j + 1) % limits.tick) (turns % limits.tick + j) rest)
+        and_right (nat_lt 0 limits.tick) _ (not-zero ((turns + j + 1) % limits.tick) (turns % limits.tick + j) rest)
 
 -- ---- all of it
 

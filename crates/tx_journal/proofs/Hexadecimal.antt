@@ -7,7 +7,7 @@ use Rattle.hex.specs.declared.error.FromHexError.{FromHexError}
 use Rattle.hex.specs.Hex.{encode_lower, decode_sized, IsBytes}
 use Rattle.hex.proofs.HexLemmas.{decode_sized-encode_lower}
 
-byte_below : (k n : ℕ) → byte_at k n < 256
+pub byte_below : (k n : ℕ) → byte_at k n < 256
 byte_below zero n = omega arith
 byte_below (suc k) n = omega arith
 

@@ -135,7 +135,7 @@ same_front es fs xs ys es_in fs_in is =
     (lacks_word es es_in) (lacks_word fs fs_in) is in
     (same_events es fs es_in fs_in (ap (drop 7) cut.front), cut.behind)
 
-drop_more : (k : ℕ) (es : List Event) → drop (16 * k) (drop 16 es) ≡ drop (16 * suc k) es
+pub drop_more : (k : ℕ) (es : List Event) → drop (16 * k) (drop 16 es) ≡ drop (16 * suc k) es
 drop_more k es = drop-drop (16 * k) 16 es ∙ ap (λ n. drop n es) (omega arith)
 
 -- the first line, and the lines of the events behind it

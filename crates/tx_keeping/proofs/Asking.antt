@@ -46,6 +46,7 @@ use Rattle.tx_keeping.proofs.Moves.{rests_untouched, at_put_case}
 use Rattle.line_table.proofs.Seen.{holding_here, holding_other_cpu}
 use Rattle.tx_meaning.specs.Hits.{hits}
 use Rattle.tx_keeping.proofs.Endings.{Ended, abort_ended, outside_fits, aborting_is}
+use Rattle.tx_meaning.proofs.Replies.{conflicts_live}
 
 -- as the meaning has it
 abbrev pub state_of : KAsked → Asked
@@ -162,11 +163,6 @@ reply_parts k j line mode i = refl
 
 -- ---- what a conflict says
 
-conflict_live : (b : Bool) (fetched stored : Lines) (line : ℕ) (mode : Mode)
-    → conflicts b fetched stored line mode ≡ true → b ≡ true
-conflict_live true fetched stored line mode h = refl
-conflict_live false fetched stored line mode h = let n : false ≡ true = h in absurd (cc)
-
 conflict_touched : (b : Bool) (fetched stored : Lines) (line : ℕ) (mode : Mode)
     → conflicts b fetched stored line mode ≡ true → (fetched line || stored line) ≡ true
 conflict_touched true fetched stored line Shared h = or_right (fetched line) (stored line) h
@@ -259,7 +255,7 @@ pub record AskOk (m : Setting) (i j : ℕ) (need : Need) (k : Kept) (q : KAsked)
   pub others : (x : ℕ) → x ≢ j → (line : ℕ) → q.kept.state.held x line ≡ k.state.held x line
   pub shrinks : Shrinks k.state.held q.kept.state.held
 
-left_not_against : (mode : Mode) → is_against mode (left_to mode) ≡ false
+pub left_not_against : (mode : Mode) → is_against mode (left_to mode) ≡ false
 left_not_against Shared = refl
 left_not_against Exclusive = refl
 
@@ -488,7 +484,7 @@ answered_ok m s i j need k false below g ne against h =
 answered_ok m s i j need k true true g ne against h = rejects_ok m s i j need k g
 answered_ok m s i j need k true false g ne against h =
     aborts_ok m s i j need k g ne against
-    (conflict_live (is_live k.state j) (kept_footprint k j).fetched
+    (conflicts_live (is_live k.state j) (kept_footprint k j).fetched
     (kept_footprint k j).stored need.line need.mode h)
     (conflict_touched (is_live k.state j) (kept_footprint k j).fetched (kept_footprint k j).stored need.line
     need.mode h)
@@ -535,7 +531,7 @@ ask_by m s i j need k a c below g ne against is parts h =
     (k_by_answer i need j mid (answer_of c below (kept_footprint k j).stored need.line)) = record {
       is = ap (by_answer m i need j mid.state) (is ∙ parts)
           ∙ answered_is m i j need mid c below (kept_footprint k j).stored good.truth ne
-          (λ e. conflict_live (is_live mid.state j) (kept_footprint k j).fetched (kept_footprint k j).stored
+          (λ e. conflicts_live (is_live mid.state j) (kept_footprint k j).fetched (kept_footprint k j).stored
           need.line need.mode (h' ∙ e));
       ok = record {
         good = ok.good;

@@ -51,10 +51,6 @@ not_left Exclusive h = cc
 none_is_not_against : (mode : Mode) (h : Option Mode) → h ≡ None → is_against mode h ≡ true → ⊥
 none_is_not_against mode h e s = let n : false ≡ true = ap (is_against mode) (sym e) ∙ s in cc
 
-left_none : (mode : Mode) → is_some (left_to mode) ≡ false → mode ≡ Exclusive
-left_none Shared h = let n : true ≡ false = h in cc
-left_none Exclusive h = refl
-
 some_left : (mode : Mode) → (mode ≡ Exclusive → ⊥) → is_some (left_to mode) ≡ true
 some_left Shared h = refl
 some_left Exclusive h = absurd (h refl)
@@ -252,7 +248,7 @@ granting_holds cpus held touched i needs need h within off none =
 
 -- ---- what else a grant leaves
 
-needs_it : (mode : Mode) (h : Option Mode) → is_there mode h ≡ true → is_some h ≡ true
+pub needs_it : (mode : Mode) (h : Option Mode) → is_there mode h ≡ true → is_some h ≡ true
 needs_it mode None h = let n : false ≡ true = h in cc
 needs_it mode (Some other) h = refl
 

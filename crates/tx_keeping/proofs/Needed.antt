@@ -1,6 +1,6 @@
 -- What is needed of one CPU beside storage: its fate by what is kept, what each entry makes of it, and that it
 -- stays followed where nothing that it has touched changes.
-use Rattle.std.proofs.Common.{◌≡◌, ◌≢◌, ℕ, zero, suc, ◌+◌, ◌/◌, Bool, true, false, List, [], ◌∷◌, Option}
+use Rattle.std.proofs.Common.{◌≡◌, ℕ, zero, suc, ◌+◌, ◌/◌, Bool, true, false, List, [], ◌∷◌, Option}
 use Rattle.std.proofs.Common.{Some}
 use Rattle.std.proofs.Common.{None, refl, sym, ap, ◌∙◌, is_some, length}
 use Rattle.std.specs.Prelude.{◌||◌, ◌⊎◌}
@@ -20,7 +20,7 @@ use Rattle.tx_journal.specs.declared.entries.Entry.TheVariants.{Step, Commit, Ab
 use Rattle.tx_serial.specs.Flat.{FlatState, Storage, Pending, at_put}
 use Rattle.tx_serial.specs.Attempt.{Run, Open, Committed, Overflowed, Missing}
 use Rattle.tx_serial.specs.Alike.{track_of}
-use Rattle.tx_serial.specs.Fate.{Goes, Ends, Stops, fate}
+use Rattle.tx_serial.specs.Fate.{Goes, Stops, fate}
 use Rattle.tx_serial.specs.Run.{run}
 use Rattle.tx_serial.specs.Apply.{apply, may_act, is_running}
 use Rattle.tx_serial.specs.Ending.{ending, fits}
@@ -93,18 +93,14 @@ use Rattle.tx_progress.proofs.OneMore.{run_after}
 use Rattle.tx_progress.proofs.Parts.{followed_outcome, live_follows}
 use Rattle.tx_progress.proofs.Moving.{next_of, one_more, executed_is, executed_live}
 use Rattle.tx_progress.proofs.Endings.{open_ending, over_ending, over_progress, its_nest, ended_leaves}
-use Rattle.tx_progress.proofs.Facts.{stored_line, keeps_prefix, live_nest}
+use Rattle.tx_progress.proofs.Facts.{stored_line, keeps_prefix}
 use Rattle.tx_progress.proofs.OneMore.{went}
 use Rattle.tx_progress.specs.Reached.{progress_of}
-use Rattle.tx_progress.specs.Trial.{tried, fetched, at_hand}
-use Rattle.z_touch.specs.Refusals.{at_fetch}
-use Rattle.tx_serial.specs.Fate.{Refusal, Excepts, Because, fate_after, first_refusal, excepted, aborts_where}
-use Rattle.tx_serial.specs.Fate.{unreadable}
+use Rattle.tx_progress.specs.Trial.{fetched}
 use Rattle.tx_serial.specs.Run.{nest_after}
-use Rattle.tx_control.specs.declared.causes.Why.TheVariants.{Depth}
 use Rattle.z_effect.specs.Beginning.{begin_of}
 use Rattle.std.proofs.Common.{◌++◌, ◌-◌, take}
-use Rattle.std.specs.Prelude.{◌&&◌, nat_lt}
+use Rattle.std.specs.Prelude.{nat_lt}
 use borrow.Enum.Arm.{by_way}
 use Rattle.tx_keeping.proofs.Awaited.{replay_awaits, awaits_at}
 
@@ -262,72 +258,6 @@ pub waits_stopped : (image : Content) (history : List Entry) (f : FlatState) →
 waits_stopped image history f is replayed i w h =
     (awaits_at f (replay_awaits image history f is replayed) i).stopped w h
 
--- a begin that is refused outside transactions, and any other instruction, only stops the program
-rests_tried : (c : Cpu) (instr : Instr) (specified accessible : Option ℕ) (begin : Bool) (why : Why)
-    → tried (resting c) instr (first_refusal (None ∷ None ∷ excepted instr specified
-    ∷ aborts_where (begin && false) Depth ∷ excepted instr accessible ∷ None ∷ None ∷ [])) ≡ Ends why → ⊥
-rests_tried c instr None None true why e = cc
-rests_tried c instr None None false why e = cc
-rests_tried c instr None (Some code) true why e = cc
-rests_tried c instr None (Some code) false why e = cc
-rests_tried c instr (Some code) accessible begin why e = cc
-
-rests_fetched : (text : List ℕ) (storage : Storage) (c : Cpu) (why : Why) (code : Option ℕ)
-    (instr : Option Instr)
-    → fetched text storage (resting c) code instr ≡ Ends why → ⊥
-rests_fetched text storage c why (Some code) instr e = cc
-rests_fetched text storage c why None None e = cc
-rests_fetched text storage c why None (Some instr) e = rests_tried c instr _ _ (begins
-    (entry_at instr.op.number)) why e
-
-rests_end : (text : List ℕ) (storage : Storage) (c : Cpu) (why : Why)
-    → fate_by_progress text storage (resting c) ≡ Ends why → ⊥
-unfolding fate_by_progress
-rests_end text storage c why e = rests_fetched text storage c why _ _ e
-
-open_refused : (nest : List Begin) (r : Refusal) (e : Exception) → nest ≢ [] → fate_after nest r ≡ Stops e → ⊥
-open_refused [] r e some is = some refl
-open_refused (outermost ∷ inner) (Excepts x) e some is = cc
-open_refused (outermost ∷ inner) (Because why) e some is = cc
-
-open_tried : (q : Progress) (instr : Instr) (o : Option Refusal) (e : Exception) → q.nest ≢ []
-    → tried q instr o ≡ Stops e → ⊥
-open_tried q instr None e some is = cc
-open_tried q instr (Some r) e some is = open_refused q.nest r e some is
-
-open_fetched : (text : List ℕ) (storage : Storage) (q : Progress) (code : Option ℕ) (instr : Option Instr)
-    (e : Exception) → q.nest ≢ [] → fetched text storage q code instr ≡ Stops e → ⊥
-open_fetched text storage q (Some code) instr e some is = open_refused q.nest (Excepts
-    (at_fetch code)) e some is
-open_fetched text storage q None None e some is =
-    open_refused q.nest (Excepts (unreadable (at_hand storage q))) e some is
-open_fetched text storage q None (Some instr) e some is = open_tried q instr _ e some is
-
-open_stops : (text : List ℕ) (storage : Storage) (q : Progress) (e : Exception) → q.nest ≢ []
-    → fate_by_progress text storage q ≡ Stops e → ⊥
-unfolding fate_by_progress
-open_stops text storage q e some is = open_fetched text storage q _ _ e some is
-
--- where no transaction is open, no test ends one; and where one is open, no exception stops the program
-pub ends_live : (f : FlatState) (i : ℕ) (local : Local) (why : Why) → IsFollowed f i local
-    → fate_by_progress f.text f.storage local.attempt ≡ Ends why → is_live local.attempt ≡ true
-ends_live f i local why h ends =
-    by (is_live local.attempt) refl
-  where
-    by : (b : Bool) → is_live local.attempt ≡ b → b ≡ true
-    by true e = refl
-    by false e =
-        absurd (rests_end f.text f.storage local.cpu why
-        (ap (fate_by_progress f.text f.storage) (sym (rests f i local h e)) ∙ ends))
-
-pub stops_not_live : (f : FlatState) (i : ℕ) (local : Local) (e : Exception) → IsFollowed f i local
-    → fate_by_progress f.text f.storage local.attempt ≡ Stops e → is_live local.attempt ≡ false
-stops_not_live f i local e h stops = by (is_live local.attempt) refl
-  where
-    by : (b : Bool) → is_live local.attempt ≡ b → b ≡ false
-    by true live = absurd (open_stops f.text f.storage local.attempt e (live_nest f i local h live) stops)
-    by false off = refl
-
 -- ---- an abort
 
 pub abort_leaves : (text : List ℕ) (storage : Storage) (locals : ℕ → Local) (i : ℕ) (why : Why)
@@ -342,7 +272,7 @@ abort_leaves text storage locals i why kept h live fit =
     at_rest text storage locals i (Abort i (locals i).attempt.count why) b l
     (aborted_rests why (locals i).attempt.cpu.address (side storage locals i))
 
-none_there : (o : Option ℕ) (b : Bool) → b ≡ false → ((byte : ℕ) → o ≡ Some byte → b ≡ true) → o ≡ None
+pub none_there : (o : Option ℕ) (b : Bool) → b ≡ false → ((byte : ℕ) → o ≡ Some byte → b ≡ true) → o ≡ None
 none_there None b off some = refl
 none_there (Some byte) b off some = absurd (let x : false ≡ true = sym off ∙ some byte refl in cc)
 

@@ -20,6 +20,7 @@ use Rattle.tx_meaning.specs.Needs.{first_line, last_line, has_line, lines_of, wi
 use Rattle.tx_meaning.specs.Needs.{needs_of}
 use Rattle.tx_meaning.specs.Asking.{is_there}
 use Rattle.tx_keeping.proofs.Getting.{Among}
+use Rattle.tx_keeping.proofs.Holding.{needs_it}
 
 -- ---- numbers in lists
 
@@ -171,10 +172,6 @@ there_exclusive None e = let n : false ≡ true = e in absurd (cc)
 there_exclusive (Some Shared) e = let n : false ≡ true = e in absurd (cc)
 there_exclusive (Some Exclusive) e = refl
 
-there_some : (mode : Mode) (h : Option Mode) → is_there mode h ≡ true → is_some h ≡ true
-there_some mode None e = let n : false ≡ true = e in absurd (cc)
-there_some mode (Some other) e = refl
-
 -- where all needs of ranges are there, what they store is held exclusively, and what they fetch is held
 pub record HasLines (modes : ℕ → Option Mode) (ranges : List Range) : Type 0 where
   pub stored : (line : ℕ) → stores ranges line ≡ true → modes line ≡ Some Exclusive
@@ -191,7 +188,7 @@ has_lines modes ranges there = record {
       (there (record { line = line; mode = mode_for ranges line })
       (needs_line ranges line (line_of_some (λ r. r.store) ranges line h))));
   fetched = λ line h.
-      there_some (mode_for ranges line) (modes line)
+      needs_it (mode_for ranges line) (modes line)
       (there (record { line = line; mode = mode_for ranges line })
       (needs_line ranges line (line_of_some (λ r. not r.store) ranges line h)));
 }

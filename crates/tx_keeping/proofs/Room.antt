@@ -93,7 +93,7 @@ far_count held i line mode far =
     count_agree storage_lines (λ l. is_some (holding held i line mode i l)) (λ l. is_some (held i l))
     (λ l within. let ne : l ≢ line = omega arith in ap is_some (holding_other_line held i line mode i l ne))
 
-not_some : (o : Option Mode) → is_some o ≡ false → o ≡ None
+pub not_some : (o : Option Mode) → is_some o ≡ false → o ≡ None
 not_some None h = refl
 not_some (Some mode) h = absurd (let e : true ≡ false = h in cc)
 

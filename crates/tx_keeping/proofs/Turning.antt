@@ -65,8 +65,7 @@ use Rattle.tx_keeping.specs.Turn.{k_acting}
 use Rattle.tx_keeping.specs.Turn.{k_taking_interruption, k_interrupting, k_external, k_by_rules}
 use Rattle.tx_keeping.specs.Turn.{k_counted_turn, k_idle, k_turn_where, k_turn, k_happen}
 use Rattle.tx_keeping.proofs.Stores.{ChangesIn}
-use Rattle.tx_keeping.proofs.Needed.{fate_followed, fate_stays, is_awaited, waits_stopped, ends_live}
-use Rattle.tx_keeping.proofs.Needed.{stops_not_live}
+use Rattle.tx_keeping.proofs.Needed.{fate_followed, fate_stays, is_awaited, waits_stopped}
 use Rattle.tx_keeping.proofs.Needed.{stopped_leaves, block_leaves, taking_leaves, block_changes}
 use Rattle.tx_keeping.proofs.Needed.{taking_changes}
 use Rattle.tx_keeping.proofs.Needed.{stays_followed, StaysFollowed, Leaves}
@@ -86,6 +85,7 @@ use Rattle.tx_keeping.proofs.Room.{AllWithin, HasRoom}
 use Rattle.tx_keeping.proofs.Few.{instruction_room, resting_room, small_interruption, few_interruption}
 use Rattle.tx_keeping.proofs.Acting.{ActOk, ended_act, ended_restated, step_moved, executing_act}
 use Rattle.tx_keeping.proofs.Acting.{stepping_act, rests_cpu}
+use Rattle.tx_progress.proofs.Quiet.{ends_live, stops_quiet}
 
 -- ---- the statement
 
@@ -349,7 +349,7 @@ module _ (m : Setting) (s : IsSetting m) where
       (ends_fits k i w g.truth ends))
   attempting_ok i k (Stops e) g within acts stops =
       let h = (g.truth.each i).followed in
-      let off = stops_not_live (kept_flat m k) i (k.locals i) e h stops in
+      let off = stops_quiet (kept_flat m k) i (k.locals i) e h stops in
       let after : Beside = record { local = stopped e (k.locals i); storage = k.storage } in
       let lines : ℕ → Bool = λ line. false in
       let end = moved_ended m s k (k_stepping i after k) i (entry.Step i) after lines g

@@ -2,7 +2,7 @@
 use Rattle.std.proofs.Common.{◌≡◌, ℕ, zero, suc, ◌<◌, Bool, true, false, List, Option}
 use Rattle.std.proofs.Common.{refl, sym, ap, subst, ◌∙◌, arith}
 use Rattle.std.specs.Prelude.{◌||◌, ◌==◌, not, if◌then◌else◌}
-use Rattle.std.proofs.lemmas.Bool.{or_left, or_right, true≢false}
+use Rattle.std.proofs.lemmas.Bool.{or_left, or_right, true≢false, not-true}
 use Rattle.z_regs.specs.declared.ranges.Range.{Range}
 use Rattle.z_instr.specs.declared.instr.Instr.{Instr}
 use Rattle.z_instr.specs.Roles.{begins}
@@ -19,9 +19,10 @@ use Rattle.tx_progress.specs.Trial.{fate_by_progress}
 use Rattle.tx_lending.specs.Away.{is_plain, lent_by, lent_turn, ran, GoesAway, GoAway, fate_places, turn_places}
 use Rattle.tx_lending.specs.Away.{touched, fate_stores, turn_stores, stored, IsClear}
 use Rattle.tx_lending.specs.Places.{text_places, operand_places, is_among, LookAlike, over}
-use Rattle.tx_lending.proofs.Stores.{or_first, stored_among}
+use Rattle.tx_lending.proofs.Stores.{stored_among}
 use Rattle.tx_lending.proofs.Touching.{on, fate_alike, done_alike}
 use Rattle.tx_lending.proofs.OneMore.{OneMore, stores_in, one_more}
+use Rattle.tx_serial.proofs.TextStays.{or_first}
 
 -- What turns have made of two storages: the same CPU; what was seen alike is seen alike; and one storage is the
 -- other's marked bytes, laid over what it was.
@@ -32,13 +33,9 @@ pub record Along (overlay : Overlay) (marks : ℕ → Bool) (s t : Storage) (b c
   pub laid : (a : ℕ) → c.storage a ≡ over marks b.storage t a
   pub clear : IsClear b.local.attempt
 
-pub not_true : (b : Bool) → not b ≡ true → b ≡ false
-not_true true h = absurd (true≢false (sym h))
-not_true false h = refl
-
 -- a plain instruction is no begin
 pub no_begin : (i : Instr) → is_plain i ≡ true → begins (entry_at i.op.number) ≡ false
-no_begin i h = or_first (begins (entry_at i.op.number)) _ (not_true _ h)
+no_begin i h = or_first (begins (entry_at i.op.number)) _ (not-true _ h)
 
 stores_among : (live : Bool) (ranges : List Range) (q : Progress) (a : ℕ)
     → is_among (stores_in live ranges q) a ≡ true → is_among (operand_places ranges q) a ≡ true

@@ -19,10 +19,11 @@ use Rattle.tx_progress.specs.declared.done.Done.TheVariants.{Stepped}
 use Rattle.tx_progress.proofs.Parts.{not_live}
 use Rattle.tx_keeping.proofs.Running.{Keeps, keeps_running}
 use Rattle.tx_lending.specs.Away.{is_abort, is_service, is_plain}
-use Rattle.tx_lending.proofs.Along.{not_true, no_begin}
+use Rattle.tx_lending.proofs.Along.{no_begin}
 use Rattle.tx_lending.proofs.OneMore.{more_live}
-use Rattle.tx_lending.proofs.Stores.{or_second}
 use Rattle.tx_lending.proofs.Touching.{on}
+use Rattle.std.proofs.lemmas.Bool.{not-true}
+use Rattle.tx_serial.proofs.TextStays.{or_second}
 
 -- ---- no service call
 
@@ -31,7 +32,7 @@ unfolding kind_at
 no_service i h =
     let e = entry_at i.op.number in
     or_second (asks_for_time e) _ (or_second (stores_lastingly e) _ (or_second (is_abort e.kind) _
-    (or_second (is_end e) _ (or_second (begins e) _ (not_true _ h)))))
+    (or_second (is_end e) _ (or_second (begins e) _ (not-true _ h)))))
 
 -- ---- what is left
 

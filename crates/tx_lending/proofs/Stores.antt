@@ -3,7 +3,6 @@ use Rattle.std.proofs.Common.{◌≡◌, ℕ, zero, suc, Bool, true, false, List
 use Rattle.std.proofs.Common.{refl, sym, ap, ◌∙◌, arith, take, drop}
 use Rattle.std.specs.Prelude.{◌||◌, nat_eq, cond}
 use Rattle.std.specs.List.{filter}
-use Rattle.std.proofs.lemmas.Bool.{true≢false}
 use Rattle.std.proofs.lemmas.List.Folds.{list_any-append}
 use Rattle.z_regs.specs.Prefix.{absolute_of}
 use Rattle.z_regs.specs.declared.ranges.Range.{Range}
@@ -12,16 +11,9 @@ use Rattle.tx_serial.proofs.Copies.{laid_twice}
 use Rattle.tx_serial.proofs.Frame.{in_first, in_second}
 use Rattle.tx_progress.specs.Progress.{Progress}
 use Rattle.tx_lending.specs.Places.{places_from, operand_places, stored_places, is_among}
+use Rattle.tx_serial.proofs.TextStays.{or_first, or_second}
 
 -- ---- marks
-
-pub or_first : (x y : Bool) → (x || y) ≡ false → x ≡ false
-or_first true y h = absurd (true≢false h)
-or_first false y h = refl
-
-pub or_second : (x y : Bool) → (x || y) ≡ false → y ≡ false
-or_second true y h = absurd (true≢false h)
-or_second false y h = h
 
 pub not_first : (a : ℕ) (xs ys : List ℕ) → is_among (xs ++ ys) a ≡ false → is_among xs a ≡ false
 not_first a xs ys h = or_first (is_among xs a) (is_among ys a) (sym (list_any-append (nat_eq a) xs ys) ∙ h)

@@ -2,7 +2,7 @@
 use Rattle.std.proofs.Common.{◌≡◌, ℕ, zero, suc, Bool, true, false, List, [], ◌∷◌, Option, Some, None}
 use Rattle.std.proofs.Common.{refl, sym, ap, subst, ◌∙◌, arith, length}
 use Rattle.std.specs.Prelude.{◌==◌, nat_lt, if◌then◌else◌}
-use Rattle.std.proofs.lemmas.Bool.{or_left, or_right, true≢false}
+use Rattle.std.proofs.lemmas.Bool.{or_left, or_right, true≢false, not-true}
 use Rattle.z_regs.specs.Cpu.{Cpu}
 use Rattle.z_regs.specs.Prefix.{absolute_of}
 use Rattle.z_regs.specs.declared.ranges.Range.{Range}
@@ -34,10 +34,10 @@ use Rattle.tx_lending.specs.Away.{fate_places, touched}
 use Rattle.tx_lending.specs.Places.{text_places, operand_places, is_among}
 use Rattle.tx_lending.specs.Stranger.{GoesOnLike, SeeAlike, else_by, upon, made_by, fate_waits, turn_waits, waiting}
 use Rattle.tx_lending.specs.Stranger.{gone_on}
-use Rattle.tx_lending.proofs.Along.{not_true, no_begin, fewer, last_one, go_by}
+use Rattle.tx_lending.proofs.Along.{no_begin, fewer, last_one, go_by}
 use Rattle.tx_lending.proofs.Leaving.{left_by, stays_live}
-use Rattle.tx_lending.proofs.Stores.{or_first, or_second}
 use Rattle.tx_lending.proofs.Touching.{on, seen_alike, operands_alike, first_there}
+use Rattle.tx_serial.proofs.TextStays.{or_first, or_second}
 
 -- an attempt with other stores that wait, others that outlive an abort, and another place behind one
 abbrev with_other : Progress → Overlay → Overlay → ℕ → Progress
@@ -113,7 +113,7 @@ no_lasting : (i : Instr) → is_plain i ≡ true → stores_lastingly (entry_at 
 no_lasting i h =
     let e = entry_at i.op.number in
     or_first (stores_lastingly e) _ (or_second (is_abort e.kind) _ (or_second (is_end e) _
-    (or_second (begins e) _ (not_true _ h))))
+    (or_second (begins e) _ (not-true _ h))))
 
 lasts : (b : Bool) (o : Overlay) (stores : List Store) → b ≡ false → laying o (if b then stores else []) ≡ o
 lasts true o stores h = absurd (true≢false h)

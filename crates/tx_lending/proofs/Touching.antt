@@ -1,6 +1,6 @@
 -- One instruction on two storages in which a CPU sees the same where it looks.
 use Rattle.std.proofs.Common.{◌≡◌, ℕ, suc, Bool, true, false, List, [], ◌∷◌, ◌++◌, Option, Some, None}
-use Rattle.std.proofs.Common.{refl, sym, ap, subst, ◌∙◌, arith, length}
+use Rattle.std.proofs.Common.{refl, sym, ap, subst, ◌∙◌, length}
 use Rattle.std.specs.Prelude.{map, nat_eq, nat_lt}
 use Rattle.std.specs.List.{list_any}
 use Rattle.std.proofs.lemmas.Bool.{or_left, or_right}
@@ -20,7 +20,7 @@ use Rattle.tx_control.specs.declared.begins.Begin.{Begin}
 use Rattle.store_cache.specs.Overlay.{Store, overlay_of, nothing}
 use Rattle.tx_serial.specs.Fate.{Excepts, fate_after, length_at}
 use Rattle.tx_serial.specs.Flat.{Storage, bytes_seen, operand_bytes, laid_over}
-use Rattle.tx_serial.proofs.Frame.{in_first, in_second, length_some}
+use Rattle.tx_serial.proofs.Frame.{in_first, in_second, length_some, equals_itself}
 use Rattle.tx_progress.specs.Doing.{executed, executed_where, closed_by, stores_of}
 use Rattle.tx_progress.specs.Local.{Local, Beside}
 use Rattle.tx_progress.specs.Progress.{Progress, seen_through, is_live, advanced}
@@ -34,9 +34,6 @@ use Rattle.tx_lending.specs.Places.{AreStoredAlike}
 abbrev pub on : Local → Storage → Beside
 on local storage = record { local = local; storage = storage }
 
-here : (a : ℕ) → nat_eq a a ≡ true
-here a = grind (arith)
-
 -- ---- bytes
 
 -- storages that are the same at places have the same bytes there
@@ -48,7 +45,7 @@ seen_alike prefix s t (x ∷ xs) h =
     let p = absolute_of prefix x in
     let others = map (absolute_of prefix) xs in
     ap (λ b. b ∷ map (λ a. t (absolute_of prefix a)) xs)
-    (h p (or_left (nat_eq p p) (list_any (nat_eq p) others) (here p)))
+    (h p (or_left (nat_eq p p) (list_any (nat_eq p) others) (equals_itself p)))
     ∙ ap (λ bs. s p ∷ bs)
     (seen_alike prefix s t xs (λ a e. h a (or_right (nat_eq a p) (list_any (nat_eq a) others) e)))
 
@@ -73,7 +70,7 @@ pub first_there : (prefix : Option ℕ) (a n m : ℕ) → n ≡ suc m
 first_there prefix a n m e =
     let p = absolute_of prefix a in
     ap (λ k. is_among (places_from prefix a k) p) e
-    ∙ or_left (nat_eq p p) (is_among (places_from prefix (suc a) m) p) (here p)
+    ∙ or_left (nat_eq p p) (is_among (places_from prefix (suc a) m) p) (equals_itself p)
 
 -- the fate by what was fetched looks at the length of the instruction alone
 fetched_alike : (text : List ℕ) (s t : Storage) (q : Progress) (u : Option ℕ) (i : Option Instr)

@@ -33,8 +33,9 @@ use Rattle.tx_lending.specs.Stranger.{made_by, fate_waits, turn_waits, waiting, 
 use Rattle.tx_lending.proofs.Along.{no_begin, fewer, last_one}
 use Rattle.tx_lending.proofs.Strangers.{one_inside}
 use Rattle.tx_lending.proofs.Turning.{all_left}
-use Rattle.tx_lending.proofs.Stores.{or_first, or_second, not_first, not_second}
+use Rattle.tx_lending.proofs.Stores.{not_first, not_second}
 use Rattle.tx_lending.proofs.Touching.{on}
+use Rattle.tx_serial.proofs.TextStays.{or_first, or_second}
 
 -- ---- an instruction goes with its own operands
 

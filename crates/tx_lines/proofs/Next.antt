@@ -40,7 +40,7 @@ skipped test end at (suc n) within fail =
     ∙ skipped test end (at + 1) n (omega arith) (λ k low high. fail k (omega arith) (omega arith))
     ∙ ap (passing_from test end) (omega arith)
 
-behind_all : (test : ℕ → Bool) (end at : ℕ) → end ≤ at → passing_from test end at ≡ []
+pub behind_all : (test : ℕ → Bool) (end at : ℕ) → end ≤ at → passing_from test end at ≡ []
 unfolding passing_from
 behind_all test end at over =
     let none : end - at ≡ 0 = omega arith in

@@ -44,7 +44,7 @@ means m w later before after s t e within is =
     reads_state m later after t ∙ ap (λ (k : Kept). k.state) is
     ∙ ap (λ r. r.state) (tells m w before s e within)
 
-interrupted_by : (live : Bool) (m : Setting) (i : ℕ) (s : State) → (interrupting live m i s).reject ≡ None
+pub interrupted_by : (live : Bool) (m : Setting) (i : ℕ) (s : State) → (interrupting live m i s).reject ≡ None
 interrupted_by true m i s = refl
 interrupted_by false m i s = refl
 

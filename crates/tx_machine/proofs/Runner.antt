@@ -1,6 +1,6 @@
 -- A CPU that is lent runs.
 use Rattle.std.proofs.Common.{◌≡◌, ℕ, ◌<◌, Bool, true, false, Option, Some, None, refl, sym, ap, ◌∙◌, subst, length}
-use Rattle.std.specs.Prelude.{◌&&◌, ◌||◌, is_none, is_some, if◌then◌else◌}
+use Rattle.std.specs.Prelude.{◌&&◌, is_none, is_some, if◌then◌else◌}
 use Rattle.std.specs.Option.{option_or}
 use Rattle.std.proofs.lemmas.Bool.{and_parts, false≢true}
 use Rattle.z_regs.specs.Cpu.{Cpu}
@@ -30,6 +30,7 @@ use Rattle.tx_home.specs.declared.lending.Refusal.TheVariants as refusal
 use Rattle.tx_machine.specs.Machine.{Stands, nobody}
 use Rattle.tx_machine.proofs.Going.{same_seat}
 use Rattle.tx_machine.proofs.Shown.{shown}
+use Rattle.tx_serial.proofs.TextStays.{or_first, or_second}
 
 -- ---- no reason holds
 
@@ -49,14 +50,6 @@ no_reason None false false ticks rest none = record { ready = refl; nothing = re
 no_some : {A : Type 0} (o : Option A) → is_some o ≡ false → o ≡ None
 no_some None is = refl
 no_some (Some a) is = absurd (false≢true (sym is))
-
-or-first : (x y : Bool) → (x || y) ≡ false → x ≡ false
-or-first true y is = is
-or-first false y is = refl
-
-or-second : (x y : Bool) → (x || y) ≡ false → y ≡ false
-or-second true y is = absurd (false≢true (sym is))
-or-second false y is = is
 
 -- the program of a CPU whose turn is not idle has not ended
 unfinished : (finished spent : Bool) (o : Option Outcome)
@@ -114,6 +107,6 @@ lent_runs m w remaining s i within rest none =
     (ap (λ (seat : Seat). is_none (local_of seat.cpu).pending
     && has_ended (local_of seat.cpu).attempt.cpu.state (local_of seat.cpu).attempt.cpu.prefix) same ∙ going)
     (ap (λ (seat : Seat). (local_of seat.cpu).pending) same
-    ∙ no_some l.pending (or-first (is_some l.pending) (is_some l.waiting) reason.nothing))
+    ∙ no_some l.pending (or_first (is_some l.pending) (is_some l.waiting) reason.nothing))
     (ap (λ (seat : Seat). (local_of seat.cpu).waiting) same
-    ∙ no_some l.waiting (or-second (is_some l.pending) (is_some l.waiting) reason.nothing)))
+    ∙ no_some l.waiting (or_second (is_some l.pending) (is_some l.waiting) reason.nothing)))

@@ -4,13 +4,12 @@ use Rattle.std.proofs.Common.{take, Option, Some, refl, sym, ap, ◌∙◌, arit
 use Rattle.std.specs.Prelude.{◌||◌, cond, if◌then◌else◌, slice_get}
 use Rattle.std.specs.List.{flat_map, filter, list_any}
 use Rattle.std.proofs.lemmas.Grind.{flat_map-append}
-use Rattle.std.proofs.lemmas.List.{take_more}
 use Rattle.std.proofs.lemmas.List.Elements.{filter-append}
 use Rattle.std.proofs.lemmas.List.Folds.{list_any-append}
-use Rattle.std.proofs.lemmas.Option.{get_or_from_slice_get, slice_get_within}
 use Rattle.z_regs.specs.Prefix.{absolute_of}
 use Rattle.z_regs.specs.declared.ranges.Range.{Range}
 use Rattle.tx_lending.specs.Places.{places_from}
+use Rattle.tx_needs.proofs.Ranges.{more_ranges}
 
 or_assoc : (a b c : Bool) → ((a || b) || c) ≡ (a || (b || c))
 or_assoc true b c = refl
@@ -51,13 +50,6 @@ up_marked test prefix first n old so_far now before one =
 
 -- ---- operands one after the other
 
--- the first operands, and the next one
-one_more : (ranges : List Range) (i : ℕ) (r : Range) → slice_get ranges i ≡ Some r
-    → take (i + 1) ranges ≡ take i ranges ++ r ∷ []
-one_more ranges i r at =
-    take_more ranges i r (slice_get_within ranges i r at)
-    ∙ ap (λ x. take i ranges ++ x ∷ []) (get_or_from_slice_get ranges i r r at)
-
 any_more : (test : ℕ → Bool) (places : Range → List ℕ) (rs : List Range) (r : Range)
     → list_any test (flat_map places (rs ++ r ∷ []))
     ≡ (list_any test (flat_map places rs) || list_any test (places r))
@@ -76,7 +68,7 @@ pub operand_marked : (test : ℕ → Bool) (places : Range → List ℕ) (ranges
 operand_marked test places ranges i r old so_far now at before one =
     one ∙ ap (λ b. b || list_any test (places r)) before
     ∙ or_assoc old (list_any test (flat_map places (take i ranges))) (list_any test (places r))
-    ∙ ap (λ b. old || b) (sym (ap (λ xs. list_any test (flat_map places xs)) (one_more ranges i r at)
+    ∙ ap (λ b. old || b) (sym (ap (λ xs. list_any test (flat_map places xs)) (more_ranges ranges i r at)
     ∙ any_more test places (take i ranges) r))
 
 -- ---- operands that are stored, one after the other
@@ -96,7 +88,7 @@ stored_more : (test : ℕ → Bool) (places : Range → List ℕ) (ranges : List
     ≡ (list_any test (flat_map places (filter (λ x. x.store) (take i ranges)))
     || (if r.store then list_any test (places r) else false))
 stored_more test places ranges i r at =
-    ap (λ xs. list_any test (flat_map places (filter (λ x. x.store) xs))) (one_more ranges i r at)
+    ap (λ xs. list_any test (flat_map places (filter (λ x. x.store) xs))) (more_ranges ranges i r at)
     ∙ ap (λ xs. list_any test (flat_map places xs)) (filter-append (λ x. x.store) (take i ranges) (r ∷ []))
     ∙ stored_by r.store test places (filter (λ x. x.store) (take i ranges)) r
 

@@ -2,7 +2,9 @@
 ghost use Rattle.std.specs.Prelude.{◌≡◌, ℕ, ◌+◌, ◌*◌, ◌/◌, ◌<◌, ◌≤◌, true, false, ◌||◌, nat_eq, All, length, IsTrue};
 ghost use Rattle.std.specs.Prelude.{IfOk, IfSome, None, if◌then◌else◌, vec_len, vec_capacity};
 ghost use Rattle.std.specs.List.{flat_map, slice_index_or};
+ghost use Rattle.byteorder.specs.Endian.{big_bytes};
 ghost use Rattle.z_regs.specs.Prefix.{storage_size, is_prefix};
+ghost use Rattle.z_regs.specs.Written.{range_at};
 ghost use Rattle.line_table.specs.Sizes.{storage_lines};
 ghost use Rattle.tx_lending.specs.Places.{is_among, places_from};
 ghost use Rattle.tx_marks.specs.Own.{bytes_at, is_touched, given, line_bytes};
@@ -232,5 +234,14 @@ impl OwnBytes {
     {
         let at = self.touched.next(from as usize, STORAGE_SIZE as usize)?;
         Some((at as u64, self.before.as_slice()[at]))
+    }
+
+    /// The number in the eight bytes from a place on, each that is touched as it was before. Of any other it has the byte that
+    /// was kept there last.
+    pub fn before(&self, at: u64) -> u64
+        requires { at + 8 ≤ storage_size }
+        ensures { big_bytes 8 result ≡ range_at self.entry.now.before at 8 }
+    {
+        self.before.word(at, 8)
     }
 }

@@ -160,6 +160,22 @@ impl Traces {
         Some(at as u64)
     }
 
+    /// How many bytes from a stored one on are taken at once: eight where all of these were stored, and else one.
+    pub fn stored_from(&self, at: u64) -> usize
+        requires inside { at < storage_size }
+        requires marked { is_stored self.now at ≡ true }
+        ensures some { 0 < result }
+        ensures few { result ≤ 8 }
+        ensures within { at + result ≤ storage_size }
+        ensures stored { (a : ℕ) → at ≤ a → a < at + result → is_stored self.now a ≡ true }
+    {
+        let first = at as usize;
+        if at <= STORAGE_SIZE - 8 && self.stored.has_run(first, first + 8) {
+            return 8;
+        }
+        1
+    }
+
     /// The lowest marked page from this one on; None exactly where there is none.
     pub fn next_page(&self, from: u32) -> Option<u32>
         ensures found { IfSome result (λ page. (from ≤ page) × (is_paged self.now page ≡ true)) }

@@ -18,6 +18,7 @@ use Rattle.tx_meaning.specs.declared.asking.Need.{Need}
 use Rattle.tx_meaning.specs.Needs.{first_line, last_line, has_line, lines_of, with_number, rising, mode_for}
 use Rattle.tx_meaning.specs.Needs.{needs_of}
 use Rattle.tx_meaning.specs.Changes.{is_needed}
+use Rattle.tx_footprint.proofs.Marking.{or_false}
 
 same_bool : (a b : Bool) → (a ≡ true → b ≡ true) → (b ≡ true → a ≡ true) → a ≡ b
 same_bool true b to from = sym (to refl)
@@ -174,12 +175,8 @@ sorted_has sorted (n ∷ rest) x =
     or_group true b c = refl
     or_group false b c = refl
 
-or_none : (b : Bool) → (b || false) ≡ b
-or_none true = refl
-or_none false = refl
-
 rising_has : (numbers : List ℕ) (x : ℕ) → has x (rising numbers) ≡ has x numbers
-rising_has numbers x = sorted_has [] numbers x ∙ or_none (has x numbers)
+rising_has numbers x = sorted_has [] numbers x ∙ or_false (has x numbers)
 
 -- each number is above the one before it
 abbrev IsAbove : ℕ → List ℕ → Type 0

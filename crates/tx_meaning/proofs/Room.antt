@@ -40,7 +40,7 @@ live_put n i v s known =
     let put = count_but_at n (is_live s) i (nat_lt 0 v.completed) known in
     omega arith
 
-bit_small : (b : Bool) → one_if b ≤ 1
+pub bit_small : (b : Bool) → one_if b ≤ 1
 bit_small true = omega arith
 bit_small false = omega arith
 

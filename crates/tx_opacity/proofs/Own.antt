@@ -31,13 +31,13 @@ use Rattle.tx_keeping.specs.Turn.{KTurned, k_ends_by, k_once_given, k_refused_tu
 use Rattle.tx_keeping.specs.Turn.{k_attempting, k_acting, k_external, k_interrupting, k_by_rules, k_counted_turn}
 use Rattle.tx_keeping.specs.Turn.{k_turn, k_turn_where, k_idle, k_happen, next_address}
 use Rattle.tx_keeping.proofs.Truth.{Truth, live_is}
-use Rattle.tx_keeping.proofs.Needed.{stops_not_live}
 use Rattle.tx_keeping.proofs.Moves.{IsGood, restated, same_numbers, one_number}
 use Rattle.tx_keeping.proofs.Asking.{Keeps, keeps_then, keeps_restated}
 use Rattle.tx_keeping.proofs.Getting.{lines_got}
 use Rattle.tx_keeping.proofs.Turning.{pending_rests, waiting_rests}
 use Rattle.tx_bounds.proofs.OtherTurns.{aborted_dead}
-use Rattle.tx_bounds.proofs.UnderWay.{put_here}
+use Rattle.tx_serial.proofs.Entries.{at_put_same}
+use Rattle.tx_progress.proofs.Quiet.{stops_quiet}
 
 -- there was a moment with the same history as behind, at which the attempt saw what it had seen before
 pub record Saw (m : Setting) (k q : Kept) (i : ℕ) : Type 0 where
@@ -71,7 +71,7 @@ module _ (m : Setting) (s : IsSetting m) (i : ℕ) where
       inr record { mid = mid; truth = t; keeps = keeps; history = refl }
   inside k mid at after (done.Committed n) t keeps =
       inl (ap (λ (v : Numbers). nat_lt 0 v.completed)
-      (put_here mid.state.numbers i (record (mid.state.numbers i) { completed = 0 })))
+      (at_put_same mid.state.numbers i (record (mid.state.numbers i) { completed = 0 })))
   inside k mid at after (done.Ended w) t keeps = inl (aborted_dead m i (with_beside i after mid) w at)
   inside k mid at after done.Began t keeps =
       inr record { mid = mid; truth = t; keeps = keeps; history = refl }
@@ -114,7 +114,7 @@ module _ (m : Setting) (s : IsSetting m) (i : ℕ) where
   attempted k (Ends w) g within live is = inl (aborted_dead m i k w (next_address k i))
   attempted k (Stops e) g within live is =
       clash (is_live k.state i) live
-      (live_is m k g.truth i ∙ stops_not_live (kept_flat m k) i (k.locals i) e (g.truth.each i).followed is)
+      (live_is m k g.truth i ∙ stops_quiet (kept_flat m k) i (k.locals i) e (g.truth.each i).followed is)
 
   acted : (k : Kept) (pending : Option Pending) (waiting : Option Waiting) → IsGood m k → i < cpus_of m
       → is_live k.state i ≡ true → (k.locals i).pending ≡ pending → (k.locals i).waiting ≡ waiting

@@ -9,7 +9,7 @@ use Rattle.std.proofs.lemmas.Bool.{cases_lt}
 use Rattle.z_regs.specs.Prefix.{storage_size, is_prefix, absolute_of}
 use Rattle.z_regs.proofs.Exchange.{seen_at, length-seen, absolute_within}
 use Rattle.z_instr.specs.Layout.{length_by}
-use Rattle.z_instr.specs.Operands.{from_up, where_wrong, specification, operation}
+use Rattle.z_instr.specs.Operands.{from_up, specification, operation}
 use Rattle.z_instr.specs.Access.{accessible_pages, text_pages, byte_unfetched, first_some, unfetched}
 use Rattle.z_touch.proofs.Fetches.{beyond_storage}
 use Rattle.tx_serial.specs.Flat.{bytes_of, bytes_seen}
@@ -20,7 +20,7 @@ use Rattle.z_touch.specs.Refusals.{fetch_answer, at_fetch}
 use Rattle.z_regs.specs.Cpu.{Cpu}
 use Rattle.z_instr.specs.declared.instr.Instr.{Instr}
 use Rattle.z_instr.specs.Computing.{reading_of}
-use Rattle.tx_serial.proofs.Frame.{blocked}
+use Rattle.tx_serial.proofs.Frame.{blocked, no_wrong}
 use Rattle.tx_serial.proofs.Listed.{bytes_below_at, taken}
 use Rattle.tx_private.specs.Reading.{IsCopy}
 use Rattle.tx_private.proofs.Laid.{length-bytes}
@@ -95,10 +95,6 @@ each_open f (suc n) a (suc k) h clear =
     ∙ each_open f n (suc a) k (let e : k < n = omega (arith, h) in e)
     (rest_open (f a) (map f (from_up (suc a) n)) clear)
 
-not_wrong : (b : Bool) (code : ℕ) (o : Option ℕ) → where_wrong b code o ≡ None → o ≡ None
-not_wrong true code o h = absurd (cc)
-not_wrong false code o h = h
-
 -- all bytes of an instruction that can be fetched lie in storage
 pub fetched_inside : (prefix : Option ℕ) (pages : List ℕ) (a n : ℕ) → 0 < n
     → unfetched (accessible_pages prefix) pages a n ≡ None → a + n ≤ 1048576
@@ -106,7 +102,7 @@ unfolding unfetched
 fetched_inside prefix pages a zero some h = absurd (omega (arith, some))
 fetched_inside prefix pages a (suc m) some h =
     let last = each_open (byte_unfetched (accessible_pages prefix) pages) (suc m) a m
-    (let e : m < suc m = omega arith in e) (not_wrong (nat_eq (a % 2) 1) specification _ h) in
+    (let e : m < suc m = omega arith in e) (no_wrong (nat_eq (a % 2) 1) specification _ h) in
     let low = fetched_low prefix pages (a + m) last (cases_lt (a + m) 1048576) in
     omega (arith, low)
 

@@ -23,9 +23,9 @@ use Rattle.tx_constraint.specs.Constraints.{Step, Attempt, begun, with_step, tex
 use Rattle.tx_footprint.specs.Places.{IsInStorage}
 use Rattle.tx_footprint.specs.Touched.{untouched, touching}
 use Rattle.tx_serial.specs.Flat.{Storage, bytes_of, laid_over, operand_stores}
-use Rattle.tx_serial.specs.Attempt.{Run, footprint, attempt_of, last_step}
+use Rattle.tx_serial.specs.Attempt.{Run, attempt_of, last_step}
 use Rattle.tx_serial.specs.Attempt as run
-use Rattle.tx_serial.specs.Fate.{Refusal, Passes, operands, step_of, tests, first_refusal, broken}
+use Rattle.tx_serial.specs.Fate.{Passes, operands, step_of, tests, first_refusal, broken}
 use Rattle.tx_serial.specs.Fate.{broken_where}
 use Rattle.tx_serial.specs.Fate.{text_refusal, restricted_refusal, specified_refusal, depth_refusal}
 use Rattle.tx_serial.specs.Fate.{operand_refusal, place_refusal, overflow_refusal}
@@ -43,17 +43,9 @@ use Rattle.tx_private.proofs.Inside.{inside, in_storage}
 use Rattle.tx_private.proofs.Settled.{stored_copy, ends_still, touched_more, at_end, begin_stays, some_steps}
 use Rattle.tx_private.proofs.Settled.{no_steps}
 use Rattle.tx_private.proofs.Settled.{limited_first, limited_more, plain_inside}
+use Rattle.tx_serial.proofs.FreeOperands.{found_none, none_first}
 
 -- ---- no test refuses
-
-head_none : (o : Option Refusal) (rest : List (Option Refusal)) → first_refusal (o ∷ rest) ≡ None → o ≡ None
-head_none None rest h = refl
-head_none (Some r) rest h = absurd (cc)
-
-tail_none : (o : Option Refusal) (rest : List (Option Refusal)) → first_refusal (o ∷ rest) ≡ None
-    → first_refusal rest ≡ None
-tail_none None rest h = h
-tail_none (Some r) rest h = absurd (cc)
 
 pub record NoneRefuses (text : List ℕ) (p : Run) (i : Instr) : Type 0 where
   pub on_text : text_refusal p i ≡ None
@@ -65,18 +57,18 @@ pub record NoneRefuses (text : List ℕ) (p : Run) (i : Instr) : Type 0 where
 pub none_refuses : (text : List ℕ) (p : Run) (i : Instr) → first_refusal (tests text p i) ≡ None
     → NoneRefuses text p i
 none_refuses text p i h =
-    let one = tail_none (text_refusal p i) _ h in
-    let two = tail_none (restricted_refusal p i) _ one in
-    let three = tail_none (specified_refusal p i) _ two in
-    let four = tail_none (depth_refusal p i) _ three in
-    let five = tail_none (operand_refusal text p i) _ four in
-    let six = tail_none (place_refusal p i) _ five in
+    let one = none_first (text_refusal p i) _ h in
+    let two = none_first (restricted_refusal p i) _ one in
+    let three = none_first (specified_refusal p i) _ two in
+    let four = none_first (depth_refusal p i) _ three in
+    let five = none_first (operand_refusal text p i) _ four in
+    let six = none_first (place_refusal p i) _ five in
     record {
-      on_text = head_none (text_refusal p i) _ h;
-      on_depth = head_none (depth_refusal p i) _ three;
-      on_operands = head_none (operand_refusal text p i) _ four;
-      on_places = head_none (place_refusal p i) _ five;
-      on_overflow = head_none (overflow_refusal p i) [] six;
+      on_text = found_none (text_refusal p i) _ h;
+      on_depth = found_none (depth_refusal p i) _ three;
+      on_operands = found_none (operand_refusal text p i) _ four;
+      on_places = found_none (place_refusal p i) _ five;
+      on_overflow = found_none (overflow_refusal p i) [] six;
     }
 
 no_number : (o : Option ℕ) (i : Instr) → broken_where true (λ a. o) (begun 0) i ≡ None → o ≡ None

@@ -32,7 +32,7 @@ use Rattle.tx_constraint.specs.Constraints.{GoesOn}
 use Rattle.tx_constraint.specs.Constraints.{first_of, has_barred, is_too_long, leaves_its_bytes}
 use Rattle.tx_footprint.specs.Places.{has_place}
 use Rattle.tx_footprint.specs.Sizes.{line_size, block_size}
-use Rattle.tx_footprint.proofs.Marking.{or_assoc}
+use Rattle.tx_footprint.proofs.Marking.{or_assoc, or_false}
 use Rattle.tx_footprint.specs.Touched.{Sets, untouched, touching}
 use Rattle.tx_serial.specs.Flat.{Storage, bytes_of, laid_over, operand_stores}
 use Rattle.tx_serial.specs.Attempt.{Run, footprint, attempt_of, last_step}
@@ -46,15 +46,13 @@ use Rattle.tx_private.specs.Shows.{EndsInTime, begin_at, begin_length, is_empty,
 use Rattle.tx_constraint.specs.Kept.{Kept, kept, kept_at, added}
 use Rattle.tx_constraint.proofs.Attempts.{octowords_begun, kept_step}
 use Rattle.tx_private.proofs.Laid.{laid_beyond, operands_within, AreIn}
+use Rattle.tx_serial.proofs.SameCauses.{agreeing}
+use Rattle.z_touch.proofs.Reach.{spans_back}
 
 -- ---- spans and ranges
 
-pub span_back : (ss : List Span) → map span_of (map range_of ss) ≡ ss
-span_back [] = refl
-span_back (s ∷ ss) = ap (λ rs. s ∷ rs) (span_back ss)
-
 spans_of : (i : Instr) (c : Cpu) → map span_of (operands i c) ≡ ranges_of i c
-spans_of i c = span_back (ranges_of i c)
+spans_of i c = spans_back (ranges_of i c)
 
 -- ---- the outcome of the next instruction
 
@@ -101,15 +99,11 @@ ends_still i p s seen bytes ok size inside ends a past =
 
 -- ---- the footprint
 
-or_none : (b : Bool) → (b || false) ≡ b
-or_none true = refl
-or_none false = refl
-
 pub nothing_more : (sets : Sets) → touching sets [] ≡ sets
 nothing_more sets = λ k. record {
-  fetched = λ line. or_none (sets.fetched line) k;
-  stored = λ line. or_none (sets.stored line) k;
-  blocks = λ block. or_none (sets.blocks block) k;
+  fetched = λ line. or_false (sets.fetched line) k;
+  stored = λ line. or_false (sets.stored line) k;
+  blocks = λ block. or_false (sets.blocks block) k;
 }
 
 joined : (a : Bool) (test : Range → Bool) (xs ys : List Range)
@@ -213,16 +207,10 @@ is_told_apart e = agree (is_lasting_kind e.kind) (stores_lastingly e)
 told_apart : (n : ℕ) → n < ROWS → is_told_apart (entry_at n) ≡ true
 told_apart = passes_row is_told_apart refl
 
-agrees : (a b : Bool) → agree a b ≡ true → a ≡ b
-agrees true true h = refl
-agrees true false h = absurd (cc)
-agrees false true h = absurd (cc)
-agrees false false h = refl
-
 -- an operation has lasting stores exactly where it is NTSTG
 pub lasting_at : (n : ℕ) → n < ROWS → is_lasting_kind (kind_at n) ≡ stores_lastingly (entry_at n)
 unfolding kind_at
-lasting_at n h = agrees (is_lasting_kind (entry_at n).kind) (stores_lastingly (entry_at n))
+lasting_at n h = agreeing (is_lasting_kind (entry_at n).kind) (stores_lastingly (entry_at n))
     (told_apart n h)
 
 lasting_is : (k : Kind) → is_lasting_kind k ≡ true → k ≡ kind.Transaction transaction.StoreLasting
@@ -239,9 +227,6 @@ same_doing depth i c s t h =
     ∙ sym (ap (λ (q : Kind). effect q (length_of i) i c depth (touched (ranges_of i c) t)) e)
 
 -- ---- what is kept of the constraints
-
-no_begin : (b : Begin) (bs : List Begin) → b ∷ bs ≡ [] → ⊥
-no_begin b bs h = cc
 
 pub some_steps : (steps : List Step) → false ≡ is_empty steps → steps ≡ [] → ⊥
 some_steps steps h e = true≢false (sym (h ∙ ap is_empty e))

@@ -28,6 +28,7 @@ use Rattle.tx_private.specs.declared.refusals.Refused.TheVariants as refuses
 use Rattle.tx_private.specs.Shows.{Shows}
 use Rattle.tx_private.specs.Refused.{found, Admits}
 use Rattle.tx_private.specs.declared.refusals.Admitted.{Admitted}
+use Rattle.tx_serial.proofs.FreeOperands.{not_excepted}
 
 -- ---- constraints
 
@@ -102,10 +103,6 @@ operands_by base a p i text shows =
     (text_pages c.prefix text))) shows.cpu
     ∙ ap (λ (n : List Begin). excepted i (inaccessible i a.image.general a.image.condition (length n)
     (accessible_pages a.image.prefix) (text_pages a.image.prefix text))) (sym shows.nest)
-
-not_excepted : (i : Instr) (o : Option ℕ) → excepted i o ≡ None → o ≡ None
-not_excepted i None h = refl
-not_excepted i (Some code) h = absurd (cc)
 
 -- special operation and specification are past
 past : (base : Storage) (a : kept.Attempt) (p : Run) (i : Instr) (text : List ℕ) → Shows base a p

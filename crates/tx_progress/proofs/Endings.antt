@@ -2,7 +2,7 @@
 use Rattle.std.proofs.Common.{◌≡◌, ℕ, suc, ◌+◌, ◌-◌, Bool, true, false, List, [], ◌∷◌, ◌++◌, Some}
 use Rattle.std.proofs.Common.{refl, sym, ap, subst, ◌∙◌, arith, length, take, inl, inr}
 use Rattle.std.specs.Prelude.{if◌then◌else◌, ◌&&◌, ◌||◌, not, nat_lt}
-use Rattle.std.proofs.lemmas.Bool.{true≢false, or_left, or_right}
+use Rattle.std.proofs.lemmas.Bool.{true≢false, or_left, or_right, false_from_ne_true}
 use Rattle.z_regs.specs.Cpu.{Cpu}
 use Rattle.z_regs.specs.declared.ranges.Range.{Range}
 use Rattle.z_instr.specs.declared.instr.Instr.{Instr}
@@ -112,17 +112,12 @@ still_resumes c now (s ∷ ss) [] t k h e some = absurd h
 still_resumes c now (s ∷ ss) (b ∷ bs) t k h e some =
     ap (λ x. if x then s.at else s.at + length_of s.instruction) (is_begun_so c s ss b bs h)
 
--- an instruction that overflows is neither a begin nor an end
-no_role : (b : Bool) → (b ≡ true → ⊥) → b ≡ false
-no_role true h = absurd (h refl)
-no_role false h = refl
-
 same_nest : (i : Instr) (general : List ℕ) (nest : List Begin) (c now : Cpu) (bytes given : List ℕ) (depth :
     ℕ)
     → one i now depth given ≡ outcome.Overflowed c bytes → nest_after i general nest ≡ nest
 same_nest i general nest c now bytes given depth o =
     plain (begins (entry_at i.op.number)) (is_end (entry_at i.op.number))
-    (no_role (begins (entry_at i.op.number) || is_end (entry_at i.op.number))
+    (false_from_ne_true (begins (entry_at i.op.number) || is_end (entry_at i.op.number))
     (λ role. let d = role_done i now depth given role in
     let e : Did d.cpu d.bytes ≡ outcome.Overflowed c bytes = sym d.is ∙ o in absurd (cc)))
   where

@@ -1,9 +1,9 @@
 -- What is left of a CPU and of storage when an attempt is aborted, a block is stored, an interruption is
 -- taken, or a program outside transactions is stopped.
-use Rattle.std.proofs.Common.{◌≡◌, ℕ, ◌+◌, Bool, true, false, List, [], ◌∷◌, Option, Some, None}
+use Rattle.std.proofs.Common.{◌≡◌, ℕ, ◌+◌, true, false, List, [], ◌∷◌, Option, Some, None}
 use Rattle.std.proofs.Common.{refl, sym, ap, subst, ◌∙◌}
 use Rattle.std.specs.Prelude.{if◌then◌else◌, ◌&&◌, is_none}
-use Rattle.std.proofs.lemmas.Bool.{true≢false, and_parts}
+use Rattle.std.proofs.lemmas.Bool.{true≢false, and_parts, false_from_ne_true}
 use Rattle.z_regs.specs.Cpu.{Cpu}
 use Rattle.z_regs.specs.declared.waiting.Waiting.{Waiting}
 use Rattle.tx_abort.specs.Block.{block}
@@ -138,10 +138,6 @@ pub has_no_block : (f : FlatState) (i : ℕ) → may_act f i ≡ true → f.pend
 has_no_block f i h =
     no_block (f.pending i) (and_parts (is_running (f.cpus i).state) (is_none (f.pending i)) h).1
 
-not_true : (b : Bool) → (b ≡ true → ⊥) → b ≡ false
-not_true true h = absurd (h refl)
-not_true false h = refl
-
 no_some : {A : Type 0} (b : Pending) → None ≡ Some b → A
 no_some b e = absurd (cc)
 
@@ -149,7 +145,7 @@ no_some b e = absurd (cc)
 pub quiet_with_block : (f : FlatState) (i : ℕ) (local : Local) (b : Pending) → IsFollowed f i local
     → local.pending ≡ Some b → is_live local.attempt ≡ false
 quiet_with_block f i local b is e =
-    not_true (is_live local.attempt)
+    false_from_ne_true (is_live local.attempt)
     (λ live. no_some b (sym (has_no_block f i (is.acts live)) ∙ is.pending ∙ e))
 
 pub block_leaves : (text : List ℕ) (storage : Storage) (locals : ℕ → Local) (i : ℕ) (b : Pending)

@@ -15,17 +15,15 @@ use Rattle.z_regs.specs.Prefix.{absolute_of, is_prefix, storage_size}
 use Rattle.z_regs.proofs.Exchange.{absolute_within}
 use Rattle.z_instr.specs.Access.{accessible_pages}
 use Rattle.z_instr.specs.Facts.{is_begin}
-use Rattle.z_instr.specs.Operands.{Span, IsSmall, from_up, spans, spans_in, tested_spans, is_inside}
+use Rattle.z_instr.specs.Operands.{Span, IsSmall, from_up, spans, tested_spans, is_inside}
 use Rattle.z_instr.specs.Operands.{where_wrong}
 use Rattle.z_instr.specs.Operands.{inaccessible_in, addressing}
 use Rattle.z_instr.specs.Roles.{begins}
-use Rattle.z_instr.specs.Table.{Entry, entry_at}
+use Rattle.z_instr.specs.Table.{entry_at}
 use Rattle.z_instr.specs.declared.instr.Instr.{Instr}
 use Rattle.z_instr.specs.declared.operand.Demand.{Demand}
 use Rattle.z_instr.specs.declared.operand.Demand.TheVariants.{Nothing, EvenPair, Boundary, AbortCode, Begin}
 use Rattle.z_instr.specs.declared.operand.Demand.TheVariants.{BeginConstrained, ServiceZero}
-use Rattle.z_instr.specs.declared.operand.Operands.{Operands}
-use Rattle.z_instr.specs.declared.operand.Operands.TheVariants.{Absent}
 use Rattle.z_instr.proofs.SmallOperands.{sizes}
 use Rattle.z_touch.specs.Refusals.{range_of}
 use Rattle.z_touch.proofs.SmallRanges.{inside_ends}
@@ -41,7 +39,7 @@ use Rattle.tx_footprint.proofs.Marking.{or_false}
 use Rattle.tx_serial.specs.Alike as alike
 use Rattle.tx_serial.specs.Alike.{addresses_in}
 use Rattle.tx_serial.specs.Attempt.{Run, Missing, footprint}
-use Rattle.tx_serial.specs.Fate.{operands, step_of, excepted, operand_refusal, overflow_refusal}
+use Rattle.tx_serial.specs.Fate.{operands, step_of, operand_refusal, overflow_refusal}
 use Rattle.tx_serial.specs.Fate.{overflow_of, overflow_in}
 use Rattle.tx_serial.specs.Flat.{FlatState}
 use Rattle.tx_serial.specs.Run.{run, may_follow}
@@ -50,36 +48,14 @@ use Rattle.tx_progress.specs.Local.{Local}
 use Rattle.tx_progress.specs.Reached.{IsFollowed}
 use Rattle.tx_progress.specs.Followed.{KeepsLimits}
 use Rattle.tx_progress.proofs.OneMore.{went, open_is_there, touching_twice}
-use Rattle.tx_progress.proofs.Rows.{any_row}
 use Rattle.tx_progress.proofs.Standing.{tests_find_nothing}
 use Rattle.tx_progress.proofs.Lines.{run_there, seen_test, either_way}
 use Rattle.tx_progress.proofs.Alike.{its_footprint}
 use Rattle.tx_progress.proofs.Facts.{stored_line, lasting_line}
 use Rattle.std.proofs.lemmas.Bool.{or_right}
+use Rattle.tx_serial.proofs.FreeOperands.{not_excepted, begin_bare}
 
 -- ---- a begin has no operand
-
-abbrev is_absent : Operands → Bool
-is_absent Absent = true
-is_absent _ = false
-
-abbrev begins_bare : Entry → Bool
-begins_bare e = not (begins e) || is_absent e.operands
-
-no_spans : (e : Entry) (i : Instr) (general : List ℕ) (code : ℕ) → begins_bare e ≡ true → begins e ≡ true
-    → spans_in e.operands i general code ≡ []
-unfolding spans_in
-no_spans e i general code bare begin = bare_by e.operands (sym (ap (λ b. not b || is_absent e.operands)
-    begin) ∙ bare)
-  where
-    bare_by : (o : Operands) → is_absent o ≡ true → spans_in o i general code ≡ []
-    bare_by Absent h = refl
-    bare_by _ h = absurd (true≢false (sym h))
-
-bare_operands : (i : Instr) (c : Cpu) → begins (entry_at i.op.number) ≡ true → operands i c ≡ []
-bare_operands i c begin =
-    ap (map range_of) (no_spans (entry_at i.op.number) i c.general c.condition
-    (any_row begins_bare refl refl i.op.number) begin)
 
 -- ---- limits
 
@@ -120,7 +96,7 @@ limits_more text p i old follows none = by p.nest follows none
         → KeepsLimits (touching (footprint p) (absolute_ranges p.cpu.prefix (operands i p.cpu)))
     by [] f n =
         subst (λ rs. KeepsLimits (touching (footprint p) (absolute_ranges p.cpu.prefix rs)))
-        (sym (bare_operands i p.cpu f)) (subst KeepsLimits (touching_none (footprint p)) old)
+        (sym (begin_bare i p.cpu f)) (subst KeepsLimits (touching_none (footprint p)) old)
     by (b ∷ bs) f n = keeps_limits (touching (footprint p) (absolute_ranges p.cpu.prefix (operands i p.cpu)))
         n
 
@@ -147,15 +123,11 @@ footprint_limits f i local is =
 
 -- ---- all operands lie in storage
 
-not_excepted : (i : Instr) (o : Option ℕ) → excepted i o ≡ None → o ≡ None
-not_excepted i None h = refl
-not_excepted i (Some code) h = absurd (cc)
-
 accessible : (a : Bool) (code : ℕ) (rest : Option ℕ) → where_wrong (not a) code rest ≡ None → a ≡ true
 accessible true code rest h = refl
 accessible false code rest h = absurd (cc)
 
-tested_all : (d : Demand) (ss : List Span) (i : Instr) (general : List ℕ) (depth : ℕ) → is_begin d ≡ false
+pub tested_all : (d : Demand) (ss : List Span) (i : Instr) (general : List ℕ) (depth : ℕ) → is_begin d ≡ false
     → tested_spans d ss i general depth ≡ ss
 tested_all Nothing ss i general depth h = refl
 tested_all EvenPair ss i general depth h = refl
@@ -203,7 +175,7 @@ plain_low text p i plain none =
 
 operands_low : (text : List ℕ) (p : Run) (i : Instr) (b : Bool) → begins (entry_at i.op.number) ≡ b
     → operand_refusal text p i ≡ None → list_all low (addresses_in (operands i p.cpu)) ≡ true
-operands_low text p i true begin none = ap (λ rs. list_all low (addresses_in rs)) (bare_operands i p.cpu
+operands_low text p i true begin none = ap (λ rs. list_all low (addresses_in rs)) (begin_bare i p.cpu
     begin)
 operands_low text p i false plain none = plain_low text p i plain none
 

@@ -2,7 +2,7 @@
 use Rattle.std.proofs.Common.{◌≡◌, ◌≢◌, ℕ, zero, suc, ◌+◌, ◌*◌, ◌/◌, ◌≤◌, Bool, true, false, List, [], ◌∷◌}
 use Rattle.std.proofs.Common.{◌++◌, Option, refl, sym, ap, subst, ◌∙◌, arith, map, ltb}
 use Rattle.std.specs.Prelude.{◌||◌, ◌&&◌, not, nat_eq, ◌==◌}
-use Rattle.std.specs.List.{list_any, flat_map, range_with_len, All}
+use Rattle.std.specs.List.{list_any, flat_map, All}
 use Rattle.std.proofs.lemmas.Bool.{or_left, or_right, true≢false, and_parts}
 use Rattle.std.proofs.lemmas.List.Elements.{All-head, All-tail}
 use Rattle.std.proofs.lemmas.List.Folds.{list_any-append}
@@ -31,6 +31,7 @@ use Rattle.tx_serial.specs.Run.{run}
 use Rattle.tx_serial.proofs.Copies.{run_prefix}
 use Rattle.tx_serial.proofs.Passing.{passes}
 use Rattle.tx_progress.proofs.OneMore.{went, open_is_there}
+use Rattle.tx_serial.proofs.StoredPlaces.{up_is_range}
 
 -- ---- one range
 
@@ -39,12 +40,6 @@ seen_test prefix test a = test (absolute_of prefix a)
 
 abbrev pub any_there : (ℕ → Bool) → List Range → Bool
 any_there test ranges = list_any (λ r. list_any test (addresses_of r)) ranges
-
-up_is_range : (n a : ℕ) → from_up a n ≡ range_with_len a n
-up_is_range zero a = refl
-up_is_range (suc n) a =
-    ap (λ xs. a ∷ xs) (up_is_range n (suc a) ∙ ap (λ b. range_with_len b n) (let e : suc a ≡ a + 1 = omega
-    arith in e))
 
 any_map : (test : ℕ → Bool) (f : ℕ → ℕ) (xs : List ℕ) → list_any test (map f xs) ≡ list_any (λ a. test (f a))
     xs

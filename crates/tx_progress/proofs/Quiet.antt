@@ -22,11 +22,13 @@ use Rattle.tx_serial.specs.Fate.{fetch_refusal, instruction_at}
 use Rattle.tx_serial.specs.Flat.{FlatState}
 use Rattle.tx_serial.specs.Run.{run}
 use Rattle.tx_progress.specs.Local.{Local}
-use Rattle.tx_progress.specs.Progress.{Progress, is_live}
-use Rattle.tx_progress.specs.Reached.{progress_of, IsFollowed}
+use Rattle.tx_progress.specs.Progress.{is_live}
+use Rattle.tx_progress.specs.Reached.{IsFollowed}
 use Rattle.tx_progress.specs.Trial.{fate_by_progress}
 use Rattle.tx_progress.proofs.Parts.{rests, followed_fate}
 use Rattle.tx_progress.proofs.Facts.{live_nest}
+use Rattle.std.proofs.lemmas.Bool.{false_from_ne_true, true_from_ne_false}
+use Rattle.tx_progress.proofs.Endings.{its_nest}
 
 -- ---- who may be ended, and who may be stopped
 
@@ -96,7 +98,7 @@ never_ends text p why e h = by (fetch_refusal text p) (instruction_at p) h
     by None (Some i) g = no_cause i p (first_refusal (tests text p i)) why e (outside_tests text p i e) g
 
 -- no exception stops the program inside transactions
-no_stop : (nest : List Begin) (r : Refusal) (e : Exception) → nest ≢ [] → fate_after nest r ≡ Stops e → ⊥
+pub no_stop : (nest : List Begin) (r : Refusal) (e : Exception) → nest ≢ [] → fate_after nest r ≡ Stops e → ⊥
 no_stop [] r e some h = some refl
 no_stop (b ∷ bs) (Excepts d) e some h = no_stops e _ (sym h)
 no_stop (b ∷ bs) (Because why) e some h = no_stops e why (sym h)
@@ -119,23 +121,11 @@ never_stops text p e some h = by (fetch_refusal text p) (instruction_at p) h
 
 -- ---- what is followed
 
-its_nest : (p : Run) (q : Progress) → progress_of p ≡ q → p.nest ≡ q.nest
-unfolding progress_of
-its_nest p q e = ap (λ (x : Progress). x.nest) e
-
-where_false : (b : Bool) → (b ≡ false → ⊥) → b ≡ true
-where_false true h = refl
-where_false false h = absurd (h refl)
-
-where_true : (b : Bool) → (b ≡ true → ⊥) → b ≡ false
-where_true true h = absurd (h refl)
-where_true false h = refl
-
 pub ends_live : (f : FlatState) (i : ℕ) (local : Local) (why : Why) → IsFollowed f i local
     → fate_by_progress f.text f.storage local.attempt ≡ Ends why → is_live local.attempt ≡ true
 ends_live f i local why is h =
     let p = run f i local.attempt.count in
-    where_false (is_live local.attempt) (λ quiet. never_ends f.text p why
+    true_from_ne_false (is_live local.attempt) (λ quiet. never_ends f.text p why
     (its_nest p local.attempt is.attempt ∙ ap (λ q. q.nest) (rests f i local is quiet))
     (followed_fate f i local is ∙ h))
 
@@ -143,6 +133,6 @@ pub stops_quiet : (f : FlatState) (i : ℕ) (local : Local) (e : Exception) → 
     → fate_by_progress f.text f.storage local.attempt ≡ Stops e → is_live local.attempt ≡ false
 stops_quiet f i local e is h =
     let p = run f i local.attempt.count in
-    where_true (is_live local.attempt) (λ live. never_stops f.text p e
+    false_from_ne_true (is_live local.attempt) (λ live. never_stops f.text p e
     (λ none. live_nest f i local is live (sym (its_nest p local.attempt is.attempt) ∙ none))
     (followed_fate f i local is ∙ h))

@@ -82,9 +82,9 @@ kind_done (kind.Storage s) n i c depth bytes h = absurd (true≢false (sym h))
 kind_done (kind.Branch b) n i c depth bytes h = absurd (true≢false (sym h))
 kind_done (kind.Transaction t) n i c depth bytes h = transaction_done t n i c depth h
 
-so : (a b : Bool) → (not a || b) ≡ true → a ≡ true → b ≡ true
-so true b h e = h
-so false b h e = absurd (true≢false (sym e))
+pub implied : (a b : Bool) → (not a || b) ≡ true → a ≡ true → b ≡ true
+implied true b h e = h
+implied false b h e = absurd (true≢false (sym e))
 
 -- a begin and an end are always completed
 pub role_done : (i : Instr) (c : Cpu) (depth : ℕ) (bytes : List ℕ)
@@ -93,4 +93,4 @@ pub role_done : (i : Instr) (c : Cpu) (depth : ℕ) (bytes : List ℕ)
 unfolding kind_at
 role_done i c depth bytes h =
     kind_done (kind_at i.op.number) (length_of i) i c depth bytes
-    (so (begins (entry_at i.op.number) || is_end (entry_at i.op.number)) _ (simple_rows i.op.number) h)
+    (implied (begins (entry_at i.op.number) || is_end (entry_at i.op.number)) _ (simple_rows i.op.number) h)

@@ -56,7 +56,7 @@ is_begun_so c begin later b bs h = ap (λ (x : Begin). x.constrained) h.opened
 
 -- ---- no constraint permits a begin
 
-no_text_breach : (x y p : Bool) → first_of x 1 (first_of y 2 (first_of (not p) 3 None)) ≡ None → p ≡ true
+pub no_text_breach : (x y p : Bool) → first_of x 1 (first_of y 2 (first_of (not p) 3 None)) ≡ None → p ≡ true
 no_text_breach x y true h = refl
 no_text_breach true y false h = absurd (cc)
 no_text_breach false true false h = absurd (cc)
@@ -170,7 +170,7 @@ stands_more c now (s ∷ ss) (b ∷ bs) i ranges next h follows clear m =
 
 -- ---- the tests
 
-none_first : (o : Option Refusal) (rest : List (Option Refusal)) → first_refusal (o ∷ rest) ≡ None
+pub none_first : (o : Option Refusal) (rest : List (Option Refusal)) → first_refusal (o ∷ rest) ≡ None
     → (o ≡ None) × (first_refusal rest ≡ None)
 none_first None rest h = (refl, h)
 none_first (Some r) rest h = absurd (cc)

@@ -24,6 +24,7 @@ use Rattle.tx_flat.proofs.Aborted.{may_not_abort}
 use Rattle.history_laws.specs.Fitting.{Fits}
 use Rattle.history_laws.proofs.Fitting.{cause_fits, ends_so}
 use Rattle.tx_replay.specs.Told.{Tells, is_exception}
+use Rattle.std.proofs.lemmas.Option.{none-some}
 
 -- ---- causes by their numbers
 
@@ -74,9 +75,6 @@ own_exception f i n Depth is h = absurd (true≢false (sym is))
 own_exception f i n Starved is h = absurd (true≢false (sym is))
 own_exception f i n (Tabort code) is h = absurd (true≢false (sym is))
 
-none_some : {A : Type 0} (x : A) → None ≡ Some x → ⊥
-none_some x h = cc
-
 -- no abort fits of a CPU that is not there
 pub absent : (m : Parts) (i n : ℕ) (why : Why) → length m.slots ≤ i → Fits (state_of m) (Abort i n why) → ⊥
 absent m i n why past h =
@@ -84,4 +82,4 @@ absent m i n why past h =
     get_or-eq_default m.slots (fresh no_cpu) past in
     let still : may_act (state_of m) i ≡ false =
     ap (λ (s : SlotParts). is_running s.cpu.state && is_none s.pending) missing in
-    none_some h.0 (sym (may_not_abort (state_of m) i n why still) ∙ h.1)
+    none-some h.0 (sym (may_not_abort (state_of m) i n why still) ∙ h.1)

@@ -5,7 +5,7 @@ use Rattle.std.proofs.Common.{Option, None, refl, sym, ap, subst, ◌∙◌, ari
 use Rattle.std.specs.Prelude.{All, nat_eq, nat_lt, if◌then◌else◌}
 use Rattle.std.specs.List.{list_any}
 use Rattle.std.proofs.Math.ListN.{length-map}
-use Rattle.std.proofs.lemmas.Bool.{true≢false, or_left, or_right, and_parts}
+use Rattle.std.proofs.lemmas.Bool.{true≢false, or_left, or_right, and_parts, not-true}
 use Rattle.std.proofs.lemmas.Bool.Decides.{nat_tests}
 use Rattle.z_regs.specs.Absolute.{IsAccessible}
 use Rattle.z_regs.specs.Prefix.{storage_size, absolute_of, is_prefix}
@@ -28,22 +28,23 @@ use Rattle.tx_serial.specs.Fate.{operand_refusal}
 use Rattle.tx_serial.specs.Flat.{Storage, laid_over}
 use Rattle.tx_serial.specs.Run.{nest_after}
 use Rattle.tx_serial.specs.Text.{SameText}
-use Rattle.tx_serial.proofs.FreeOperands.{AreFree, inside_operands, operands_free}
-use Rattle.tx_serial.proofs.TextStays.{laid_apart, operands_apart}
+use Rattle.tx_serial.proofs.FreeOperands.{AreFree, inside_operands, operands_free, not_excepted}
+use Rattle.tx_serial.proofs.TextStays.{laid_apart, operands_apart, or_first, contraposed, or_second}
 use Rattle.tx_progress.specs.Doing.{executed, executed_where, closed_by, stores_of}
 use Rattle.tx_progress.specs.Local.{Beside}
 use Rattle.tx_progress.specs.Progress.{Progress, seen_through, is_live, advanced}
 use Rattle.tx_progress.specs.Trial.{at_hand, fate_by_progress, outcome_by, text_refusal_by}
 use Rattle.tx_progress.specs.declared.done.Done.TheVariants.{Stepped}
-use Rattle.tx_cpu.proofs.Agreeing.{fetched_text, length_some}
-use Rattle.tx_cpu.proofs.Goes.{found-so, none-first, unexcepted}
+use Rattle.tx_cpu.proofs.Goes.{found-so}
 use Rattle.tx_attempt.proofs.Reached.{accessible_spans}
 use Rattle.tx_lending.specs.Away.{is_plain}
 use Rattle.tx_lending.specs.Places.{operand_places, stored_places, is_among}
-use Rattle.tx_lending.proofs.Along.{not_true, no_begin}
+use Rattle.tx_lending.proofs.Along.{no_begin}
 use Rattle.tx_lending.proofs.Leaving.{count_after, left_by}
 use Rattle.tx_run.specs.Made.{IsWithin}
-use Rattle.tx_lending.proofs.Stores.{or_first, or_second, stored_among, stores_elsewhere}
+use Rattle.tx_lending.proofs.Stores.{stored_among, stores_elsewhere}
+use Rattle.tx_serial.proofs.Frame.{fetched_text, length_some}
+use Rattle.tx_progress.proofs.Standing.{none_first}
 
 -- ---- no begin and no end
 
@@ -51,7 +52,7 @@ use Rattle.tx_lending.proofs.Stores.{or_first, or_second, stored_among, stores_e
 no_end : (i : Instr) → is_plain i ≡ true → is_end (entry_at i.op.number) ≡ false
 no_end i h =
     let e = entry_at i.op.number in
-    or_first (is_end e) _ (or_second (begins e) _ (not_true _ h))
+    or_first (is_end e) _ (or_second (begins e) _ (not-true _ h))
 
 nest_by : (begin end : Bool) (i : Instr) (general : List ℕ) (nest : List Begin) → begin ≡ false → end ≡ false
     → (if begin then nest ++ begin_of i general ∷ []
@@ -105,11 +106,6 @@ module _ (i : Instr) (ranges : List Range) (b : Beside) (P : Storage → Type 0)
         subst (λ begin. P (executed_where (is_live q) begin i ranges b o).after.storage)
         (sym (no_begin i plain)) (storage_where (is_live q) o plain some)
 
--- a test that implies one that fails fails too
-fails_too : (x y : Bool) → (x ≡ true → y ≡ true) → y ≡ false → x ≡ false
-fails_too true y h e = absurd (true≢false (sym (h refl) ∙ e))
-fails_too false y h e = refl
-
 -- beside its operands storage is as it was, whatever comes of the instruction
 pub executed-elsewhere : (i : Instr) (ranges : List Range) (b : Beside) (a : ℕ) → is_plain i ≡ true
     → (is_live b.local.attempt ≡ true → 0 < length b.local.attempt.nest)
@@ -117,7 +113,7 @@ pub executed-elsewhere : (i : Instr) (ranges : List Range) (b : Beside) (a : ℕ
     → (executed i ranges b).after.storage a ≡ b.storage a
 executed-elsewhere i ranges b a plain some apart =
     let q = b.local.attempt in
-    let unstored = fails_too (is_among (stored_places ranges q) a) (is_among (operand_places ranges q) a)
+    let unstored = contraposed (is_among (stored_places ranges q) a) (is_among (operand_places ranges q) a)
     (stored_among ranges q a) apart in
     executed_storage i ranges b (λ s. s a ≡ b.storage a) refl
     (λ bytes. stores_elsewhere ranges q bytes b.storage a unstored) plain some
@@ -172,13 +168,13 @@ pub goes-reached : (text : List ℕ) (s : Storage) (q : Progress) (i : Instr) (n
 goes-reached text s q i need ok goes =
     let c = q.cpu in
     let found = found-so text s q i need goes in
-    let x = none-first (text_refusal_by q i) _ found.passed in
-    let y = none-first (restricted_refusal (at_hand s q) i) _ x.1 in
-    let z = none-first (specified_refusal (at_hand s q) i) _ y.1 in
-    let u = none-first (depth_refusal (at_hand s q) i) _ z.1 in
-    let v = none-first (operand_refusal text (at_hand s q) i) _ u.1 in
+    let x = none_first (text_refusal_by q i) _ found.passed in
+    let y = none_first (restricted_refusal (at_hand s q) i) _ x.1 in
+    let z = none_first (specified_refusal (at_hand s q) i) _ y.1 in
+    let u = none_first (depth_refusal (at_hand s q) i) _ z.1 in
+    let v = none_first (operand_refusal text (at_hand s q) i) _ u.1 in
     let passed : inaccessible i c.general c.condition (length q.nest) (accessible_pages c.prefix)
-    (text_pages c.prefix text) ≡ None = unexcepted i _ v.0 in
+    (text_pages c.prefix text) ≡ None = not_excepted i _ v.0 in
     let ss = spans i c.general c.condition in
     let operands = (entry_at i.op.number).operands in
     let at_most = count operands i c.general c.condition in

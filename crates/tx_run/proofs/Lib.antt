@@ -8,6 +8,7 @@ pub mod Nexts
 pub mod BytesLined
 pub mod Lined
 pub mod Laid
+pub mod Doublewords
 pub mod Adding
 pub mod Texts
 pub mod Taking

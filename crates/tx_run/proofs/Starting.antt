@@ -1,8 +1,7 @@
 -- What an instruction leaves of the bytes before.
-use Rattle.std.proofs.Common.{◌≡◌, ℕ, ◌<◌, Bool, true, false, List, refl, sym, ap, ◌∙◌, length}
+use Rattle.std.proofs.Common.{◌≡◌, ℕ, ◌<◌, Bool, true, false, List, refl, ap, ◌∙◌, length}
 use Rattle.std.specs.Prelude.{if◌then◌else◌}
 use Rattle.std.specs.List.{slice_index_or}
-use Rattle.std.proofs.lemmas.Bool.{true≢false}
 use Rattle.z_regs.specs.declared.ranges.Range.{Range}
 use Rattle.z_instr.specs.declared.instr.Instr.{Instr}
 use Rattle.tx_progress.specs.Doing.{executed}
@@ -14,11 +13,7 @@ use Rattle.tx_lending.specs.Places.{is_among, operand_places}
 use Rattle.tx_marks.specs.Own.{is_touched, bytes_at}
 use Rattle.tx_run.specs.Made.{Made, now, StartsAlike}
 use Rattle.tx_run.proofs.Frame.{executed-elsewhere}
-
--- a place that is not marked is not among those that are
-unmarked : (x y : Bool) → (x ≡ true → y ≡ true) → y ≡ false → x ≡ false
-unmarked true y h e = absurd (true≢false (sym (h refl) ∙ e))
-unmarked false y h e = refl
+use Rattle.tx_serial.proofs.TextStays.{contraposed}
 
 -- the bytes before are as they were where all that is changed is marked
 given-stays : (marks : List Bool) (before old new : List ℕ)
@@ -47,6 +42,6 @@ executed-starts m other i ranges start before marks after plain opens marked = r
       ∙ given-stays m.own.touched m.own.before m.own.now other.own.now (λ place bare.
       ap (λ (b : Beside). b.storage place) after
       ∙ executed-elsewhere i ranges (now m) place plain opens
-      (unmarked (is_among (operand_places ranges (local_of m.reached).attempt) place) (is_touched m.own place)
+      (contraposed (is_among (operand_places ranges (local_of m.reached).attempt) place) (is_touched m.own place)
       (marked place) bare)) a;
 }

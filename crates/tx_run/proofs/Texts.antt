@@ -19,9 +19,7 @@ use Rattle.z_instr.specs.Operands.{addressing, protection, operation}
 use Rattle.z_instr.specs.Roles.{begins}
 use Rattle.z_instr.specs.Table.{Entry, entry_at}
 use Rattle.z_instr.specs.declared.instr.Instr.{Instr}
-use Rattle.z_instr.specs.declared.operand.Demand.{Demand}
-use Rattle.z_instr.specs.declared.operand.Demand.TheVariants.{Nothing, EvenPair, Boundary, AbortCode, Begin}
-use Rattle.z_instr.specs.declared.operand.Demand.TheVariants.{BeginConstrained, ServiceZero}
+use Rattle.z_instr.specs.declared.operand.Demand.TheVariants.{Begin}
 use Rattle.z_instr.proofs.Pieces.{holds_byte}
 use Rattle.z_instr.proofs.SmallOperands.{sizes}
 use Rattle.z_touch.specs.Refusals.{range_of}
@@ -36,7 +34,7 @@ use Rattle.tx_serial.specs.Fate.{Fate, Goes, Ends, Stops, Refusal, Excepts, Beca
 use Rattle.tx_serial.specs.Fate.{operands, fetch_refusal, instruction_at, length_at, excepted, restricted_refusal}
 use Rattle.tx_serial.specs.Fate.{specified_refusal, depth_refusal, operand_refusal}
 use Rattle.tx_serial.specs.Flat.{Storage, operand_bytes}
-use Rattle.tx_serial.proofs.Frame.{in_first, in_second}
+use Rattle.tx_serial.proofs.Frame.{in_first, in_second, equals_itself}
 use Rattle.tx_progress.specs.Doing.{executed, executed_where, closed_by, stores_of}
 use Rattle.tx_progress.specs.Local.{Beside}
 use Rattle.tx_progress.specs.Progress.{Progress, seen_through, is_live, advanced}
@@ -52,6 +50,7 @@ use Rattle.tx_marks.specs.Marks.{mode_in}
 use Rattle.tx_marks.specs.Own.{is_touched}
 use Rattle.tx_marks.specs.Traces.{is_stored, is_paged, has_page}
 use Rattle.tx_run.specs.Made.{Made, IsMade, AgreeOnPages, from, now, laid, turn_lays, fate_lays, paged, turn_traces}
+use Rattle.tx_progress.proofs.Limits.{tested_all}
 
 -- ---- text at places
 
@@ -59,15 +58,11 @@ use Rattle.tx_run.specs.Made.{Made, IsMade, AgreeOnPages, from, now, laid, turn_
 abbrev AgreeAt : List ℕ → List ℕ → List ℕ → Type 0
 AgreeAt places text other = (a : ℕ) → is_among places a ≡ true → lies_in other a ≡ lies_in text a
 
--- a number is itself
-here : (a : ℕ) → nat_eq a a ≡ true
-here a = grind (arith)
-
 -- equal places lie in equal pages
 same-page : (a b : ℕ) → nat_eq a b ≡ true → nat_eq (a / 4096) (b / 4096) ≡ true
 same-page a b e =
     let is : a ≡ b = grind (arith, nat_tests, e) in
-    subst (λ x. nat_eq (a / 4096) (x / 4096) ≡ true) is (here (a / 4096))
+    subst (λ x. nat_eq (a / 4096) (x / 4096) ≡ true) is (equals_itself (a / 4096))
 
 -- its page has the first place, or one of the others
 page-by : (same : Bool) (a b : ℕ) (others : List ℕ) → nat_eq a b ≡ same → (same || is_among others a) ≡ true
@@ -118,7 +113,7 @@ module _ (prefix : Option ℕ) (text other : List ℕ) (ok : is_prefix prefix �
   bytes-alike (x ∷ xs) h =
       let p = absolute_of prefix x in
       let more = map (absolute_of prefix) xs in
-      let first = alike-at x (h p (or_left (nat_eq p p) (is_among more p) (here p))) in
+      let first = alike-at x (h p (or_left (nat_eq p p) (is_among more p) (equals_itself p))) in
       let rest = bytes-alike xs (λ a m. h a (or_right (nat_eq a p) (is_among more a) m)) in
       λ z. where_wrong (not (lies_in (accessible_pages prefix) x)) addressing
       (where_wrong (not (first z)) protection None) ∷ rest z
@@ -139,7 +134,7 @@ module _ (prefix : Option ℕ) (text other : List ℕ) (ok : is_prefix prefix �
       let p = absolute_of prefix first in
       let same : first ≡ first + 0 = omega arith in
       subst (λ x. is_among (places_from prefix first (suc n)) (absolute_of prefix x) ≡ true) same
-      (or_left (nat_eq p p) (is_among (places_from prefix (suc first) n) p) (here p))
+      (or_left (nat_eq p p) (is_among (places_from prefix (suc first) n) p) (equals_itself p))
   place-there first (suc n) (suc k) below =
       let same : suc first + k ≡ first + suc k = omega arith in
       let p = absolute_of prefix (suc first + k) in
@@ -162,7 +157,7 @@ module _ (prefix : Option ℕ) (text other : List ℕ) (ok : is_prefix prefix �
       → list_any (λ p. list_any (nat_eq p) others) ps ≡ list_any (λ p. list_any (nat_eq p) its) ps
   pages-alike [] h = refl
   pages-alike (p ∷ ps) h =
-      let first = h p (or_left (nat_eq p p) (list_any (nat_eq p) ps) (here p)) in
+      let first = h p (or_left (nat_eq p p) (list_any (nat_eq p) ps) (equals_itself p)) in
       let rest = pages-alike ps (λ x m. h x (or_right (nat_eq x p) (list_any (nat_eq x) ps) m)) in
       λ z. first z || rest z
 
@@ -198,17 +193,6 @@ module _ (text other : List ℕ) (q : Progress) (ok : is_prefix q.cpu.prefix ≡
   spans-alike (s ∷ ss) small h =
       spans-by s.store s ss (All-head IsSmall s ss small) h (spans-alike ss (All-tail IsSmall s ss small))
 
--- what names no block is tested at its operands
-tested-plain : (d : Demand) (ss : List Span) (i : Instr) (general : List ℕ) (depth : ℕ) → is_begin d ≡ false
-    → tested_spans d ss i general depth ≡ ss
-tested-plain Begin ss i general depth none = absurd (true≢false none)
-tested-plain Nothing ss i general depth none = refl
-tested-plain EvenPair ss i general depth none = refl
-tested-plain Boundary ss i general depth none = refl
-tested-plain AbortCode ss i general depth none = refl
-tested-plain BeginConstrained ss i general depth none = refl
-tested-plain ServiceZero ss i general depth none = refl
-
 -- so an instruction that begins no transaction passes the test of its operands alike
 inaccessible-alike : (e : Entry) (i : Instr) (general : List ℕ) (code depth : ℕ) (accessible its others : List ℕ)
     → is_begin e.demand ≡ false
@@ -219,7 +203,7 @@ unfolding inaccessible_in
 inaccessible-alike e i general code depth accessible its others none h =
     let ss = spans_in e.operands i general code in
     let tested = tested_spans e.demand ss i general depth in
-    let same : tested ≡ ss = tested-plain e.demand ss i general depth none in
+    let same : tested ≡ ss = tested_all e.demand ss i general depth none in
     let alike : list_any (is_stored_into others) tested ≡ list_any (is_stored_into its) tested =
     ap (list_any (is_stored_into others)) same ∙ h ∙ sym (ap (list_any (is_stored_into its)) same) in
     ap (λ b. where_wrong (not (list_all (is_inside accessible) tested)) addressing

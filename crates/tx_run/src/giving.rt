@@ -27,8 +27,10 @@ fn lay_stored<V: Bytes>(traces: &Traces, own: &Storage, base: &mut V)
     let bytes = own.as_slice();
     let mut from = 0;
     while let Some(at) = traces.next_stored(from) {
-        base.put(at, bytes[at as usize]);
-        from = at + 1;
+        let first = at as usize;
+        let end = first + traces.stored_from(at);
+        base.put_all(at, &bytes[first..end]);
+        from = end as u64;
     }
 }
 

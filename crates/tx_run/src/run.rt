@@ -9,7 +9,9 @@ ghost use Rattle.tx_cpu.specs.Parts.{local_of, beside};
 ghost use Rattle.tx_lending.specs.Away.{GoAway, lent_turn, ran};
 ghost use Rattle.tx_lending.specs.Stranger.{GoesOnLike, SeeAlike};
 ghost use Rattle.tx_run.specs.Made.{AgreeOnPages, now, StartsAlike};
+ghost use Rattle.byteorder.specs.Endian.{big_bytes};
 ghost use Rattle.z_regs.specs.Prefix.{storage_size};
+ghost use Rattle.z_regs.specs.Written.{range_at};
 ghost use Rattle.line_table.specs.Sizes.{storage_lines};
 ghost use Rattle.tx_marks.specs.Own.{bytes_at, given, is_touched, line_bytes};
 ghost use Rattle.tx_marks.specs.Traces.{is_paged};
@@ -29,7 +31,7 @@ use std::sync::Arc;
 use tx_cpu::{Cpu, Program};
 use tx_marks::LineMarks;
 use tx_meaning::Need;
-use z_regs::{Bytes, NoMemory};
+use z_regs::{Bytes, NoMemory, STORAGE_SIZE};
 
 /// A byte that two CPUs see otherwise.
 #[derive(Clone, Copy, Debug, PartialEq, Eq)]
@@ -230,6 +232,37 @@ impl Run {
         self.steps.own.next(from)
     }
 
+    /// The number in the eight bytes from an address on, each byte of `next_byte` with its value before the first step.
+    fn before(&self, address: u64) -> u64
+        requires { address + 8 ≤ storage_size }
+        ensures { big_bytes 8 result ≡ range_at self.now.made.own.before address 8 }
+    {
+        self.steps.own.before(address)
+    }
+
+    /// Whether it is seen at one look that another CPU sees each byte of `next_byte` among the eight from an address on as the
+    /// CPU that was lent has seen it before the first step: neither has a live attempt, so that no store waits, and these
+    /// bytes make the same number.
+    fn are_alike<V: Bytes>(&self, address: u64, other: &Cpu, base: &V) -> bool
+        requires { length (V.bytes base.now) ≡ storage_size }
+        ensures within { result ≡ true → address + 8 ≤ storage_size }
+        ensures alike { result ≡ true → (a : ℕ) → address ≤ a → a < address + 8
+            → is_touched self.now.made.own a ≡ true
+            → seen_through (local_of other.now).attempt.overlay (bytes_at (V.bytes base.now)) a
+            ≡ seen_through (local_of self.now.made.start).attempt.overlay (given self.now.made.own) a }
+    {
+        if address > STORAGE_SIZE - 8 {
+            return false;
+        }
+        let start = self.start();
+        if start.live().is_some() || other.live().is_some() {
+            return false;
+        }
+        start.is_sound();
+        other.is_sound();
+        self.before(address) == base.word(address, 8)
+    }
+
     /// The lowest byte of `next_byte` that another CPU sees otherwise over other storage than the CPU that was lent has seen it
     /// before the first step; None exactly where it sees all of them alike.
     pub fn first_difference<V: Bytes>(&self, other: &Cpu, base: &V) -> Option<Difference>
@@ -250,6 +283,10 @@ impl Run {
     {
         let mut from = 0;
         while let Some((address, before)) = self.next_byte(from) {
+            if self.are_alike(address, other, base) {
+                from = address + 8;
+                continue;
+            }
             let given = self.start().stored(address).unwrap_or(before);
             let kept = other.seen(address, base);
             if kept != given {

@@ -43,8 +43,8 @@ use Rattle.tx_serial.proofs.FreeCauses.{cause_by_kind}
 abbrev with_copy : Storage → Run → Run
 with_copy c p = record p { copy = c }
 
-here : (a : ℕ) → nat_eq a a ≡ true
-here a = grind (arith)
+pub equals_itself : (a : ℕ) → nat_eq a a ≡ true
+equals_itself a = grind (arith)
 
 pub in_first : (a : ℕ) (xs ys : List ℕ) → list_any (nat_eq a) xs ≡ true → list_any (nat_eq a) (xs ++ ys)
     ≡ true
@@ -57,12 +57,12 @@ in_second a xs ys h = list_any-append (nat_eq a) xs ys
     ∙ or_right (list_any (nat_eq a) xs) (list_any (nat_eq a) ys) h
 
 -- the bytes at a list of addresses
-seen_alike : (prefix : Option ℕ) (s t : Storage) (xs : List ℕ) → AgreeAt prefix xs s t
+pub seen_alike : (prefix : Option ℕ) (s t : Storage) (xs : List ℕ) → AgreeAt prefix xs s t
     → map (λ a. t (absolute_of prefix a)) xs ≡ map (λ a. s (absolute_of prefix a)) xs
 seen_alike prefix s t [] h = refl
 seen_alike prefix s t (x ∷ xs) h =
     ap (λ b. b ∷ map (λ a. t (absolute_of prefix a)) xs) (h x (or_left (nat_eq x x) (list_any (nat_eq x)
-    xs) (here x)))
+    xs) (equals_itself x)))
     ∙ ap (λ bs. s (absolute_of prefix x) ∷ bs)
     (seen_alike prefix s t xs (λ a e. h a (or_right (nat_eq a x) (list_any (nat_eq a) xs) e)))
 
@@ -80,7 +80,7 @@ operands_alike prefix s t (r ∷ rs) h =
 -- ---- the fetch
 
 -- a byte that can be fetched lies in text
-in_text : (accessible text : List ℕ) (a : ℕ) → byte_unfetched accessible text a ≡ None → lies_in text a ≡ true
+pub in_text : (accessible text : List ℕ) (a : ℕ) → byte_unfetched accessible text a ≡ None → lies_in text a ≡ true
 in_text accessible text a h =
     by (not (lies_in accessible a)) (lies_in text a) h
   where
@@ -109,7 +109,7 @@ all_in_text accessible text (y ∷ ys) h x e =
     (map (byte_unfetched accessible text) ys) (list_any (nat_eq x) ys) refl refl h e
     (λ g d. all_in_text accessible text ys g x d)
 
-no_wrong : (b : Bool) (code : ℕ) (o : Option ℕ) → where_wrong b code o ≡ None → o ≡ None
+pub no_wrong : (b : Bool) (code : ℕ) (o : Option ℕ) → where_wrong b code o ≡ None → o ≡ None
 no_wrong true code o h = grind (arith, h)
 no_wrong false code o h = h
 

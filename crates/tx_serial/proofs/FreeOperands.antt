@@ -4,7 +4,7 @@ use Rattle.std.proofs.Common.{◌≡◌, ℕ, ◌+◌, ◌<◌, ◌≤◌, Bool,
 use Rattle.std.proofs.Common.{refl, sym, ap, subst, ◌∙◌, arith, length, lit<, lit≤}
 use Rattle.std.specs.Prelude.{◌&&◌, ◌||◌, not, map, cond, nat_eq, nat_le, nat_lt}
 use Rattle.std.specs.List.{list_any, list_all, All}
-use Rattle.std.proofs.lemmas.Bool.{and_parts, and_from, lt-ltb, le-leb, true≢false}
+use Rattle.std.proofs.lemmas.Bool.{and_parts, and_from, lt-ltb, le-leb, true≢false, false_from_ne_true, or_parts}
 use Rattle.std.proofs.lemmas.List.Elements.{All-head, All-tail}
 use Rattle.z_regs.specs.Cpu.{Cpu}
 use Rattle.z_regs.specs.Prefix.{absolute_of, is_prefix, is_accessible}
@@ -39,12 +39,12 @@ use Rattle.tx_serial.specs.Text.{IsFree}
 
 -- ---- what is found by no test
 
-none_first : (o : Option Refusal) (rest : List (Option Refusal)) → first_refusal (o ∷ rest) ≡ None
+pub none_first : (o : Option Refusal) (rest : List (Option Refusal)) → first_refusal (o ∷ rest) ≡ None
     → first_refusal rest ≡ None
 none_first None rest h = h
 none_first (Some r) rest h = absurd (cc)
 
-found_none : (o : Option Refusal) (rest : List (Option Refusal)) → first_refusal (o ∷ rest) ≡ None → o ≡ None
+pub found_none : (o : Option Refusal) (rest : List (Option Refusal)) → first_refusal (o ∷ rest) ≡ None → o ≡ None
 found_none None rest h = refl
 found_none (Some r) rest h = absurd (cc)
 
@@ -57,7 +57,7 @@ no_operand_refusal text p i h =
     (none_first (restricted_refusal p i) _
     (none_first (text_refusal p i) _ h))))
 
-not_excepted : (i : Instr) (o : Option ℕ) → excepted i o ≡ None → o ≡ None
+pub not_excepted : (i : Instr) (o : Option ℕ) → excepted i o ≡ None → o ≡ None
 not_excepted i None h = refl
 not_excepted i (Some code) h = absurd (cc)
 
@@ -84,7 +84,7 @@ tested_pass e i general code depth accessible text h =
     record { inside = right.0; apart = right.1 }
 
 -- a begin has no operand
-abbrev is_absent : Operands → Bool
+abbrev pub is_absent : Operands → Bool
 is_absent Absent = true
 is_absent _ = false
 
@@ -94,7 +94,7 @@ begins_bare e = not (is_begin e.demand) || is_absent e.operands
 all_begin_bare : (n : ℕ) → n < ROWS → begins_bare (entry_at n) ≡ true
 all_begin_bare = passes_row begins_bare refl
 
-absent : (o : Operands) → is_absent o ≡ true → o ≡ Absent
+pub absent : (o : Operands) → is_absent o ≡ true → o ≡ Absent
 absent Absent h = refl
 absent _ h = absurd (cc)
 
@@ -127,10 +127,6 @@ spans_pass ServiceZero o i general code depth accessible text bare h = h
 
 -- ---- bytes of a span that passes
 
-not_both : (a : Bool) → (a ≡ true → ⊥) → a ≡ false
-not_both true h = absurd (h refl)
-not_both false h = refl
-
 pub usable : (prefix : Option ℕ) (s : Span) (k : ℕ) → IsSmall s → is_inside (accessible_pages prefix) s ≡ true
     → k < s.length → is_accessible prefix (s.first + k) ≡ true
 usable None s k small inside h =
@@ -149,7 +145,7 @@ free_byte : (prefix : Option ℕ) (text : List ℕ) (s : Span) (k : ℕ) → is_
     → s.store ≡ true → k < s.length → IsFree prefix text (s.first + k)
 free_byte prefix text s k ok small inside apart stored h = record {
   accessible = usable prefix s k small inside h;
-  plain = not_both (lies_in text (absolute_of prefix (s.first + k))) (λ e.
+  plain = false_from_ne_true (lies_in text (absolute_of prefix (s.first + k))) (λ e.
       let ends = inside_ends prefix s small inside in
       let within : s.first + k < 1048576 = omega (arith, ends) in
       let hit = (stored_text prefix text s ok small).1 (stored, (k, h, (within, e))) in
@@ -164,10 +160,6 @@ AreFree prefix text [] = Unit {0}
 AreFree prefix text (r ∷ rs) =
     (r.store ≡ true → (k : ℕ) → k < r.length → IsFree prefix text (r.first + k)) × AreFree prefix text rs
 
-any_parts : (a b : Bool) → (a || b) ≡ false → (a ≡ false) × (b ≡ false)
-any_parts true b h = absurd (cc)
-any_parts false b h = (refl, h)
-
 free_spans : (prefix : Option ℕ) (text : List ℕ) (ss : List Span) → is_prefix prefix ≡ true → All IsSmall ss
     → list_all (is_inside (accessible_pages prefix)) ss ≡ true
     → list_any (is_stored_into (text_pages prefix text)) ss ≡ false
@@ -176,7 +168,7 @@ free_spans prefix text [] ok small inside apart = tt
 free_spans prefix text (s ∷ ss) ok small inside apart =
     let in_all = and_parts (is_inside (accessible_pages prefix) s)
     (list_all (is_inside (accessible_pages prefix)) ss) inside in
-    let in_none = any_parts (is_stored_into (text_pages prefix text) s)
+    let in_none = or_parts (is_stored_into (text_pages prefix text) s)
     (list_any (is_stored_into (text_pages prefix text)) ss) apart in (
       λ stored k h. free_byte prefix text s k ok (All-head IsSmall s ss small) in_all.0 in_none.0 stored h,
       free_spans prefix text ss ok (All-tail IsSmall s ss small) in_all.1 in_none.1,
@@ -264,7 +256,7 @@ free_block text p i a ok outside h names k below =
     ∙ block_tested e.demand ss i c.general n.0 n.1 in
     let passed = subst (ArePassed accessible pages) is_block tested in
     let in_all = and_parts (is_inside accessible s) true passed.inside in
-    let in_none = any_parts (is_stored_into pages s) false passed.apart in
+    let in_none = or_parts (is_stored_into pages s) false passed.apart in
     subst (λ first. IsFree c.prefix text (first + k)) n.2
     (free_byte c.prefix text s k ok (small_block (first_address i c.general)) in_all.0 in_none.0 refl below)
 

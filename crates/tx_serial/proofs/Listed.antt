@@ -41,7 +41,7 @@ taken (suc n) a s f at h =
     ∙ ap (λ k. f a ∷ take n (drop k s)) next
     ∙ ap (λ bs. f a ∷ bs) (taken n (suc a) s f at rest)
 
-touched_first : (r : Span) (rs : List Span) (s : List ℕ) → touched (r ∷ rs) s
+pub touched_first : (r : Span) (rs : List Span) (s : List ℕ) → touched (r ∷ rs) s
     ≡ range_at s r.first r.length ++ touched rs s
 touched_first r [] s = sym (append-nil (range_at s r.first r.length))
 touched_first r (q ∷ rs) s = refl

@@ -17,12 +17,12 @@ goes (Goes i ranges) = true
 goes (Ends why) = false
 goes (Stops e) = false
 
-instruction_in : Instr → Fate → Instr
+pub instruction_in : Instr → Fate → Instr
 instruction_in d (Goes i ranges) = i
 instruction_in d (Ends why) = d
 instruction_in d (Stops e) = d
 
-ranges_in : Fate → List Range
+pub ranges_in : Fate → List Range
 ranges_in (Goes i ranges) = ranges
 ranges_in (Ends why) = []
 ranges_in (Stops e) = []
@@ -34,7 +34,7 @@ stays (b ∷ bs) (Excepts e) = refl
 stays [] (Because why) = refl
 stays (b ∷ bs) (Because why) = refl
 
-no_fate : {A : Type 0} (nest : List Begin) (refusal : Refusal) (i : Instr) (ranges : List Range)
+pub no_fate : {A : Type 0} (nest : List Begin) (refusal : Refusal) (i : Instr) (ranges : List Range)
     → fate_after nest refusal ≡ Goes i ranges → A
 unfolding goes
 no_fate nest refusal i ranges h = absurd (true≢false (sym (ap goes h) ∙ stays nest refusal))

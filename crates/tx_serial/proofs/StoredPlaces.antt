@@ -39,7 +39,7 @@ has_there test ranges = list_any (λ r. r.store && list_any test (addresses_of r
 
 -- ---- stores of one operand
 
-up_is_range : (n a : ℕ) → from_up a n ≡ range_with_len a n
+pub up_is_range : (n a : ℕ) → from_up a n ≡ range_with_len a n
 up_is_range zero a = refl
 up_is_range (suc n) a =
     ap (λ xs. a ∷ xs) (up_is_range n (suc a) ∙ ap (λ b. range_with_len b n) (let e : suc a ≡ a + 1 = omega

@@ -4,7 +4,7 @@ use Rattle.std.proofs.Common.{Option, Some, None, refl, sym, ap, subst, ◌∙�
 use Rattle.std.proofs.Common.{length-take}
 use Rattle.std.specs.Prelude.{◌||◌, cond, if◌then◌else◌, ◌==◌}
 use Rattle.std.specs.List.{list_any}
-use Rattle.std.proofs.lemmas.Bool.{true≢false}
+use Rattle.std.proofs.lemmas.Bool.{true≢false, or_from}
 use Rattle.std.proofs.lemmas.List.Folds.{list_any-append}
 use Rattle.z_regs.specs.Prefix.{absolute_of, is_prefix}
 use Rattle.z_regs.specs.declared.ranges.Range.{Range}
@@ -34,22 +34,18 @@ use Rattle.tx_serial.proofs.Passing.{passes}
 abbrev pub any_text : List ℕ → List Store → Bool
 any_text text stores = list_any (λ s. lies_in text s.address) stores
 
-neither : (a b : Bool) → a ≡ false → b ≡ false → (a || b) ≡ false
-neither true b g h = absurd (cc)
-neither false b g h = h
+pub or_first : (a b : Bool) → (a || b) ≡ false → a ≡ false
+or_first true b h = absurd (cc)
+or_first false b h = refl
 
-first_of_two : (a b : Bool) → (a || b) ≡ false → a ≡ false
-first_of_two true b h = absurd (cc)
-first_of_two false b h = refl
-
-second_of_two : (a b : Bool) → (a || b) ≡ false → b ≡ false
-second_of_two true b h = absurd (cc)
-second_of_two false b h = h
+pub or_second : (a b : Bool) → (a || b) ≡ false → b ≡ false
+or_second true b h = absurd (cc)
+or_second false b h = h
 
 pub text_append : (text : List ℕ) (xs ys : List Store) → any_text text xs ≡ false → any_text text ys ≡ false
     → any_text text (xs ++ ys) ≡ false
 text_append text xs ys g h =
-    list_any-append (λ s. lies_in text s.address) xs ys ∙ neither (any_text text xs) (any_text text ys) g h
+    list_any-append (λ s. lies_in text s.address) xs ys ∙ or_from (any_text text xs) (any_text text ys) g h
 
 put_elsewhere : (text : List ℕ) (storage : Storage) (x byte a : ℕ) → lies_in text x ≡ false
     → lies_in text a ≡ true → at_put storage x byte a ≡ storage a
@@ -67,9 +63,9 @@ unfolding laid_over
 laid_apart text [] storage h a is = refl
 laid_apart text (s ∷ rest) storage h a is =
     laid_apart text rest (at_put storage s.address s.byte)
-    (second_of_two (lies_in text s.address) (any_text text rest) h) a is
+    (or_second (lies_in text s.address) (any_text text rest) h) a is
     ∙ put_elsewhere text storage s.address s.byte a
-    (first_of_two (lies_in text s.address) (any_text text rest) h) is
+    (or_first (lies_in text s.address) (any_text text rest) h) is
 
 -- ---- the stores of operands
 
@@ -79,7 +75,7 @@ pub stores_apart : (text : List ℕ) (prefix : Option ℕ) (bytes : List ℕ) (a
     → any_text text (stores_at prefix a bytes) ≡ false
 stores_apart text prefix [] a plain = refl
 stores_apart text prefix (b ∷ bs) a plain =
-    neither (lies_in text (absolute_of prefix a)) (any_text text (stores_at prefix (suc a) bs))
+    or_from (lies_in text (absolute_of prefix a)) (any_text text (stores_at prefix (suc a) bs))
     (subst (λ x. lies_in text (absolute_of prefix x) ≡ false) (let e : a + 0 ≡ a = omega arith in e)
     (plain 0 (let e : 0 < suc (length bs) = omega arith in e)))
     (stores_apart text prefix bs (suc a) (λ k h.
@@ -166,14 +162,14 @@ pub copy_keeps_text : (f : FlatState) (i k : ℕ) → is_prefix (f.cpus i).prefi
 copy_keeps_text f i k ok a is =
     ap (λ s. s a) (run_copy f i k) ∙ laid_apart f.text (run f i k).stores f.storage (run_apart f i k ok) a is
 
-not_some : (b c : Bool) → (b ≡ true → c ≡ true) → c ≡ false → b ≡ false
-not_some true c h e = absurd (true≢false (sym (h refl) ∙ e))
-not_some false c h e = refl
+pub contraposed : (b c : Bool) → (b ≡ true → c ≡ true) → c ≡ false → b ≡ false
+contraposed true c h e = absurd (true≢false (sym (h refl) ∙ e))
+contraposed false c h e = refl
 
 pub lasting_apart : (f : FlatState) (i k : ℕ) → is_prefix (f.cpus i).prefix ≡ true
     → any_text f.text (run f i k).lasting ≡ false
 lasting_apart f i k ok =
-    not_some (any_text f.text (run f i k).lasting) (any_text f.text (run f i k).stores)
+    contraposed (any_text f.text (run f i k).lasting) (any_text f.text (run f i k).stores)
     (run_lasting (λ s. lies_in f.text s.address) f i k) (run_apart f i k ok)
 
 -- ---- the block that is named

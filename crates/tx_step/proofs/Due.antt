@@ -200,7 +200,7 @@ starts_bare : (m : Setting) (j line : ℕ) → (footprint_of m beginning j).stor
 unfolding run
 starts_bare m j line = refl
 
-none_happened : (m : Setting) → meaning m [] ≡ beginning
+pub none_happened : (m : Setting) → meaning m [] ≡ beginning
 unfolding meaning_from
 none_happened m = refl
 

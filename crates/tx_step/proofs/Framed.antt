@@ -2,7 +2,7 @@
 use Rattle.std.proofs.Common.{◌≡◌, ℕ, ◌+◌, ◌/◌, ◌<◌, Bool, true, false, List, [], ◌∷◌, Option, Some, None, refl, sym, ap}
 use Rattle.std.proofs.Common.{◌∙◌, subst}
 use Rattle.std.specs.Prelude.{◌||◌, ◌&&◌, unwrap_or}
-use Rattle.std.proofs.lemmas.Bool.{false_from_ne_true}
+use Rattle.std.proofs.lemmas.Bool.{false_from_ne_true, or_from}
 use Rattle.z_regs.specs.Cpu.{Cpu}
 use Rattle.z_regs.specs.Absolute.{absolute_ranges}
 use Rattle.z_regs.specs.Prefix.{is_prefix}
@@ -51,17 +51,9 @@ use Rattle.tx_keeping.proofs.Asking.{Keeps}
 use Rattle.tx_keeping.proofs.Endings.{aborting_after, ended_by}
 use Rattle.tx_keeping.proofs.Getting.{lines_got}
 use Rattle.tx_keeping.proofs.Moves.{IsGood, at_put_case, restated, one_number}
-use Rattle.tx_keeping.proofs.Needed.{TouchesMore, executed_touches, block_changes, taking_changes}
+use Rattle.tx_keeping.proofs.Needed.{TouchesMore, executed_touches, block_changes, taking_changes, none_there}
 use Rattle.tx_keeping.proofs.Truth.{Truth, kept_is}
 use Rattle.tx_keeping.proofs.Turning.{own_fate}
-
-both_off : (x y : Bool) → x ≡ false → y ≡ false → (x || y) ≡ false
-both_off true y first second = let n : true ≡ false = first in cc
-both_off false y first second = second
-
-none_where : (o : Option ℕ) (b : Bool) → b ≡ false → ((byte : ℕ) → o ≡ Some byte → b ≡ true) → o ≡ None
-none_where None b off some = refl
-none_where (Some byte) b off some = absurd (let x : false ≡ true = sym off ∙ some byte refl in cc)
 
 -- at one address, and for some CPUs, of which all are meant where a byte is spoken of
 module _ (m : Setting) (s : IsSetting m) (a : ℕ) (P : ℕ → Type 0) where
@@ -107,7 +99,7 @@ module _ (m : Setting) (s : IsSetting m) (a : ℕ) (P : ℕ → Type 0) where
     lasting = λ j p.
         let h = (g.truth.each j).followed in
         let kept = kept_is m s k g.truth in
-        none_where ((k.locals j).attempt.lasting a) ((k.locals j).attempt.footprint.stored line) (off j p)
+        none_there ((k.locals j).attempt.lasting a) ((k.locals j).attempt.footprint.stored line) (off j p)
         (λ byte e. lasting_line (kept_flat m k) j a byte (k.locals j) h
         (ap (λ (c : Cpu). is_prefix c.prefix) (sym h.cpu) ∙ kept.prefixes j) e);
   }
@@ -274,7 +266,7 @@ module _ (m : Setting) (s : IsSetting m) (a : ℕ) (P : ℕ → Type 0) where
       executed_touches (text_of m) k.storage k.locals i instr ranges (kept_is m s k g.truth)
       (g.truth.each i).followed goes in
       let none : P i → (q.footprint.stored line || stores (absolute_ranges q.cpu.prefix ranges) line) ≡ false =
-      λ p. both_off (q.footprint.stored line) (stores (absolute_ranges q.cpu.prefix ranges) line) (c.stored i p)
+      λ p. or_from (q.footprint.stored line) (stores (absolute_ranges q.cpu.prefix ranges) line) (c.stored i p)
       (off p) in
       let l : Left k i e.after = record {
         byte = λ all. t.bytes a (none (all i));

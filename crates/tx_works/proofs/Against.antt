@@ -7,12 +7,12 @@ use Rattle.std.proofs.lemmas.Bool.{cases_Bool, cases_eq, and_parts, and_right, e
 use Rattle.std.proofs.lemmas.Bool.{not-true}
 use borrow.Enum.Arm.{by_way}
 use Rattle.line_table.specs.declared.table.Mode.{Mode}
-use Rattle.line_table.specs.declared.table.Mode.TheVariants.{Shared, Exclusive}
 use Rattle.line_table.specs.Holders.{Holders, holding, against, is_against}
 use Rattle.line_table.proofs.Seen.{holding_here, holding_other_cpu}
 use Rattle.tx_lines.specs.Next.{passing_from, first_of, stands_against}
-use Rattle.tx_lines.proofs.Next.{passes_here, fails_here, skipped, all_against}
+use Rattle.tx_lines.proofs.Next.{passes_here, fails_here, skipped, all_against, behind_all}
 use Rattle.tx_meaning.specs.Changes.{left_to}
+use Rattle.tx_keeping.proofs.Asking.{left_not_against}
 
 -- ---- the first number that passes
 
@@ -23,16 +23,10 @@ pub record IsFirst (test : ℕ → Bool) (end from at : ℕ) : Type 0 where
   pub before : (k : ℕ) → from ≤ k → k < at → test k ≡ false
   pub rest : passing_from test end from ≡ at ∷ passing_from test end (at + 1)
 
-nothing_behind : (test : ℕ → Bool) (end from : ℕ) → end ≤ from → passing_from test end from ≡ []
-unfolding passing_from
-nothing_behind test end from over =
-    let none : end - from ≡ 0 = omega arith in
-    ap (λ n. filter test (range_with_len from n)) none
-
 first_by : (n : ℕ) (test : ℕ → Bool) (end from at : ℕ) → from + n ≡ end
     → Some at ≡ first_of (passing_from test end from) → IsFirst test end from at
 first_by zero test end from at so e =
-    let none = ap first_of (nothing_behind test end from (omega arith)) in
+    let none = ap first_of (behind_all test end from (omega arith)) in
     absurd (let n : Some at ≡ None = e ∙ none in cc)
 first_by (suc n) test end from at so e =
     by_way (cases_Bool (test from))
@@ -97,10 +91,6 @@ stands_parts held cpu line mode other h =
     let p = and_parts (not (other == cpu)) (is_against mode (held other line)) h in
     (eqb-false other cpu (not-true (other == cpu) p.0), p.1)
 
-left_is_not_against : (mode : Mode) → is_against mode (left_to mode) ≡ false
-left_is_not_against Shared = refl
-left_is_not_against Exclusive = refl
-
 -- with the line yielded by one
 module _ (held : Holders) (cpu line : ℕ) (mode : Mode) (by : ℕ) where
   abbrev left : Holders
@@ -114,7 +104,7 @@ module _ (held : Holders) (cpu line : ℕ) (mode : Mode) (by : ℕ) where
   pub yielded_here : stands_against left cpu line mode by ≡ false
   yielded_here =
       and_right (not (by == cpu)) (is_against mode (left by line))
-      (ap (is_against mode) (holding_here held by line (left_to mode)) ∙ left_is_not_against mode)
+      (ap (is_against mode) (holding_here held by line (left_to mode)) ∙ left_not_against mode)
 
 -- none, where none stands from a place on and none before it
 pub none_stands : (cpus : ℕ) (held : Holders) (cpu line : ℕ) (mode : Mode) (at : ℕ) → at ≤ cpus

@@ -15,7 +15,6 @@ use Rattle.bit_set.specs.Counts.{count_below}
 use Rattle.bit_set.proofs.Counts.{count_agree}
 use Rattle.z_regs.specs.Prefix.{storage_size}
 use Rattle.z_regs.specs.declared.ranges.Range.{Range}
-use Rattle.line_table.specs.declared.table.Mode.{Mode}
 use Rattle.line_table.specs.declared.table.Mode.TheVariants.{Shared}
 use Rattle.line_table.specs.Sizes.{storage_lines, held_limit}
 use Rattle.line_table.specs.Holders.{Holders, against, lines_held}
@@ -42,6 +41,7 @@ use Rattle.tx_works.specs.Works.{Works, Seat, IsSameSize, kept_by}
 use Rattle.tx_works.specs.Ready.{MayAsk, MayHold}
 use Rattle.tx_works.specs.Asks.{AskLeaves, IsReady, IsFew, asked_by}
 use Rattle.tx_works.proofs.Leaves.{leaves_then, leaves_at_most}
+use Rattle.tx_keeping.proofs.Room.{not_some}
 
 -- ---- a line to give up
 
@@ -56,10 +56,6 @@ some_by (suc n) test end from at so low high passes =
     let less : from + 1 ≤ at = omega arith in
     ap (λ l. is_some (first_of l)) (fails_here test end from (omega arith) off)
     ∙ some_by n test end (from + 1) at (omega arith) less high passes)
-
-not_some : (o : Option Mode) → is_some o ≡ false → o ≡ None
-not_some None h = refl
-not_some (Some mode) h = absurd (let n : true ≡ false = h in cc)
 
 -- where a CPU holds as many lines as it may, there is one that neither its attempt nor this turn needs
 pub one_is_spare : (held : Holders) (i line : ℕ) (sets : Sets) (lines : List ℕ) → has_room held i line ≡ false

@@ -26,9 +26,7 @@ use Rattle.tx_progress.specs.Trial.{outcome_by}
 use Rattle.tx_progress.specs.declared.done.Done.{Done}
 use Rattle.tx_progress.specs.declared.done.Done.TheVariants as done
 use Rattle.tx_progress.proofs.Rows.{IsDone, role_done}
-
-none_of : (n : ℕ) → nat_lt 0 n ≡ false → n ≡ 0
-none_of n none = grind (arith, none)
+use Rattle.tx_progress.proofs.Parts.{not_live}
 
 one_more : (n : ℕ) → nat_lt 0 (n + 1) ≡ true
 one_more n = grind (arith)
@@ -113,12 +111,12 @@ outside_counted : (i : Instr) (ranges : List Range) (b : Beside) (begin : Bool)
     IsCountedOutside e.after.local.attempt.count e.told
 outside_counted i ranges b true is rests =
     opened_one i ranges b (outcome_by b.storage i ranges b.local.attempt)
-    (begun_done b.storage i ranges b.local.attempt is) (none_of b.local.attempt.count rests)
+    (begun_done b.storage i ranges b.local.attempt is) (not_live b.local.attempt.count rests)
 outside_counted i ranges b false is rests =
     let o = outcome_by b.storage i ranges b.local.attempt in
     let after = outside i ranges b o in
     told_counted after.local.attempt.count _ after.local.cpu.state
-    (outside_none i ranges b o (none_of b.local.attempt.count rests))
+    (outside_none i ranges b o (not_live b.local.attempt.count rests))
 
 pub told-outside : (i : Instr) (ranges : List Range) (b : Beside) → is_live b.local.attempt ≡ false
     → IsCountedOutside (executed i ranges b).after.local.attempt.count (executed i ranges b).told
@@ -201,7 +199,7 @@ block-counted b = refl
 taken_counted : (waiting : Option Waiting) (b : Beside) → is_live b.local.attempt ≡ false
     → (taken_by waiting b).local.attempt.count ≡ b.local.attempt.count
 taken_counted None b rests = refl
-taken_counted (Some w) b rests = sym (none_of b.local.attempt.count rests)
+taken_counted (Some w) b rests = sym (not_live b.local.attempt.count rests)
 
 pub taken-counted : (b : Beside) → is_live b.local.attempt ≡ false
     → (interruption_taken b).local.attempt.count ≡ b.local.attempt.count
@@ -211,4 +209,4 @@ taken-counted b rests = taken_counted b.local.waiting b rests
 pub stopped-counted : (e : Exception) (local : Local) → is_live local.attempt ≡ false
     → (stopped e local).attempt.count ≡ local.attempt.count
 unfolding stopped
-stopped-counted e local rests = sym (none_of local.attempt.count rests)
+stopped-counted e local rests = sym (not_live local.attempt.count rests)

@@ -20,9 +20,9 @@ use Rattle.tx_progress.proofs.Standing.{tests_find_nothing}
 use Rattle.tx_progress.specs.Progress.{Progress}
 use Rattle.tx_progress.specs.Reached.{IsFollowed, progress_of}
 use Rattle.tx_serial.proofs.Passing.{passes}
-use Rattle.tx_serial.proofs.FreeOperands.{inside_operands}
+use Rattle.tx_serial.proofs.FreeOperands.{inside_operands, not_excepted}
 use Rattle.tx_serial.specs.Attempt.{Run}
-use Rattle.tx_serial.specs.Fate.{fate, excepted}
+use Rattle.tx_serial.specs.Fate.{fate}
 use Rattle.tx_serial.specs.Run.{run}
 use Rattle.tx_serial.specs.Text.{IsPlaced}
 use Rattle.z_instr.specs.Operands.{spans}
@@ -46,13 +46,13 @@ use Rattle.tx_keeping.specs.Turn.{k_idle}
 use Rattle.tx_keeping.proofs.Truth.{Truth, kept_is, same_text, live_is}
 use Rattle.tx_keeping.proofs.Moves.{IsGood}
 use Rattle.tx_keeping.proofs.Turning.{waiting_rests, pending_rests}
-use Rattle.tx_keeping.proofs.Needed.{ends_live, stops_not_live}
 use Rattle.tx_keeping.proofs.Room.{AllWithin}
 use Rattle.tx_keeping.proofs.Few.{resting_room, instruction_room, small_interruption, few_interruption}
 use Rattle.tx_bounds.proofs.Stopping.{Counted, turning_begun}
 use Rattle.tx_bounds.proofs.Stopped.{Between, may_go_on}
 use Rattle.tx_works.specs.Ready.{MayClimb, MayAsk, MayTurn, IsInReach, image_storage}
 use Rattle.tx_works.specs.Wanted.{MayWant}
+use Rattle.tx_progress.proofs.Quiet.{ends_live, stops_quiet}
 
 -- ---- the ladder and the stop queue
 
@@ -86,10 +86,6 @@ may_ask m i k b may =
 
 -- ---- operands
 
-unexcepted : (i : Instr) (o : Option ℕ) → excepted i o ≡ None → o ≡ None
-unexcepted i None h = refl
-unexcepted i (Some code) h = absurd (cc)
-
 in_reach_of : (text : List ℕ) (p : Run) (instr : Instr) (ranges : List Range)
     → fate text p ≡ Goes instr ranges → IsInReach p.cpu.prefix ranges
 in_reach_of text p instr ranges goes =
@@ -100,7 +96,7 @@ in_reach_of text p instr ranges goes =
     let operands = (entry_at instr.op.number).operands in
     let fields = count operands instr c.general c.condition in
     let few : length (map range_of ss) ≤ 2 = omega (arith, length-map ss range_of, fields) in
-    let inside = inside_operands text instr c (length p.nest) (unexcepted instr _ nothing.accessible) in
+    let inside = inside_operands text instr c (length p.nest) (not_excepted instr _ nothing.accessible) in
     record {
       few = subst (λ rs. length rs ≤ 2) (sym pass.touches) few;
       accessible = subst (All (IsAccessible c.prefix)) (sym pass.touches)
@@ -179,7 +175,7 @@ module _ (m : Setting) (s : IsSetting m) where
     ends = λ why is. live_is m k g.truth i
         ∙ ends_live (kept_flat m k) i (k.locals i) why (g.truth.each i).followed is;
     stops = λ e is. live_is m k g.truth i
-        ∙ stops_not_live (kept_flat m k) i (k.locals i) e (g.truth.each i).followed is;
+        ∙ stops_quiet (kept_flat m k) i (k.locals i) e (g.truth.each i).followed is;
     text = (may_want i k g.truth).text;
   }
 

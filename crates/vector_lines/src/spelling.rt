@@ -3,9 +3,10 @@
 use crate::fault::Fault;
 use crate::numbers::{first_word, listing_number};
 use std::alloc::Global;
+use z_instr::form::{Slot, slots_of};
 use z_instr::instr::Instr;
-use z_instr::lookup::row;
-use z_list::{Operand, operands};
+use z_instr::lookup::{line, row};
+use z_list::{Operand, operand_at};
 
 /// Mnemonics that stand for BRC with this mask.
 static BRANCHES: [(&str, i64); 13] = [
@@ -122,12 +123,13 @@ fn read_as(form: &Operand, text: &str) -> Option<[i64; 3]> {
     }
 }
 
-/// Whether operands, all but those that the mnemonic stands for, are written like this.
-fn are_written(operands: &[Operand], text: &str) -> Option<bool> {
+/// Whether the operands of an instruction that have these slots are written like this.
+fn are_written(instr: &Instr, slots: &[Slot], text: &str) -> Option<bool> {
     let mut rest = text;
-    for operand in operands {
+    for slot in slots {
         let (text, further) = cut(rest)?;
-        if read_as(operand, text)? != numbers_of(operand) {
+        let operand = operand_at(*slot, instr);
+        if read_as(&operand, text)? != numbers_of(&operand) {
             return Some(false);
         }
         rest = further;
@@ -136,12 +138,11 @@ fn are_written(operands: &[Operand], text: &str) -> Option<bool> {
 }
 
 /// Whether operands are written like this, the first by a mask that the mnemonic stands for, if it does.
-fn are_operands(operands: &[Operand], mask: Option<i64>, text: &str) -> Option<bool> {
-    match (mask, operands) {
-        (None, operands) => are_written(operands, text),
-        (Some(mask), [first, others @ ..]) if *first == Operand::Number(mask) => are_written(
-            others, text,
-        ),
+fn are_operands(instr: &Instr, mask: Option<i64>, text: &str) -> Option<bool> {
+    match (mask, slots_of(line(instr.op).form)) {
+        (None, slots) => are_written(instr, slots, text),
+        (Some(mask), [first, others @ ..]) if operand_at(*first, instr) == Operand::Number(mask) =>
+            are_written(instr, others, text),
         (Some(_), _) => Some(false),
     }
 }
@@ -153,7 +154,7 @@ fn is_spelling_in_capitals(line: &str, instr: &Instr) -> Option<bool> {
     if row(instr.op).name.bytes() != base.as_bytes() {
         return Some(false);
     }
-    are_operands(operands(instr).as_slice(), mask, text)
+    are_operands(instr, mask, text)
 }
 
 /// Whether a line of the listing is a spelling of an instruction.

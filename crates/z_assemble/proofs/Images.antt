@@ -1,10 +1,10 @@
 -- What a text stands for is an image.
-use Rattle.std.proofs.Common.{◌≡◌, ◌≢◌, ℕ, ◌+◌, ◌/◌, ◌%◌, ◌<◌, ◌≤◌, Bool, true, false, List, length, get_or}
+use Rattle.std.proofs.Common.{◌≡◌, ◌≢◌, ℕ, ◌+◌, ◌/◌, ◌%◌, ◌<◌, ◌≤◌, true, false, List, length, get_or}
 use Rattle.std.proofs.Common.{replicate, Some, None, refl, sym, ap, ◌∙◌, subst, arith, inl, inr, ◌==◌, lit≤}
 use Rattle.std.proofs.Common.{lit<, eq-eqb}
 use Rattle.std.specs.Prelude.{All, IsTrue, ◌↔◌}
 use Rattle.std.specs.FinSet.{contains, empty}
-use Rattle.std.proofs.lemmas.Bool.{false≢true, and_parts, eqb-true}
+use Rattle.std.proofs.lemmas.Bool.{false≢true, and_parts, eqb-true, false_from_ne_true}
 use Rattle.std.proofs.lemmas.List.{length-replicate}
 use Rattle.std.proofs.lemmas.List.Elements.{All-nil, All-replicate, All-from_get_or, All-weaker}
 use Rattle.z_regs.specs.Cpu.{Cpu, started}
@@ -126,17 +126,13 @@ held p m r page =
 
 -- ---- areas
 
-not_there : (b : Bool) → (b ≡ true → ⊥) → b ≡ false
-not_there true h = absurd (h refl)
-not_there false h = refl
-
 boundary : (first : ℕ) → is_prefix (Some first) ≡ true → first % 8192 ≡ 0
 boundary first h = let p = and_parts _ _ h in eqb-true _ _ p.0
 
 area_free : (p : Plan) (m : Machine) → AreRead p m → (c : Cpu) → IsStarting c → IsClear p.tasks c →
     HasFreeArea (pages_with m.storage (places_from 0 p.begins) empty) c
 area_free p m r c s clear page a =
-    not_there (contains (pages_with m.storage (places_from 0 p.begins) empty) page) (λ e.
+    false_from_ne_true (contains (pages_with m.storage (places_from 0 p.begins) empty) page) (λ e.
     let t = (held p m r page).0 e in
     let start = get_or (places_from 0 p.begins) t.index 0 in
     let k : ℕ = t.byte.0 in

@@ -5,7 +5,7 @@ use Rattle.std.proofs.Common.{[], ◌∷◌, ◌++◌, length, get_or, drop, rep
 use Rattle.std.proofs.Common.{sym, ap, ◌∙◌, subst, arith, ◌==◌, eq-eqb}
 use Rattle.std.specs.Prelude.{All, AllPairs, sum_by}
 use Rattle.std.specs.List.{list_any}
-use Rattle.std.proofs.lemmas.Bool.{and_parts, ltb-true, leb-true, eqb-true, false≢true}
+use Rattle.std.proofs.lemmas.Bool.{and_parts, ltb-true, leb-true, eqb-true, false≢true, not-true}
 use Rattle.std.proofs.lemmas.List.Elements.{All-cons, All-head, All-tail, All-push, All-append, All-replicate}
 use Rattle.std.proofs.lemmas.List.Sums.{sum_by-append}
 use Rattle.std.proofs.lemmas.List.Folds.{list_any_at}
@@ -40,7 +40,7 @@ use Rattle.z_setup.specs.declared.parameter.Parameter.{Parameter}
 use Rattle.z_setup.specs.declared.parameter.Parameter.TheVariants.{Reject, Firm, Late, Starve, Stop, Delay}
 use Rattle.z_fields.specs.declared.schedule.Run.{Run}
 use Rattle.z_text.specs.declared.token.Token.{Token}
-use Rattle.z_assemble.proofs.Passed.{then_ok, where_ok, same_ok, not_true, is_true}
+use Rattle.z_assemble.proofs.Passed.{then_ok, where_ok, same_ok, is_true}
 
 -- ---- one element changed
 
@@ -367,8 +367,8 @@ prefix_keeps tasks n os m r e i =
     let free = and_parts _ _ area.1 in
     let single = and_parts _ _ free.0 in
     subst (IsMachine tasks n) w.1 (record {
-      cpus = with_area tasks n (to_nat x.0) x.1 m.cpus area.0 (not_true _ single.1)
-          (not_true _ free.1) i.cpus;
+      cpus = with_area tasks n (to_nat x.0) x.1 m.cpus area.0 (not-true _ single.1)
+          (not-true _ free.1) i.cpus;
       shows = i.shows;
       events = i.events;
       allowed = i.allowed;

@@ -1,5 +1,5 @@
 -- What a test that was passed says.
-use Rattle.std.proofs.Common.{◌≡◌, Bool, true, false, not, IsTrue, Result, Ok, Err, refl}
+use Rattle.std.proofs.Common.{◌≡◌, Bool, true, false, IsTrue, Result, Ok, Err, refl}
 use Rattle.std.specs.Prelude.{if◌then◌else◌}
 use Rattle.z_fields.specs.Chain.{◌>>=◌}
 use Rattle.z_fields.specs.declared.fault.Kind.{Kind}
@@ -25,14 +25,6 @@ AreSame some other = some ≡ other
 
 pub same_ok : {A : Type 0} (a b : A) → AreSame (Ok a) (Ok b) → a ≡ b
 same_ok a b e = cc
-
-pub not_true : (b : Bool) → not b ≡ true → b ≡ false
-not_true true e = absurd (cc)
-not_true false e = refl
-
-pub not_false : (b : Bool) → not b ≡ false → b ≡ true
-not_false true e = refl
-not_false false e = absurd (cc)
 
 pub is_true : (b : Bool) → b ≡ true → IsTrue b
 is_true b e = e

@@ -1,13 +1,13 @@
 -- What each line of the first reading keeps of the plan: instructions stand apart in accessible storage, and
 -- their places are marked.
-use Rattle.std.proofs.Common.{◌≡◌, ℕ, zero, suc, pos, ◌+◌, ◌-◌, ◌<◌, ◌≤◌, ◌%◌, Bool, true, false, not, ◌&&◌}
-use Rattle.std.proofs.Common.{List, [], ◌∷◌, length, get_or, drop, Option, Some, None, Result, Ok, Err, refl}
+use Rattle.std.proofs.Common.{◌≡◌, ℕ, suc, pos, ◌+◌, ◌-◌, ◌<◌, ◌≤◌, ◌%◌, Bool, true, false, not, ◌&&◌}
+use Rattle.std.proofs.Common.{List, [], ◌∷◌, length, get_or, drop, Option, Some, None, Result, Ok, Err}
 use Rattle.std.proofs.Common.{sym, ap, ◌∙◌, subst, arith, nat_lt, nat_le, ◌==◌, inl, inr, lt-ltb, lit≤}
 use Rattle.std.specs.Prelude.{All, AllPairs, if◌then◌else◌, codes}
 use Rattle.std.proofs.Math.ListN.{set}
 use Rattle.std.specs.List.{Contains}
 use Rattle.std.specs.Str.{bytes_eq}
-use Rattle.std.proofs.lemmas.Bool.{and_parts, ltb-true, leb-true, false≢true, cases_lt, cases_eq, or_cases}
+use Rattle.std.proofs.lemmas.Bool.{and_parts, ltb-true, leb-true, false≢true, cases_lt, cases_eq, or_cases, false_from_ne_true, not-true, not-false}
 use Rattle.std.proofs.lemmas.List.{get_or-set_other, length-set, get_or-take, get_or-drop}
 use Rattle.std.proofs.lemmas.List.Elements.{All-nil, All-push, All-weaker, Contains-append_left}
 use Rattle.std.proofs.lemmas.List.Elements.{Contains-push}
@@ -41,7 +41,8 @@ use Rattle.z_text.specs.Tokens.{tokens_of}
 use Rattle.z_text.specs.declared.token.Token.{Token}
 use Rattle.z_assemble.proofs.Over.{HasRoom, write_size, write_other, write_inside, copies_size, copies_at}
 use Rattle.z_assemble.proofs.Over.{copies_inside}
-use Rattle.z_assemble.proofs.Passed.{then_ok, where_ok, unless_ok, same_ok, not_true, not_false}
+use Rattle.z_assemble.proofs.Passed.{then_ok, where_ok, unless_ok, same_ok}
+use Rattle.tx_ladder.proofs.Kept.{marked_below}
 
 -- ---- what instructions place
 
@@ -113,18 +114,9 @@ pub record HasPlaced (n : ℕ) (p q : Plan) : Type 0 where
 room_of : (n here : ℕ) → has_room n here ≡ true → 0 < n → (8192 ≤ here) × (here + n ≤ 1048576)
 room_of n here h some =
     elim (or_cases (not (nat_lt 0 n)) (nat_le 8192 here && nat_le (here + n) 1048576) h) [
-      | inl e ↦ absurd (false≢true (sym (not_true _ e) ∙ lt-ltb 0 n some))
+      | inl e ↦ absurd (false≢true (sym (not-true _ e) ∙ lt-ltb 0 n some))
       | inr e ↦ let p = and_parts _ _ e in (leb-true _ _ p.0, leb-true _ _ p.1)
     ]
-
-in_list : (xs : List Bool) (j : ℕ) → get_or xs j false ≡ true → j < length xs
-in_list [] j e = absurd (false≢true e)
-in_list (x ∷ xs) zero e = omega arith
-in_list (x ∷ xs) (suc j) e = let h = in_list xs j e in omega arith
-
-not_marked : (b : Bool) → (b ≡ true → ⊥) → b ≡ false
-not_marked true h = absurd (h refl)
-not_marked false h = refl
 
 free_of : (from n : ℕ) (taken : List Bool) → is_taken from (from + n) taken ≡ false → (k : ℕ) → from ≤ k →
     k < from + n → get_or taken k false ≡ false
@@ -135,10 +127,10 @@ free_of from n taken e k l h =
     let part : get_or (cut from (from + n) taken) j false ≡ get_or taken k false =
     get_or-take m (drop from taken) j false (omega arith) ∙ get_or-drop from taken j false
     ∙ ap (λ q. get_or taken q false) s in
-    not_marked (get_or taken k false) (λ t.
+    false_from_ne_true (get_or taken k false) (λ t.
     let here : get_or (cut from (from + n) taken) j false ≡ true = part ∙ t in
     false≢true (sym e ∙ list_any_at (λ b. b) (cut from (from + n) taken) j false
-    (in_list (cut from (from + n) taken) j here) here))
+    (marked_below (cut from (from + n) taken) j here) here))
 
 pub place_holds : (n : ℕ) (p q : Plan) → placed n p ≡ Ok q → HasPlaced n p q
 unfolding placed
@@ -147,7 +139,7 @@ place_holds n p q e =
     let b = unless_ok (is_taken p.here (p.here + n) p.taken) _ q Overlap a.1 in
     record {
       is = same_ok _ q b.1;
-      room = room_of n p.here (not_false _ a.0);
+      room = room_of n p.here (not-false _ a.0);
       free = free_of p.here n p.taken b.0;
     }
 

@@ -1,6 +1,7 @@
 //! The places of marks.
 ghost use Rattle.std.specs.Prelude.{◌≡◌, ◌≤◌, ◌<◌, ◌^◌, ◌+◌, ◌++◌, [], ℕ, false, length, IfOk, OnOk, All};
 ghost use Rattle.z_assemble.specs.Whole.{places_from, with_place};
+ghost use Rattle.z_regs.specs.Prefix.{storage_size};
 
 use std::alloc::{AllocError, Global};
 
@@ -57,7 +58,7 @@ fn add_places(places: &mut Vec<u32>, first: u32, marks: &[bool]) -> Result<(), A
 
 /// The places of the marks, in rising order. Most parts have none.
 pub fn places_of(alloc: Global, marks: &[bool]) -> Result<Vec<u32>, AllocError>
-    requires { length marks.now ≡ 1048576 }
+    requires { length marks.now ≡ storage_size }
     ensures is { IfOk result (λ v. v.items ≡ places_from 0 marks.now) }
     ensures inside { IfOk result (λ v. All (λ place. place < length marks.now) v.items) }
 {

@@ -17,6 +17,7 @@ ghost use Rattle.z_assemble.specs.Whole.{on, first_on, first_over, second_on, se
 ghost use Rattle.z_assemble.specs.Whole.{with_page, with_pages, pages_with};
 ghost use Rattle.z_assemble.specs.Whole.{image_of, finished, after_first, over_lines, assembled, Stands};
 ghost use Rattle.z_assemble.specs.Whole.{HasFault, IsOutcome, fault_at, ready_for};
+ghost use Rattle.z_regs.specs.Prefix.{storage_size};
 
 use crate::fault::{AssembleFault, ListingFault};
 use crate::parts::Parts;
@@ -216,8 +217,8 @@ fn add_page(guard: &mut Guard, page: u32)
 
 /// Adds the pages of the first and the last byte of an instruction.
 fn add_pages(guard: &mut Guard, storage: &[u8], start: u32)
-    requires size { length storage.now ≡ 1048576 }
-    requires start { start < 1048576 }
+    requires size { length storage.now ≡ storage_size }
+    requires start { start < storage_size }
     ensures { guard.new ≡ with_pages storage.now start guard.old }
 {
     let count = u32::from(length_of(storage[start as usize]));
@@ -228,8 +229,8 @@ fn add_pages(guard: &mut Guard, storage: &[u8], start: u32)
 /// The pages that hold bytes of instructions.
 #[tactic(auto, using(crate::proofs::Pages::page_steps))]
 fn text_pages(storage: &[u8], starts: &[u32]) -> Guard
-    requires size { length storage.now ≡ 1048576 }
-    requires inside { All (λ start. start < 1048576) starts.now }
+    requires size { length storage.now ≡ storage_size }
+    requires inside { All (λ start. start < storage_size) starts.now }
     ensures { result ≡ pages_with storage.now starts.now empty }
 {
     let mut guard = Guard::none();
@@ -241,7 +242,7 @@ fn text_pages(storage: &[u8], starts: &[u32]) -> Guard
 
 #[tactic(auto, unfolding(crate::specs::Whole::ready_for))]
 fn ready(alloc: Global, storage: Vec<u8>, count: u32) -> Result<Setup, AllocError>
-    requires size { length storage.items ≡ 1048576 }
+    requires size { length storage.items ≡ storage_size }
     requires few { count ≤ 16 }
     ensures is { IfOk result (λ s. machine_of s ≡ ready_for storage.items count) }
     ensures entered { IfOk result (λ s. s.entered ≡ 0) }
@@ -260,7 +261,7 @@ fn ready(alloc: Global, storage: Vec<u8>, count: u32) -> Result<Setup, AllocErro
 /// The image of what both readings have made.
 #[tactic(auto, unfolding(crate::specs::Whole::image_of))]
 fn image(alloc: Global, begins: &[bool], setup: Setup) -> Result<Parts, AllocError>
-    requires { length begins.now ≡ 1048576 }
+    requires { length begins.now ≡ storage_size }
     ensures { IfOk result (λ i. i ≡ image_of begins.now (machine_of setup)) }
 {
     let Setup {

@@ -6,4 +6,4 @@
 mod families;
 mod run;
 
-pub use run::{execute, is_mine};
+pub use run::{execute, execute_kind, is_mine};

@@ -37,26 +37,36 @@ fn run(branch: Branch, n: u8, instr: &Instr, image: &mut CpuImage)
     }
 }
 
-/// Executes an instruction that says where to go on. It touches no storage and raises no exception.
+/// Executes an instruction whose operation has this kind, and which says where to go on. It touches no storage
+/// and raises no exception.
 ///
 /// Registers, condition code, program mask, state and the address of the next instruction become those that
 /// the definition of one instruction gives, at any nesting depth.
-pub fn execute<V: Bytes>(
+pub fn execute_kind<V: Bytes>(
+    kind: Branch,
     instr: &Instr,
     image: &mut CpuImage,
     _view: &mut V,
 ) -> Result<(), Exception>
-    requires mine { is_branch (kind_at instr.now.op.number) ≡ true }
+    requires kind { kind_at instr.now.op.number ≡ Kind.Branch kind }
     ensures does { (depth : ℕ) → Executes depth instr.now (cpu_of image.old) (cpu_of image.new)
         (V.bytes _view.old) (V.bytes _view.new) result }
     ensures view { V.bytes _view.new ≡ V.bytes _view.old }
 {
     let n = length_in(line(instr.op).format);
+    run(kind, n, instr, image);
+    Ok(())
+}
+
+/// Executes an instruction for which [`is_mine`] holds, as [`execute_kind`] does.
+pub fn execute<V: Bytes>(instr: &Instr, image: &mut CpuImage, view: &mut V) -> Result<(), Exception>
+    requires mine { is_branch (kind_at instr.now.op.number) ≡ true }
+    ensures does { (depth : ℕ) → Executes depth instr.now (cpu_of image.old) (cpu_of image.new)
+        (V.bytes view.old) (V.bytes view.new) result }
+    ensures view { V.bytes view.new ≡ V.bytes view.old }
+{
     match kind_of(instr.op) {
-        Kind::Branch(branch) => {
-            run(branch, n, instr, image);
-            Ok(())
-        }
+        Kind::Branch(kind) => execute_kind(kind, instr, image, view),
         _ => unreachable!(),
     }
 }

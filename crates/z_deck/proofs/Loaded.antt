@@ -23,7 +23,7 @@ use Rattle.z_deck.proofs.Faults.{behind}
 
 -- ---- one more card
 
-over_none : (o : Option ℕ) → over o None ≡ o
+pub over_none : (o : Option ℕ) → over o None ≡ o
 over_none (Some x) = refl
 over_none None = refl
 
@@ -44,7 +44,7 @@ or_none : (b : Bool) → (b || false) ≡ b
 or_none true = refl
 or_none false = refl
 
-or_or : (a b c : Bool) → ((a || b) || c) ≡ (a || (b || c))
+pub or_or : (a b c : Bool) → ((a || b) || c) ≡ (a || (b || c))
 or_or true b c = refl
 or_or false b c = refl
 

@@ -1,19 +1,19 @@
 -- Bytes are a deck or have a first fault, never both, and only one.
-use Rattle.std.proofs.Common.{◌≡◌, ℕ, zero, suc, ◌+◌, ◌-◌, ◌*◌, ◌/◌, ◌%◌, ◌<◌, ◌≤◌, Bool, true, false, ◌||◌, ◌⊎◌}
+use Rattle.std.proofs.Common.{◌≡◌, ℕ, zero, suc, ◌+◌, ◌-◌, ◌*◌, ◌/◌, ◌<◌, ◌≤◌, Bool, true, false, ◌||◌, ◌⊎◌}
 use Rattle.std.proofs.Common.{inl, inr, List, [], ◌∷◌, ◌++◌, length, take, drop, Option, Some, None, is_some}
-use Rattle.std.proofs.Common.{refl, sym, ap, ap₂, subst, ◌∙◌, arith, All, slice_index, length-append, length-drop}
+use Rattle.std.proofs.Common.{refl, sym, ap, ap₂, subst, ◌∙◌, arith, All, length-append}
 use Rattle.std.proofs.Common.{append_assoc, le-ltb}
-use Rattle.std.specs.Prelude.{unwrap_or, nat_lt, ◌==◌}
+use Rattle.std.specs.Prelude.{nat_lt, ◌==◌}
 use Rattle.std.specs.List.{concat}
 use Rattle.std.proofs.lemmas.Bool.{eqb-true, ltb-true, ltb-false}
-use Rattle.std.proofs.lemmas.List.{append-nil, length-take, length-replicate, take_at, drop_at, ext_get_or}
+use Rattle.std.proofs.lemmas.List.{append-nil, length-replicate, take_at, drop_at, ext_get_or}
 use Rattle.std.proofs.lemmas.List.Elements.{All-head, All-tail}
 use Rattle.std.proofs.lemmas.List.Folds.{concat-append}
 use Rattle.z_deck.specs.Columns.{type_of}
 use Rattle.z_deck.specs.Loading.{Loaded}
 use Rattle.z_deck.specs.Reading.{fault_of, ends, is_end, Pass, Holds, IsDeck, FirstFault, too_long, at_card, no_end}
-use Rattle.z_deck.specs.Reading.{IsText, IsEnd, IsPart, IsAccessible, entry_of, address_of, bytes_of, count_of, zeros}
-use Rattle.z_deck.specs.Reading.{is_accessible, is_above, byte_from}
+use Rattle.z_deck.specs.Reading.{IsText, IsEnd, IsPart, entry_of, address_of, bytes_of, count_of, zeros}
+use Rattle.z_deck.specs.Reading.{is_accessible, is_above}
 use Rattle.z_deck.specs.Ways.{HasDeck, HasFault}
 use Rattle.z_deck.specs.declared.card.CardType.{CardType}
 use Rattle.z_deck.specs.declared.card.CardType.TheVariants.{Section, Text, End, Relocation, Symbol}
@@ -21,9 +21,9 @@ use Rattle.z_deck.specs.declared.fault.Kind.{Kind}
 use Rattle.z_deck.specs.declared.fault.Kind.TheVariants as kinds
 use Rattle.z_deck.proofs.Faults.{fault_is, fault_by, fault_for, many_on, within_on, above_on, accessible, section}
 use Rattle.z_deck.proofs.Faults.{inside, ending, empty_within, range_within}
-use Rattle.z_deck.proofs.Loaded.{first_cards, nothing_loaded, pass_more, ends_more, section_loaded, empty_loaded}
+use Rattle.z_deck.proofs.Loaded.{first_cards, nothing_loaded, pass_more, ends_more, section_loaded, empty_loaded, or_or}
 use Rattle.z_deck.proofs.Loaded.{text_loaded, end_loaded, still_open}
-use Rattle.z_deck.proofs.Decks.{next, fault_in, short_in, no_end_in, deck_in}
+use Rattle.z_deck.proofs.Decks.{fault_in, short_in, no_end_in, deck_in}
 
 -- ---- what a card without a fault is
 
@@ -223,10 +223,6 @@ none_left x s whole none = absurd (omega (arith, length-append x s, ap length no
 or_none : (b : Bool) → (b || false) ≡ b
 or_none true = refl
 or_none false = refl
-
-or_or : (a b c : Bool) → ((a || b) || c) ≡ (a || (b || c))
-or_or true b c = refl
-or_or false b c = refl
 
 module _ (origin : ℕ) where
   -- cards without a fault, and a fault behind the first of them: never of the same bytes

@@ -4,6 +4,7 @@ ghost use Rattle.std.specs.Fmt.{decimal};
 ghost use Rattle.hex.specs.Hex.{encode_lower};
 ghost use Rattle.z_deck.specs.Listing.{cpu_line, org_line, data_line, block_at, block_lines};
 ghost use Rattle.z_deck.specs.Listing.{placing_lines, listing_of};
+ghost use Rattle.z_regs.specs.Prefix.{storage_size};
 
 use crate::card::FIRST;
 use crate::deck::Deck;
@@ -59,7 +60,7 @@ fn add_data(text: &mut Vec<u8>, block: &[u8]) -> Result<(), AllocError>
 
 /// A block of storage.
 fn block_at(storage: &[u8], i: usize) -> &[u8]
-    requires size { length storage.now ≡ 1048576 }
+    requires size { length storage.now ≡ storage_size }
     requires there { i < 32512 }
     ensures is { result.now ≡ block_at storage.now i }
     ensures len { length result.now ≡ 32 }
@@ -71,7 +72,7 @@ fn block_at(storage: &[u8], i: usize) -> &[u8]
 
 /// Adds the lines of a block, if it is not all zero.
 fn add_block(text: &mut Vec<u8>, storage: &[u8], i: usize) -> Result<(), AllocError>
-    requires size { length storage.now ≡ 1048576 }
+    requires size { length storage.now ≡ storage_size }
     requires there { i < 32512 }
     ensures { OnOk result (text.new.items ≡ text.old.items ++ block_lines storage.now i) }
 {
@@ -85,7 +86,7 @@ fn add_block(text: &mut Vec<u8>, storage: &[u8], i: usize) -> Result<(), AllocEr
 
 /// Adds the lines of all blocks.
 fn add_blocks(text: &mut Vec<u8>, storage: &[u8]) -> Result<(), AllocError>
-    requires { length storage.now ≡ 1048576 }
+    requires { length storage.now ≡ storage_size }
     ensures { OnOk result (text.new.items ≡ text.old.items ++ placing_lines 32512 storage.now) }
 {
     for i in 0..BLOCKS {

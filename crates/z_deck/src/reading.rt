@@ -5,6 +5,7 @@ ghost use Rattle.z_deck.specs.Loading.{Loaded};
 ghost use Rattle.z_deck.specs.Reading.{IsDeck, fault_of, zeros};
 ghost use Rattle.z_deck.specs.Said.{IsFault};
 ghost use Rattle.z_deck.specs.Words.{number_of};
+ghost use Rattle.z_regs.specs.Prefix.{storage_size};
 
 use crate::card::{CARD, Card, SIZE, read_card};
 use crate::deck::Deck;
@@ -21,7 +22,7 @@ struct Loading {
     storage: Vec<u8>,
     /// The entry of the card of the end, if that was there; the card may have none.
     end: Option<Option<u32>>,
-    ghost size: { length storage.items ≡ 1048576 },
+    ghost size: { length storage.items ≡ storage_size },
 }
 
 /// The fault of the card behind so many cards.

@@ -3,6 +3,7 @@ ghost use Rattle.std.specs.Prelude.{◌≡◌, ◌≤◌, ◌<◌, ◌++◌, len
 ghost use Rattle.std.specs.List.{concat};
 ghost use Rattle.z_deck.specs.Writing.{section_card, text_card, end_card, is_zero, cards_of_piece, text_cards};
 ghost use Rattle.z_deck.specs.Writing.{text_head, piece_at, first_entry, deck_of_image};
+ghost use Rattle.z_regs.specs.Prefix.{storage_size};
 
 use crate::card::{FIRST, MOST_TEXT};
 use std::alloc::{AllocError, Global};
@@ -75,7 +76,7 @@ fn add_end(deck: &mut Vec<u8>, entry: u32) -> Result<(), AllocError>
 
 /// A piece of storage.
 fn piece_at(storage: &[u8], i: usize) -> &[u8]
-    requires size { length storage.now ≡ 1048576 }
+    requires size { length storage.now ≡ storage_size }
     requires there { i < 18579 }
     ensures is { result.now ≡ piece_at storage.now i }
     ensures few { length result.now ≤ 56 }
@@ -87,7 +88,7 @@ fn piece_at(storage: &[u8], i: usize) -> &[u8]
 
 /// Adds the card of a piece of storage, if it is not all zero.
 fn add_piece(deck: &mut Vec<u8>, storage: &[u8], i: usize) -> Result<(), AllocError>
-    requires size { length storage.now ≡ 1048576 }
+    requires size { length storage.now ≡ storage_size }
     requires there { i < 18579 }
     ensures { OnOk result (deck.new.items ≡ deck.old.items ++ concat (cards_of_piece storage.now i)) }
 {
@@ -100,7 +101,7 @@ fn add_piece(deck: &mut Vec<u8>, storage: &[u8], i: usize) -> Result<(), AllocEr
 
 /// Adds the cards of all pieces.
 fn add_pieces(deck: &mut Vec<u8>, storage: &[u8]) -> Result<(), AllocError>
-    requires { length storage.now ≡ 1048576 }
+    requires { length storage.now ≡ storage_size }
     ensures { OnOk result (deck.new.items ≡ deck.old.items ++ concat (text_cards 18579 storage.now)) }
 {
     for i in 0..PIECES {
@@ -112,7 +113,7 @@ fn add_pieces(deck: &mut Vec<u8>, storage: &[u8]) -> Result<(), AllocError>
 /// All of an image's storage.
 fn storage_of(image: &Image) -> &[u8]
     ensures is { result.now ≡ image.now.storage }
-    ensures len { length result.now ≡ 1048576 }
+    ensures len { length result.now ≡ storage_size }
 {
     let _cpus = image.cpu_count();
     image.storage.as_slice()

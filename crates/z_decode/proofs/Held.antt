@@ -12,16 +12,16 @@ use Rattle.z_instr.specs.declared.limits.Limits.{Limits}
 use Rattle.z_instr.specs.declared.op.Op.{Op}
 use Rattle.z_instr.specs.declared.table.TheConstants.{ROWS}
 use Rattle.z_instr.specs.Computing.{fields_in, number, signed_number}
-use Rattle.z_instr.specs.Layout.{format_length}
+use Rattle.z_instr.specs.Layout.{place, format_length}
 use Rattle.z_instr.specs.Layouts.{layout_of, width, taken, has_signed_immediate, has_signed_displacement}
 use Rattle.z_instr.specs.Made.{Has, fields_of}
-use Rattle.z_instr.specs.Places.{HasOpcode}
+use Rattle.z_instr.specs.Places.{opcode_at, HasOpcode}
 use Rattle.z_instr.specs.Ranges.{bounds_by, limits_of}
 use Rattle.z_instr.specs.Reading.{AreBytes, Reads, modulo, number_of, code}
 use Rattle.z_instr.specs.Table.{Entry, entry_at}
 use Rattle.z_instr.proofs.Passing.{and_left, and_right}
 use Rattle.z_instr.proofs.TableFacts.{passes_row}
-use Rattle.z_instr.proofs.Wholes.{whole, limits_at, length_at, is_known, known_at, place_holds}
+use Rattle.z_instr.proofs.Wholes.{whole, limits_at, length_at, format_at, is_known, known_at, place_holds}
 use Rattle.z_decode.specs.Code.{among, fields_by, AreSmall}
 use Rattle.z_decode.proofs.Again.{spelled_again}
 use Rattle.z_decode.proofs.Rows.{row_below}
@@ -209,7 +209,8 @@ module _ (n : ℕ) (bytes : List ℕ) (known : n < ROWS) (b : AreBytes bytes) wh
   -- the last bits of each are what was read
   numbers_again : HasOpcode e bytes → held 11 ≡ 0 → (r : ℕ) → r < 12 → held r ≡ number_of e.opcode apart r % 16 ^ digits r
   numbers_again o z zero h =
-      let opcode : held 0 ≡ e.opcode = sym (place_holds e.format e.masked e.single bytes) ∙ o in
+      let opcode : held 0 ≡ e.opcode =
+      sym (place_holds e.form bytes) ∙ ap (λ f. opcode_at (place f) bytes) (format_at n known) ∙ o in
       sym (mod-eq_of_lt (below 0)) ∙ ap (λ m. m % 16 ^ digits 0) opcode
   numbers_again o z (suc zero) h = sym (mod-eq_of_lt (below 1))
   numbers_again o z (suc (suc zero)) h = sym (mod-eq_of_lt (below 2))

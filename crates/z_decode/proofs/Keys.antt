@@ -11,6 +11,7 @@ use Rattle.std.proofs.lemmas.List.Sorted.{IsNonDecreasingBy-from_default}
 use Rattle.std.proofs.lemmas.Bool.{leb-true, cases_lt}
 use Rattle.z_instr.specs.declared.table.TheConstants.{TABLE, ROWS}
 use Rattle.z_instr.specs.declared.table.Line.{Line}
+use Rattle.z_instr.specs.declared.form.Form.TheVariants as forms
 use Rattle.z_instr.specs.declared.format.Format.TheVariants.{RR}
 use Rattle.z_instr.specs.declared.kind.Kind.TheVariants.{Branch}
 use Rattle.z_instr.specs.declared.kind.Branch.TheVariants.{ServiceCall}
@@ -44,13 +45,10 @@ blank = record {
   letters = [];
   count = 0;
   opcode = 0;
+  form = forms.RR;
   format = RR;
   restricted = false;
   permitted = false;
-  signed = false;
-  relative = false;
-  masked = false;
-  single = false;
   kind = Branch ServiceCall;
 }
 

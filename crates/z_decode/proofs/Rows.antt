@@ -68,6 +68,10 @@ half_is h k a b =
 
 -- ---- six bytes
 
+pub six_is : {a b c d e f : ℕ} (s : List ℕ) → a ≡ get_or s 0 0 → b ≡ get_or s 1 0 → c ≡ get_or s 2 0 →
+    d ≡ get_or s 3 0 → e ≡ get_or s 4 0 → f ≡ get_or s 5 0 → (a ∷ b ∷ c ∷ d ∷ e ∷ f ∷ []) ≡ six s
+six_is s h0 h1 h2 h3 h4 h5 = cc
+
 pub first_of_six : (s : List ℕ) (n : ℕ) → length s ≡ n → (nat_eq n 2 || (nat_eq n 4 || nat_eq n 6)) ≡ true →
     take n (six s) ≡ s
 first_of_six s n e h = subst (λ m. take m (six s) ≡ s) e (own s (subst (λ m. (nat_eq m 2 || (nat_eq m 4 || nat_eq m 6)) ≡ true) (sym e) h))

@@ -10,4 +10,4 @@ mod pairs;
 mod results;
 mod run;
 
-pub use run::{execute, is_mine};
+pub use run::{execute, execute_kind, is_mine};

@@ -54,25 +54,36 @@ fn run(kind: General, n: u8, instr: &Instr, image: &mut CpuImage) -> Result<(), 
     }
 }
 
-/// Executes an instruction for which [`is_mine`] holds: changes registers, condition code, program mask and
+/// Executes an instruction whose operation has this kind: changes registers, condition code, program mask and
 /// address as the architecture says, and nothing in storage.
 ///
 /// The error is a fixed-point overflow exception, after all is done, where the result overflows and the
 /// leftmost bit of the program mask is one; or a fixed-point divide exception, with all as before. Whether R1
 /// of a pair is even is not looked at.
-pub fn execute<V: Bytes>(
+pub fn execute_kind<V: Bytes>(
+    kind: General,
     instr: &Instr,
     image: &mut CpuImage,
     _view: &mut V,
 ) -> Result<(), Exception>
-    requires mine { is_general (kind_at instr.now.op.number) ≡ true }
+    requires kind { kind_at instr.now.op.number ≡ Kind.General kind }
     ensures does { (depth : ℕ) → Executes depth instr.now (cpu_of image.old) (cpu_of image.new)
         (V.bytes _view.old) (V.bytes _view.new) result }
     ensures view { V.bytes _view.new ≡ V.bytes _view.old }
 {
     let n = length_in(line(instr.op).format);
+    run(kind, n, instr, image)
+}
+
+/// Executes an instruction for which [`is_mine`] holds, as [`execute_kind`] does.
+pub fn execute<V: Bytes>(instr: &Instr, image: &mut CpuImage, view: &mut V) -> Result<(), Exception>
+    requires mine { is_general (kind_at instr.now.op.number) ≡ true }
+    ensures does { (depth : ℕ) → Executes depth instr.now (cpu_of image.old) (cpu_of image.new)
+        (V.bytes view.old) (V.bytes view.new) result }
+    ensures view { V.bytes view.new ≡ V.bytes view.old }
+{
     match kind_of(instr.op) {
-        Kind::General(kind) => run(kind, n, instr, image),
+        Kind::General(kind) => execute_kind(kind, instr, image, view),
         _ => unreachable!(),
     }
 }

@@ -1,12 +1,13 @@
 -- The layout of each row is whole, and gives its length, the place of its opcode and the limits of its fields.
-use Rattle.std.proofs.Common.{◌≡◌, ℕ, zero, suc, ◌*◌, ◌/◌, ◌%◌, ◌^◌, ◌<◌, true, false, Bool, ◌&&◌, ◌||◌, not, nat_eq, nat_le}
+use Rattle.std.proofs.Common.{◌≡◌, ℕ, zero, suc, ◌*◌, ◌/◌, ◌%◌, ◌^◌, ◌<◌, true, Bool, ◌&&◌, ◌||◌, not, nat_eq, nat_le}
 use Rattle.std.proofs.Common.{List, [], ◌∷◌, length, get_or, refl, subst, arith}
 use Rattle.std.specs.List.{list_all}
-use Rattle.z_instr.specs.declared.format.Format.{Format}
-use Rattle.z_instr.specs.declared.format.Format.TheVariants.{RR, I, RX, RRE, RRFa, RRFc, RXY, RI, RIL, RS, RSY, SI, SIY, SIL, S, SS, RIEb, RIEc}
+use Rattle.z_instr.specs.declared.form.Form.{Form}
+use Rattle.z_instr.specs.declared.form.Form.TheVariants.{RR, RRMask, RRSingle, I, RXa, RXb, RRE, RRESingle, RRFa, RRFc, RXYa, RIa, RIaSigned, RIb, RIc, RILa, RILaSigned, RILb, RILc, RSa, RSaSingle, RSYa, RSYb, SI, SIY, SIL, SILSigned, S, SAlone, SSa, RIEb, RIEc}
 use Rattle.z_instr.specs.declared.layout.Digit.{Digit}
 use Rattle.z_instr.specs.declared.table.TheConstants.{ROWS}
 use Rattle.z_instr.specs.Table.{Entry, entry_at}
+use Rattle.z_instr.specs.Forms.{format_of}
 use Rattle.z_instr.specs.Layout.{place, room, format_length}
 use Rattle.z_instr.specs.Layouts.{layout, layout_of, width, spelled, digits_from, taken, is_once, has_last, is_low, is_whole, has_signed_immediate, has_signed_displacement}
 use Rattle.z_instr.specs.Places.{opcode_at}
@@ -21,6 +22,10 @@ whole = passes_row (λ e. is_whole (layout_of e)) refl
 -- the limits are those that the layout gives
 pub limits_at : (n : ℕ) → n < ROWS → limits_of (entry_at n) ≡ limits_by (entry_at n)
 limits_at = at_row limits_of limits_by refl
+
+-- the format is that of the form
+pub format_at : (n : ℕ) → n < ROWS → format_of (entry_at n).form ≡ (entry_at n).format
+format_at = at_row (λ e. format_of e.form) (λ (e : Entry). e.format) refl
 
 -- the opcode has as many values as its place has room for
 pub room_at : (n : ℕ) → n < ROWS → room (place (entry_at n).format) ≡ 16 ^ width (layout_of (entry_at n)) 0
@@ -43,65 +48,75 @@ are_known e =
 pub known_at : (n : ℕ) → n < ROWS → are_known (entry_at n) ≡ true
 known_at = passes_row are_known refl
 
--- the length, for every format
-pub length_spelled : (f : Format) (m o : Bool) (v : ℕ → ℕ) → length (spelled (layout f m o) v) ≡ format_length f
-length_spelled RR true o v = refl
-length_spelled RR false true v = refl
-length_spelled RR false false v = refl
-length_spelled I m o v = refl
-length_spelled RX true o v = refl
-length_spelled RX false o v = refl
-length_spelled RRE m true v = refl
-length_spelled RRE m false v = refl
-length_spelled RRFa m o v = refl
-length_spelled RRFc m o v = refl
-length_spelled RXY m o v = refl
-length_spelled RI true o v = refl
-length_spelled RI false o v = refl
-length_spelled RIL true o v = refl
-length_spelled RIL false o v = refl
-length_spelled RS m true v = refl
-length_spelled RS m false v = refl
-length_spelled RSY true o v = refl
-length_spelled RSY false o v = refl
-length_spelled SI m o v = refl
-length_spelled SIY m o v = refl
-length_spelled SIL m o v = refl
-length_spelled S m true v = refl
-length_spelled S m false v = refl
-length_spelled SS m o v = refl
-length_spelled RIEb m o v = refl
-length_spelled RIEc m o v = refl
+-- the length, for every form
+pub length_spelled : (f : Form) (v : ℕ → ℕ) → length (spelled (layout f) v) ≡ format_length (format_of f)
+length_spelled RR v = refl
+length_spelled RRMask v = refl
+length_spelled RRSingle v = refl
+length_spelled I v = refl
+length_spelled RXa v = refl
+length_spelled RXb v = refl
+length_spelled RRE v = refl
+length_spelled RRESingle v = refl
+length_spelled RRFa v = refl
+length_spelled RRFc v = refl
+length_spelled RXYa v = refl
+length_spelled RIa v = refl
+length_spelled RIaSigned v = refl
+length_spelled RIb v = refl
+length_spelled RIc v = refl
+length_spelled RILa v = refl
+length_spelled RILaSigned v = refl
+length_spelled RILb v = refl
+length_spelled RILc v = refl
+length_spelled RSa v = refl
+length_spelled RSaSingle v = refl
+length_spelled RSYa v = refl
+length_spelled RSYb v = refl
+length_spelled SI v = refl
+length_spelled SIY v = refl
+length_spelled SIL v = refl
+length_spelled SILSigned v = refl
+length_spelled S v = refl
+length_spelled SAlone v = refl
+length_spelled SSa v = refl
+length_spelled RIEb v = refl
+length_spelled RIEc v = refl
 
--- the opcode in its place is the one that the digits hold, for every format
-pub place_holds : (f : Format) (m o : Bool) (bytes : List ℕ) → opcode_at (place f) bytes ≡ taken (layout f m o) bytes 0
-place_holds RR true o bytes = omega arith
-place_holds RR false true bytes = omega arith
-place_holds RR false false bytes = omega arith
-place_holds I m o bytes = omega arith
-place_holds RX true o bytes = omega arith
-place_holds RX false o bytes = omega arith
-place_holds RRE m true bytes = omega arith
-place_holds RRE m false bytes = omega arith
-place_holds RRFa m o bytes = omega arith
-place_holds RRFc m o bytes = omega arith
-place_holds RXY m o bytes = omega arith
-place_holds RI true o bytes = omega arith
-place_holds RI false o bytes = omega arith
-place_holds RIL true o bytes = omega arith
-place_holds RIL false o bytes = omega arith
-place_holds RS m true bytes = omega arith
-place_holds RS m false bytes = omega arith
-place_holds RSY true o bytes = omega arith
-place_holds RSY false o bytes = omega arith
-place_holds SI m o bytes = omega arith
-place_holds SIY m o bytes = omega arith
-place_holds SIL m o bytes = omega arith
-place_holds S m true bytes = omega arith
-place_holds S m false bytes = omega arith
-place_holds SS m o bytes = omega arith
-place_holds RIEb m o bytes = omega arith
-place_holds RIEc m o bytes = omega arith
+-- the opcode in its place is the one that the digits hold, for every form
+pub place_holds : (f : Form) (bytes : List ℕ) → opcode_at (place (format_of f)) bytes ≡ taken (layout f) bytes 0
+place_holds RR bytes = omega arith
+place_holds RRMask bytes = omega arith
+place_holds RRSingle bytes = omega arith
+place_holds I bytes = omega arith
+place_holds RXa bytes = omega arith
+place_holds RXb bytes = omega arith
+place_holds RRE bytes = omega arith
+place_holds RRESingle bytes = omega arith
+place_holds RRFa bytes = omega arith
+place_holds RRFc bytes = omega arith
+place_holds RXYa bytes = omega arith
+place_holds RIa bytes = omega arith
+place_holds RIaSigned bytes = omega arith
+place_holds RIb bytes = omega arith
+place_holds RIc bytes = omega arith
+place_holds RILa bytes = omega arith
+place_holds RILaSigned bytes = omega arith
+place_holds RILb bytes = omega arith
+place_holds RILc bytes = omega arith
+place_holds RSa bytes = omega arith
+place_holds RSaSingle bytes = omega arith
+place_holds RSYa bytes = omega arith
+place_holds RSYb bytes = omega arith
+place_holds SI bytes = omega arith
+place_holds SIY bytes = omega arith
+place_holds SIL bytes = omega arith
+place_holds SILSigned bytes = omega arith
+place_holds S bytes = omega arith
+place_holds SAlone bytes = omega arith
+place_holds SSa bytes = omega arith
+place_holds RIEb bytes = omega arith
+place_holds RIEc bytes = omega arith
 
 -- ---- what a whole layout has
 

@@ -3,9 +3,9 @@ use Rattle.std.proofs.Common.{◌≡◌, ℕ, ◌<◌, ◌≤◌, true, false, B
 use Rattle.std.specs.Prelude.{ℤ}
 use Rattle.std.proofs.lemmas.Bool.{ltb-true}
 use Rattle.z_instr.specs.declared.limits.Limits.{Limits}
-use Rattle.z_instr.specs.declared.format.Format.{Format}
-use Rattle.z_instr.specs.declared.format.Format.TheVariants.{RR, I, RX, RRE, RRFa, RRFc, RXY, RI, RIL, RS, RSY, SI, SIY, SIL, S, SS, RIEb, RIEc}
-use Rattle.z_instr.specs.Ranges.{are_within, are_registers_within, are_numbers_within, is_within, limits_in, limits_of, AreBelowSixteen, unless, given}
+use Rattle.z_instr.specs.declared.form.Form.{Form}
+use Rattle.z_instr.specs.declared.form.Form.TheVariants.{RR, RRMask, RRSingle, I, RXa, RXb, RRE, RRESingle, RRFa, RRFc, RXYa, RIa, RIaSigned, RIb, RIc, RILa, RILaSigned, RILb, RILc, RSa, RSaSingle, RSYa, RSYb, SI, SIY, SIL, SILSigned, S, SAlone, SSa, RIEb, RIEc}
+use Rattle.z_instr.specs.Ranges.{are_within, are_registers_within, are_numbers_within, is_within, limits_in, limits_of, AreBelowSixteen}
 use Rattle.z_instr.specs.Table.{Entry, entry_at}
 use Rattle.z_instr.specs.declared.instr.Instr.{Instr}
 use Rattle.z_instr.proofs.Passing.{and_left, and_right}
@@ -47,14 +47,6 @@ pub record IsNarrow (l : Limits) : Type 0 where
   pub b2_at_most : l.b2 ≤ 16
   pub mask_at_most : l.mask ≤ 16
 
-unless_at_most : (left_out : Bool) → unless left_out ≤ 16
-unless_at_most true = lit≤ tt
-unless_at_most false = lit≤ tt
-
-given_at_most : (there : Bool) → given there ≤ 16
-given_at_most true = lit≤ tt
-given_at_most false = lit≤ tt
-
 narrow : (l : Limits) → l.r1 ≤ 16 → l.r2 ≤ 16 → l.r3 ≤ 16 → l.x ≤ 16 → l.b ≤ 16 → l.b2 ≤ 16 → l.mask ≤ 16 →
     IsNarrow l
 narrow l r1 r2 r3 x b b2 mask =
@@ -69,49 +61,39 @@ narrow l r1 r2 r3 x b b2 mask =
       mask_at_most = mask;
     }
 
-pub limits_are_narrow : (f : Format) (s m o : Bool) → IsNarrow (limits_in f s m o)
-limits_are_narrow RR s m o =
-    narrow (limits_in RR s m o) (unless_at_most m) (unless_at_most o) (lit≤ tt) (lit≤ tt) (lit≤ tt) (lit≤ tt)
-    (given_at_most m)
-limits_are_narrow I s m o =
-    narrow (limits_in I s m o) (lit≤ tt) (lit≤ tt) (lit≤ tt) (lit≤ tt) (lit≤ tt) (lit≤ tt) (lit≤ tt)
-limits_are_narrow RX s m o =
-    narrow (limits_in RX s m o) (unless_at_most m) (lit≤ tt) (lit≤ tt) (lit≤ tt) (lit≤ tt) (lit≤ tt)
-    (given_at_most m)
-limits_are_narrow RRE s m o =
-    narrow (limits_in RRE s m o) (lit≤ tt) (unless_at_most o) (lit≤ tt) (lit≤ tt) (lit≤ tt) (lit≤ tt)
-    (lit≤ tt)
-limits_are_narrow RRFa s m o =
-    narrow (limits_in RRFa s m o) (lit≤ tt) (lit≤ tt) (lit≤ tt) (lit≤ tt) (lit≤ tt) (lit≤ tt) (lit≤ tt)
-limits_are_narrow RRFc s m o =
-    narrow (limits_in RRFc s m o) (lit≤ tt) (lit≤ tt) (lit≤ tt) (lit≤ tt) (lit≤ tt) (lit≤ tt) (lit≤ tt)
-limits_are_narrow RXY s m o =
-    narrow (limits_in RXY s m o) (lit≤ tt) (lit≤ tt) (lit≤ tt) (lit≤ tt) (lit≤ tt) (lit≤ tt) (lit≤ tt)
-limits_are_narrow RI s m o =
-    narrow (limits_in RI s m o) (unless_at_most m) (lit≤ tt) (lit≤ tt) (lit≤ tt) (lit≤ tt) (lit≤ tt)
-    (given_at_most m)
-limits_are_narrow RIL s m o =
-    narrow (limits_in RIL s m o) (unless_at_most m) (lit≤ tt) (lit≤ tt) (lit≤ tt) (lit≤ tt) (lit≤ tt)
-    (given_at_most m)
-limits_are_narrow RS s m o =
-    narrow (limits_in RS s m o) (lit≤ tt) (lit≤ tt) (unless_at_most o) (lit≤ tt) (lit≤ tt) (lit≤ tt) (lit≤ tt)
-limits_are_narrow RSY s m o =
-    narrow (limits_in RSY s m o) (lit≤ tt) (lit≤ tt) (unless_at_most m) (lit≤ tt) (lit≤ tt) (lit≤ tt)
-    (given_at_most m)
-limits_are_narrow SI s m o =
-    narrow (limits_in SI s m o) (lit≤ tt) (lit≤ tt) (lit≤ tt) (lit≤ tt) (lit≤ tt) (lit≤ tt) (lit≤ tt)
-limits_are_narrow SIY s m o =
-    narrow (limits_in SIY s m o) (lit≤ tt) (lit≤ tt) (lit≤ tt) (lit≤ tt) (lit≤ tt) (lit≤ tt) (lit≤ tt)
-limits_are_narrow SIL s m o =
-    narrow (limits_in SIL s m o) (lit≤ tt) (lit≤ tt) (lit≤ tt) (lit≤ tt) (lit≤ tt) (lit≤ tt) (lit≤ tt)
-limits_are_narrow S s m o =
-    narrow (limits_in S s m o) (lit≤ tt) (lit≤ tt) (lit≤ tt) (lit≤ tt) (unless_at_most o) (lit≤ tt) (lit≤ tt)
-limits_are_narrow SS s m o =
-    narrow (limits_in SS s m o) (lit≤ tt) (lit≤ tt) (lit≤ tt) (lit≤ tt) (lit≤ tt) (lit≤ tt) (lit≤ tt)
-limits_are_narrow RIEb s m o =
-    narrow (limits_in RIEb s m o) (lit≤ tt) (lit≤ tt) (lit≤ tt) (lit≤ tt) (lit≤ tt) (lit≤ tt) (lit≤ tt)
-limits_are_narrow RIEc s m o =
-    narrow (limits_in RIEc s m o) (lit≤ tt) (lit≤ tt) (lit≤ tt) (lit≤ tt) (lit≤ tt) (lit≤ tt) (lit≤ tt)
+pub limits_are_narrow : (f : Form) → IsNarrow (limits_in f)
+limits_are_narrow RR = narrow (limits_in RR) (lit≤ tt) (lit≤ tt) (lit≤ tt) (lit≤ tt) (lit≤ tt) (lit≤ tt) (lit≤ tt)
+limits_are_narrow RRMask = narrow (limits_in RRMask) (lit≤ tt) (lit≤ tt) (lit≤ tt) (lit≤ tt) (lit≤ tt) (lit≤ tt) (lit≤ tt)
+limits_are_narrow RRSingle = narrow (limits_in RRSingle) (lit≤ tt) (lit≤ tt) (lit≤ tt) (lit≤ tt) (lit≤ tt) (lit≤ tt) (lit≤ tt)
+limits_are_narrow I = narrow (limits_in I) (lit≤ tt) (lit≤ tt) (lit≤ tt) (lit≤ tt) (lit≤ tt) (lit≤ tt) (lit≤ tt)
+limits_are_narrow RXa = narrow (limits_in RXa) (lit≤ tt) (lit≤ tt) (lit≤ tt) (lit≤ tt) (lit≤ tt) (lit≤ tt) (lit≤ tt)
+limits_are_narrow RXb = narrow (limits_in RXb) (lit≤ tt) (lit≤ tt) (lit≤ tt) (lit≤ tt) (lit≤ tt) (lit≤ tt) (lit≤ tt)
+limits_are_narrow RRE = narrow (limits_in RRE) (lit≤ tt) (lit≤ tt) (lit≤ tt) (lit≤ tt) (lit≤ tt) (lit≤ tt) (lit≤ tt)
+limits_are_narrow RRESingle = narrow (limits_in RRESingle) (lit≤ tt) (lit≤ tt) (lit≤ tt) (lit≤ tt) (lit≤ tt) (lit≤ tt) (lit≤ tt)
+limits_are_narrow RRFa = narrow (limits_in RRFa) (lit≤ tt) (lit≤ tt) (lit≤ tt) (lit≤ tt) (lit≤ tt) (lit≤ tt) (lit≤ tt)
+limits_are_narrow RRFc = narrow (limits_in RRFc) (lit≤ tt) (lit≤ tt) (lit≤ tt) (lit≤ tt) (lit≤ tt) (lit≤ tt) (lit≤ tt)
+limits_are_narrow RXYa = narrow (limits_in RXYa) (lit≤ tt) (lit≤ tt) (lit≤ tt) (lit≤ tt) (lit≤ tt) (lit≤ tt) (lit≤ tt)
+limits_are_narrow RIa = narrow (limits_in RIa) (lit≤ tt) (lit≤ tt) (lit≤ tt) (lit≤ tt) (lit≤ tt) (lit≤ tt) (lit≤ tt)
+limits_are_narrow RIaSigned = narrow (limits_in RIaSigned) (lit≤ tt) (lit≤ tt) (lit≤ tt) (lit≤ tt) (lit≤ tt) (lit≤ tt) (lit≤ tt)
+limits_are_narrow RIb = narrow (limits_in RIb) (lit≤ tt) (lit≤ tt) (lit≤ tt) (lit≤ tt) (lit≤ tt) (lit≤ tt) (lit≤ tt)
+limits_are_narrow RIc = narrow (limits_in RIc) (lit≤ tt) (lit≤ tt) (lit≤ tt) (lit≤ tt) (lit≤ tt) (lit≤ tt) (lit≤ tt)
+limits_are_narrow RILa = narrow (limits_in RILa) (lit≤ tt) (lit≤ tt) (lit≤ tt) (lit≤ tt) (lit≤ tt) (lit≤ tt) (lit≤ tt)
+limits_are_narrow RILaSigned = narrow (limits_in RILaSigned) (lit≤ tt) (lit≤ tt) (lit≤ tt) (lit≤ tt) (lit≤ tt) (lit≤ tt) (lit≤ tt)
+limits_are_narrow RILb = narrow (limits_in RILb) (lit≤ tt) (lit≤ tt) (lit≤ tt) (lit≤ tt) (lit≤ tt) (lit≤ tt) (lit≤ tt)
+limits_are_narrow RILc = narrow (limits_in RILc) (lit≤ tt) (lit≤ tt) (lit≤ tt) (lit≤ tt) (lit≤ tt) (lit≤ tt) (lit≤ tt)
+limits_are_narrow RSa = narrow (limits_in RSa) (lit≤ tt) (lit≤ tt) (lit≤ tt) (lit≤ tt) (lit≤ tt) (lit≤ tt) (lit≤ tt)
+limits_are_narrow RSaSingle = narrow (limits_in RSaSingle) (lit≤ tt) (lit≤ tt) (lit≤ tt) (lit≤ tt) (lit≤ tt) (lit≤ tt) (lit≤ tt)
+limits_are_narrow RSYa = narrow (limits_in RSYa) (lit≤ tt) (lit≤ tt) (lit≤ tt) (lit≤ tt) (lit≤ tt) (lit≤ tt) (lit≤ tt)
+limits_are_narrow RSYb = narrow (limits_in RSYb) (lit≤ tt) (lit≤ tt) (lit≤ tt) (lit≤ tt) (lit≤ tt) (lit≤ tt) (lit≤ tt)
+limits_are_narrow SI = narrow (limits_in SI) (lit≤ tt) (lit≤ tt) (lit≤ tt) (lit≤ tt) (lit≤ tt) (lit≤ tt) (lit≤ tt)
+limits_are_narrow SIY = narrow (limits_in SIY) (lit≤ tt) (lit≤ tt) (lit≤ tt) (lit≤ tt) (lit≤ tt) (lit≤ tt) (lit≤ tt)
+limits_are_narrow SIL = narrow (limits_in SIL) (lit≤ tt) (lit≤ tt) (lit≤ tt) (lit≤ tt) (lit≤ tt) (lit≤ tt) (lit≤ tt)
+limits_are_narrow SILSigned = narrow (limits_in SILSigned) (lit≤ tt) (lit≤ tt) (lit≤ tt) (lit≤ tt) (lit≤ tt) (lit≤ tt) (lit≤ tt)
+limits_are_narrow S = narrow (limits_in S) (lit≤ tt) (lit≤ tt) (lit≤ tt) (lit≤ tt) (lit≤ tt) (lit≤ tt) (lit≤ tt)
+limits_are_narrow SAlone = narrow (limits_in SAlone) (lit≤ tt) (lit≤ tt) (lit≤ tt) (lit≤ tt) (lit≤ tt) (lit≤ tt) (lit≤ tt)
+limits_are_narrow SSa = narrow (limits_in SSa) (lit≤ tt) (lit≤ tt) (lit≤ tt) (lit≤ tt) (lit≤ tt) (lit≤ tt) (lit≤ tt)
+limits_are_narrow RIEb = narrow (limits_in RIEb) (lit≤ tt) (lit≤ tt) (lit≤ tt) (lit≤ tt) (lit≤ tt) (lit≤ tt) (lit≤ tt)
+limits_are_narrow RIEc = narrow (limits_in RIEc) (lit≤ tt) (lit≤ tt) (lit≤ tt) (lit≤ tt) (lit≤ tt) (lit≤ tt) (lit≤ tt)
 
 -- so registers and masks are below 16
 pub below_sixteen : (l : Limits) (e : Entry) (r1 r2 r3 x b : ℕ) (d : ℤ) (b2 : ℕ) (d2 imm : ℤ) (mask : ℕ) →
@@ -119,7 +101,7 @@ pub below_sixteen : (l : Limits) (e : Entry) (r1 r2 r3 x b : ℕ) (d : ℤ) (b2 
     are_within l r1 r2 r3 x b d b2 d2 imm mask ≡ true → AreBelowSixteen r1 r2 r3 x b b2 mask
 below_sixteen l e r1 r2 r3 x b d b2 d2 imm mask same h =
     let w = registers_within l r1 r2 r3 x b b2 mask (and_left _ _ h) in
-    let n : IsNarrow l = subst IsNarrow (sym same) (limits_are_narrow e.format e.signed e.masked e.single) in
+    let n : IsNarrow l = subst IsNarrow (sym same) (limits_are_narrow e.form) in
     record {
       r1_in = omega (arith, w.r1_in, n.r1_at_most);
       r2_in = omega (arith, w.r2_in, n.r2_at_most);

@@ -2,11 +2,12 @@
 use Rattle.std.specs.Prelude.{ℕ, zero, suc, ◌+◌, ◌*◌, ◌/◌, ◌%◌, ◌^◌, List, [], ◌∷◌, map, get_or, length}
 use Rattle.std.specs.Prelude.{Bool, true, false, ◌&&◌, ◌||◌, not, nat_eq, nat_lt, if◌then◌else◌}
 use Rattle.std.specs.List.{list_all}
-use Rattle.z_instr.specs.declared.format.Format.{Format}
-use Rattle.z_instr.specs.declared.format.Format.TheVariants.{RR, I, RX, RRE, RRFa, RRFc, RXY, RI, RIL, RS, RSY, SI, SIY, SIL, S, SS, RIEb, RIEc}
+use Rattle.z_instr.specs.declared.form.Form.{Form}
+use Rattle.z_instr.specs.declared.form.Form.TheVariants.{RR, RRMask, RRSingle, I, RXa, RXb, RRE, RRESingle, RRFa, RRFc, RXYa, RIa, RIaSigned, RIb, RIc, RILa, RILaSigned, RILb, RILc, RSa, RSaSingle, RSYa, RSYb, SI, SIY, SIL, SILSigned, S, SAlone, SSa, RIEb, RIEc}
 use Rattle.z_instr.specs.declared.layout.Field.{Field}
 use Rattle.z_instr.specs.declared.layout.Field.TheVariants.{Opcode, R1, R2, R3, X, B, D, B2, D2, Imm, Mask, Spare}
 use Rattle.z_instr.specs.declared.layout.Digit.{Digit}
+use Rattle.z_instr.specs.Forms.{is_signed}
 use Rattle.z_instr.specs.Table.{Entry}
 
 -- ---- the formats
@@ -37,39 +38,43 @@ ends inside = part Opcode 2 2 inside
 abbrev pub last : List Digit
 last = whole Opcode 2 []
 
--- the digits of a format from left to right: where a mask stands in the place of a register or not, and the
--- last register, or the only address, is left out or not
-abbrev pub layout : Format → Bool → Bool → List Digit
-layout RR true _ = whole Opcode 2 (whole Mask 1 (whole R2 1 []))
-layout RR false true = whole Opcode 2 (whole R1 1 (whole Spare 1 []))
-layout RR false false = whole Opcode 2 (whole R1 1 (whole R2 1 []))
-layout I _ _ = whole Opcode 2 (whole Imm 2 [])
-layout RX true _ = whole Opcode 2 (whole Mask 1 (whole X 1 (short_address [])))
-layout RX false _ = whole Opcode 2 (whole R1 1 (whole X 1 (short_address [])))
-layout RRE _ true = whole Opcode 4 (part Spare 1 2 (whole R1 1 (whole Spare 1 [])))
-layout RRE _ false = whole Opcode 4 (whole Spare 2 (whole R1 1 (whole R2 1 [])))
-layout RRFa _ _ = whole Opcode 4 (whole R3 1 (whole Spare 1 (whole R1 1 (whole R2 1 []))))
-layout RRFc _ _ = whole Opcode 4 (whole Mask 1 (whole Spare 1 (whole R1 1 (whole R2 1 []))))
-layout RXY _ _ = ends (whole R1 1 (whole X 1 (long_address last)))
-layout RI true _ = split Mask (whole Imm 4 [])
-layout RI false _ = split R1 (whole Imm 4 [])
-layout RIL true _ = split Mask (whole Imm 8 [])
-layout RIL false _ = split R1 (whole Imm 8 [])
-layout RS _ true = whole Opcode 2 (whole R1 1 (whole Spare 1 (short_address [])))
-layout RS _ false = whole Opcode 2 (whole R1 1 (whole R3 1 (short_address [])))
-layout RSY true _ = ends (whole R1 1 (whole Mask 1 (long_address last)))
-layout RSY false _ = ends (whole R1 1 (whole R3 1 (long_address last)))
-layout SI _ _ = whole Opcode 2 (whole Imm 2 (short_address []))
-layout SIY _ _ = ends (whole Imm 2 (long_address last))
-layout SIL _ _ = whole Opcode 4 (short_address (whole Imm 4 []))
-layout S _ true = whole Opcode 4 (whole Spare 4 [])
-layout S _ false = whole Opcode 4 (short_address [])
-layout SS _ _ = whole Opcode 2 (whole Imm 2 (short_address (whole B2 1 (whole D2 3 []))))
-layout RIEb _ _ = ends (whole R1 1 (whole R2 1 (whole Imm 4 (whole Mask 1 (whole Spare 1 last)))))
-layout RIEc _ _ = ends (whole R1 1 (whole Mask 1 (whole Imm 4 (whole D2 2 last))))
+-- the digits of a form from left to right
+abbrev pub layout : Form → List Digit
+layout RR = whole Opcode 2 (whole R1 1 (whole R2 1 []))
+layout RRMask = whole Opcode 2 (whole Mask 1 (whole R2 1 []))
+layout RRSingle = whole Opcode 2 (whole R1 1 (whole Spare 1 []))
+layout I = whole Opcode 2 (whole Imm 2 [])
+layout RXa = whole Opcode 2 (whole R1 1 (whole X 1 (short_address [])))
+layout RXb = whole Opcode 2 (whole Mask 1 (whole X 1 (short_address [])))
+layout RRE = whole Opcode 4 (whole Spare 2 (whole R1 1 (whole R2 1 [])))
+layout RRESingle = whole Opcode 4 (part Spare 1 2 (whole R1 1 (whole Spare 1 [])))
+layout RRFa = whole Opcode 4 (whole R3 1 (whole Spare 1 (whole R1 1 (whole R2 1 []))))
+layout RRFc = whole Opcode 4 (whole Mask 1 (whole Spare 1 (whole R1 1 (whole R2 1 []))))
+layout RXYa = ends (whole R1 1 (whole X 1 (long_address last)))
+layout RIa = split R1 (whole Imm 4 [])
+layout RIaSigned = split R1 (whole Imm 4 [])
+layout RIb = split R1 (whole Imm 4 [])
+layout RIc = split Mask (whole Imm 4 [])
+layout RILa = split R1 (whole Imm 8 [])
+layout RILaSigned = split R1 (whole Imm 8 [])
+layout RILb = split R1 (whole Imm 8 [])
+layout RILc = split Mask (whole Imm 8 [])
+layout RSa = whole Opcode 2 (whole R1 1 (whole R3 1 (short_address [])))
+layout RSaSingle = whole Opcode 2 (whole R1 1 (whole Spare 1 (short_address [])))
+layout RSYa = ends (whole R1 1 (whole R3 1 (long_address last)))
+layout RSYb = ends (whole R1 1 (whole Mask 1 (long_address last)))
+layout SI = whole Opcode 2 (whole Imm 2 (short_address []))
+layout SIY = ends (whole Imm 2 (long_address last))
+layout SIL = whole Opcode 4 (short_address (whole Imm 4 []))
+layout SILSigned = whole Opcode 4 (short_address (whole Imm 4 []))
+layout S = whole Opcode 4 (short_address [])
+layout SAlone = whole Opcode 4 (whole Spare 4 [])
+layout SSa = whole Opcode 2 (whole Imm 2 (short_address (whole B2 1 (whole D2 3 []))))
+layout RIEb = ends (whole R1 1 (whole R2 1 (whole Imm 4 (whole Mask 1 (whole Spare 1 last)))))
+layout RIEc = ends (whole R1 1 (whole Mask 1 (whole Imm 4 (whole D2 2 last))))
 
 abbrev pub layout_of : Entry → List Digit
-layout_of e = layout e.format e.masked e.single
+layout_of e = layout e.form
 
 -- ---- numbers in a layout, by the ranks of their fields
 
@@ -126,13 +131,8 @@ taken ds bytes r = number_in ds (digits_from (length ds / 2) 0 bytes) r
 
 -- ---- signs
 
--- the immediate of a row has a sign: also where it is a byte that is added to storage
-abbrev pub is_byte_added : Format → Bool
-is_byte_added SIY = true
-is_byte_added _ = false
-
 abbrev pub has_signed_immediate : Entry → Bool
-has_signed_immediate e = e.signed || is_byte_added e.format
+has_signed_immediate e = is_signed e.form
 
 -- a displacement of five digits has a sign, and so has a byte in the place of one
 abbrev pub has_signed_displacement : ℕ → Bool

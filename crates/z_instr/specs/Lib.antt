@@ -1,3 +1,4 @@
+pub mod Forms
 pub mod Kinds
 pub mod Table
 pub mod Layouts

@@ -10,13 +10,10 @@ entry_of l =
     record {
       name = take l.count l.letters;
       opcode = l.opcode;
+      form = l.form;
       format = l.format;
       restricted = l.restricted;
       permitted = l.permitted;
-      signed = l.signed;
-      relative = l.relative;
-      masked = l.masked;
-      single = l.single;
       kind = l.kind;
       operands = operands_of l.kind;
       demand = demand_of l.kind;

@@ -1,10 +1,10 @@
 -- Which values the fields of an instruction may have: those of its format, and 0 where the format has no such
 -- field.
-use Rattle.std.specs.Prelude.{ℕ, ◌<◌, ◌/◌, ◌^◌, ℤ, pos, negsuc, Bool, true, ◌&&◌, nat_lt, cond}
+use Rattle.std.specs.Prelude.{ℕ, ◌<◌, ◌/◌, ◌^◌, ℤ, pos, negsuc, Bool, ◌&&◌, nat_lt, cond}
 use Rattle.z_instr.specs.declared.limits.Bounds.{Bounds}
 use Rattle.z_instr.specs.declared.limits.Limits.{Limits}
-use Rattle.z_instr.specs.declared.format.Format.{Format}
-use Rattle.z_instr.specs.declared.format.Format.TheVariants.{RR, I, RX, RRE, RRFa, RRFc, RXY, RI, RIL, RS, RSY, SI, SIY, SIL, S, SS, RIEb, RIEc}
+use Rattle.z_instr.specs.declared.form.Form.{Form}
+use Rattle.z_instr.specs.declared.form.Form.TheVariants.{RR, RRMask, RRSingle, I, RXa, RXb, RRE, RRESingle, RRFa, RRFc, RXYa, RIa, RIaSigned, RIb, RIc, RILa, RILaSigned, RILb, RILc, RSa, RSaSingle, RSYa, RSYb, SI, SIY, SIL, SILSigned, S, SAlone, SSa, RIEb, RIEc}
 use Rattle.z_instr.specs.Table.{Entry}
 use Rattle.z_instr.specs.Layouts.{layout_of, width, has_signed_immediate, has_signed_displacement}
 
@@ -34,50 +34,61 @@ byte = bounds 0 256
 abbrev pub signed_byte : Bounds
 signed_byte = bounds 128 128
 
--- an immediate of 16 or of 32 bits, with a sign or without
-abbrev pub half : Bool → Bounds
-half signed = cond signed (bounds 32768 32768) (bounds 0 65536)
+-- an immediate of 16 or of 32 bits, without a sign and with one
+abbrev pub half : Bounds
+half = bounds 0 65536
 
-abbrev pub full : Bool → Bounds
-full signed = cond signed (bounds 2147483648 2147483648) (bounds 0 4294967296)
+abbrev pub signed_half : Bounds
+signed_half = bounds 32768 32768
 
--- the 16 values of a register or a mask, but where it is left out
-abbrev pub unless : Bool → ℕ
-unless left_out = cond left_out 1 16
+abbrev pub full : Bounds
+full = bounds 0 4294967296
 
--- the 16 values of a mask where it is there
-abbrev pub given : Bool → ℕ
-given there = cond there 16 1
+abbrev pub signed_full : Bounds
+signed_full = bounds 2147483648 2147483648
 
 abbrev pub limit : ℕ → ℕ → ℕ → ℕ → ℕ → Bounds → ℕ → Bounds → Bounds → ℕ → Limits
 limit r1 r2 r3 x b d b2 d2 imm mask =
     record { r1 = r1; r2 = r2; r3 = r3; x = x; b = b; d = d; b2 = b2; d2 = d2; imm = imm; mask = mask }
 
 -- how many values each field has from 0 up, 1 where it is 0 alone, and the bounds of those that may have a
--- sign:
--- by the format, and by whether the row is signed, masked or single
-abbrev pub limits_in : Format → Bool → Bool → Bool → Limits
-limits_in RR s m o = limit (unless m) (unless o) 1 1 1 zero_alone 1 zero_alone zero_alone (given m)
-limits_in I s m o = limit 1 1 1 1 1 zero_alone 1 zero_alone byte 1
-limits_in RX s m o = limit (unless m) 1 1 16 16 short 1 zero_alone zero_alone (given m)
-limits_in RRE s m o = limit 16 (unless o) 1 1 1 zero_alone 1 zero_alone zero_alone 1
-limits_in RRFa s m o = limit 16 16 16 1 1 zero_alone 1 zero_alone zero_alone 1
-limits_in RRFc s m o = limit 16 16 1 1 1 zero_alone 1 zero_alone zero_alone 16
-limits_in RXY s m o = limit 16 1 1 16 16 long 1 zero_alone zero_alone 1
-limits_in RI s m o = limit (unless m) 1 1 1 1 zero_alone 1 zero_alone (half s) (given m)
-limits_in RIL s m o = limit (unless m) 1 1 1 1 zero_alone 1 zero_alone (full s) (given m)
-limits_in RS s m o = limit 16 1 (unless o) 1 16 short 1 zero_alone zero_alone 1
-limits_in RSY s m o = limit 16 1 (unless m) 1 16 long 1 zero_alone zero_alone (given m)
-limits_in SI s m o = limit 1 1 1 1 16 short 1 zero_alone byte 1
-limits_in SIY s m o = limit 1 1 1 1 16 long 1 zero_alone signed_byte 1
-limits_in SIL s m o = limit 1 1 1 1 16 short 1 zero_alone (half s) 1
-limits_in S s m o = limit 1 1 1 1 (unless o) (cond o zero_alone short) 1 zero_alone zero_alone 1
-limits_in SS s m o = limit 1 1 1 1 16 short 16 short byte 1
-limits_in RIEb s m o = limit 16 16 1 1 1 zero_alone 1 zero_alone (half true) 16
-limits_in RIEc s m o = limit 16 1 1 1 1 zero_alone 1 signed_byte (half true) 16
+-- sign
+abbrev pub limits_in : Form → Limits
+limits_in RR = limit 16 16 1 1 1 zero_alone 1 zero_alone zero_alone 1
+limits_in RRMask = limit 1 16 1 1 1 zero_alone 1 zero_alone zero_alone 16
+limits_in RRSingle = limit 16 1 1 1 1 zero_alone 1 zero_alone zero_alone 1
+limits_in I = limit 1 1 1 1 1 zero_alone 1 zero_alone byte 1
+limits_in RXa = limit 16 1 1 16 16 short 1 zero_alone zero_alone 1
+limits_in RXb = limit 1 1 1 16 16 short 1 zero_alone zero_alone 16
+limits_in RRE = limit 16 16 1 1 1 zero_alone 1 zero_alone zero_alone 1
+limits_in RRESingle = limit 16 1 1 1 1 zero_alone 1 zero_alone zero_alone 1
+limits_in RRFa = limit 16 16 16 1 1 zero_alone 1 zero_alone zero_alone 1
+limits_in RRFc = limit 16 16 1 1 1 zero_alone 1 zero_alone zero_alone 16
+limits_in RXYa = limit 16 1 1 16 16 long 1 zero_alone zero_alone 1
+limits_in RIa = limit 16 1 1 1 1 zero_alone 1 zero_alone half 1
+limits_in RIaSigned = limit 16 1 1 1 1 zero_alone 1 zero_alone signed_half 1
+limits_in RIb = limit 16 1 1 1 1 zero_alone 1 zero_alone signed_half 1
+limits_in RIc = limit 1 1 1 1 1 zero_alone 1 zero_alone signed_half 16
+limits_in RILa = limit 16 1 1 1 1 zero_alone 1 zero_alone full 1
+limits_in RILaSigned = limit 16 1 1 1 1 zero_alone 1 zero_alone signed_full 1
+limits_in RILb = limit 16 1 1 1 1 zero_alone 1 zero_alone signed_full 1
+limits_in RILc = limit 1 1 1 1 1 zero_alone 1 zero_alone signed_full 16
+limits_in RSa = limit 16 1 16 1 16 short 1 zero_alone zero_alone 1
+limits_in RSaSingle = limit 16 1 1 1 16 short 1 zero_alone zero_alone 1
+limits_in RSYa = limit 16 1 16 1 16 long 1 zero_alone zero_alone 1
+limits_in RSYb = limit 16 1 1 1 16 long 1 zero_alone zero_alone 16
+limits_in SI = limit 1 1 1 1 16 short 1 zero_alone byte 1
+limits_in SIY = limit 1 1 1 1 16 long 1 zero_alone signed_byte 1
+limits_in SIL = limit 1 1 1 1 16 short 1 zero_alone half 1
+limits_in SILSigned = limit 1 1 1 1 16 short 1 zero_alone signed_half 1
+limits_in S = limit 1 1 1 1 16 short 1 zero_alone zero_alone 1
+limits_in SAlone = limit 1 1 1 1 1 zero_alone 1 zero_alone zero_alone 1
+limits_in SSa = limit 1 1 1 1 16 short 16 short byte 1
+limits_in RIEb = limit 16 16 1 1 1 zero_alone 1 zero_alone signed_half 16
+limits_in RIEc = limit 16 1 1 1 1 zero_alone 1 signed_byte signed_half 16
 
 abbrev pub limits_of : Entry → Limits
-limits_of e = limits_in e.format e.signed e.masked e.single
+limits_of e = limits_in e.form
 
 -- as many digits, with a sign or without
 abbrev pub bounds_by : Bool → ℕ → Bounds

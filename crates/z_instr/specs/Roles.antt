@@ -7,6 +7,7 @@ use Rattle.z_instr.specs.declared.kind.Kind.{Kind}
 use Rattle.z_instr.specs.declared.kind.Kind.TheVariants.{General, Transaction}
 use Rattle.z_instr.specs.declared.kind.General.TheVariants as general
 use Rattle.z_instr.specs.declared.kind.Transaction.TheVariants as transaction
+use Rattle.z_instr.specs.Forms.{has_target}
 use Rattle.z_instr.specs.Table.{Entry, entry_at}
 use Rattle.z_instr.specs.Operands.{first_address}
 use Rattle.z_instr.specs.Facts.{is_begin}
@@ -34,7 +35,7 @@ loads_target (General general.Target) = true
 loads_target _ = false
 
 abbrev pub is_relative_branch : Entry → Bool
-is_relative_branch e = e.relative && not (loads_target e.kind)
+is_relative_branch e = has_target e.form && not (loads_target e.kind)
 
 -- its stores outlive an abort
 abbrev pub is_lasting_store : Kind → Bool

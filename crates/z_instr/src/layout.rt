@@ -1,9 +1,9 @@
-//! Formats as data: which digit of which field stands where in an instruction.
+//! Forms as data: which digit of which field stands where in an instruction.
 ghost use Rattle.std.specs.Prelude.{◌≡◌, ◌<◌};
 ghost use Rattle.z_instr.specs.Layouts.{layout, rank, layout_of};
 ghost use Rattle.z_instr.specs.Lines.{entry_of};
 
-use crate::format::Format;
+use crate::form::Form;
 use crate::table::Line;
 
 /// What stands in an instruction: its opcode, its fields, and bits that no field uses, which are zero.
@@ -62,7 +62,7 @@ static RR: [Digit; 4] = digits!(Opcode 1, Opcode 0, R1 0, R2 0);
 
 static RR_MASK: [Digit; 4] = digits!(Opcode 1, Opcode 0, Mask 0, R2 0);
 
-static RR_ONE: [Digit; 4] = digits!(Opcode 1, Opcode 0, R1 0, Spare 0);
+static RR_SINGLE: [Digit; 4] = digits!(Opcode 1, Opcode 0, R1 0, Spare 0);
 
 static I: [Digit; 4] = digits!(Opcode 1, Opcode 0, Imm 1, Imm 0);
 
@@ -73,7 +73,7 @@ static RX_B: [Digit; 8] = digits!(Opcode 1, Opcode 0, Mask 0, X 0, B 0, D 2, D 1
 static RRE: [Digit; 8] =
     digits!(Opcode 3, Opcode 2, Opcode 1, Opcode 0, Spare 1, Spare 0, R1 0, R2 0);
 
-static RRE_ONE: [Digit; 8] =
+static RRE_SINGLE: [Digit; 8] =
     digits!(Opcode 3, Opcode 2, Opcode 1, Opcode 0, Spare 2, Spare 1, R1 0, Spare 0);
 
 static RRF_A: [Digit; 8] =
@@ -97,7 +97,7 @@ static RIL_C: [Digit; 12] = digits!(Opcode 2, Opcode 1, Mask 0, Opcode 0,
 
 static RS_A: [Digit; 8] = digits!(Opcode 1, Opcode 0, R1 0, R3 0, B 0, D 2, D 1, D 0);
 
-static RS_ONE: [Digit; 8] = digits!(Opcode 1, Opcode 0, R1 0, Spare 0, B 0, D 2, D 1, D 0);
+static RS_A_SINGLE: [Digit; 8] = digits!(Opcode 1, Opcode 0, R1 0, Spare 0, B 0, D 2, D 1, D 0);
 
 static RSY_A: [Digit; 12] =
     digits!(Opcode 3, Opcode 2, R1 0, R3 0, B 0, D 2, D 1, D 0, D 4, D 3, Opcode 1, Opcode 0);
@@ -115,7 +115,7 @@ static SIL: [Digit; 12] = digits!(Opcode 3, Opcode 2, Opcode 1, Opcode 0,
 
 static S: [Digit; 8] = digits!(Opcode 3, Opcode 2, Opcode 1, Opcode 0, B 0, D 2, D 1, D 0);
 
-static S_NONE: [Digit; 8] =
+static S_ALONE: [Digit; 8] =
     digits!(Opcode 3, Opcode 2, Opcode 1, Opcode 0, Spare 3, Spare 2, Spare 1, Spare 0);
 
 static SS_A: [Digit; 12] =
@@ -127,34 +127,38 @@ static RIE_B: [Digit; 12] = digits!(Opcode 3, Opcode 2, R1 0, R2 0,
 static RIE_C: [Digit; 12] = digits!(Opcode 3, Opcode 2, R1 0, Mask 0,
     Imm 3, Imm 2, Imm 1, Imm 0, D2 1, D2 0, Opcode 1, Opcode 0);
 
-/// The digits of a format from left to right, where a mask stands in the place of a register or not, and the
-/// last register, or the only address, is left out or not.
-pub fn layout_in(format: Format, masked: bool, single: bool) -> &'static [Digit]
-    ensures { result.now ≡ layout format masked single }
+/// The digits of a form from left to right.
+pub fn layout_in(form: Form) -> &'static [Digit]
+    ensures { result.now ≡ layout form }
 {
-    match format {
-        Format::RR => match (masked, single) {
-            (true, _) => &RR_MASK,
-            (false, true) => &RR_ONE,
-            (false, false) => &RR,
-        },
-        Format::I => &I,
-        Format::RX => if masked { &RX_B } else { &RX_A },
-        Format::RRE => if single { &RRE_ONE } else { &RRE },
-        Format::RRFa => &RRF_A,
-        Format::RRFc => &RRF_C,
-        Format::RXY => &RXY_A,
-        Format::RI => if masked { &RI_C } else { &RI_A },
-        Format::RIL => if masked { &RIL_C } else { &RIL_A },
-        Format::RS => if single { &RS_ONE } else { &RS_A },
-        Format::RSY => if masked { &RSY_B } else { &RSY_A },
-        Format::SI => &SI,
-        Format::SIY => &SIY,
-        Format::SIL => &SIL,
-        Format::S => if single { &S_NONE } else { &S },
-        Format::SS => &SS_A,
-        Format::RIEb => &RIE_B,
-        Format::RIEc => &RIE_C,
+    match form {
+        Form::RR => &RR,
+        Form::RRMask => &RR_MASK,
+        Form::RRSingle => &RR_SINGLE,
+        Form::I => &I,
+        Form::RXa => &RX_A,
+        Form::RXb => &RX_B,
+        Form::RRE => &RRE,
+        Form::RRESingle => &RRE_SINGLE,
+        Form::RRFa => &RRF_A,
+        Form::RRFc => &RRF_C,
+        Form::RXYa => &RXY_A,
+        Form::RIa | Form::RIaSigned | Form::RIb => &RI_A,
+        Form::RIc => &RI_C,
+        Form::RILa | Form::RILaSigned | Form::RILb => &RIL_A,
+        Form::RILc => &RIL_C,
+        Form::RSa => &RS_A,
+        Form::RSaSingle => &RS_A_SINGLE,
+        Form::RSYa => &RSY_A,
+        Form::RSYb => &RSY_B,
+        Form::SI => &SI,
+        Form::SIY => &SIY,
+        Form::SIL | Form::SILSigned => &SIL,
+        Form::S => &S,
+        Form::SAlone => &S_ALONE,
+        Form::SSa => &SS_A,
+        Form::RIEb => &RIE_B,
+        Form::RIEc => &RIE_C,
     }
 }
 
@@ -162,5 +166,5 @@ pub fn layout_in(format: Format, masked: bool, single: bool) -> &'static [Digit]
 pub fn digits_of(line: &Line) -> &'static [Digit]
     ensures { result.now ≡ layout_of (entry_of line.now) }
 {
-    layout_in(line.format, line.masked, line.single)
+    layout_in(line.form)
 }

@@ -4,6 +4,7 @@
 #![tactic(auto)]
 
 pub mod addresses;
+pub mod form;
 pub mod format;
 pub mod instr;
 pub mod kind;

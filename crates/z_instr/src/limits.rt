@@ -1,9 +1,9 @@
 //! Which values the fields of instructions may have.
 ghost use Rattle.std.specs.Prelude.{◌≡◌};
 ghost use Rattle.z_instr.specs.Table.{entry_at};
-ghost use Rattle.z_instr.specs.Ranges.{limits_in, limits_of, is_within, half, full, unless, given};
+ghost use Rattle.z_instr.specs.Ranges.{limits_in, limits_of, is_within};
 
-use crate::format::Format;
+use crate::form::Form;
 use crate::lookup::line;
 use crate::op::Op;
 
@@ -52,6 +52,26 @@ const SIGNED_BYTE: Bounds = Bounds {
     above: 128,
 };
 
+const HALF: Bounds = Bounds {
+    below: 0,
+    above: 65536,
+};
+
+const SIGNED_HALF: Bounds = Bounds {
+    below: 32768,
+    above: 32768,
+};
+
+const FULL: Bounds = Bounds {
+    below: 0,
+    above: 4294967296,
+};
+
+const SIGNED_FULL: Bounds = Bounds {
+    below: 2147483648,
+    above: 2147483648,
+};
+
 /// No field at all.
 const NOTHING: Limits = Limits {
     r1: 1,
@@ -86,76 +106,39 @@ impl Bounds {
     }
 }
 
-fn half_bounds(signed: bool) -> Bounds
-    ensures { result ≡ half signed }
+/// The limits of a form's instructions.
+fn form_limits(form: Form) -> Limits
+    ensures { result ≡ limits_in form }
 {
-    if signed {
-        Bounds {
-            below: 32768,
-            above: 32768,
-        }
-    } else {
-        Bounds {
-            below: 0,
-            above: 65536,
-        }
-    }
-}
-
-fn full_bounds(signed: bool) -> Bounds
-    ensures { result ≡ full signed }
-{
-    if signed {
-        Bounds {
-            below: 2147483648,
-            above: 2147483648,
-        }
-    } else {
-        Bounds {
-            below: 0,
-            above: 4294967296,
-        }
-    }
-}
-
-fn unless_left_out(left_out: bool) -> u8
-    ensures { result ≡ unless left_out }
-{
-    if left_out { 1 } else { 16 }
-}
-
-fn where_given(there: bool) -> u8
-    ensures { result ≡ given there }
-{
-    if there { 16 } else { 1 }
-}
-
-/// The limits of a format's instructions, signed, masked and single or not.
-fn format_limits(format: Format, signed: bool, masked: bool, single: bool) -> Limits
-    ensures { result ≡ limits_in format signed masked single }
-{
-    let first = unless_left_out(masked);
-    let last = unless_left_out(single);
-    let mask = where_given(masked);
-    match format {
-        Format::RR => fields!(r1 first, r2 last, mask mask),
-        Format::I => fields!(imm BYTE),
-        Format::RX => fields!(r1 first, x 16, b 16, d SHORT, mask mask),
-        Format::RRE => fields!(r1 16, r2 last),
-        Format::RRFa => fields!(r1 16, r2 16, r3 16),
-        Format::RRFc => fields!(r1 16, r2 16, mask 16),
-        Format::RXY => fields!(r1 16, x 16, b 16, d LONG),
-        Format::RI => fields!(r1 first, imm half_bounds(signed), mask mask),
-        Format::RIL => fields!(r1 first, imm full_bounds(signed), mask mask),
-        Format::RS => fields!(r1 16, r3 last, b 16, d SHORT),
-        Format::RSY => fields!(r1 16, r3 first, b 16, d LONG, mask mask),
-        Format::SI => fields!(b 16, d SHORT, imm BYTE),
-        Format::SIY => fields!(b 16, d LONG, imm SIGNED_BYTE),
-        Format::SIL => fields!(b 16, d SHORT, imm half_bounds(signed)),
-        Format::S => fields!(b last, d if single { ZERO_ALONE } else { SHORT }),
-        Format::SS => fields!(b 16, d SHORT, b2 16, d2 SHORT, imm BYTE),
-        Format::RIEb => fields!(r1 16, r2 16, imm half_bounds(true), mask 16),
-        Format::RIEc => fields!(r1 16, d2 SIGNED_BYTE, imm half_bounds(true), mask 16),
+    match form {
+        Form::RR | Form::RRE => fields!(r1 16, r2 16),
+        Form::RRMask => fields!(mask 16, r2 16),
+        Form::RRSingle | Form::RRESingle => fields!(r1 16),
+        Form::I => fields!(imm BYTE),
+        Form::RXa => fields!(r1 16, x 16, b 16, d SHORT),
+        Form::RXb => fields!(mask 16, x 16, b 16, d SHORT),
+        Form::RRFa => fields!(r1 16, r2 16, r3 16),
+        Form::RRFc => fields!(r1 16, r2 16, mask 16),
+        Form::RXYa => fields!(r1 16, x 16, b 16, d LONG),
+        Form::RIa => fields!(r1 16, imm HALF),
+        Form::RIaSigned | Form::RIb => fields!(r1 16, imm SIGNED_HALF),
+        Form::RIc => fields!(mask 16, imm SIGNED_HALF),
+        Form::RILa => fields!(r1 16, imm FULL),
+        Form::RILaSigned | Form::RILb => fields!(r1 16, imm SIGNED_FULL),
+        Form::RILc => fields!(mask 16, imm SIGNED_FULL),
+        Form::RSa => fields!(r1 16, r3 16, b 16, d SHORT),
+        Form::RSaSingle => fields!(r1 16, b 16, d SHORT),
+        Form::RSYa => fields!(r1 16, r3 16, b 16, d LONG),
+        Form::RSYb => fields!(r1 16, mask 16, b 16, d LONG),
+        Form::SI => fields!(b 16, d SHORT, imm BYTE),
+        Form::SIY => fields!(b 16, d LONG, imm SIGNED_BYTE),
+        Form::SIL => fields!(b 16, d SHORT, imm HALF),
+        Form::SILSigned => fields!(b 16, d SHORT, imm SIGNED_HALF),
+        Form::S => fields!(b 16, d SHORT),
+        Form::SAlone => NOTHING,
+        Form::SSa => fields!(b 16, d SHORT, b2 16, d2 SHORT, imm BYTE),
+        Form::RIEb => fields!(r1 16, r2 16, mask 16, imm SIGNED_HALF),
+        Form::RIEc => fields!(r1 16, mask 16, imm SIGNED_HALF, d2 SIGNED_BYTE),
     }
 }
 
@@ -163,6 +146,5 @@ fn format_limits(format: Format, signed: bool, masked: bool, single: bool) -> Li
 pub fn field_limits(op: Op) -> Limits
     ensures { result ≡ limits_of (entry_at op.number) }
 {
-    let line = line(op);
-    format_limits(line.format, line.signed, line.masked, line.single)
+    form_limits(line(op).form)
 }

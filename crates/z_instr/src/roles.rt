@@ -4,6 +4,7 @@ ghost use Rattle.z_instr.specs.Table.{entry_at};
 ghost use Rattle.z_instr.specs.Roles.{is_end as ends, sets_access_register as sets_access, is_relative_branch as branches, begins as begins_one, block_named as named};
 
 use crate::addresses::first_address;
+use crate::form::has_target;
 use crate::instr::Instr;
 use crate::kind::{General, Kind, Transaction};
 use crate::lookup::line;
@@ -30,7 +31,7 @@ pub fn is_relative_branch(op: Op) -> bool
     ensures { result ≡ branches (entry_at op.number) }
 {
     let line = line(op);
-    line.relative && !matches!(line.kind, Kind::General(General::Target))
+    has_target(line.form) && !matches!(line.kind, Kind::General(General::Target))
 }
 
 /// Whether the operation begins a transaction: TBEGIN or TBEGINC.

@@ -1,5 +1,5 @@
 -- No two instructions have one text.
-use Rattle.std.proofs.Common.{◌≡◌, ◌≢◌, ℕ, ◌+◌, ◌<◌, ◌^◌, zero, suc, not, nat_eq, Bool, true, false, List, [], ◌∷◌, ◌++◌, append_assoc, arith, refl, sym, ap, ap₂, ◌∙◌, subst}
+use Rattle.std.proofs.Common.{◌≡◌, ◌≢◌, ℕ, ◌+◌, ◌<◌, ◌^◌, zero, suc, not, nat_eq, true, List, [], ◌∷◌, ◌++◌, append_assoc, arith, refl, sym, ap, ap₂, ◌∙◌, subst}
 use Rattle.std.specs.Prelude.{ℤ, pos, negsuc, ◌+ℤ◌}
 use Rattle.std.specs.Fmt.{decimal, signed_decimal}
 use Rattle.std.specs.List.{list_all}
@@ -10,10 +10,13 @@ use lib.Signed.{mag}
 use Rattle.z_instr.specs.declared.instr.Instr.{Instr}
 use Rattle.z_instr.specs.declared.instr.Fields.{Fields}
 use Rattle.z_instr.specs.declared.table.TheConstants.{ROWS}
-use Rattle.z_instr.specs.declared.format.Format.{Format}
-use Rattle.z_instr.specs.declared.format.Format.TheVariants.{RR, I, RX, RRE, RRFa, RRFc, RXY, RI, RIL, RS, RSY, SI, SIY, SIL, S, SS, RIEb, RIEc}
+use Rattle.z_instr.specs.declared.form.Slot.{Slot}
+use Rattle.z_instr.specs.declared.form.Slot.TheVariants as slot
+use Rattle.z_instr.specs.declared.form.Slot.TheVariants.{First, Second, Third, Mask, Immediate, Compared, SecondBased}
+use Rattle.z_instr.specs.Forms.{slots}
+use Rattle.z_instr.specs.Made.{fields_of}
 use Rattle.z_instr.specs.Table.{Entry, entry_at}
-use Rattle.z_instr.specs.Ranges.{is_within, bounds}
+use Rattle.z_instr.specs.Ranges.{is_within}
 use Rattle.z_instr.specs.Reading.{modulo}
 use Rattle.z_instr.proofs.Distinct.{one_name}
 use Rattle.z_instr.proofs.Passing.{and_left, and_right}
@@ -22,8 +25,8 @@ use Rattle.tx_journal.specs.Numbers.{Lacks}
 use Rattle.tx_journal.proofs.Decimals.{SameCut, same_cut, lacks_not_there, lacks_number}
 use Rattle.z_list.specs.declared.parts.Operand.{Operand}
 use Rattle.z_list.specs.declared.parts.Operand.TheVariants.{Number, Target, Indexed, Based, Counted}
-use Rattle.z_list.specs.Operands.{fields_of, operands_in, operands_by, operands_of, target_text, based_text, pair_text, operand_text, further_text, field_text, instruction_text}
-use Rattle.z_list.proofs.Distances.{immediate_is_close, displacement_is_close, second_is_close}
+use Rattle.z_list.specs.Operands.{operand_at, operands_at, operands_by, operands_of, target_text, based_text, pair_text, operand_text, further_text, field_text, instruction_text}
+use Rattle.z_list.proofs.Distances.{close, long_is_close, displacement_is_long, second_is_long, immediate_is_close}
 use Rattle.z_list.proofs.Told.{one_instruction}
 
 -- ---- where an operand ends
@@ -251,11 +254,11 @@ record AreSmallFields (i : Instr) : Type 0 where
   twice : mag (i.imm +ℤ i.imm) < 2 ^ 63
   count : modulo 8 i.imm + 1 < 2 ^ 63
 
-small : (z : ℤ) → is_within (bounds 2147483648 4294967296) z ≡ true → mag z < 2 ^ 63
+small : (z : ℤ) → is_within close z ≡ true → mag z < 2 ^ 63
 small (pos n) h = let inside : n < 4294967296 = ltb-true n 4294967296 h in omega arith
 small (negsuc n) h = let inside : n < 2147483648 = ltb-true n 2147483648 h in omega arith
 
-twice_small : (z : ℤ) → is_within (bounds 2147483648 4294967296) z ≡ true → mag (z +ℤ z) < 2 ^ 63
+twice_small : (z : ℤ) → is_within close z ≡ true → mag (z +ℤ z) < 2 ^ 63
 twice_small (pos n) h = let inside : n < 4294967296 = ltb-true n 4294967296 h in omega arith
 twice_small (negsuc n) h = let inside : n < 2147483648 = ltb-true n 2147483648 h in omega arith
 
@@ -270,82 +273,48 @@ small_fields i = record {
   r3 = omega (arith, i.r3_in);
   x = omega (arith, i.x_in);
   b = omega (arith, i.b_in);
-  d = small i.d (displacement_is_close i);
+  d = small i.d (long_is_close i.d (displacement_is_long i));
   b2 = omega (arith, i.b2_in);
-  d2 = small i.d2 (second_is_close i);
+  d2 = small i.d2 (long_is_close i.d2 (second_is_long i));
   imm = small i.imm (immediate_is_close i);
   mask = omega (arith, i.mask_in);
   twice = twice_small i.imm (immediate_is_close i);
   count = count_small i.imm;
 }
 
-are_small : (f : Format) (rel m o : Bool) (i : Instr) → AreSmallFields i
-    → AreSmall (operands_in f rel m o (fields_of i))
-are_small RR rel false false i s = (s.r1, (s.r2, tt))
-are_small RR rel true false i s = (s.mask, (s.r2, tt))
-are_small RR rel m true i s = (s.r1, tt)
-are_small I rel m o i s = (s.imm, tt)
-are_small RX rel false o i s = (s.r1, ((s.d, s.x, s.b), tt))
-are_small RX rel true o i s = (s.mask, ((s.d, s.x, s.b), tt))
-are_small RRE rel m false i s = (s.r1, (s.r2, tt))
-are_small RRE rel m true i s = (s.r1, tt)
-are_small RRFa rel m o i s = (s.r1, (s.r2, (s.r3, tt)))
-are_small RRFc rel m o i s = (s.r1, (s.r2, (s.mask, tt)))
-are_small RXY rel m o i s = (s.r1, ((s.d, s.x, s.b), tt))
-are_small RI false false o i s = (s.r1, (s.imm, tt))
-are_small RI true false o i s = (s.r1, (s.twice, tt))
-are_small RI false true o i s = (s.mask, (s.imm, tt))
-are_small RI true true o i s = (s.mask, (s.twice, tt))
-are_small RIL false false o i s = (s.r1, (s.imm, tt))
-are_small RIL true false o i s = (s.r1, (s.twice, tt))
-are_small RIL false true o i s = (s.mask, (s.imm, tt))
-are_small RIL true true o i s = (s.mask, (s.twice, tt))
-are_small RS rel m false i s = (s.r1, (s.r3, ((s.d, s.b), tt)))
-are_small RS rel m true i s = (s.r1, ((s.d, s.b), tt))
-are_small RSY rel false o i s = (s.r1, (s.r3, ((s.d, s.b), tt)))
-are_small RSY rel true o i s = (s.r1, ((s.d, s.b), (s.mask, tt)))
-are_small SI rel m o i s = ((s.d, s.b), (s.imm, tt))
-are_small SIY rel m o i s = ((s.d, s.b), (s.imm, tt))
-are_small SIL rel m o i s = ((s.d, s.b), (s.imm, tt))
-are_small S rel m false i s = ((s.d, s.b), tt)
-are_small S rel m true i s = tt
-are_small SS rel m o i s = ((s.d, s.count, s.b), ((s.d2, s.b2), tt))
-are_small RIEb rel m o i s = (s.r1, (s.r2, (s.mask, (s.twice, tt))))
-are_small RIEc rel m o i s = (s.r1, (s.d2, (s.mask, (s.twice, tt))))
+small_at : (s : Slot) (i : Instr) → AreSmallFields i → IsSmall (operand_at s (fields_of i))
+small_at First i few = few.r1
+small_at Second i few = few.r2
+small_at Third i few = few.r3
+small_at Mask i few = few.mask
+small_at Immediate i few = few.imm
+small_at Compared i few = few.d2
+small_at slot.Target i few = few.twice
+small_at slot.Indexed i few = (few.d, few.x, few.b)
+small_at slot.Based i few = (few.d, few.b)
+small_at slot.Counted i few = (few.d, few.count, few.b)
+small_at SecondBased i few = (few.d2, few.b2)
 
-are_alike : (f : Format) (rel m o : Bool) (some others : Fields)
-    → AreAlike (operands_in f rel m o some) (operands_in f rel m o others)
-are_alike RR rel false false some others = (tt, (tt, tt))
-are_alike RR rel true false some others = (tt, (tt, tt))
-are_alike RR rel m true some others = (tt, tt)
-are_alike I rel m o some others = (tt, tt)
-are_alike RX rel false o some others = (tt, (tt, tt))
-are_alike RX rel true o some others = (tt, (tt, tt))
-are_alike RRE rel m false some others = (tt, (tt, tt))
-are_alike RRE rel m true some others = (tt, tt)
-are_alike RRFa rel m o some others = (tt, (tt, (tt, tt)))
-are_alike RRFc rel m o some others = (tt, (tt, (tt, tt)))
-are_alike RXY rel m o some others = (tt, (tt, tt))
-are_alike RI false false o some others = (tt, (tt, tt))
-are_alike RI true false o some others = (tt, (tt, tt))
-are_alike RI false true o some others = (tt, (tt, tt))
-are_alike RI true true o some others = (tt, (tt, tt))
-are_alike RIL false false o some others = (tt, (tt, tt))
-are_alike RIL true false o some others = (tt, (tt, tt))
-are_alike RIL false true o some others = (tt, (tt, tt))
-are_alike RIL true true o some others = (tt, (tt, tt))
-are_alike RS rel m false some others = (tt, (tt, (tt, tt)))
-are_alike RS rel m true some others = (tt, (tt, tt))
-are_alike RSY rel false o some others = (tt, (tt, (tt, tt)))
-are_alike RSY rel true o some others = (tt, (tt, (tt, tt)))
-are_alike SI rel m o some others = (tt, (tt, tt))
-are_alike SIY rel m o some others = (tt, (tt, tt))
-are_alike SIL rel m o some others = (tt, (tt, tt))
-are_alike S rel m false some others = (tt, tt)
-are_alike S rel m true some others = tt
-are_alike SS rel m o some others = (tt, (tt, tt))
-are_alike RIEb rel m o some others = (tt, (tt, (tt, (tt, tt))))
-are_alike RIEc rel m o some others = (tt, (tt, (tt, (tt, tt))))
+are_small : (ss : List Slot) (i : Instr) → AreSmall (operands_at ss (fields_of i))
+are_small [] i = tt
+are_small (s ∷ ss) i = (small_at s i (small_fields i), are_small ss i)
+
+alike_at : (s : Slot) (f g : Fields) → Alike (operand_at s f) (operand_at s g)
+alike_at First f g = tt
+alike_at Second f g = tt
+alike_at Third f g = tt
+alike_at Mask f g = tt
+alike_at Immediate f g = tt
+alike_at Compared f g = tt
+alike_at slot.Target f g = tt
+alike_at slot.Indexed f g = tt
+alike_at slot.Based f g = tt
+alike_at slot.Counted f g = tt
+alike_at SecondBased f g = tt
+
+are_alike : (ss : List Slot) (f g : Fields) → AreAlike (operands_at ss f) (operands_at ss g)
+are_alike [] f g = tt
+are_alike (s ∷ ss) f g = (alike_at s f g, are_alike ss f g)
 
 -- no name has a blank
 other_than : (c : ℕ) → not (nat_eq c 32) ≡ true → c ≢ 32
@@ -365,9 +334,8 @@ same_operands : (e : Entry) (i j : Instr)
     → operands_by e (fields_of i) ≡ operands_by e (fields_of j)
 same_operands e i j is =
     same_field (operands_by e (fields_of i)) (operands_by e (fields_of j))
-    (are_small e.format e.relative e.masked e.single i (small_fields i))
-    (are_small e.format e.relative e.masked e.single j (small_fields j))
-    (are_alike e.format e.relative e.masked e.single (fields_of i) (fields_of j)) is
+    (are_small (slots e.form) i) (are_small (slots e.form) j)
+    (are_alike (slots e.form) (fields_of i) (fields_of j)) is
 
 pub one_spelling : (i j : Instr) → instruction_text i ≡ instruction_text j → i ≡ j
 unfolding instruction_text

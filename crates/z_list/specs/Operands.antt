@@ -1,11 +1,13 @@
--- The operands of an instruction in the listing, by its format, and the text of each.
-use Rattle.std.specs.Prelude.{ℕ, ◌+◌, ℤ, pos, negsuc, suc, ◌+ℤ◌, Bool, cond, List, [], ◌∷◌, ◌++◌, codes}
+-- The operands of an instruction in the listing, by what each stands for, and the text of each.
+use Rattle.std.specs.Prelude.{ℕ, ◌+◌, ℤ, pos, negsuc, suc, ◌+ℤ◌, List, [], ◌∷◌, ◌++◌, map, codes}
 use Rattle.std.specs.List.{flat_map}
 use Rattle.std.specs.Fmt.{decimal, signed_decimal}
-use Rattle.z_instr.specs.declared.format.Format.{Format}
-use Rattle.z_instr.specs.declared.format.Format.TheVariants as format
+use Rattle.z_instr.specs.declared.form.Slot.{Slot}
+use Rattle.z_instr.specs.declared.form.Slot.TheVariants as slot
 use Rattle.z_instr.specs.declared.instr.Instr.{Instr}
 use Rattle.z_instr.specs.declared.instr.Fields.{Fields}
+use Rattle.z_instr.specs.Forms.{slots}
+use Rattle.z_instr.specs.Made.{fields_of}
 use Rattle.z_instr.specs.Reading.{modulo}
 use Rattle.z_instr.specs.Table.{Entry, entry_at}
 use Rattle.z_list.specs.declared.parts.Operand.{Operand}
@@ -13,76 +15,26 @@ use Rattle.z_list.specs.declared.parts.Operand.TheVariants.{Number, Target, Inde
 
 -- ---- which operands there are
 
--- the fields of an instruction as plain numbers
-abbrev pub fields_of : Instr → Fields
-fields_of i = record {
-  r1 = i.r1;
-  r2 = i.r2;
-  r3 = i.r3;
-  x = i.x;
-  b = i.b;
-  d = i.d;
-  b2 = i.b2;
-  d2 = i.d2;
-  imm = i.imm;
-  mask = i.mask;
-}
+-- The operand that stands for some of the fields. The distance of a target in bytes is twice that in halfwords, which
+-- the instruction has, and the number of bytes is one more than the length code.
+abbrev pub operand_at : Slot → Fields → Operand
+operand_at slot.First f = Number (pos f.r1)
+operand_at slot.Second f = Number (pos f.r2)
+operand_at slot.Third f = Number (pos f.r3)
+operand_at slot.Mask f = Number (pos f.mask)
+operand_at slot.Immediate f = Number f.imm
+operand_at slot.Compared f = Number f.d2
+operand_at slot.Target f = Target (f.imm +ℤ f.imm)
+operand_at slot.Indexed f = Indexed f.d f.x f.b
+operand_at slot.Based f = Based f.d f.b
+operand_at slot.Counted f = Counted f.d (modulo 8 f.imm + 1) f.b
+operand_at slot.SecondBased f = Based f.d2 f.b2
 
-abbrev pub number : ℕ → Operand
-number n = Number (pos n)
-
--- R1, or the mask that stands in its place
-abbrev pub first : Bool → Fields → Operand
-first masked f = cond masked (number f.mask) (number f.r1)
-
--- the distance of a target in bytes is twice that in halfwords, which the instruction has
-abbrev pub target : Fields → Operand
-target f = Target (f.imm +ℤ f.imm)
-
-abbrev pub immediate : Bool → Fields → Operand
-immediate relative f = cond relative (target f) (Number f.imm)
-
-abbrev pub indexed : Fields → Operand
-indexed f = Indexed f.d f.x f.b
-
-abbrev pub based : Fields → Operand
-based f = Based f.d f.b
-
--- the number of bytes is one more than the length code
-abbrev pub counted : Fields → Operand
-counted f = Counted f.d (modulo 8 f.imm + 1) f.b
-
-abbrev pub second_based : Fields → Operand
-second_based f = Based f.d2 f.b2
-
--- by the format, and by whether the immediate is the distance of a target, a mask stands in place of a register, and the
--- last register or the only address is left out
-abbrev pub operands_in : Format → Bool → Bool → Bool → Fields → List Operand
-operands_in format.RR relative masked single f =
-    cond single (number f.r1 ∷ []) (first masked f ∷ number f.r2 ∷ [])
-operands_in format.I relative masked single f = Number f.imm ∷ []
-operands_in format.RX relative masked single f = first masked f ∷ indexed f ∷ []
-operands_in format.RRE relative masked single f =
-    cond single (number f.r1 ∷ []) (number f.r1 ∷ number f.r2 ∷ [])
-operands_in format.RRFa relative masked single f = number f.r1 ∷ number f.r2 ∷ number f.r3 ∷ []
-operands_in format.RRFc relative masked single f = number f.r1 ∷ number f.r2 ∷ number f.mask ∷ []
-operands_in format.RXY relative masked single f = number f.r1 ∷ indexed f ∷ []
-operands_in format.RI relative masked single f = first masked f ∷ immediate relative f ∷ []
-operands_in format.RIL relative masked single f = first masked f ∷ immediate relative f ∷ []
-operands_in format.RS relative masked single f =
-    cond single (number f.r1 ∷ based f ∷ []) (number f.r1 ∷ number f.r3 ∷ based f ∷ [])
-operands_in format.RSY relative masked single f =
-    cond masked (number f.r1 ∷ based f ∷ number f.mask ∷ []) (number f.r1 ∷ number f.r3 ∷ based f ∷ [])
-operands_in format.SI relative masked single f = based f ∷ Number f.imm ∷ []
-operands_in format.SIY relative masked single f = based f ∷ Number f.imm ∷ []
-operands_in format.SIL relative masked single f = based f ∷ Number f.imm ∷ []
-operands_in format.S relative masked single f = cond single [] (based f ∷ [])
-operands_in format.SS relative masked single f = counted f ∷ second_based f ∷ []
-operands_in format.RIEb relative masked single f = number f.r1 ∷ number f.r2 ∷ number f.mask ∷ target f ∷ []
-operands_in format.RIEc relative masked single f = number f.r1 ∷ Number f.d2 ∷ number f.mask ∷ target f ∷ []
+abbrev pub operands_at : List Slot → Fields → List Operand
+operands_at ss f = map (λ s. operand_at s f) ss
 
 abbrev pub operands_by : Entry → Fields → List Operand
-operands_by e f = operands_in e.format e.relative e.masked e.single f
+operands_by e f = operands_at (slots e.form) f
 
 abbrev pub operands_of : Instr → List Operand
 operands_of i = operands_by (entry_at i.op.number) (fields_of i)

@@ -9,5 +9,5 @@ mod spelling;
 
 pub use laws::{each_instruction_has_a_line, operands_tell_instructions, texts_tell_instructions};
 pub use lines::listing;
-pub use parts::{Operand, OperandList, operands};
+pub use parts::{Operand, operand_at};
 pub use spelling::instruction_text;

@@ -1,13 +1,12 @@
-//! The operands of an instruction in the order in which the listing has them.
-ghost use Rattle.std.specs.Prelude.{◌≡◌, ◌≤◌, ◌+ℤ◌, true, [], ◌∷◌, take};
+//! The operands of an instruction, by what each stands for.
+ghost use Rattle.std.specs.Prelude.{◌≡◌, ◌+◌, ◌+ℤ◌, true};
+ghost use Rattle.z_instr.specs.Made.{fields_of};
 ghost use Rattle.z_instr.specs.Ranges.{is_within, bounds};
-ghost use Rattle.z_instr.specs.Table.{entry_at};
-ghost use Rattle.z_instr.specs.declared.format.Format.TheVariants.{SS};
-ghost use Rattle.z_list.specs.Operands.{fields_of, first, target, counted, immediate, operands_of};
+ghost use Rattle.z_instr.specs.Reading.{modulo};
+ghost use Rattle.z_list.specs.Operands.{operand_at};
 
-use z_instr::format::Format;
+use z_instr::form::Slot;
 use z_instr::instr::Instr;
-use z_instr::lookup::line;
 
 /// One operand.
 #[derive(Clone, Copy, PartialEq, Eq)]
@@ -25,82 +24,6 @@ pub enum Operand {
     Counted(i32, u16, u8),
 }
 
-/// The operands of an instruction: the first `count` of `places`.
-#[derive(Clone, Copy)]
-pub struct OperandList {
-    pub places: [Operand; 4],
-    pub count: u8,
-    ghost few: { count ≤ 4 },
-}
-
-/// What stands in places without an operand.
-const NOTHING: Operand = Operand::Number(0);
-
-impl OperandList {
-    /// The operands, in order.
-    pub fn as_slice(&self) -> &[Operand]
-        ensures { result.now ≡ take self.now.count self.now.places }
-    {
-        &self.places[..usize::from(self.count)]
-    }
-
-    fn none() -> OperandList
-        ensures { take result.count result.places ≡ [] }
-    {
-        OperandList {
-            places: [NOTHING; 4],
-            count: 0,
-        }
-    }
-
-    fn one(a: Operand) -> OperandList
-        ensures { take result.count result.places ≡ a ∷ [] }
-    {
-        OperandList {
-            places: [a, NOTHING, NOTHING, NOTHING],
-            count: 1,
-        }
-    }
-
-    fn two(a: Operand, b: Operand) -> OperandList
-        ensures { take result.count result.places ≡ a ∷ b ∷ [] }
-    {
-        OperandList {
-            places: [a, b, NOTHING, NOTHING],
-            count: 2,
-        }
-    }
-
-    fn three(a: Operand, b: Operand, c: Operand) -> OperandList
-        ensures { take result.count result.places ≡ a ∷ b ∷ c ∷ [] }
-    {
-        OperandList {
-            places: [a, b, c, NOTHING],
-            count: 3,
-        }
-    }
-
-    fn four(a: Operand, b: Operand, c: Operand, d: Operand) -> OperandList
-        ensures { take result.count result.places ≡ a ∷ b ∷ c ∷ d ∷ [] }
-    {
-        OperandList {
-            places: [a, b, c, d],
-            count: 4,
-        }
-    }
-}
-
-/// The first operand of formats in which a mask may stand in its place.
-fn first(masked: bool, i: &Instr) -> Operand
-    ensures { result ≡ first masked (fields_of i.now) }
-{
-    if masked {
-        Operand::Number(i64::from(i.mask))
-    } else {
-        Operand::Number(i64::from(i.r1))
-    }
-}
-
 /// A distance in bytes, by that in halfwords.
 fn bytes_in(halfwords: i64) -> i64
     requires { is_within (bounds 2147483648 4294967296) halfwords ≡ true }
@@ -109,68 +32,32 @@ fn bytes_in(halfwords: i64) -> i64
     halfwords + halfwords
 }
 
-/// The target of a branch or of an address that is relative to the instruction.
-fn target(i: &Instr) -> Operand
-    ensures { result ≡ target (fields_of i.now) }
+/// The number of bytes of a length code, which is one less.
+fn count_of(code: i64) -> u16
+    ensures { result ≡ modulo 8 code + 1 }
 {
-    Operand::Target(bytes_in(i.imm))
+    code.rem_euclid(256) as u16 + 1
 }
 
-/// The immediate, or the target that it is the distance of.
-fn immediate(relative: bool, i: &Instr) -> Operand
-    ensures { result ≡ immediate relative (fields_of i.now) }
-{
-    if relative {
-        target(i)
-    } else {
-        Operand::Number(i.imm)
-    }
-}
-
-/// The first operand of an instruction on two lists of bytes.
-fn counted(i: &Instr) -> Operand
-    requires { (entry_at i.now.op.number).format ≡ SS }
-    ensures { result ≡ counted (fields_of i.now) }
-{
-    Operand::Counted(i.d, (i.imm + 1) as u16, i.b)
-}
-
-/// The operands of an instruction, at most four.
+/// The operand that stands for some of an instruction's fields.
 ///
-/// Addresses are given in full, with a register number 0 where they have no index or no base. What the format
-/// has no place for is no operand, and a target is given by its distance in bytes.
-pub fn operands(instr: &Instr) -> OperandList
-    ensures { take result.count result.places ≡ operands_of instr.now }
+/// An address is given in full, with a register number 0 where it has no index or no base, and a target by its
+/// distance in bytes.
+pub fn operand_at(slot: Slot, instr: &Instr) -> Operand
+    ensures { result ≡ operand_at slot (fields_of instr.now) }
 {
     let i = instr;
-    let line = line(i.op);
-    let first = first(line.masked, i);
-    let r1 = Operand::Number(i64::from(i.r1));
-    let r2 = Operand::Number(i64::from(i.r2));
-    let r3 = Operand::Number(i64::from(i.r3));
-    let mask = Operand::Number(i64::from(i.mask));
-    let based = Operand::Based(i.d, i.b);
-    let indexed = Operand::Indexed(i.d, i.x, i.b);
-    match line.format {
-        Format::RR if line.single => OperandList::one(r1),
-        Format::RR => OperandList::two(first, r2),
-        Format::I => OperandList::one(Operand::Number(i.imm)),
-        Format::RRE if line.single => OperandList::one(r1),
-        Format::RRE => OperandList::two(r1, r2),
-        Format::RX => OperandList::two(first, indexed),
-        Format::RXY => OperandList::two(r1, indexed),
-        Format::RRFa => OperandList::three(r1, r2, r3),
-        Format::RRFc => OperandList::three(r1, r2, mask),
-        Format::RI | Format::RIL => OperandList::two(first, immediate(line.relative, i)),
-        Format::RS if line.single => OperandList::two(r1, based),
-        Format::RSY if line.masked => OperandList::three(r1, based, mask),
-        Format::RS | Format::RSY => OperandList::three(r1, r3, based),
-        Format::SI => OperandList::two(based, Operand::Number(i.imm)),
-        Format::SIY | Format::SIL => OperandList::two(based, Operand::Number(i.imm)),
-        Format::S if line.single => OperandList::none(),
-        Format::S => OperandList::one(based),
-        Format::SS => OperandList::two(counted(i), Operand::Based(i.d2, i.b2)),
-        Format::RIEb => OperandList::four(r1, r2, mask, target(i)),
-        Format::RIEc => OperandList::four(r1, Operand::Number(i64::from(i.d2)), mask, target(i)),
+    match slot {
+        Slot::First => Operand::Number(i64::from(i.r1)),
+        Slot::Second => Operand::Number(i64::from(i.r2)),
+        Slot::Third => Operand::Number(i64::from(i.r3)),
+        Slot::Mask => Operand::Number(i64::from(i.mask)),
+        Slot::Immediate => Operand::Number(i.imm),
+        Slot::Compared => Operand::Number(i64::from(i.d2)),
+        Slot::Target => Operand::Target(bytes_in(i.imm)),
+        Slot::Indexed => Operand::Indexed(i.d, i.x, i.b),
+        Slot::Based => Operand::Based(i.d, i.b),
+        Slot::Counted => Operand::Counted(i.d, count_of(i.imm), i.b),
+        Slot::SecondBased => Operand::Based(i.d2, i.b2),
     }
 }

@@ -1,12 +1,14 @@
 //! The texts of operands and of instructions.
 ghost use Rattle.std.specs.Prelude.{◌≡◌, ◌++◌, IfOk, OnOk};
 ghost use Rattle.std.specs.Fmt.{decimal, signed_decimal};
+ghost use Rattle.z_instr.specs.Made.{fields_of};
 ghost use Rattle.z_list.specs.Operands.{target_text, pair_text, based_text, operand_text, further_text};
-ghost use Rattle.z_list.specs.Operands.{field_text, instruction_text};
+ghost use Rattle.z_list.specs.Operands.{operands_at, field_text, instruction_text};
 
-use crate::parts::{Operand, operands};
+use crate::parts::{Operand, operand_at};
 use std::alloc::{AllocError, Global};
 use tx_journal::NoMemory;
+use z_instr::form::{Slot, slots_of};
 use z_instr::instr::Instr;
 use z_instr::lookup::line;
 
@@ -74,18 +76,20 @@ fn add_operand(text: &mut Vec<u8>, operand: Operand) -> Result<(), AllocError>
     }
 }
 
-/// Adds operands behind a blank, with commas between them; nothing where there are none.
-fn add_field(text: &mut Vec<u8>, operands: &[Operand]) -> Result<(), AllocError>
-    ensures { OnOk result (text.new.items ≡ text.old.items ++ field_text operands.now) }
+/// Adds the operands of an instruction, by what each stands for, behind a blank and with commas between them;
+/// nothing where there are none.
+fn add_field(text: &mut Vec<u8>, slots: &[Slot], instr: &Instr) -> Result<(), AllocError>
+    ensures { OnOk result
+        (text.new.items ≡ text.old.items ++ field_text (operands_at slots.now (fields_of instr.now))) }
 {
-    let Some((first, others)) = operands.split_first() else {
+    let Some((first, others)) = slots.split_first() else {
         return Ok(());
     };
     text.extend_from_slice(b" ")?;
-    add_operand(text, *first)?;
-    for operand in others {
+    add_operand(text, operand_at(*first, instr))?;
+    for slot in others {
         text.extend_from_slice(b",")?;
-        add_operand(text, *operand)?;
+        add_operand(text, operand_at(*slot, instr))?;
     }
     Ok(())
 }
@@ -97,7 +101,7 @@ pub(crate) fn add_instruction(text: &mut Vec<u8>, instr: &Instr) -> Result<(), A
 {
     let line = line(instr.op);
     text.extend_from_slice(&line.letters[..usize::from(line.count)])?;
-    add_field(text, operands(instr).as_slice())
+    add_field(text, slots_of(line.form), instr)
 }
 
 /// The mnemonic and the operands of an instruction as the listing has them, without its address and its

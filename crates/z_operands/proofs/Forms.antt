@@ -3,10 +3,10 @@ use Rattle.std.proofs.Common.{◌≡◌, ℕ, ◌+◌, ◌<◌, ◌≤◌, Bool,
 use Rattle.std.proofs.Common.{get_or, Some, None, refl, ap, ◌∙◌, arith}
 use Rattle.std.proofs.lemmas.Grind.{common_steps}
 use Rattle.std.proofs.lemmas.List.{drop_all}
+use Rattle.z_instr.specs.declared.form.Slot.{Slot}
 use Rattle.z_instr.specs.declared.instr.Fields.{Fields}
 use Rattle.z_operands.specs.Operands.{takes, has_form, with_slot, fields_from, ◌>>=◌}
 use Rattle.z_operands.specs.declared.operand.Operand.{Operand}
-use Rattle.z_operands.specs.declared.operand.Slot.{Slot}
 use Rattle.z_fields.proofs.Loops.{drop_here}
 
 form_here : (ss : List Slot) (os : List Operand) (i : ℕ) (s : Slot) (o : Operand) → i < length ss →

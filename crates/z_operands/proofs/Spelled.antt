@@ -1,5 +1,5 @@
 -- The bytes of an instruction are those of its plain fields.
-use Rattle.std.proofs.Common.{◌≡◌, ℕ, ℤ, true, List, Some, Ok, Err, if◌then◌else◌, refl, sym, ap, ◌∙◌}
+use Rattle.std.proofs.Common.{◌≡◌, ℕ, ℤ, true, List, Some, Ok, Err, if◌then◌else◌, sym, ap, ◌∙◌}
 use Rattle.z_instr.specs.Made.{Has, fields_of}
 use Rattle.z_instr.specs.Reading.{code, spelling, Reads}
 use Rattle.z_instr.specs.Table.{entry_at}

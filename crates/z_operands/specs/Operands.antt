@@ -1,16 +1,16 @@
 -- The operands of a line: what its tokens and the values of its expressions say.
 use Rattle.std.specs.Prelude.{ℕ, zero, suc, ℤ, pos, negsuc, ◌-◌, ◌/◌, ◌%◌, ◌^◌, ◌-ℤ◌, Bool, true, false, not}
-use Rattle.std.specs.Prelude.{◌&&◌, cond, List, [], ◌∷◌, take, drop, Option, Some, None, is_none}
+use Rattle.std.specs.Prelude.{◌&&◌, List, [], ◌∷◌, take, drop, Option, Some, None, is_none}
 use Rattle.std.specs.Prelude.{option_and_then, Result, Ok, Err, ◌==◌, nat_lt, if◌then◌else◌}
 use Rattle.std.specs.List.{list_any}
 use Rattle.z_text.specs.Expressions.{expression_size}
 use Rattle.z_text.specs.declared.token.Token.{Token}
 use Rattle.z_text.specs.declared.token.TokenKind.{TokenKind}
 use Rattle.z_text.specs.declared.token.TokenKind.TheVariants as tokens
-use Rattle.z_instr.specs.declared.format.Format.{Format}
-use Rattle.z_instr.specs.declared.format.Format.TheVariants.{RR, I, RX, RRE, RRFa, RRFc, RXY, RI, RIL, RS}
-use Rattle.z_instr.specs.declared.format.Format.TheVariants.{RSY, SI, SIY, SIL, S, SS, RIEb, RIEc}
+use Rattle.z_instr.specs.declared.form.Slot.{Slot}
+use Rattle.z_instr.specs.declared.form.Slot.TheVariants.{First, Second, Third, Mask, Immediate, Compared, Target, Indexed, Based, Counted, SecondBased}
 use Rattle.z_instr.specs.declared.instr.Fields.{Fields}
+use Rattle.z_instr.specs.Forms.{slots}
 use Rattle.z_instr.specs.Made.{no_fields}
 use Rattle.z_instr.specs.Ranges.{are_within, limits_of, is_within, bounds, long}
 use Rattle.z_instr.specs.Table.{Entry}
@@ -19,10 +19,6 @@ use Rattle.z_operands.specs.declared.operand.Atom.TheVariants.{Value, Open, Clos
 use Rattle.z_operands.specs.declared.operand.Operand.{Operand}
 use Rattle.z_operands.specs.declared.operand.Operand.TheVariants.{Plain, Short, Full}
 use Rattle.z_operands.specs.declared.operand.Piece.{Piece}
-use Rattle.z_operands.specs.declared.operand.Slot.{Slot}
-use Rattle.z_operands.specs.declared.operand.Slot.TheVariants.{First, Second, Third, Mask, Immediate}
-use Rattle.z_operands.specs.declared.operand.Slot.TheVariants.{Compared, Target, Indexed, Based, Counted}
-use Rattle.z_operands.specs.declared.operand.Slot.TheVariants.{SecondBased}
 use Rattle.z_fields.specs.declared.fault.Kind.{Kind}
 use Rattle.z_fields.specs.declared.fault.Kind.TheVariants.{WrongOperands, OutOfRange, UnknownLabel}
 
@@ -148,41 +144,6 @@ innermost _ = pos 0
 
 -- ---- the operands of an instruction
 
-abbrev pub register_or_mask : Bool → Slot
-register_or_mask masked = cond masked Mask First
-
-abbrev pub immediate_or_target : Bool → Slot
-immediate_or_target relative = cond relative Target Immediate
-
--- what the operands of a format stand for, by the row's further columns
-abbrev pub form_in : Format → Bool → Bool → Bool → List Slot
-form_in RR masked relative true = First ∷ []
-form_in RR masked relative false = register_or_mask masked ∷ Second ∷ []
-form_in I masked relative single = Immediate ∷ []
-form_in RX masked relative single = register_or_mask masked ∷ Indexed ∷ []
-form_in RRE masked relative true = First ∷ []
-form_in RRE masked relative false = First ∷ Second ∷ []
-form_in RRFa masked relative single = First ∷ Second ∷ Third ∷ []
-form_in RRFc masked relative single = First ∷ Second ∷ Mask ∷ []
-form_in RXY masked relative single = First ∷ Indexed ∷ []
-form_in RI masked relative single = register_or_mask masked ∷ immediate_or_target relative ∷ []
-form_in RIL masked relative single = register_or_mask masked ∷ immediate_or_target relative ∷ []
-form_in RS masked relative true = First ∷ Based ∷ []
-form_in RS masked relative false = First ∷ Third ∷ Based ∷ []
-form_in RSY true relative single = First ∷ Based ∷ Mask ∷ []
-form_in RSY false relative single = First ∷ Third ∷ Based ∷ []
-form_in SI masked relative single = Based ∷ Immediate ∷ []
-form_in SIY masked relative single = Based ∷ Immediate ∷ []
-form_in SIL masked relative single = Based ∷ Immediate ∷ []
-form_in S masked relative true = []
-form_in S masked relative false = Based ∷ []
-form_in SS masked relative single = Counted ∷ SecondBased ∷ []
-form_in RIEb masked relative single = First ∷ Second ∷ Mask ∷ Target ∷ []
-form_in RIEc masked relative single = First ∷ Compared ∷ Mask ∷ Target ∷ []
-
-abbrev pub form_of : Entry → List Slot
-form_of e = form_in e.format e.masked e.relative e.single
-
 -- the spellings that an operand may have
 abbrev pub takes : Slot → Operand → Bool
 takes Indexed o = true
@@ -262,8 +223,8 @@ allowed e (Some f) = if are_allowed e f then Ok f else Err OutOfRange
 
 -- The mask of an extended mnemonic stands for the first operand.
 abbrev pub slots_for : Entry → Option ℕ → List Slot
-slots_for e None = form_of e
-slots_for e (Some mask) = drop 1 (form_of e)
+slots_for e None = slots e.form
+slots_for e (Some mask) = drop 1 (slots e.form)
 
 abbrev pub fields_for : Option ℕ → Fields
 fields_for None = no_fields

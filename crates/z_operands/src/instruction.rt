@@ -6,16 +6,17 @@ ghost use Rattle.z_instr.specs.Table.{entry_at};
 ghost use Rattle.z_instr.specs.declared.table.TheConstants.{ROWS};
 ghost use Rattle.z_operands.specs.Code.{allowed_code, code_for, IsCode};
 ghost use Rattle.z_operands.specs.Operands.{is_plain, is_full, lacks_value, known, outer, inner, innermost};
-ghost use Rattle.z_operands.specs.Operands.{form_in, form_of, takes, has_form, register, displacement};
+ghost use Rattle.z_operands.specs.Operands.{takes, has_form, register, displacement};
 ghost use Rattle.z_operands.specs.Operands.{immediate, length_code, half, jump, with_slot, fields_from};
 ghost use Rattle.z_operands.specs.Operands.{are_allowed, slots_for, fields_for, instruction_in};
 ghost use Rattle.z_operands.specs.Operations.{size_of_row};
 ghost use Rattle.z_operands.specs.Sizes.{IsMask};
+ghost use Rattle.z_regs.specs.Prefix.{storage_size};
 
-use crate::operand::{Operand, Slot};
+use crate::operand::Operand;
 use z_decode::{Code, encode};
 use z_fields::Kind;
-use z_instr::format::Format;
+use z_instr::form::{Slot, slots_of};
 use z_instr::instr::{Fields, Instr};
 use z_instr::lookup::line;
 use z_instr::op::Op;
@@ -92,58 +93,12 @@ fn innermost(operand: Operand) -> i128
 
 // ---- forms
 
-fn form_in(format: Format, masked: bool, relative: bool, single: bool) -> &'static [Slot]
-    ensures { result.now ≡ form_in format masked relative single }
-{
-    match format {
-        Format::RR => match (single, masked) {
-            (true, _) => &[Slot::First],
-            (false, true) => &[Slot::Mask, Slot::Second],
-            (false, false) => &[Slot::First, Slot::Second],
-        },
-        Format::I => &[Slot::Immediate],
-        Format::RX => match masked {
-            true => &[Slot::Mask, Slot::Indexed],
-            false => &[Slot::First, Slot::Indexed],
-        },
-        Format::RRE => match single {
-            true => &[Slot::First],
-            false => &[Slot::First, Slot::Second],
-        },
-        Format::RRFa => &[Slot::First, Slot::Second, Slot::Third],
-        Format::RRFc => &[Slot::First, Slot::Second, Slot::Mask],
-        Format::RXY => &[Slot::First, Slot::Indexed],
-        Format::RI | Format::RIL => match (masked, relative) {
-            (true, true) => &[Slot::Mask, Slot::Target],
-            (true, false) => &[Slot::Mask, Slot::Immediate],
-            (false, true) => &[Slot::First, Slot::Target],
-            (false, false) => &[Slot::First, Slot::Immediate],
-        },
-        Format::RS => match single {
-            true => &[Slot::First, Slot::Based],
-            false => &[Slot::First, Slot::Third, Slot::Based],
-        },
-        Format::RSY => match masked {
-            true => &[Slot::First, Slot::Based, Slot::Mask],
-            false => &[Slot::First, Slot::Third, Slot::Based],
-        },
-        Format::SI | Format::SIY | Format::SIL => &[Slot::Based, Slot::Immediate],
-        Format::S => match single {
-            true => &[],
-            false => &[Slot::Based],
-        },
-        Format::SS => &[Slot::Counted, Slot::SecondBased],
-        Format::RIEb => &[Slot::First, Slot::Second, Slot::Mask, Slot::Target],
-        Format::RIEc => &[Slot::First, Slot::Compared, Slot::Mask, Slot::Target],
-    }
-}
-
 /// What the operands of a row's instructions stand for; the mask of an extended mnemonic stands for the
 /// first.
 fn slots_for(row: Line, mask: Option<u8>) -> &'static [Slot]
     ensures { result.now ≡ slots_for (entry_of row) mask }
 {
-    let slots = form_in(row.format, row.masked, row.relative, row.single);
+    let slots = slots_of(row.form);
     match mask {
         None => slots,
         Some(_) => behind_first(slots),
@@ -236,7 +191,7 @@ fn half(value: i128) -> Option<i128>
 
 /// The halfwords from an address to a target.
 fn jump(here: usize, value: i128) -> Option<i64>
-    requires { here ≤ 1048576 }
+    requires { here ≤ storage_size }
     ensures { result ≡ jump here value }
 {
     if value < -0x2_0000_0000 || 0x2_0000_0000 <= value {
@@ -291,7 +246,7 @@ fn with_second_based(operand: Operand, fields: Fields) -> Option<Fields>
 
 /// The fields with those of one more operand, where its values are in range.
 fn with_slot(here: usize, slot: Slot, operand: Operand, fields: Fields) -> Option<Fields>
-    requires { here ≤ 1048576 }
+    requires { here ≤ storage_size }
     ensures { result ≡ with_slot here slot operand fields }
 {
     match slot {
@@ -332,7 +287,7 @@ fn with_slot(here: usize, slot: Slot, operand: Operand, fields: Fields) -> Optio
 
 #[tactic(auto, using(crate::proofs::Forms::field_steps))]
 fn fields_from(here: usize, slots: &[Slot], operands: &[Operand], start: Fields) -> Option<Fields>
-    requires here { here ≤ 1048576 }
+    requires here { here ≤ storage_size }
     requires same { length slots.now ≡ length operands.now }
     ensures { result ≡ fields_from here slots.now operands.now start }
 {
@@ -371,7 +326,7 @@ fn encoded(op: Op, fields: Fields) -> Result<Code, Kind>
 pub fn code_for(row: u16, mask: Option<u8>, here: usize, operands: &[Operand]) -> Result<Code, Kind>
     requires row { row < ROWS }
     requires mask { IsMask mask }
-    requires here { here ≤ 1048576 }
+    requires here { here ≤ storage_size }
     ensures code { IsCode result (code_for (entry_at row) mask here operands.now) }
     ensures size { IfOk result (λ code. code.length ≡ size_of_row row) }
 {

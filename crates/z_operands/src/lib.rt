@@ -8,6 +8,6 @@ mod operation;
 mod values;
 
 pub use instruction::code_for;
-pub use operand::{Atom, Operand, Piece, Slot};
+pub use operand::{Atom, Operand, Piece};
 pub use operation::{Operation, operation_named, size_of_row};
 pub use values::{Room, one_in, read_operands, three_in, two_in};

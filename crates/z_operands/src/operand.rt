@@ -34,30 +34,3 @@ pub struct Piece {
     /// How many parts it has.
     pub size: usize,
 }
-
-/// What an operand of an instruction stands for.
-#[derive(Clone, Copy, Debug, PartialEq, Eq)]
-pub enum Slot {
-    /// The first register.
-    First,
-    /// The second register.
-    Second,
-    /// The third register.
-    Third,
-    /// The mask.
-    Mask,
-    /// The immediate.
-    Immediate,
-    /// The byte that a register is compared with before a branch.
-    Compared,
-    /// The target of a branch or of an address relative to the instruction.
-    Target,
-    /// A displacement, with an index and a base: `D`, `D(X)` or `D(X,B)`.
-    Indexed,
-    /// A displacement, with a base: `D` or `D(B)`.
-    Based,
-    /// A displacement, with a length and a base: `D(L,B)`.
-    Counted,
-    /// The second displacement, with its base: `D` or `D(B)`.
-    SecondBased,
-}

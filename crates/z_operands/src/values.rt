@@ -8,6 +8,7 @@ ghost use Rattle.z_operands.specs.Operands.{mark_of, atom_at, atom_size, atoms_f
 ghost use Rattle.z_operands.specs.Operands.{goes_on_rightly, operands_from, operands_of};
 ghost use Rattle.z_fields.specs.Steps.{Answers};
 ghost use Rattle.z_operands.specs.Values.{value_in_line, value_there, one_in, two_in, three_in, operands_on};
+ghost use Rattle.z_regs.specs.Prefix.{storage_size};
 
 use crate::operand::{Atom, Operand, Piece};
 use std::alloc::{AllocError, Global};
@@ -29,7 +30,7 @@ fn mark_of(kind: TokenKind) -> Atom
 fn value_at(line: &[u8], tokens: &[Token], at: usize, labels: &Labels, here: usize) -> Option<i128>
     requires tokens { AreTokensIn line.now tokens.now }
     requires at { at ≤ length tokens.now }
-    requires here { here ≤ 1048576 }
+    requires here { here ≤ storage_size }
     ensures { result ≡ value_there (expression_of line.now tokens.now at labels.now here) }
 {
     let (value, _) = expression(line, tokens, at, labels, here as u64).ok()?;
@@ -40,7 +41,7 @@ fn value_at(line: &[u8], tokens: &[Token], at: usize, labels: &Labels, here: usi
 fn atom_at(line: &[u8], tokens: &[Token], at: usize, labels: &Labels, here: usize) -> (Atom, usize)
     requires tokens { AreTokensIn line.now tokens.now }
     requires at { at < length tokens.now }
-    requires here { here ≤ 1048576 }
+    requires here { here ≤ storage_size }
     ensures atom { result.0 ≡ atom_at (value_in_line line.now (value_in labels.now) here)
         (drop at tokens.now) }
     ensures end { result.1 ≡ at + atom_size (drop at tokens.now) }
@@ -64,7 +65,7 @@ fn read_atoms(
 ) -> Result<(), AllocError>
     requires tokens { AreTokensIn line.now tokens.now }
     requires first { first ≤ length tokens.now }
-    requires here { here ≤ 1048576 }
+    requires here { here ≤ storage_size }
     ensures { OnOk result (atoms.new.items ≡ atoms_from (value_in_line line.now (value_in labels.now) here) 0
         (drop first tokens.now)) }
 {
@@ -185,7 +186,7 @@ pub fn read_operands(
     here: usize,
 ) -> Result<(), LineFault>
     requires tokens { AreTokensIn line.now tokens.now }
-    requires here { here ≤ 1048576 }
+    requires here { here ≤ storage_size }
     ensures { Answers (λ _. room.new.operands.items) result (operands_on malformed line.now
         (value_in labels.now) here (drop first tokens.now)) }
 {

@@ -1,5 +1,6 @@
 //! What the first reading of the lines leaves.
 ghost use Rattle.std.specs.Prelude.{◌≡◌, ◌≤◌, length};
+ghost use Rattle.z_regs.specs.Prefix.{storage_size};
 
 use crate::works::Works;
 use z_text::Labels;
@@ -35,9 +36,9 @@ pub struct Draft<'a> {
     pub cpus: u32,
     /// The lines that are read again.
     pub works: Works<'a>,
-    ghost within: { here ≤ 1048576 },
-    ghost bytes: { length storage.items ≡ 1048576 },
-    ghost marks: { length taken.items ≡ 1048576 },
-    ghost starts: { length begins.items ≡ 1048576 },
+    ghost within: { here ≤ storage_size },
+    ghost bytes: { length storage.items ≡ storage_size },
+    ghost marks: { length taken.items ≡ storage_size },
+    ghost starts: { length begins.items ≡ storage_size },
     ghost few: { cpus ≤ 16 },
 }

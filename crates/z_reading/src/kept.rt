@@ -1,6 +1,7 @@
 //! A line of a text, and what is kept of one that is read again.
 ghost use Rattle.std.specs.Prelude.{◌≤◌};
 ghost use Rattle.z_reading.specs.Sizes.{IsPlaced, placed_prop};
+ghost use Rattle.z_regs.specs.Prefix.{storage_size};
 
 use z_operands::Operation;
 
@@ -28,7 +29,7 @@ pub struct Kept {
     pub operation: Operation,
     /// How many bytes it has, without its end.
     pub count: u8,
-    ghost within: { here ≤ 1048576 },
+    ghost within: { here ≤ storage_size },
     ghost room: { IsPlaced here operation } by { placed_prop here operation },
 }
 
@@ -43,6 +44,6 @@ pub struct Work<'a> {
     pub text: &'a [u8],
     /// The line's operation.
     pub operation: Operation,
-    ghost within: { here ≤ 1048576 },
+    ghost within: { here ≤ storage_size },
     ghost room: { IsPlaced here operation } by { placed_prop here operation },
 }

@@ -4,6 +4,7 @@ ghost use Rattle.std.specs.List.{list_any};
 ghost use Rattle.z_reading.specs.Listing.{plan_of, placed, written, started};
 ghost use Rattle.z_fields.specs.Steps.{Gives};
 ghost use Rattle.z_reading.specs.Text.{write_at, copies};
+ghost use Rattle.z_regs.specs.Prefix.{storage_size};
 
 use crate::draft::{Draft, FIRST_BYTE, SIZE};
 use z_fields::{Kind, LineFault};
@@ -37,7 +38,7 @@ fn mark(taken: &mut Vec<bool>, at: usize, count: usize)
 #[tactic(auto, unfolding(crate::specs::Listing::placed))]
 pub(crate) fn place(draft: &mut Draft, count: usize) -> Result<(), LineFault>
     ensures gives { Gives result (placed count (plan_of draft.old)) (plan_of draft.new) }
-    ensures room { OnOk result (draft.old.here + count ≤ 1048576) }
+    ensures room { OnOk result (draft.old.here + count ≤ storage_size) }
     ensures text { draft.new.works.text ≡ draft.old.works.text }
 {
     let first = draft.here;
@@ -71,7 +72,7 @@ pub(crate) fn start(draft: &mut Draft, count: usize) -> Result<(), LineFault>
     requires some { 0 < count }
     requires few { count ≤ 6 }
     ensures gives { Gives result (started count (plan_of draft.old)) (plan_of draft.new) }
-    ensures room { OnOk result (draft.old.here + count ≤ 1048576) }
+    ensures room { OnOk result (draft.old.here + count ≤ storage_size) }
     ensures text { draft.new.works.text ≡ draft.old.works.text }
 {
     let first = draft.here;

@@ -1,6 +1,7 @@
 //! The lines that are read again, by their places in the text.
 ghost use Rattle.std.specs.Prelude.{◌≡◌, ◌≤◌, ◌++◌, ◌∷◌, [], length, All, OnOk};
 ghost use Rattle.z_reading.specs.Kept.{LiesIn};
+ghost use Rattle.z_regs.specs.Prefix.{storage_size};
 
 use crate::kept::{Kept, TextLine, Work};
 use std::alloc::{AllocError, Global};
@@ -41,7 +42,7 @@ impl<'a> Works<'a> {
     ) -> Result<(), AllocError>
         requires there { IsThere self.old.text.now line.first line.bytes.now }
         requires short { length line.bytes.now ≤ 120 }
-        requires within { here ≤ 1048576 }
+        requires within { here ≤ storage_size }
         requires room { IsPlaced here operation }
         ensures text { self.new.text ≡ self.old.text }
         ensures tasks { OnOk result (tasks_of self.new ≡ tasks_of self.old ++

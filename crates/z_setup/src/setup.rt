@@ -1,5 +1,6 @@
 //! What the second reading of the lines makes.
 ghost use Rattle.std.specs.Prelude.{◌≡◌, ◌≤◌, length};
+ghost use Rattle.z_regs.specs.Prefix.{storage_size};
 
 use tx_journal::Show;
 use tx_ladder::Parms;
@@ -23,6 +24,6 @@ pub struct Setup {
     pub scheduled: bool,
     /// The numbers of the retry ladder.
     pub parms: Parms,
-    ghost bytes: { length storage.items ≡ 1048576 },
+    ghost bytes: { length storage.items ≡ storage_size },
     ghost few: { length cpus.items ≤ 16 },
 }

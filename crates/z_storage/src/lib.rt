@@ -10,4 +10,4 @@ mod registers;
 mod run;
 mod stored;
 
-pub use run::{execute, is_mine};
+pub use run::{execute, execute_kind, is_mine};

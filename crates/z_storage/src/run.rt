@@ -71,12 +71,32 @@ fn run<V: Bytes>(
     }
 }
 
-/// Executes an instruction for which [`is_mine`] holds: changes registers, condition code, address and the
+/// Executes an instruction whose operation has this kind: changes registers, condition code, address and the
 /// stored operand as the architecture says, and no other byte of storage.
 ///
 /// `view` has 1,048,576 bytes, and all operands lie in them; `z_touch` tests that. Numbers in storage have
 /// their leftmost byte first. The error is a fixed-point overflow exception, after all is done, where the
 /// result overflows and the leftmost bit of the program mask is one.
+pub fn execute_kind<V: Bytes>(
+    kind: Storage,
+    instr: &Instr,
+    image: &mut CpuImage,
+    view: &mut V,
+) -> Result<(), Exception>
+    requires kind { kind_at instr.now.op.number ≡ Kind.Storage kind }
+    requires size { length (V.bytes view.old) ≡ storage_size }
+    requires inside { AreInside (ranges_of instr.now (cpu_of image.old)) (V.bytes view.old) }
+    ensures does { (depth : ℕ) → Executes depth instr.now (cpu_of image.old) (cpu_of image.new)
+        (V.bytes view.old) (V.bytes view.new) result }
+    ensures beside { (k : ℕ) → IsBeside k (ranges_of instr.now (cpu_of image.old)) →
+        slice_index (V.bytes view.new) k ≡ slice_index (V.bytes view.old) k }
+    ensures size { length (V.bytes view.new) ≡ storage_size }
+{
+    let n = length_in(line(instr.op).format);
+    run(kind, n, instr, image, view)
+}
+
+/// Executes an instruction for which [`is_mine`] holds, as [`execute_kind`] does.
 pub fn execute<V: Bytes>(instr: &Instr, image: &mut CpuImage, view: &mut V) -> Result<(), Exception>
     requires mine { is_storage (kind_at instr.now.op.number) ≡ true }
     requires size { length (V.bytes view.old) ≡ storage_size }
@@ -87,9 +107,8 @@ pub fn execute<V: Bytes>(instr: &Instr, image: &mut CpuImage, view: &mut V) -> R
         slice_index (V.bytes view.new) k ≡ slice_index (V.bytes view.old) k }
     ensures size { length (V.bytes view.new) ≡ storage_size }
 {
-    let n = length_in(line(instr.op).format);
     match kind_of(instr.op) {
-        Kind::Storage(kind) => run(kind, n, instr, image, view),
+        Kind::Storage(kind) => execute_kind(kind, instr, image, view),
         _ => unreachable!(),
     }
 }

@@ -1,8 +1,9 @@
-//! What the program answers: for each request the status and the text that are due, from the bytes of an input. Nothing
-//! is read or written here.
+//! What the program answers: for each request the status and the text that are due, from the bytes of an input; and that
+//! one answer is due to each. Nothing is read or written here.
 #![tactic(auto)]
 
 mod heated;
+pub mod laws;
 mod requests;
 mod stepped;
 

@@ -3,8 +3,8 @@ use Rattle.std.proofs.Common.{◌≡◌, ◌≢◌, ℕ, zero, suc, ◌⊎◌, t
 use Rattle.std.proofs.Common.{refl, arith, ◌∙◌}
 use Rattle.std.specs.Io.KnownBytes.{Appends}
 use Rattle.std.proofs.KnownBytes.{Appends-nil, Appends-kept}
-use Rattle.answer_laws.specs.One.{IsOnly}
-use Rattle.answer_laws.proofs.Answered.{one_listing, one_summary}
+use Rattle.ztx_answers.specs.One.{IsOnly}
+use Rattle.ztx_answers.proofs.Answered.{one_listing, one_summary}
 use Rattle.ztx_answers.specs.Requests.{IsDue}
 use Rattle.ztx_answers.specs.declared.requests.Request.{Request}
 use Rattle.ztx_io.specs.Faults.{Rose}

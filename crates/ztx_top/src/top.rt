@@ -10,13 +10,13 @@ ghost use Rattle.ztx_top.specs.Asked.{IsBadWords, IsReady, asked, due, is_settle
 use crate::errand::{Errand, errand_of};
 use crate::input::{answer_input, tell};
 use crate::race::race_input;
-use answer_laws::laws::one_answer_is_due;
 use listing_answers::generate;
 use run_answers::summary;
 use std::alloc::Global;
 use std::sync::Wait;
 use std::thread::Threads;
 use tx_race::Gate;
+use ztx_answers::laws::one_answer_is_due;
 use ztx_io::{Sink, Source, SureSink, SureSource};
 use ztx_words::read_words;
 

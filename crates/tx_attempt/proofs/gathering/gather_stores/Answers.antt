@@ -3,7 +3,8 @@ use Rattle.std.proofs.Common.{ap, sym, ◌∙◌}
 use Rattle.store_cache.specs.Stores.{Stores}
 use Rattle.store_cache.specs.Entries.{stores_of}
 use Rattle.tx_progress.specs.Progress.{laying}
-use Rattle.tx_attempt.proofs.GatheredStores.{no-stores, some-stores, overlay-stays, not-true, not-false}
+use Rattle.tx_attempt.proofs.GatheredStores.{no-stores, some-stores, overlay-stays}
+use Rattle.std.proofs.lemmas.Bool.{not-true, not-false}
 use Rattle.tx_attempt.proofs.gathering.gather_stores.Goals as goal
 
 pub returns-then-not-first-clause-overlay : goal.returns-then-not-first-clause-overlay

@@ -5,8 +5,8 @@ use Rattle.z_regs.specs.declared.ranges.Range.{Range}
 use Rattle.tx_attempt.specs.Performed.{StoresFirst, no_range}
 use Rattle.tx_attempt.proofs.Bare.{apart-so, none-apart, none-after}
 use Rattle.tx_attempt.proofs.Fetching.{all-inside}
-use Rattle.tx_attempt.proofs.GatheredStores.{not-true}
 use Rattle.tx_attempt.proofs.Stored.{operands-first}
+use Rattle.std.proofs.lemmas.Bool.{not-true}
 use Rattle.tx_attempt.proofs.performing.execute_there.Goals as goal
 
 pub execute_plain-requires-clause-inside : goal.execute_plain-requires-clause-inside

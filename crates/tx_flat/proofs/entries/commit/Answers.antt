@@ -4,8 +4,8 @@ use Rattle.z_regs.specs.Seen.{seen_by}
 use Rattle.std.specs.FinSet.{items}
 use Rattle.z_regs.specs.Cpu.{cpu_of}
 use Rattle.tx_private.specs.Shows.{mark_of}
-use Rattle.tx_flat.proofs.Applied.{may, may_not, committed, not_committed, is_committed, is_not}
-use Rattle.tx_flat.proofs.Near.{near_seen, near_lasting, committed_there}
+use Rattle.tx_flat.proofs.Applied.{may, may_not, committed, not_committed, is_committed, is_not, not_missing}
+use Rattle.tx_flat.proofs.Near.{near_seen, near_lasting}
 use Rattle.tx_flat.proofs.entries.commit.Goals as goal
 
 pub returns-then-not-may_act-clause-applied : goal.returns-then-not-may_act-clause-applied
@@ -36,7 +36,7 @@ keep_stored-requires-clause-seen c =
     is_committed (mark_of c.run.new.a.mark) c.is_committed.result c.is_committed.ensures
     c.if-not-is_committed.false in
     near_seen c.args.storage.now (items c.args.guard.now) (cpu_of c.args.slot.now.image) c.args.n c.run.new.a
-    c.run.ensures.run (committed_there (mark_of c.run.new.a.mark) there) c.args.slot.now.image.prefix_in
+    c.run.ensures.run (not_missing (mark_of c.run.new.a.mark) there) c.args.slot.now.image.prefix_in
     c.run.ensures.turned
 
 pub keep_stored-requires-clause-lasting : goal.keep_stored-requires-clause-lasting
@@ -45,7 +45,7 @@ keep_stored-requires-clause-lasting c =
     is_committed (mark_of c.run.new.a.mark) c.is_committed.result c.is_committed.ensures
     c.if-not-is_committed.false in
     near_lasting c.args.storage.now (items c.args.guard.now) (cpu_of c.args.slot.now.image) c.args.n c.run.new.a
-    c.run.ensures.run (committed_there (mark_of c.run.new.a.mark) there) c.args.slot.now.image.prefix_in
+    c.run.ensures.run (not_missing (mark_of c.run.new.a.mark) there) c.args.slot.now.image.prefix_in
     c.run.ensures.turned
 
 pub returns-clause-applied : goal.returns-clause-applied

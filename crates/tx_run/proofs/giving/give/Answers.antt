@@ -14,14 +14,11 @@ use Rattle.tx_marks.specs.Traces.{is_stored}
 use Rattle.tx_run.specs.Made.{Made}
 use Rattle.tx_run.specs.contracts.steps.Steps.{the_view}
 use Rattle.tx_run.proofs.Adding.{with_stores}
+use Rattle.tx_run.proofs.Doublewords.{some-live}
 use Rattle.tx_run.proofs.Taking.{alike-live, covered, stays, given-live, given-outside, goes-live-too, goes-outside-too}
 use Rattle.tx_run.proofs.Taking.{goes-counted}
 use Rattle.tx_run.proofs.Texts.{own-steps, steps-by}
 use Rattle.tx_run.proofs.giving.give.Goals as goal
-
-some-live : (b : Bool) (x : ℕ × ℕ) → is_some (if b then Some x else None) ≡ b
-some-live true x = refl
-some-live false x = refl
 
 pub go_on_as-requires-clause-alike : goal.go_on_as-requires-clause-alike
 go_on_as-requires-clause-alike g c =

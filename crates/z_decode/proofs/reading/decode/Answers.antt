@@ -1,10 +1,11 @@
-use Rattle.std.proofs.Common.{sym, ap, subst, ◌∙◌, arith}
+use Rattle.std.proofs.Common.{◌*◌, length, sym, ap, subst, ◌∙◌, arith}
 use Rattle.std.proofs.lemmas.Bool.{eqb-true}
 use Rattle.z_instr.specs.Layouts.{layout_of, taken}
 use Rattle.z_instr.specs.Made.{Has}
 use Rattle.z_instr.specs.Reading.{AreBytes}
 use Rattle.z_instr.specs.Table.{entry_at}
 use Rattle.z_instr.proofs.Distinct.{one_row}
+use Rattle.z_instr.proofs.Wholes.{length_at}
 use Rattle.z_instr.proofs.Spelled.{reads_opcode, reads_spare}
 use Rattle.z_decode.proofs.Unread.{found, allowed}
 use Rattle.z_decode.proofs.Held.{are_small, fields_are, reads_again, same_fields, same_small}
@@ -24,6 +25,12 @@ returns-then-numbers-ne0-clause-none c i r =
     let none = c.numbers_in-numbers.ensures 11 ∙ ap (λ ds. taken ds text 11) layout
     ∙ ap (λ n. taken (layout_of (entry_at n)) text 11) row ∙ eqb-true _ _ (reads_spare text i r) in
     grind (arith, none, c.if-numbers-ne0.true)
+
+pub numbers_in-numbers-requires-clause-length : goal.numbers_in-numbers-requires-clause-length
+numbers_in-numbers-requires-clause-length c =
+    let op = c.in-Some.op in
+    ap length (c.digits_of.ensures ∙ ap layout_of c.line.ensures.row) ∙ length_at op.number op.known
+    ∙ ap (λ n. 2 * n) (sym c.in-Some.ensures.length)
 
 pub fields_from-requires : goal.fields_from-requires
 fields_from-requires c =

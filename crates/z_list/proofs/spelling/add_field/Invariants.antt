@@ -1,6 +1,9 @@
 use Rattle.std.proofs.Common.{◌≡◌, ◌++◌, take}
-use Rattle.z_list.specs.Operands.{further_text}
+use Rattle.z_instr.specs.Made.{fields_of}
+use Rattle.z_list.specs.Operands.{operands_at, further_text}
 use Rattle.z_list.proofs.spelling.add_field.Given as goal
 
-abbrev pub invariant-loop-operand : goal.invariant-loop-operand
-invariant-loop-operand l = l.text.items ≡ l.initial.text.items ++ further_text (take l.operand-index l.others)
+abbrev pub invariant-loop-slot : goal.invariant-loop-slot
+invariant-loop-slot l =
+    l.text.items
+    ≡ l.initial.text.items ++ further_text (operands_at (take l.slot-index l.others) (fields_of l.instr))

@@ -6,9 +6,9 @@ use Rattle.tx_progress.specs.Doing.{Executed}
 use Rattle.tx_progress.specs.Progress.{Progress}
 use Rattle.tx_cpu.specs.Parts.{Parts, beside}
 use Rattle.tx_attempt.specs.Tracked.{IsSound}
-use Rattle.tx_cpu.proofs.Ends.{none_of}
 use Rattle.tx_cpu.proofs.Preparing.{may-go}
 use Rattle.tx_cpu.proofs.SmallCodes.{executed-room}
+use Rattle.tx_progress.proofs.Parts.{not_live}
 use Rattle.tx_cpu.proofs.one.Cpu.execute.Goals as goal
 
 pub execute_inside-requires-clause-goes : goal.execute_inside-requires-clause-goes
@@ -52,7 +52,7 @@ execute_begin-requires-clause-place g c =
 pub execute_begin-requires-clause-block : goal.execute_begin-requires-clause-block
 execute_begin-requires-clause-block g c a named =
     let quiet : nat_lt 0 c.self.inside.attempt.count ≡ false = sym c.is_live.ensures ∙ c.if-is_live.false in
-    let rests = c.is_sound.ensures.rests (none_of _ quiet) c.args.self.now.image in
+    let rests = c.is_sound.ensures.rests (not_live _ quiet) c.args.self.now.image in
     (may-go c.args.self.now.attempt c.args.self.now.image c.args.instr.now c.args.need.now
     (subst (λ (p : Parts). IsSound p.attempt) c.self.view_is c.is_sound.ensures.sound)
     c.requires.prepared).block

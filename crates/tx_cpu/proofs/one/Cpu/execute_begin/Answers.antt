@@ -14,7 +14,7 @@ use Rattle.tx_cpu.specs.Parts.{Parts, local_of}
 use Rattle.tx_attempt.specs.Storages.{storage_of}
 use Rattle.tx_cpu.specs.contracts.one.Cpu.{the_view}
 use Rattle.tx_cpu.proofs.Beginnings.{began-is}
-use Rattle.tx_cpu.proofs.Ends.{none_of}
+use Rattle.tx_progress.proofs.Parts.{not_live}
 use Rattle.tx_cpu.proofs.one.Cpu.execute_begin.Goals as goal
 
 pub perform-requires-clause-room : goal.perform-requires-clause-room
@@ -37,6 +37,6 @@ returns-clause-value g c =
     rw (← c.self.view_is, c.perform.ensures.same)
     (began-is p i need
     (outcome_by (storage_of (g.V.Bytes.bytes c.args.base.now)) i need (progress p.attempt p.image)) _ _ _
-    (role_done i p.image _ _ role) live (c.is_sound.ensures.rests (none_of _ live))
+    (role_done i p.image _ _ role) live (c.is_sound.ensures.rests (not_live _ live))
     (c.requires.need ∙ begin_bare i (local_of c.args.self.now).attempt.cpu c.requires.begins)
     c.perform.ensures.image c.begin.ensures.value c.begin.ensures.count)

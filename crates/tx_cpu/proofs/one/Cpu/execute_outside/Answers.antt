@@ -11,22 +11,22 @@ use Rattle.tx_attempt.specs.Tracked.{progress}
 use Rattle.tx_cpu.specs.Parts.{Parts}
 use Rattle.tx_attempt.specs.Storages.{storage_of}
 use Rattle.tx_cpu.specs.contracts.one.Cpu.{the_view}
-use Rattle.tx_cpu.proofs.Ends.{none_of}
 use Rattle.tx_cpu.proofs.Completing.{outside-is}
+use Rattle.tx_progress.proofs.Parts.{not_live}
 use Rattle.tx_cpu.proofs.one.Cpu.execute_outside.Goals as goal
 
 pub perform_outside-ended-requires-clause-rests : goal.perform_outside-ended-requires-clause-rests
 perform_outside-ended-requires-clause-rests g c =
     let live : nat_lt 0 c.self.inside.attempt.count ≡ false =
     ap (λ (q : Parts). nat_lt 0 q.attempt.count) c.self.view_is ∙ c.requires.rests in
-    c.is_sound.ensures.rests (none_of _ live)
+    c.is_sound.ensures.rests (not_live _ live)
 
 pub returns-clause-value : goal.returns-clause-value
 returns-clause-value g c =
     let p = the_view c.self.inside in
     let live : nat_lt 0 c.self.inside.attempt.count ≡ false =
     ap (λ (q : Parts). nat_lt 0 q.attempt.count) c.self.view_is ∙ c.requires.rests in
-    let rests = c.is_sound.ensures.rests (none_of _ live) in
+    let rests = c.is_sound.ensures.rests (not_live _ live) in
     let length = c.length_in-length.ensures ∙ ap (λ (e : Entry). format_length e.format) c.line.ensures.row in
     let need = c.args.need.now in
     let old : List ℕ = g.V.Bytes.bytes c.args.base.now in

@@ -2,7 +2,7 @@
 use Rattle.std.proofs.Common.{◌≡◌, ◌+◌, ◌<◌, List, Option, ℕ, true, refl, ap, sym, subst, ◌∙◌, length, take}
 use Rattle.std.proofs.Common.{arith}
 use Rattle.std.specs.Prelude.{◌&&◌, nat_lt, nat_eq}
-use Rattle.std.proofs.lemmas.Bool.{and_parts}
+use Rattle.std.proofs.lemmas.Bool.{and_parts, eqb-true}
 use Rattle.std.proofs.lemmas.Bool.Decides.{nat_tests}
 use Rattle.z_regs.specs.Cpu.{cpu_of}
 use Rattle.z_instr.specs.Layout.{format_length}
@@ -22,7 +22,7 @@ use Rattle.tx_cpu.specs.Parts.{Parts}
 use Rattle.tx_attempt.specs.Storages.{storage_of}
 use Rattle.tx_cpu.specs.contracts.one.Cpu.{the_view}
 use Rattle.tx_cpu.proofs.Inside.{stepped-is, committed-is, exceeded-is, suppressed-is, aborting-is}
-use Rattle.tx_cpu.proofs.Inside.{exceeds-no-end, end-bare, equal-so, next-known}
+use Rattle.tx_cpu.proofs.Inside.{exceeds-no-end, end-bare, next-known}
 use Rattle.tx_attempt.proofs.Stored.{operands-first}
 use Rattle.tx_cpu.proofs.one.Cpu.execute_with.Goals as goal
 
@@ -69,7 +69,7 @@ returns-then-is_last-clause-value g c =
     (committed-is p i need
     (outcome_by (storage_of (g.V.Bytes.bytes c.args.base.now)) i need (progress p.attempt p.image))
     (cpu_of c.perform-ended.new.image) c.perform-ended.new.stored _ _ _ _ parts.0
-    (equal-so (length p.attempt.nest) 1 parts.1)
+    (eqb-true (length p.attempt.nest) 1 parts.1)
     (c.requires.goes.operands_are ∙ end-bare i c.args.self.now.image parts.0)
     c.in-Completed.ensures.value c.commit.ensures.rests
     (c.commit.ensures.bytes ∙ ap (λ (b : List ℕ). seen_through (stores_of p.attempt.stores).overlay

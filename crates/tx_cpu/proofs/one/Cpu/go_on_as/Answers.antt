@@ -7,7 +7,7 @@ use Rattle.tx_attempt.specs.Tracked.{Tracked, progress}
 use Rattle.tx_attempt.specs.Tracked as tracked
 use Rattle.tx_cpu.specs.Parts.{Parts, local_of, goes_on_as}
 use Rattle.tx_cpu.specs.contracts.one.Cpu.{the_view}
-use Rattle.tx_cpu.proofs.Ends.{none_of}
+use Rattle.tx_progress.proofs.Parts.{not_live}
 use Rattle.tx_cpu.proofs.one.Cpu.go_on_as.Goals as goal
 
 -- in its attempt
@@ -77,6 +77,6 @@ returns-else-is_live c =
     let alike : nat_lt 0 p.attempt.count ≡ nat_lt 0 other.attempt.count =
     ap (λ (x : Parts). nat_lt 0 x.attempt.count) c.self.view_is ∙ c.requires.alike
     ∙ sym (ap (λ (x : Parts). nat_lt 0 x.attempt.count) c.other.view_is) in
-    rests-so p other rests (alike ∙ rests) (c.is_sound.ensures.rests (none_of _ (alike ∙ rests)))
-    (c.is_sound-2.ensures.rests (none_of _ rests))
+    rests-so p other rests (alike ∙ rests) (c.is_sound.ensures.rests (not_live _ (alike ∙ rests)))
+    (c.is_sound-2.ensures.rests (not_live _ rests))
     ∙ (λ i. goes_on_as (local_of (c.other.view_is i)) (local_of (c.self.view_is i)))

@@ -6,7 +6,7 @@ use Rattle.tx_progress.specs.Progress.{is_live, resting}
 use Rattle.tx_constraint.specs.Kept.{Kept}
 use Rattle.store_cache.specs.Overlay.{has_block}
 use Rattle.tx_cpu.specs.Parts.{Parts, local_of}
-use Rattle.tx_cpu.proofs.Ends.{none_of}
+use Rattle.tx_progress.proofs.Parts.{not_live}
 use Rattle.tx_cpu.proofs.one.Cpu.is_sound.Goals as goal
 
 some_of : (n : ℕ) → nat_lt 0 n ≡ true → 0 < n
@@ -16,7 +16,7 @@ pub returns-clause-rests : goal.returns-clause-rests
 returns-clause-rests c =
     subst (λ (p : Parts). is_live (local_of p).attempt ≡ false
     → (local_of p).attempt ≡ resting (local_of p).attempt.cpu) c.self.view_is
-    (λ rests. c.is_sound.ensures.rests (none_of _ rests) _)
+    (λ rests. c.is_sound.ensures.rests (not_live _ rests) _)
 
 pub returns-clause-opens : goal.returns-clause-opens
 returns-clause-opens c =

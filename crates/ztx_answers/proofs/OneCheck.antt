@@ -8,8 +8,8 @@ use Rattle.tx_check.specs.declared.checking.CheckFault.TheVariants.{Memory, Form
 use Rattle.tx_journal.specs.Content.{Content}
 use Rattle.z_assemble.proofs.Says.{both_fail, same_image}
 use Rattle.run_answers.specs.Checks.{report_mark, Says, IsVerdict, IsDueToReport, IsDueToCheck}
-use Rattle.answer_laws.specs.One.{IsOnly}
-use Rattle.answer_laws.proofs.Answered.{same_refusal}
+use Rattle.ztx_answers.specs.One.{IsOnly}
+use Rattle.ztx_answers.proofs.Answered.{same_refusal}
 
 -- at most one answer is due of a report beside want of memory
 abbrev pub HasOneAnswer : Type 0

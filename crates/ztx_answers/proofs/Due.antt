@@ -3,12 +3,12 @@ use Rattle.std.proofs.Common.{◌≢◌, ℕ, List, refl}
 use Rattle.ztx_answers.specs.declared.requests.Request.{Request}
 use Rattle.ztx_answers.specs.declared.requests.Request.TheVariants as request
 use Rattle.ztx_answers.specs.Requests.{IsAllowed, IsDue}
-use Rattle.answer_laws.specs.One.{IsOnly, IsSome}
-use Rattle.answer_laws.proofs.Answered.{listed, one_list, reported, one_report}
-use Rattle.answer_laws.proofs.Decked.{one_read, one_written, read, written}
-use Rattle.answer_laws.proofs.OneCheck.{HasOneAnswer, one_check}
-use Rattle.answer_laws.proofs.OneHeat.{one_heat, some_heat}
-use Rattle.answer_laws.proofs.OneStep.{one_step, some_step}
+use Rattle.ztx_answers.specs.One.{IsOnly, IsSome}
+use Rattle.ztx_answers.proofs.Answered.{listed, one_list, reported, one_report}
+use Rattle.ztx_answers.proofs.Decked.{one_read, one_written, read, written}
+use Rattle.ztx_answers.proofs.OneCheck.{HasOneAnswer, one_check}
+use Rattle.ztx_answers.proofs.OneHeat.{one_heat, some_heat}
+use Rattle.ztx_answers.proofs.OneStep.{one_step, some_step}
 
 -- something is due
 pub some_due : (r : Request) (input : List ℕ) → IsAllowed r → r ≢ request.Check → IsSome (IsDue r input)

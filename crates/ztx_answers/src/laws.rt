@@ -6,7 +6,7 @@ ghost use Rattle.tx_meaning.specs.Limits.{Setting};
 ghost use Rattle.tx_meaning.specs.Meaning.{IsSetting};
 ghost use Rattle.listing_answers.specs.Due.{IsGenerated};
 ghost use Rattle.run_answers.specs.Reports.{IsSummary};
-ghost use Rattle.answer_laws.specs.One.{IsSome, IsOnly};
+ghost use Rattle.ztx_answers.specs.One.{IsSome, IsOnly};
 ghost use Rattle.ztx_answers.specs.Requests.{IsAllowed, IsDue};
 ghost use Rattle.run_answers.specs.Serial.{IsSerialRun};
 ghost use Rattle.ztx_answers.specs.declared.requests.Request.{Request};

@@ -1,6 +1,6 @@
-use Rattle.answer_laws.proofs.Answered.{summed, one_summary}
-use Rattle.answer_laws.proofs.Asked.{some_due, one_due}
-use Rattle.answer_laws.proofs.laws.one_answer_is_due.Goals as goal
+use Rattle.ztx_answers.proofs.Answered.{summed, one_summary}
+use Rattle.ztx_answers.proofs.Due.{some_due, one_due}
+use Rattle.ztx_answers.proofs.laws.one_answer_is_due.Goals as goal
 
 pub returns-clause-some : goal.returns-clause-some
 returns-clause-some c = some_due

@@ -14,8 +14,8 @@ use Rattle.z_deck.specs.declared.fault.Kind.{Kind}
 use Rattle.z_deck.proofs.One as deck
 use Rattle.listing_answers.specs.Decks.{IsWrittenDeck, IsDeckRefusal, IsDeckListing, IsDueToDeck}
 use Rattle.listing_answers.specs.Decks.{IsDueToReadDeck}
-use Rattle.answer_laws.specs.One.{IsSome, IsOnly}
-use Rattle.answer_laws.proofs.Answered.{same_refusal, refusal}
+use Rattle.ztx_answers.specs.One.{IsSome, IsOnly}
+use Rattle.ztx_answers.proofs.Answered.{same_refusal, refusal}
 
 -- ---- only one
 

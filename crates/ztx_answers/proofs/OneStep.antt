@@ -21,8 +21,8 @@ use Rattle.z_assemble.proofs.Says.{one_holds, both_fail, same_image}
 use Rattle.listing_answers.specs.Due.{long_fault}
 use Rattle.run_answers.specs.Runs.{running}
 use Rattle.ztx_answers.specs.Steps.{run_of, step_mark, AreReplies, IsBadCommand, IsDueToParts, IsDueToStep}
-use Rattle.answer_laws.specs.One.{IsSome, IsOnly}
-use Rattle.answer_laws.proofs.Answered.{same_refusal, refusal}
+use Rattle.ztx_answers.specs.One.{IsSome, IsOnly}
+use Rattle.ztx_answers.proofs.Answered.{same_refusal, refusal}
 
 -- ---- only one
 

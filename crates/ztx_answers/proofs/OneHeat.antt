@@ -11,8 +11,8 @@ use Rattle.z_assemble.proofs.Says.{one_holds, both_fail, same_image}
 use Rattle.ztx_answers.specs.Heats.{heat_on, IsHeat, IsDueToHeat}
 use Rattle.run_answers.specs.Runs.{running}
 use Rattle.ztx_answers.proofs.Heats.{same_status}
-use Rattle.answer_laws.specs.One.{IsSome, IsOnly}
-use Rattle.answer_laws.proofs.Answered.{same_refusal, refusal}
+use Rattle.ztx_answers.specs.One.{IsSome, IsOnly}
+use Rattle.ztx_answers.proofs.Answered.{same_refusal, refusal}
 
 -- ---- only one
 

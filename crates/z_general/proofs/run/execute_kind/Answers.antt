@@ -1,16 +1,16 @@
-use Rattle.std.proofs.Common.{refl, sym, ap, ◌∙◌}
+use Rattle.std.proofs.Common.{refl, ap, ◌∙◌}
 use Rattle.z_instr.specs.Layout.{format_length}
 use Rattle.z_instr.specs.Table.{Entry}
-use Rattle.z_instr.specs.declared.kind.Kind.TheVariants.{Branch}
+use Rattle.z_instr.specs.declared.kind.Kind.TheVariants.{General}
 use Rattle.z_effect.proofs.Storeless.{executes}
-use Rattle.z_branch.proofs.run.execute.Goals as goal
+use Rattle.z_general.proofs.run.execute_kind.Goals as goal
 
 pub returns-clause-does : goal.returns-clause-does
 returns-clause-does g c depth =
     executes depth c.length_in-n.result c.args.instr.now
-    (Branch c.in-Branch.branch) _ _ _ _ _ c.args.instr.now.op.known
+    (General c.args.kind) _ _ _ _ _ c.args.instr.now.op.known
     (c.length_in-n.ensures ∙ ap (λ (e : Entry). format_length e.format) c.line.ensures.row)
-    (sym c.in-Branch.ensures)
+    c.requires.kind
     refl
     (λ bytes. refl)
     c.run.ensures

@@ -13,7 +13,7 @@ use Rattle.z_list.specs.Listing.{list_of}
 use Rattle.listing_laws.proofs.Listings.{has_image}
 use Rattle.listing_answers.specs.Due.{IsRefusal, IsDisassembly, IsGenerated, IsDueToList}
 use Rattle.run_answers.specs.Reports.{IsReport, IsSummary, IsDueToRun}
-use Rattle.answer_laws.specs.One.{IsSome, IsOnly}
+use Rattle.ztx_answers.specs.One.{IsSome, IsOnly}
 use Rattle.run_answers.specs.Runs.{AreLimits, running, usual_turns}
 use Rattle.run_answers.proofs.Plans.{planned_known}
 use Rattle.run_answers.proofs.Printed.{printed}

@@ -1,2 +1,0 @@
--- When one answer is due, and only one.
-pub mod One
