@@ -133,3 +133,7 @@ count_at_most (suc n) f = omega (arith, count_at_most n f, one_at_most (f n))
     one_at_most : (b : Bool) → one_if b ≤ 1
     one_at_most true = omega arith
     one_at_most false = omega arith
+
+pub at_most_one : (b : Bool) → one_if b ≤ 1
+at_most_one true = omega arith
+at_most_one false = omega arith

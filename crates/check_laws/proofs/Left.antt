@@ -4,7 +4,7 @@ use Rattle.std.proofs.Common.{List, length, Some, None}
 use Rattle.std.specs.Prelude.{nat_lt, slice_get, if◌then◌else◌}
 use Rattle.std.proofs.lemmas.Bool.{ltb-true, ltb-false}
 use Rattle.std.proofs.lemmas.List.FromFn.{get_or-map-range_with_len, length-map-range_with_len}
-use Rattle.std.proofs.lemmas.Option.{slice_get_within, get_or_from_slice_get}
+use Rattle.std.proofs.lemmas.Option.{slice_get_within, get_or_from_slice_get, same_Some}
 use Rattle.tx_journal.specs.declared.events.Event.{Event}
 use Rattle.tx_serial.specs.Apply.{may_act}
 use Rattle.tx_serial.specs.Attempt.{Run, Open}
@@ -25,7 +25,6 @@ use Rattle.report_text.specs.declared.processors.Attempt.{Attempt}
 use Rattle.tx_report.specs.Shown.{attempt_shown, cpu_shown, cpus_shown, shown_in}
 use Rattle.tx_check.specs.Told.{IsTold, IsLeft, AreLive, cpu_in}
 use Rattle.sound_laws.proofs.Sound.{all_sound}
-use Rattle.tx_check.proofs.OneAnswer.{some_same}
 
 -- ---- one CPU
 
@@ -50,7 +49,7 @@ record Shows (f : FlatState) (i n : ℕ) (a : Attempt) : Type 0 where
 shows_by : (f : FlatState) (i n : ℕ) (a : Attempt) (b : Bool) → nat_lt 0 n ≡ b
     → attempt_shown (if b then Some (length (run f i n).nest, n) else None) ≡ Some a → Shows f i n a
 shows_by f i n a true live is =
-    let same = some_same is in
+    let same = same_Some _ _ is in
     record {
       live = live;
       depth = ap (λ (x : Attempt). x.depth) same;

@@ -1,9 +1,9 @@
 -- What the first reading leaves of the lines that place blocks.
-use Rattle.std.proofs.Common.{◌≡◌, ℕ, zero, suc, ◌+◌, ◌-◌, ◌*◌, ◌<◌, ◌≤◌, ◌^◌, Bool, true, false, not, ◌&&◌, ◌||◌}
+use Rattle.std.proofs.Common.{◌≡◌, ℕ, zero, suc, ◌+◌, ◌-◌, ◌*◌, ◌<◌, ◌≤◌, ◌^◌, Bool, true, false, ◌&&◌}
 use Rattle.std.proofs.Common.{List, [], ◌∷◌, ◌++◌, length, map, take, drop, Option, Some, None, refl, sym, ap, ap₂}
 use Rattle.std.proofs.Common.{◌∙◌, arith, subst, lt-ltb, le-ltb, le-leb, append_assoc, length-append, length-drop}
 use Rattle.std.proofs.Common.{slice_index, lit<}
-use Rattle.std.specs.Prelude.{pos, Result, Ok, Err, if◌then◌else◌, nat_lt, nat_le, ◌==◌, codes}
+use Rattle.std.specs.Prelude.{pos, Result, Ok, Err, if◌then◌else◌, nat_lt, ◌==◌, codes}
 use Rattle.std.specs.List.{list_any, list_all}
 use Rattle.std.specs.Char.{to_ascii_uppercase}
 use Rattle.std.specs.Fmt.{decimal}
@@ -19,7 +19,7 @@ use Rattle.z_fields.specs.declared.fault.Kind.TheVariants.{OutOfRange, Overlap, 
 use Rattle.z_operands.specs.declared.operand.Operand.{Operand}
 use Rattle.z_operands.specs.declared.operation.Operation.TheVariants as operations
 use Rattle.z_reading.specs.Listing.{Plan, Task, line_gives, operation_line, org_line, placed, written, labelled}
-use Rattle.z_reading.specs.Listing.{has_room, is_taken, is_below, to_nat}
+use Rattle.z_reading.specs.Listing.{is_below, to_nat}
 use Rattle.z_reading.specs.Text.{write_at, copies}
 use Rattle.z_deck.specs.Reading.{covers}
 use Rattle.z_deck.specs.Writing.{is_zero}
@@ -27,13 +27,15 @@ use Rattle.z_deck.specs.Listing.{block_at}
 use Rattle.z_deck.proofs.Loaded.{spliced}
 use Rattle.listing_laws.proofs.Lines.{words_at, words_lie, visible_line, line_with}
 use Rattle.listing_laws.proofs.Numbers.{number}
-use Rattle.listing_laws.proofs.Placed.{known, none_behind, length-copies}
+use Rattle.listing_laws.proofs.Placed.{known, none_behind, untaken, room_is}
 use Rattle.listing_laws.proofs.Terms.{one_operand, number_value}
 use Rattle.listing_laws.proofs.Texts.{Line, written as line_text}
-use Rattle.listing_laws.proofs.Generated.{with_one, small}
+use Rattle.listing_laws.proofs.Generated.{with_one}
 use Rattle.deck_laws.proofs.Digits.{AreBytes}
 use Rattle.deck_laws.proofs.Rows.{Row, Runs, runs_on}
 use Rattle.deck_laws.proofs.Data.{data_row, data_gives}
+use Rattle.z_assemble.proofs.Over.{copies_size}
+use Rattle.listing_laws.proofs.Spelled.{near_fits}
 
 -- ---- a line of words as a row
 
@@ -45,13 +47,6 @@ row_of l = record {
 }
 
 -- ---- lists
-
-none_in_front : (n : ℕ) (bs : List Bool) → list_any (λ b. b) bs ≡ false
-    → list_any (λ b. b) (take n bs) ≡ false
-none_in_front zero bs h = refl
-none_in_front (suc n) [] h = refl
-none_in_front (suc n) (true ∷ bs) h = cc
-none_in_front (suc n) (false ∷ bs) h = none_in_front n bs h
 
 written_size : {X : Type 0} (at : ℕ) (new old : List X) → at + length new ≤ length old
     → length (write_at at new old) ≡ length old
@@ -74,10 +69,10 @@ marks_behind here n taken fits =
     omega (
       arith,
       length-append (take here taken) (copies n true),
-      length-copies n true,
+      copies_size n true,
       length-take here taken,
     ) in
-    let rest : here + length (copies n true) ≡ here + n = ap (λ m. here + m) (length-copies n true) in
+    let rest : here + length (copies n true) ≡ here + n = ap (λ m. here + m) (copies_size n true) in
     ap (λ (l : List Bool). drop (here + n) l)
     (sym (append_assoc (take here taken) (copies n true) (drop (here + length (copies n true)) taken)))
     ∙ drop_at (take here taken ++ copies n true) (drop (here + length (copies n true)) taken) (here + n) front
@@ -130,21 +125,10 @@ org_gives a few n p low open_yet =
       here = to_nat v;
     }) else Err OutOfRange)
     (one_operand (line_text l) p.labels p.here BadDirective (number a) (pos a) (words_at l.label l.op l.ws)
-    (number_value (line_text l) p.labels p.here a (small a few)) (words_lie l.label l.op l.ws l.said))
+    (number_value (line_text l) p.labels p.here a (near_fits a few)) (words_lie l.label l.op l.ws l.said))
     ∙ ap (λ b. if b then Ok (record p { here = a }) else Err OutOfRange) (lt-ltb a 1048577 (omega arith))
 
 -- ---- bytes at the location
-
-room_is : (n here : ℕ) → 0 < n → 8192 ≤ here → here + n ≤ 1048576 → not (has_room n here) ≡ false
-room_is n here some low high =
-    ap (λ b. not (not b || (nat_le 8192 here && nat_le (here + n) 1048576))) (lt-ltb 0 n some)
-    ∙ ap₂ (λ b c. not (b && c)) (le-leb 8192 here low) (le-leb (here + n) 1048576 high)
-
-untaken : (here n : ℕ) (taken : List Bool) → list_any (λ b. b) (drop here taken) ≡ false
-    → is_taken here (here + n) taken ≡ false
-untaken here n taken free =
-    let size : here + n - here ≡ n = omega arith in
-    ap (λ m. list_any (λ b. b) (take m (drop here taken))) size ∙ none_in_front n (drop here taken) free
 
 abbrev with_bytes : List ℕ → Plan → Plan
 with_bytes bytes p = record p {
@@ -262,7 +246,7 @@ module _ (storage : List ℕ) (size : length storage ≡ 1048576) (low : AreByte
         let room : 8192 + 32 * i + length block ≤ length p.taken = omega (arith, sized, s.marks) in
         let on : 8192 + 32 * i + length block ≡ 8192 + 32 * suc i = omega (arith, sized) in
         let longs : 8192 + 32 * i + length (copies (length block) true) ≤ length p.taken =
-        omega (arith, room, length-copies (length block) true) in
+        omega (arith, room, copies_size (length block) true) in
         record {
           open_yet = s.open_yet;
           free = ap (λ m. list_any (λ b. b) (drop m (write_at (8192 + 32 * i) (copies (length block) true) p.taken)))

@@ -1,16 +1,15 @@
 -- A text of rows, and the lines that the assembler cuts it into.
-use Rattle.std.proofs.Common.{◌≡◌, ℕ, zero, suc, ◌+◌, ◌-◌, ◌*◌, ◌<◌, ◌≤◌, Bool, true, false, ◌&&◌, List}
-use Rattle.std.proofs.Common.{[], ◌∷◌, ◌++◌, length, map, take, refl, sym, ap, ap₂, ◌∙◌, arith, subst, lt-ltb}
-use Rattle.std.proofs.Common.{append_assoc, length-append, eq-eqb}
-use Rattle.std.specs.Prelude.{Ok, if◌then◌else◌, ◌==◌, nat_lt, slice_index}
+use Rattle.std.proofs.Common.{◌≡◌, ℕ, suc, ◌+◌, ◌-◌, ◌*◌, ◌≤◌, true, List}
+use Rattle.std.proofs.Common.{[], ◌∷◌, ◌++◌, length, map, refl, sym, ap, ◌∙◌, arith, subst}
+use Rattle.std.proofs.Common.{append_assoc, length-append}
+use Rattle.std.specs.Prelude.{Ok, if◌then◌else◌, nat_lt}
 use Rattle.std.specs.List.{list_all}
-use Rattle.std.proofs.lemmas.Bool.{and_parts, ne_eqb, ltb-true}
-use Rattle.std.proofs.lemmas.List.{take_at}
 use Rattle.z_text.specs.Line.{as_read}
-use Rattle.z_fields.specs.Pieces.{pieces_by, onto, ends_with, shortened, without_return, without_end}
+use Rattle.z_fields.specs.Pieces.{pieces_by, shortened, without_return, without_end}
 use Rattle.z_reading.specs.Listing.{Plan, line_gives}
 use Rattle.z_reading.specs.Text.{lines_of}
 use Rattle.z_assemble.specs.Whole.{First}
+use Rattle.listing_laws.proofs.Texts.{ends_so, shortened_so, no_return, one_piece}
 
 -- a line as it is read, without its end
 pub record Row : Type 0 where
@@ -33,19 +32,6 @@ rows_append (x ∷ xs) ys =
 
 -- ---- pieces
 
-not_end : (b : ℕ) → nat_lt 31 b ≡ true → (b == 10) ≡ false
-not_end b h = let high : 31 < b = ltb-true 31 b h in ne_eqb b 10 (λ e. omega arith)
-
-pub one_piece : (l rest : List ℕ) → list_all (λ b. nat_lt 31 b) l ≡ true
-    → pieces_by 10 ((l ++ 10 ∷ []) ++ rest) ≡ (l ++ 10 ∷ []) ∷ pieces_by 10 rest
-unfolding pieces_by
-one_piece [] rest h = refl
-one_piece (b ∷ bs) rest h =
-    let parts = and_parts (nat_lt 31 b) (list_all (λ c. nat_lt 31 c) bs) h in
-    ap (λ c. if c then (b ∷ []) ∷ pieces_by 10 ((bs ++ 10 ∷ []) ++ rest) else onto b (pieces_by 10 ((bs ++ 10
-    ∷ []) ++ rest))) (not_end b parts.0)
-    ∙ ap (onto b) (one_piece bs rest parts.1)
-
 pieces_are : (rs : List Row) → pieces_by 10 (text_of_rows rs) ≡ map ended rs
 unfolding pieces_by
 pieces_are [] = refl
@@ -59,37 +45,6 @@ unfolding lines_of
 lines_are text rs is = ap (pieces_by 10) is ∙ pieces_are rs
 
 -- ---- line ends
-
-last_is : (l : List ℕ) (b : ℕ) → slice_index (l ++ b ∷ []) (length l) ≡ b
-last_is [] b = refl
-last_is (c ∷ l) b = last_is l b
-
-ends_so : (l : List ℕ) (b : ℕ) → ends_with b (l ++ b ∷ []) ≡ true
-ends_so l b =
-    let size : length (l ++ b ∷ []) ≡ suc (length l) = omega (arith, length-append l (b ∷ [])) in
-    let less : length (l ++ b ∷ []) - 1 ≡ length l = omega arith in
-    ap₂ (λ (c : Bool) (x : ℕ). c && (x == b)) (lt-ltb 0 (length (l ++ b ∷ [])) (omega arith))
-    (ap (slice_index (l ++ b ∷ [])) less ∙ last_is l b) ∙ eq-eqb b b refl
-
-pub shortened_so : (l : List ℕ) (b : ℕ) → shortened (l ++ b ∷ []) ≡ l
-shortened_so l b =
-    let less : length (l ++ b ∷ []) - 1 ≡ length l = omega (arith, length-append l (b ∷ [])) in
-    ap (λ n. take n (l ++ b ∷ [])) less ∙ take_at l (b ∷ []) (length l) refl
-
-visible_at : (l : List ℕ) (i : ℕ) → list_all (λ b. nat_lt 31 b) l ≡ true → i < length l → 31 < slice_index l i
-visible_at [] i h below = absurd (omega arith)
-visible_at (b ∷ bs) zero h below = ltb-true 31 b (and_parts (nat_lt 31 b) (list_all (λ c. nat_lt 31 c) bs)
-    h).0
-visible_at (b ∷ bs) (suc i) h below = visible_at bs i (and_parts (nat_lt 31 b) (list_all (λ c. nat_lt 31 c)
-    bs) h).1 (omega arith)
-
-no_return : (l : List ℕ) → list_all (λ b. nat_lt 31 b) l ≡ true → ends_with 13 l ≡ false
-no_return [] h = refl
-no_return (b ∷ bs) h =
-    let below : length (b ∷ bs) - 1 < length (b ∷ bs) = omega arith in
-    let high = visible_at (b ∷ bs) (length (b ∷ bs) - 1) h below in
-    ap₂ (λ (c d : Bool). c && d) (lt-ltb 0 (length (b ∷ bs)) (omega arith))
-    (ne_eqb (slice_index (b ∷ bs) (length (b ∷ bs) - 1)) 13 (λ e. omega arith))
 
 without_its_end : (r : Row) → without_end (ended r) ≡ r.text
 without_its_end r =

@@ -3,7 +3,6 @@ use Rattle.std.proofs.Common.{◌≡◌, ℕ, zero, suc, ◌+◌, ◌*◌, ◌<�
 use Rattle.std.proofs.Common.{length, map, drop, replicate, Option, Some, None, refl, sym, ap, ap₂, ◌∙◌, arith, subst}
 use Rattle.std.proofs.Common.{lt-ltb, le-ltb, length-append, slice_index}
 use Rattle.std.specs.Prelude.{pos, Result, Ok, Err, if◌then◌else◌, nat_lt, ◌==◌, codes, unwrap_or}
-use Rattle.std.specs.List.{list_any}
 use Rattle.std.specs.Char.{to_ascii_uppercase}
 use Rattle.std.specs.Fmt.{decimal}
 use Rattle.std.proofs.lemmas.Bool.{ne_eqb, ltb-true, ltb-false}
@@ -31,10 +30,10 @@ use Rattle.listing_laws.proofs.Lines.{words_at, words_lie}
 use Rattle.listing_laws.proofs.Words.{map_over}
 use Rattle.listing_laws.proofs.Numbers.{number, digits_are, capitals}
 use Rattle.listing_laws.proofs.Codes.{cpu_is, end_is, plain}
-use Rattle.listing_laws.proofs.Placed.{known, none_behind, length-copies, tokens, operands_behind}
+use Rattle.listing_laws.proofs.Placed.{known, none_behind, tokens, operands_behind}
 use Rattle.listing_laws.proofs.Terms.{one_operand, number_value}
 use Rattle.listing_laws.proofs.Texts.{Line, written}
-use Rattle.listing_laws.proofs.Generated.{with_one, end_line_of, small}
+use Rattle.listing_laws.proofs.Generated.{with_one, end_line_of}
 use Rattle.deck_laws.specs.Assembled.{IsKept, IsAssembled}
 use Rattle.deck_laws.proofs.Digits as digits
 use Rattle.deck_laws.proofs.Rows.{Row, ended, text_of_rows, rows_append, lines_are, Runs, first_runs, runs_on}
@@ -42,13 +41,11 @@ use Rattle.deck_laws.proofs.Rows.{text_short, rows_count}
 use Rattle.deck_laws.proofs.Data.{data_row}
 use Rattle.deck_laws.proofs.Places.{row_of, org_at, State, block_size, block_bytes, block_rows, address_few, rows_if}
 use Rattle.deck_laws.proofs.Places.{le_before, below, rows_to, Reached, reached}
+use Rattle.z_assemble.proofs.Over.{copies_size}
+use Rattle.listing_laws.proofs.Stand.{none_placed}
+use Rattle.listing_laws.proofs.Spelled.{near_fits}
 
 -- ---- nothing is placed at first
-
-none_placed : (n : ℕ) → list_any (λ b. b) (copies n false) ≡ false
-unfolding copies
-none_placed zero = refl
-none_placed (suc n) = none_placed n
 
 zero_copies : (n a : ℕ) → slice_index (copies n 0) a ≡ 0
 unfolding copies
@@ -62,7 +59,7 @@ zero_copies (suc n) (suc a) = zero_copies n a
 number_end : (n : ℕ) → n < 10 ^ 10
     → map to_ascii_uppercase (decimal n ++ 10 ∷ []) ≡ (decimal n ++ []) ++ 10 ∷ []
 number_end n few =
-    map_over to_ascii_uppercase (decimal n) (10 ∷ []) (capitals (decimal n) (digits_are n (small n few))) refl
+    map_over to_ascii_uppercase (decimal n) (10 ∷ []) (capitals (decimal n) (digits_are n (near_fits n few))) refl
     ∙ ap (λ (t : List ℕ). t ++ 10 ∷ []) (sym (append-nil (decimal n)))
 
 org_text : (a : ℕ) (few : a < 10 ^ 10) → map to_ascii_uppercase (org_line a) ≡ ended (row_of (org_at a few))
@@ -206,10 +203,10 @@ module _ (storage : List ℕ) (entry : Option ℕ) (kept : IsKept storage entry)
   begun_state = record {
     open_yet = refl;
     free = none_behind 8192 (copies 1048576 false) (none_placed 1048576);
-    marks = length-copies 1048576 false;
+    marks = copies_size 1048576 false;
     count = refl;
     tasks = refl;
-    whole = length-copies 1048576 0;
+    whole = copies_size 1048576 0;
     done = λ a low. zero_copies 1048576 a ∙ sym (kept.low a (omega arith));
     rest = λ a from. zero_copies 1048576 a;
   }
@@ -248,7 +245,7 @@ module _ (storage : List ℕ) (entry : Option ℕ) (kept : IsKept storage entry)
       (operands_behind line.label line.op line.ws line.said)
       ∙ ap (λ (r : Result (List Operand) Kind). r >>= λ os. entry_line os m)
       (one_operand (written line) k.labels 16384 BadDirective (number e) (pos e)
-      (words_at line.label line.op line.ws) (number_value (written line) k.labels 16384 e (small e e_few))
+      (words_at line.label line.op line.ws) (number_value (written line) k.labels 16384 e (near_fits e e_few))
       (words_lie line.label line.op line.ws line.said))
       ∙ ap (λ b. if b then Ok (record m {
         cpus = change_at m.entered (with_address e) m.cpus;

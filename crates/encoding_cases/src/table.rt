@@ -1,4 +1,5 @@
-//! Names and columns as the instruction table lists them, and fields at the edges of their ranges.
+//! Names and columns as the instruction table lists them, names in their order, and fields at the edges of their
+//! ranges.
 
 use std::test::Fail;
 use z_instr::addresses::{first_address, is_selected, registers_named, second_address};
@@ -11,6 +12,7 @@ use z_instr::name::Name;
 use z_instr::op::Op;
 use z_instr::operand::{Demand, Operands, Size};
 use z_instr::roles::{begins, block_named, is_end, is_relative_branch, sets_access_register};
+use z_instr::table::{NAMED, Named, ROWS};
 
 /// Names, and the opcodes of their rows.
 static NAMES: [(&[u8], Option<u16>); 8] = [
@@ -26,10 +28,8 @@ static NAMES: [(&[u8], Option<u16>); 8] = [
 
 /// The opcode of a name's row, if there is one.
 fn opcode_of(name: &[u8]) -> Option<u16> {
-    match find(name) {
-        Some(op) => Some(row(op).opcode),
-        None => None,
-    }
+    let op = find(name)?;
+    Some(row(op).opcode)
 }
 
 #[test]
@@ -42,6 +42,24 @@ fn names_are_found_whole(rt: HostRuntime) {
 /// The operation of a name.
 fn op_of(name: &[u8]) -> Result<Op, Fail> {
     Ok(find(name).ok_or("no such mnemonic")?)
+}
+
+/// Whether a name stands behind these letters, and is that of its row.
+fn stands_behind(before: [u8; 8], named: &Named) -> [bool; 2] {
+    let is_behind = u64::from_be_bytes(before) < u64::from_be_bytes(named.letters);
+    let is_of_row = named.row < ROWS && line(Op { number: named.row }).letters == named.letters;
+    [is_behind, is_of_row]
+}
+
+// There are as many names as rows, so none is missing.
+#[test]
+fn names_of_rows_stand_in_their_order(rt: HostRuntime) {
+    let mut before = [0; 8];
+    for named in &NAMED {
+        let row = named.row;
+        assert_eq!(rt; stands_behind(before, named), [true; 2], "row {row}");
+        before = named.letters;
+    }
 }
 
 /// Names, with what transactions do: refuse, and permit under constraints.

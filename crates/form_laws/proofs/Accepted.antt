@@ -4,7 +4,7 @@ use Rattle.std.proofs.Common.{List, [], ◌∷◌, ◌++◌, length, take, drop,
 use Rattle.std.specs.Prelude.{codes, slice_get}
 use Rattle.std.specs.Fmt.{decimal}
 use Rattle.std.proofs.lemmas.List.{append_cancel_right}
-use Rattle.std.proofs.lemmas.Option.{slice_get_within}
+use Rattle.std.proofs.lemmas.Option.{slice_get_within, same_Some}
 use Rattle.tx_journal.specs.Content.{Content}
 use Rattle.tx_journal.specs.Numbers.{Lacks}
 use Rattle.tx_serial.specs.Flat.{FlatState}
@@ -32,7 +32,6 @@ use Rattle.form_laws.proofs.Lists.{head_list, report_list, report_lines}
 use Rattle.form_laws.proofs.Numbers.{decimal_tells, word_first, word_only, number_first, within}
 use Rattle.form_laws.proofs.Places.{head_length, attempt_at, counts_at, entries_counted, entries_at}
 use Rattle.form_laws.proofs.Places.{events_at}
-use Rattle.tx_check.proofs.OneAnswer.{some_same}
 use Rattle.tx_check.proofs.Due.{live_where}
 
 -- ---- numbers in lines of the form
@@ -133,8 +132,8 @@ module _ (image : Content) (entries events : ℕ) (s : Shown) (after : FlatState
       cpu_line image (report_list s) entries events i 8 row.Attempt form below refl in
       let b : HasRow (last_of image) row.Counts (report_list s) (cpu_place i + 10) =
       cpu_line image (report_list s) entries events i 10 row.Counts form below refl in
-      let told : a.line ≡ attempt_line c.attempt = some_same (sym a.there ∙ attempt_at s i c at) in
-      let tally : b.line ≡ counts_line c.counts = some_same (sym b.there ∙ counts_at s i c at) in
+      let told : a.line ≡ attempt_line c.attempt = same_Some _ _ (sym a.there ∙ attempt_at s i c at) in
+      let tally : b.line ≡ counts_line c.counts = same_Some _ _ (sym b.there ∙ counts_at s i c at) in
       record {
         claim = c.attempt;
         counts = c.counts;

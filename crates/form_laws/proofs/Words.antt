@@ -5,7 +5,7 @@ use Rattle.std.proofs.Common.{inr}
 use Rattle.std.specs.Prelude.{◌&&◌, replicate}
 use Rattle.std.specs.List.{flat_map}
 use Rattle.std.specs.Fmt.{decimal, digit_glyph}
-use Rattle.std.specs.Int.{to_be_bytes, bytes_high_first}
+use Rattle.std.specs.Int.{to_be_bytes}
 use Rattle.std.proofs.lemmas.Bool.{and_parts, cases_lt}
 use mir.Syntax.{w8, w16, w32, w64}
 use Rattle.hex.specs.Hex.{IsBytes, encode_with, encode_lower, lower_digits}
@@ -14,7 +14,7 @@ use Rattle.report_form.specs.declared.words.Word.{Word}
 use Rattle.report_form.specs.declared.words.Word.TheVariants.{Digits}
 use Rattle.report_form.specs.Words.{IsWord, IsNumber, AreDigits, is_digit}
 use Rattle.report_form.specs.Spelling.{Spelled, stop_between}
-use Rattle.tx_journal.proofs.Hexadecimal.{byte_below}
+use Rattle.tx_journal.proofs.Hexadecimal.{high_first_bytes}
 
 -- ---- words one behind the other
 
@@ -82,22 +82,17 @@ each_digit (b ∷ bytes) are =
 pub byte_digits : (bytes : List ℕ) → IsBytes bytes → AreDigits (2 * length bytes) (encode_lower bytes)
 byte_digits bytes are = record { size = length-encode_with lower_digits bytes; digits = each_digit bytes are }
 
-high_bytes : (k n : ℕ) → IsBytes (bytes_high_first k n)
-high_bytes zero n i = omega arith
-high_bytes (suc k) n zero = byte_below k n
-high_bytes (suc k) n (suc i) = high_bytes k n i
-
 pub byte_text_digits : (n : ℕ) → AreDigits 2 (encode_lower (to_be_bytes w8 n))
-byte_text_digits n = byte_digits (to_be_bytes w8 n) (high_bytes 1 n)
+byte_text_digits n = byte_digits (to_be_bytes w8 n) (high_first_bytes 1 n)
 
 pub halfword_digits : (n : ℕ) → AreDigits 4 (encode_lower (to_be_bytes w16 n))
-halfword_digits n = byte_digits (to_be_bytes w16 n) (high_bytes 2 n)
+halfword_digits n = byte_digits (to_be_bytes w16 n) (high_first_bytes 2 n)
 
 pub word_digits : (n : ℕ) → AreDigits 8 (encode_lower (to_be_bytes w32 n))
-word_digits n = byte_digits (to_be_bytes w32 n) (high_bytes 4 n)
+word_digits n = byte_digits (to_be_bytes w32 n) (high_first_bytes 4 n)
 
 pub doubleword_digits : (n : ℕ) → AreDigits 16 (encode_lower (to_be_bytes w64 n))
-doubleword_digits n = byte_digits (to_be_bytes w64 n) (high_bytes 8 n)
+doubleword_digits n = byte_digits (to_be_bytes w64 n) (high_first_bytes 8 n)
 
 glyphs : ℕ → Bool
 glyphs zero = true

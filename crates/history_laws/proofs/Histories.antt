@@ -14,6 +14,7 @@ use Rattle.tx_serial.specs.History.{IsLegal, replay_from, on_some, start_of}
 use Rattle.history_laws.specs.Fitting.{Fits}
 use Rattle.history_laws.proofs.Endings.{line}
 use Rattle.history_laws.proofs.Fitting.{one_fits}
+use Rattle.std.proofs.lemmas.Option.{same_Some}
 
 -- ---- where the first entry does not fit, none is
 
@@ -74,13 +75,10 @@ all_same f (e ∷ es) (d ∷ ds) g h a b s t is =
     let cuts = parts e d es ds sound also is in
     let same : e ≡ d = one_fits f e d sound also (one.next, one.fits) (two.next, two.fits)
     (ap (λ (w : List ℕ). w ++ 10 ∷ []) cuts.front) in
-    let states : two.next ≡ one.next = some_same (sym two.fits ∙ ap (apply f) (sym same) ∙ one.fits) in
+    let states : two.next ≡ one.next = same_Some _ _ (sym two.fits ∙ ap (apply f) (sym same) ∙ one.fits) in
     ap₂ (λ (x : Entry) (xs : List Entry). x ∷ xs) same
     (all_same one.next es ds g h one.rest (subst (λ (n : FlatState). replay_from ds (Some n) ≡ Some h) states two.rest)
     (All-tail IsSound e es s) (All-tail IsSound d ds t) cuts.behind)
-  where
-    some_same : {A : Type 0} {x y : A} → Some x ≡ Some y → x ≡ y
-    some_same e = cc
 
 pub one_history : (image : Content) (some others : List Entry) → IsLegal image some → IsLegal image others
     → All IsSound some → All IsSound others → history_text some ≡ history_text others → some ≡ others

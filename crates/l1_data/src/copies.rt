@@ -6,8 +6,9 @@ ghost use Rattle.slot_index.specs.Slots.{slot_in, is_key};
 ghost use Rattle.l1_data.specs.Copies.{copies_of, no_copies, with_copy, copy_count, byte_in, laid, IsSound};
 
 use slot_index::SlotIndex;
-use std::alloc::{AllocError, Global};
+use std::alloc::Global;
 use std::marker::Model;
+use z_regs::NoMemory;
 
 /// The lines of storage.
 pub const LINES: usize = 4096;
@@ -17,16 +18,6 @@ pub const LINE_SIZE: usize = 256;
 
 /// How many lines may have a copy.
 pub const MOST_COPIES: usize = 384;
-
-/// Want of memory.
-#[derive(Clone, Copy, Debug, PartialEq, Eq)]
-pub struct NoMemory;
-
-impl From<AllocError> for NoMemory {
-    fn from(_error: AllocError) -> NoMemory {
-        NoMemory
-    }
-}
 
 /// Copies of lines, at most `MOST_COPIES`. Lines are numbered as in storage, their address divided by 256.
 #[derive(Drop)]
@@ -130,10 +121,8 @@ impl L1 {
         ensures size { IfSome result (λ copy. length copy.now ≡ LINE_SIZE) }
         ensures none { IfNone result (copies_of self.now line ≡ None) }
     {
-        match self.index.slot_of(line as usize) {
-            Some(slot) => Some(&self.copies[slot]),
-            None => None,
-        }
+        let slot = self.index.slot_of(line as usize)?;
+        Some(&self.copies[slot])
     }
 
     /// The bytes of the copy of the line, which has one.

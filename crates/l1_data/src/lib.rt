@@ -5,4 +5,5 @@
 mod copies;
 pub mod laws;
 
-pub use copies::{L1, LINE_SIZE, LINES, MOST_COPIES, NoMemory};
+pub use copies::{L1, LINE_SIZE, LINES, MOST_COPIES};
+pub use z_regs::NoMemory;

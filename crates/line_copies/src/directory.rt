@@ -6,10 +6,10 @@ ghost use Rattle.line_table.specs.declared.table.Mode.TheVariants.{Shared};
 ghost use Rattle.line_copies.specs.Coherence.{exclusive_holder};
 ghost use Rattle.line_copies.specs.Directory.{number_of};
 
-use crate::lines::NoMemory;
 use line_table::{LINES, LineTable, Mode};
 use std::alloc::Global;
 use std::marker::Model;
+use z_regs::NoMemory;
 
 /// The table of holders, and for each line the number of the CPU that holds it exclusively, counted from 1, or 0
 /// where none does. Contracts see the table.

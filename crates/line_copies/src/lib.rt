@@ -8,5 +8,6 @@ mod lines;
 mod parts;
 mod window;
 
-pub use lines::{CoherentLines, NoMemory};
+pub use lines::CoherentLines;
 pub use window::{Handback, Held, Window};
+pub use z_regs::NoMemory;

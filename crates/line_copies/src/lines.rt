@@ -13,37 +13,9 @@ use crate::directory::Directory;
 use crate::parts::{copy_from_storage, write_back};
 use l1_data::{L1, LINE_SIZE};
 use line_table::Mode;
-use std::alloc::{AllocError, Global};
+use std::alloc::Global;
 use std::marker::Model;
-use z_regs::Storage;
-
-/// There was no memory.
-#[derive(Clone, Copy, Debug, PartialEq, Eq)]
-pub struct NoMemory;
-
-impl From<AllocError> for NoMemory {
-    fn from(_error: AllocError) -> NoMemory {
-        NoMemory
-    }
-}
-
-impl From<z_regs::NoMemory> for NoMemory {
-    fn from(_error: z_regs::NoMemory) -> NoMemory {
-        NoMemory
-    }
-}
-
-impl From<line_table::NoMemory> for NoMemory {
-    fn from(_error: line_table::NoMemory) -> NoMemory {
-        NoMemory
-    }
-}
-
-impl From<l1_data::NoMemory> for NoMemory {
-    fn from(_error: l1_data::NoMemory) -> NoMemory {
-        NoMemory
-    }
-}
+use z_regs::{NoMemory, Storage};
 
 /// The bytes of storage, which CPU holds which of its lines, and the copies that each CPU has of the lines
 /// that it holds. A copy that is held exclusively may be newer than storage; contracts see storage with these
@@ -213,9 +185,7 @@ fn no_copies(alloc: Global, cpus: u32) -> Result<Vec<L1>, NoMemory>
     let mut copies = Vec::new(alloc);
     for _ in 0..cpus {
         let l1 = L1::open(alloc)?;
-        if copies.push(l1).is_err() {
-            return Err(NoMemory);
-        }
+        copies.push(l1)?;
     }
     Ok(copies)
 }

@@ -7,4 +7,5 @@ mod laws;
 mod table;
 
 pub use laws::{against_lists_the_others, holds_a_line_outside};
-pub use table::{LINES, LineTable, MOST_HELD, Mode, NoMemory};
+pub use table::{LINES, LineTable, MOST_HELD, Mode};
+pub use z_regs::NoMemory;

@@ -5,8 +5,9 @@ ghost use Rattle.line_table.specs.Holders.{IsFirstHeld, mode_in};
 ghost use Rattle.line_table.specs.Rows.{mode_from};
 
 use bit_set::BitSet;
-use std::alloc::{AllocError, Global};
+use std::alloc::Global;
 use std::marker::Model;
+use z_regs::NoMemory;
 
 /// The lines of storage, of 256 bytes each.
 pub const LINES: usize = 4096;
@@ -21,16 +22,6 @@ pub enum Mode {
     Shared,
     /// To store into it; nobody else holds it.
     Exclusive,
-}
-
-/// Want of memory.
-#[derive(Clone, Copy, Debug, PartialEq, Eq)]
-pub struct NoMemory;
-
-impl From<AllocError> for NoMemory {
-    fn from(_error: AllocError) -> NoMemory {
-        NoMemory
-    }
 }
 
 /// Which CPU holds which line, and how. An exclusive holder of a line is its only holder, and no CPU
@@ -111,13 +102,10 @@ impl LineTable {
         ensures none { IfNone result ((cpu : ℕ) → from ≤ cpu → mode_in self.now cpu line ≡ None) }
     {
         let row = line as usize * self.width;
-        match self
+        let place = self
             .holders
-            .next(row + from as usize, row + self.counts.len())
-        {
-            Some(place) => Some((place - row) as u32),
-            None => None,
-        }
+            .next(row + from as usize, row + self.counts.len())?;
+        Some((place - row) as u32)
     }
 
     /// The lowest line at or above `from` that the CPU holds.
@@ -128,10 +116,8 @@ impl LineTable {
         ensures none { IfNone result ((line : ℕ) → from ≤ line → mode_in self.now cpu line ≡ None) }
     {
         let row = cpu as usize * LINES;
-        match self.held.next(row + from as usize, row + LINES) {
-            Some(place) => Some((place - row) as u32),
-            None => None,
-        }
+        let place = self.held.next(row + from as usize, row + LINES)?;
+        Some((place - row) as u32)
     }
 
     /// The CPU holds the line in this mode from now on.

@@ -6,22 +6,21 @@ ghost use Rattle.z_deck.specs.Writing.{deck_of_image};
 ghost use Rattle.listing_answers.specs.Decks.{IsDueToDeck, IsDueToReadDeck, long_deck_line};
 ghost use Rattle.listing_answers.specs.Due.{IsStatus};
 
-use crate::answer::{Answer, NoMemory};
+use crate::answer::Answer;
 use crate::refused::refuse;
 use std::alloc::Global;
 use tx_journal::Image;
 use z_assemble::assemble;
 use z_deck::{Deck, DeckFault, deck_listing, fault_line, read_deck, write_deck};
+use z_regs::NoMemory;
 
 /// The deck of an image.
 fn answer_deck(alloc: Global, image: &Image) -> Result<Answer, NoMemory>
     ensures status { IfOk result (λ answer. answer.status ≡ 0) }
     ensures text { IfOk result (λ answer. answer.text.items ≡ deck_of_image image.now) }
 {
-    match write_deck(alloc, image) {
-        Ok(text) => Ok(Answer { status: 0, text }),
-        Err(_) => Err(NoMemory),
-    }
+    let text = write_deck(alloc, image)?;
+    Ok(Answer { status: 0, text })
 }
 
 /// The listing of a deck.
@@ -30,10 +29,8 @@ fn answer_listing(alloc: Global, deck: &Deck) -> Result<Answer, NoMemory>
     ensures text { IfOk result (λ answer.
         answer.text.items ≡ listing_of deck.now.storage.items deck.now.entry) }
 {
-    match deck_listing(alloc, deck) {
-        Ok(text) => Ok(Answer { status: 0, text }),
-        Err(_) => Err(NoMemory),
-    }
+    let text = deck_listing(alloc, deck)?;
+    Ok(Answer { status: 0, text })
 }
 
 /// The line of a card's fault.

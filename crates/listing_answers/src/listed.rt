@@ -3,22 +3,21 @@ ghost use Rattle.std.specs.Prelude.{◌≡◌, IfOk};
 ghost use Rattle.z_list.specs.Listing.{list_of};
 ghost use Rattle.listing_answers.specs.Due.{IsDueToList, IsStatus};
 
-use crate::answer::{Answer, NoMemory};
+use crate::answer::Answer;
 use crate::refused::refuse;
 use std::alloc::Global;
 use tx_journal::Image;
 use z_assemble::assemble;
 use z_list::listing;
+use z_regs::NoMemory;
 
 /// The instructions of an image, as text.
 fn disassemble(alloc: Global, image: &Image) -> Result<Answer, NoMemory>
     ensures status { IfOk result (λ answer. answer.status ≡ 0) }
     ensures text { IfOk result (λ answer. answer.text.items ≡ list_of image.now) }
 {
-    match listing(alloc, image) {
-        Ok(text) => Ok(Answer { status: 0, text }),
-        Err(_) => Err(NoMemory),
-    }
+    let text = listing(alloc, image)?;
+    Ok(Answer { status: 0, text })
 }
 
 /// What `list` answers to the bytes of a listing: its instructions, or its first fault.

@@ -4,9 +4,10 @@ ghost use Rattle.z_assemble.specs.Whole.{HasFault};
 ghost use Rattle.z_assemble.specs.Words.{fault_line};
 ghost use Rattle.listing_answers.specs.Due.{IsRefusal, long_fault};
 
-use crate::answer::{Answer, NoMemory};
+use crate::answer::Answer;
 use std::alloc::Global;
 use z_assemble::{AssembleFault, ListingFault, fault_line};
+use z_regs::NoMemory;
 
 /// The line of a fault.
 fn refuse_fault(alloc: Global, fault: ListingFault) -> Result<Answer, NoMemory>

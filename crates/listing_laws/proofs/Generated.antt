@@ -20,14 +20,9 @@ use Rattle.listing_laws.proofs.Terms.{label_name, name_word, p_cut, l_cut, is_na
 use Rattle.listing_laws.proofs.Placed.{IsFree, takes}
 use Rattle.listing_laws.proofs.Again.{Goes, task}
 use Rattle.listing_laws.proofs.Texts.{Line, written}
+use Rattle.listing_laws.proofs.Spelled.{near_fits, near_short}
 
 -- ---- lines of words
-
-pub small : (n : ℕ) → n < 10 ^ 10 → n < 2 ^ 64
-small n h = omega arith
-
-pub short : (n : ℕ) → n < 10 ^ 10 → length (decimal n) ≤ 10
-short n h = length-decimal-le 10 n (lit< tt) h (small n h)
 
 abbrev pub one_number : ℕ → List Word
 one_number a = number a ∷ []
@@ -36,11 +31,11 @@ abbrev pub two_numbers : ℕ → ℕ → List Word
 two_numbers a b = number a ∷ comma ∷ number b ∷ []
 
 pub one_cut : (a : ℕ) → a < 10 ^ 10 → AreCut (one_number a)
-one_cut a h = (number_cut a [] (small a h) refl, tt)
+one_cut a h = (number_cut a [] (near_fits a h) refl, tt)
 
 pub two_cut : (a b : ℕ) → a < 10 ^ 10 → b < 10 ^ 10 → AreCut (two_numbers a b)
 two_cut a b h k = (
-  number_cut a (44 ∷ (decimal b ++ [])) (small a h) refl,
+  number_cut a (44 ∷ (decimal b ++ [])) (near_fits a h) refl,
   (
     comma_cut (decimal b ++ []),
     one_cut b k,
@@ -63,14 +58,14 @@ said_by label op ws named capital few op_named split op_capital op_few cut field
 }
 
 pub one_field : (a : ℕ) → a < 10 ^ 10 → length (field (one_number a)) ≤ 40
-one_field a h = omega (arith, short a h, length-append (decimal a) [])
+one_field a h = omega (arith, near_short a h, length-append (decimal a) [])
 
 pub two_field : (a b : ℕ) → a < 10 ^ 10 → b < 10 ^ 10 → length (field (two_numbers a b)) ≤ 40
 two_field a b h k =
     omega (
       arith,
-      short a h,
-      short b k,
+      near_short a h,
+      near_short b k,
       length-append (decimal a) (44 ∷ (decimal b ++ [])),
       length-append
           (decimal b) [],
@@ -189,7 +184,7 @@ module _ (i n a : ℕ) (few : i < 10) (n_few : n < 32768) (a_few : a < 524288) w
           arith,
           label_few 76 i few,
           length-append (label_name 76 i) [],
-          short 2 (lit< tt),
+          near_short 2 (lit< tt),
           length-append (decimal 2) (44 ∷ (label_name 76 i ++ [])),
         ));
   }

@@ -6,7 +6,7 @@ use Rattle.std.proofs.Common.{ap₂, ◌∙◌, subst}
 use Rattle.std.proofs.Common.{arith, append_assoc, length-append, cond, le-ltb, nat_le, eqb-true}
 use Rattle.std.specs.Prelude.{◌==◌, if◌then◌else◌, Ok, Err}
 use Rattle.std.specs.List.{prefix_len, list_all, list_any}
-use Rattle.std.specs.Char.{to_ascii_uppercase, is_ascii_uppercase, is_ascii_digit}
+use Rattle.std.specs.Char.{to_ascii_uppercase, is_ascii_uppercase}
 use Rattle.std.proofs.lemmas.List.{drop_at, append-nil}
 use Rattle.std.proofs.lemmas.Bool.Decides.{nat_tests}
 use Rattle.std.proofs.lemmas.Bool.{ne_eqb, and_parts, and_from, not-true}
@@ -25,6 +25,7 @@ use Rattle.listing_laws.proofs.Words.{good_numbers, pieces_are, tokens_are, none
 use Rattle.listing_laws.proofs.Words.{all_inked, all_visible, map_over}
 use Rattle.std.proofs.Common.{nat_lt}
 use Rattle.listing_laws.proofs.Words.{all_over}
+use Rattle.z_text.proofs.Keys.{capital_is_letter}
 
 -- operands behind a blank, nothing where there are none
 abbrev pub field : List Word → List ℕ
@@ -81,9 +82,6 @@ inked_letter b h = by (b == 32) refl
         ≡ true) (eqb-true b 32 e) h in cc
     by false e = refl
 
-upper_is_letter : (b : ℕ) → is_ascii_uppercase b ≡ true → is_letter_or_digit b ≡ true
-upper_is_letter b h = ap (λ c. c || is_ascii_digit b) h
-
 all_inked_letters : (xs : List ℕ) → list_all is_letter_or_digit xs ≡ true → list_all is_inked xs ≡ true
 all_inked_letters [] h = refl
 all_inked_letters (x ∷ xs) h =
@@ -96,7 +94,7 @@ inked_name (x ∷ xs) h =
     let parts = and_parts (is_ascii_uppercase x) (nat_le (length xs) 15 && list_all is_letter_or_digit xs)
     h in
     let rest = and_parts (nat_le (length xs) 15) (list_all is_letter_or_digit xs) parts.1 in
-    and_from _ _ (inked_letter x (upper_is_letter x parts.0)) (all_inked_letters xs rest.1)
+    and_from _ _ (inked_letter x (capital_is_letter x parts.0)) (all_inked_letters xs rest.1)
 
 -- a name has a first letter
 name_is_some : (xs : List ℕ) → is_name xs ≡ true → 0 < length xs
@@ -326,7 +324,7 @@ module _ (label op : List ℕ) (ws : List Word) (said : IsSaid label op ws) wher
           let parts = and_parts (is_ascii_uppercase x) (nat_le (length xs) 15 && list_all
           is_letter_or_digit xs) h in
           ap₂ (λ (a b : Bool). a || (b && list_all is_blank (xs ++ 32 ∷ (op ++ field ws)))) (star x parts.0)
-          (not_blank x (inked_letter x (upper_is_letter x parts.0)))
+          (not_blank x (inked_letter x (capital_is_letter x parts.0)))
 
   split_is : split_of line ≡ Some (heads label op ++ tokens_for (words_at label op ws) ws)
   unfolding split_of
@@ -379,7 +377,7 @@ visible_name (x ∷ xs) h =
     let parts = and_parts (is_ascii_uppercase x) (nat_le (length xs) 15 && list_all is_letter_or_digit xs) h
     in
     let rest = and_parts (nat_le (length xs) 15) (list_all is_letter_or_digit xs) parts.1 in
-    and_from _ _ (visible_letter x (upper_is_letter x parts.0)) (visible_letters xs rest.1)
+    and_from _ _ (visible_letter x (capital_is_letter x parts.0)) (visible_letters xs rest.1)
   where
     visible_letter : (b : ℕ) → is_letter_or_digit b ≡ true → nat_lt 31 b ≡ true
     visible_letter b h = grind (arith, nat_tests)

@@ -4,7 +4,7 @@ use Rattle.std.proofs.Common.{List, [], ◌∷◌, ◌++◌}
 use Rattle.std.proofs.Common.{length, take, drop, Option, Some, None, refl, sym, ap, ap₂, ◌∙◌}
 use Rattle.std.proofs.Common.{arith, lt-ltb, le-leb}
 use Rattle.std.proofs.Common.{length-append, length-drop, append_assoc}
-use Rattle.std.proofs.lemmas.List.{length-take, length-replicate}
+use Rattle.std.proofs.lemmas.List.{length-take}
 use Rattle.std.specs.Prelude.{pos, Result, Ok, Err, if◌then◌else◌, ◌==◌, nat_le, slice_set}
 use Rattle.std.specs.List.{list_any}
 use Rattle.std.proofs.lemmas.List.{drop_at, drop-drop}
@@ -26,6 +26,7 @@ use Rattle.z_reading.specs.Text.{write_at, copies}
 use Rattle.listing_laws.proofs.Words.{Word, tokens_for}
 use Rattle.listing_laws.proofs.Lines.{line_with, IsSaid, heads, words_at, op_at, op_end, tokens_of_line}
 use Rattle.listing_laws.proofs.Lines.{op_there, label_there, token_at, named_heads}
+use Rattle.z_assemble.proofs.Over.{copies_size}
 
 -- ---- the parts of the tokens
 
@@ -81,7 +82,7 @@ module _ (label op : List ℕ) (ws : List Word) (said : IsSaid label op ws) wher
 abbrev pub IsFree : Plan → Type 0
 IsFree p = (list_any (λ b. b) (drop p.here p.taken) ≡ false) × (length p.taken ≡ 1048576)
 
-none_in_front : (n : ℕ) (bs : List Bool) → list_any (λ b. b) bs ≡ false
+pub none_in_front : (n : ℕ) (bs : List Bool) → list_any (λ b. b) bs ≡ false
     → list_any (λ b. b) (take n bs) ≡ false
 none_in_front zero bs h = refl
 none_in_front (suc n) [] h = refl
@@ -94,10 +95,6 @@ none_behind zero bs h = h
 none_behind (suc n) [] h = refl
 none_behind (suc n) (true ∷ bs) h = cc
 none_behind (suc n) (false ∷ bs) h = none_behind n bs h
-
-pub length-copies : {X : Type 0} (n : ℕ) (x : X) → length (copies n x) ≡ n
-unfolding copies
-length-copies n x = length-replicate n x
 
 -- what a line leaves that places bytes
 pub record HasPlaced (p : Plan) (label : List ℕ) (size : ℕ) (task : Task) (r : Plan) : Type 0 where
@@ -117,11 +114,11 @@ free_behind here n taken fits free =
     omega (
       arith,
       length-append (take here taken) (copies n true),
-      length-copies n true,
+      copies_size n true,
       length-take here
           taken,
     ) in
-    let rest : here + length (copies n true) ≡ here + n = ap (λ m. here + m) (length-copies n true) in
+    let rest : here + length (copies n true) ≡ here + n = ap (λ m. here + m) (copies_size n true) in
     ap (λ (l : List Bool). list_any (λ b. b) (drop (here + n) l))
     (sym (append_assoc (take here taken) (copies n true) (drop (here + length (copies n true)) taken)))
     ∙ ap (list_any (λ b. b)) (drop_at (take here taken ++ copies n true) (drop (here + length (copies n
@@ -139,17 +136,17 @@ same_size here n taken fits =
       length-append (take here taken) (copies n true ++ drop (here + length (copies n true))
           taken),
       length-append (copies n true) (drop (here + length (copies n true)) taken),
-      length-copies n true,
+      copies_size n true,
       length-take here taken,
       length-drop (here + length (copies n true)) taken,
     )
 
-room_is : (n here : ℕ) → 0 < n → 8192 ≤ here → here + n ≤ 1048576 → not (has_room n here) ≡ false
+pub room_is : (n here : ℕ) → 0 < n → 8192 ≤ here → here + n ≤ 1048576 → not (has_room n here) ≡ false
 room_is n here some low high =
     ap (λ b. not (not b || (nat_le 8192 here && nat_le (here + n) 1048576))) (lt-ltb 0 n some)
     ∙ ap₂ (λ b c. not (b && c)) (le-leb 8192 here low) (le-leb (here + n) 1048576 high)
 
-untaken : (here n : ℕ) (taken : List Bool) → list_any (λ b. b) (drop here taken) ≡ false
+pub untaken : (here n : ℕ) (taken : List Bool) → list_any (λ b. b) (drop here taken) ≡ false
     → is_taken here (here + n) taken ≡ false
 untaken here n taken free =
     let size : here + n - here ≡ n = omega arith in

@@ -23,9 +23,10 @@ use Rattle.listing_laws.proofs.Codes.{aghi_code, stg_code, tend_code, brctg_code
 use Rattle.listing_laws.proofs.Codes.{lghi, tbeginc, lg, aghi, stg, tend, brctg, svc}
 use Rattle.listing_laws.proofs.Again.{instruction_goes}
 use Rattle.listing_laws.proofs.Texts.{written, Runs}
-use Rattle.listing_laws.proofs.Generated.{small, one_number, two_numbers, lghi_line, tbeginc_line, lg_line}
+use Rattle.listing_laws.proofs.Generated.{one_number, two_numbers, lghi_line, tbeginc_line, lg_line}
 use Rattle.listing_laws.proofs.Generated.{aghi_line, stg_line, tend_line, brctg_line, svc_line, program_lines}
 use Rattle.listing_laws.proofs.Generated.{start, loop, HasNone, Stage, step}
+use Rattle.listing_laws.proofs.Spelled.{near_fits}
 
 -- ---- names that are one or not
 
@@ -64,7 +65,7 @@ pub two_values : (label op : List ℕ) (a b : ℕ) (said : IsSaid label op (two_
 two_values label op a b said labels here kind h k =
     two_operands (line_with label op (two_numbers a b)) labels here kind (number a) (number b) (pos a) (pos
     b) (words_at label op (two_numbers a b))
-    (number_value _ labels here a (small a h)) (number_value _ labels here b (small b k)) (words_lie label op
+    (number_value _ labels here a (near_fits a h)) (number_value _ labels here b (near_fits b k)) (words_lie label op
     (two_numbers a b) said)
 
 one_value : (label op : List ℕ) (a : ℕ) (said : IsSaid label op (one_number a)) (labels : Table) (here : ℕ)
@@ -74,7 +75,7 @@ one_value : (label op : List ℕ) (a : ℕ) (said : IsSaid label op (one_number 
 one_value label op a said labels here kind h =
     one_operand (line_with label op (one_number a)) labels here kind (number a) (pos a) (words_at label op
     (one_number a))
-    (number_value _ labels here a (small a h)) (words_lie label op (one_number a) said)
+    (number_value _ labels here a (near_fits a h)) (words_lie label op (one_number a) said)
 
 -- ---- the eight lines
 

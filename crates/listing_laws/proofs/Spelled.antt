@@ -118,7 +118,7 @@ past_zero n near = let h : n < 2 ^ 33 = near in omega arith
 at_zero : (n : ℕ) → IsNear (pos n) → n < 10 ^ 10
 at_zero n near = let h : n < 2 ^ 33 = near in omega arith
 
-near_fits : (n : ℕ) → n < 10 ^ 10 → n < 2 ^ 64
+pub near_fits : (n : ℕ) → n < 10 ^ 10 → n < 2 ^ 64
 near_fits n h = omega arith
 
 signed_cut : (z : ℤ) (ws : List Word) → IsNear z → AreCut ws → Stops ws → AreCut (signed_then z ws)
@@ -204,7 +204,7 @@ words_cut (o ∷ os) few = operand_cut o (further os) few.0 (further_cut os few.
 
 -- ---- they are short
 
-near_short : (n : ℕ) → n < 10 ^ 10 → length (decimal n) ≤ 10
+pub near_short : (n : ℕ) → n < 10 ^ 10 → length (decimal n) ≤ 10
 near_short n h = length-decimal-le 10 n (lit< tt) h (near_fits n h)
 
 few_short : (n : ℕ) → n < 1000 → length (decimal n) ≤ 3

@@ -18,7 +18,7 @@ use Rattle.z_assemble.specs.Whole.{blank, ready, ready_for, known_in, image_of, 
 use Rattle.listing_laws.proofs.Lines.{words_at, words_lie}
 use Rattle.listing_laws.proofs.Terms.{label_name, name_word, capital_by, label_value, one_operand}
 use Rattle.listing_laws.proofs.Codes.{cpu_is, show_is, end_is}
-use Rattle.listing_laws.proofs.Placed.{known, none_behind, length-copies}
+use Rattle.listing_laws.proofs.Placed.{known, none_behind}
 use Rattle.listing_laws.proofs.Again.{task, cpu_goes, show_passes}
 use Rattle.listing_laws.proofs.Texts.{Line, written, ended, text_of_lines, lines_are, Runs, runs_on}
 use Rattle.listing_laws.proofs.Texts.{first_runs, text_short, lines_count}
@@ -26,6 +26,7 @@ use Rattle.listing_laws.proofs.Generated.{cpu_line_of, show_line_of, end_line_of
 use Rattle.listing_laws.proofs.Generated.{HasProgram, HasNone, AllGo, go_on, Stage}
 use Rattle.listing_laws.proofs.Programs.{hit, missed, other_letter, other_number, two_values}
 use Rattle.listing_laws.proofs.Programs.{program_runs}
+use Rattle.z_assemble.proofs.Over.{copies_size}
 
 pub le_before : (j k : ℕ) → suc j ≤ k → j ≤ k
 le_before j k h = omega arith
@@ -35,7 +36,7 @@ below_ten j h = omega arith
 
 -- ---- nothing is placed at first
 
-none_placed : (n : ℕ) → list_any (λ b. b) (copies n false) ≡ false
+pub none_placed : (n : ℕ) → list_any (λ b. b) (copies n false) ≡ false
 unfolding copies
 none_placed zero = refl
 none_placed (suc n) = none_placed n
@@ -70,7 +71,7 @@ module _ (c : ℕ) (most : c ≤ 8) where
   blank_state = record {
     stage = record {
       here = refl;
-      free = (free_from 16384 1048576, length-copies 1048576 false);
+      free = (free_from 16384 1048576, copies_size 1048576 false);
       open_yet = refl;
       count = refl;
       names = refl;

@@ -35,10 +35,10 @@ text_of_lines (l ∷ ls) = ended l ++ text_of_lines ls
 
 -- ---- pieces
 
-not_end : (b : ℕ) → nat_lt 31 b ≡ true → (b == 10) ≡ false
+pub not_end : (b : ℕ) → nat_lt 31 b ≡ true → (b == 10) ≡ false
 not_end b h = let high : 31 < b = ltb-true 31 b h in ne_eqb b 10 (λ e. omega arith)
 
-one_piece : (l rest : List ℕ) → list_all (λ b. nat_lt 31 b) l ≡ true
+pub one_piece : (l rest : List ℕ) → list_all (λ b. nat_lt 31 b) l ≡ true
     → pieces_by 10 ((l ++ 10 ∷ []) ++ rest) ≡ (l ++ 10 ∷ []) ∷ pieces_by 10 rest
 unfolding pieces_by
 one_piece [] rest h = refl
@@ -68,30 +68,30 @@ lines_are ls = ap (pieces_by 10) (capital_text ls) ∙ pieces_are ls
 
 -- ---- line ends
 
-last_is : (l : List ℕ) (b : ℕ) → slice_index (l ++ b ∷ []) (length l) ≡ b
+pub last_is : (l : List ℕ) (b : ℕ) → slice_index (l ++ b ∷ []) (length l) ≡ b
 last_is [] b = refl
 last_is (c ∷ l) b = last_is l b
 
-ends_so : (l : List ℕ) (b : ℕ) → ends_with b (l ++ b ∷ []) ≡ true
+pub ends_so : (l : List ℕ) (b : ℕ) → ends_with b (l ++ b ∷ []) ≡ true
 ends_so l b =
     let size : length (l ++ b ∷ []) ≡ suc (length l) = omega (arith, length-append l (b ∷ [])) in
     let less : length (l ++ b ∷ []) - 1 ≡ length l = omega arith in
     ap₂ (λ (c : Bool) (x : ℕ). c && (x == b)) (lt-ltb 0 (length (l ++ b ∷ [])) (omega arith))
     (ap (slice_index (l ++ b ∷ [])) less ∙ last_is l b) ∙ eq-eqb b b refl
 
-shortened_so : (l : List ℕ) (b : ℕ) → shortened (l ++ b ∷ []) ≡ l
+pub shortened_so : (l : List ℕ) (b : ℕ) → shortened (l ++ b ∷ []) ≡ l
 shortened_so l b =
     let less : length (l ++ b ∷ []) - 1 ≡ length l = omega (arith, length-append l (b ∷ [])) in
     ap (λ n. take n (l ++ b ∷ [])) less ∙ take_at l (b ∷ []) (length l) refl
 
-visible_at : (l : List ℕ) (i : ℕ) → list_all (λ b. nat_lt 31 b) l ≡ true → i < length l → 31 < slice_index l i
+pub visible_at : (l : List ℕ) (i : ℕ) → list_all (λ b. nat_lt 31 b) l ≡ true → i < length l → 31 < slice_index l i
 visible_at [] i h below = absurd (omega arith)
 visible_at (b ∷ bs) zero h below = ltb-true 31 b (and_parts (nat_lt 31 b) (list_all (λ c. nat_lt 31 c) bs)
     h).0
 visible_at (b ∷ bs) (suc i) h below = visible_at bs i (and_parts (nat_lt 31 b) (list_all (λ c. nat_lt 31 c)
     bs) h).1 (omega arith)
 
-no_return : (l : List ℕ) → list_all (λ b. nat_lt 31 b) l ≡ true → ends_with 13 l ≡ false
+pub no_return : (l : List ℕ) → list_all (λ b. nat_lt 31 b) l ≡ true → ends_with 13 l ≡ false
 no_return [] h = refl
 no_return (b ∷ bs) h =
     let below : length (b ∷ bs) - 1 < length (b ∷ bs) = omega arith in

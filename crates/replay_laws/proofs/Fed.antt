@@ -17,11 +17,11 @@ use Rattle.tx_report.specs.Report.{report_of, status_of}
 use Rattle.tx_report.specs.Shown.{shown_in, cpus_shown}
 use Rattle.z_assemble.specs.Whole.{Stands}
 use Rattle.z_assemble.proofs.Images.{stands_for_image}
-use Rattle.run_answers.specs.Reports.{IsReport}
-use Rattle.run_answers.specs.Races.{IsRaceReport, racing}
-use Rattle.run_answers.specs.Runs.{AreLimits, running, externals_in}
+use Rattle.ztx_answers.specs.Reports.{IsReport}
+use Rattle.ztx_answers.specs.Races.{IsRaceReport, racing}
+use Rattle.ztx_answers.specs.Runs.{AreLimits, running, externals_in}
 use Rattle.ztx_answers.proofs.Answered.{reports}
-use Rattle.run_answers.proofs.Plans.{planned_known}
+use Rattle.ztx_answers.proofs.Plans.{planned_known}
 use Rattle.schedule_laws.specs.Taken.{with_schedule}
 use Rattle.schedule_laws.proofs.Whole.{taken}
 use Rattle.replay_laws.specs.Fed.{CanBeFed, printed_by_run}

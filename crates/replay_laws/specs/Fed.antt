@@ -6,7 +6,7 @@ use Rattle.tx_journal.specs.declared.events.Event.{Event}
 use Rattle.tx_meaning.specs.Meaning.{meaning}
 use Rattle.tx_meaning.specs.Schedules.{planned}
 use Rattle.z_reading.specs.Text.{lines_of}
-use Rattle.run_answers.specs.Runs.{running}
+use Rattle.ztx_answers.specs.Runs.{running}
 
 -- the events that a run has recorded, which its report prints
 abbrev pub printed_by_run : ℕ → ℕ → Option ℕ → Content → List Event

@@ -1,9 +1,9 @@
 //! The law of printed schedules. It is the contract of a function that does nothing.
 ghost use Rattle.std.specs.Prelude.{ℕ, List, Option, ◌++◌};
 ghost use Rattle.tx_journal.specs.Schedule.{schedule_text};
-ghost use Rattle.run_answers.specs.Reports.{IsReport};
-ghost use Rattle.run_answers.specs.Races.{IsRaceReport};
-ghost use Rattle.run_answers.specs.Runs.{AreLimits};
+ghost use Rattle.ztx_answers.specs.Reports.{IsReport};
+ghost use Rattle.ztx_answers.specs.Races.{IsRaceReport};
+ghost use Rattle.ztx_answers.specs.Runs.{AreLimits};
 ghost use Rattle.replay_laws.specs.Fed.{CanBeFed, printed_by_run};
 
 /// A listing that gives no schedule makes the same report again, with the same status, where it is given the

@@ -22,9 +22,7 @@ fn behind_row(row: Row, last: u32, text: &[u8], at: Place) -> Option<Place>
     ensures behind { IfSome result (λ behind. IsNext text.now at behind) }
     ensures none { IfNone result (¬ Fit last (row ∷ []) (drop at.line (lines_of text.now))) }
 {
-    let Some(line) = line_at(text, at) else {
-        return None;
-    };
+    let line = line_at(text, at)?;
     if !fits(row, last, line.text) {
         return None;
     }

@@ -180,15 +180,11 @@ fn count_in(name: Name, line: &[u8]) -> Option<u64>
     ensures fits { IfSome result (λ n. n < 2 ^ 64) }
     ensures none { IfNone result ((n : ℕ) → n < 2 ^ 64 → line.now ≢ count_line name n) }
 {
-    let Some((word, rest)) = cut(line, b' ') else {
-        return None;
-    };
+    let (word, rest) = cut(line, b' ')?;
     if word != name.text() {
         return None;
     }
-    let Some((digits, behind)) = cut(rest, b'\n') else {
-        return None;
-    };
+    let (digits, behind) = cut(rest, b'\n')?;
     if !behind.is_empty() {
         return None;
     }
@@ -209,12 +205,8 @@ fn count_at(name: Name, text: &[u8], at: Place) -> Option<Counted>
     ensures behind { IfSome result (λ c. IsNext text.now at c.behind) }
     ensures none { IfNone result ((n : ℕ) → ¬ Counts name (lines_of text.now) at.line n) }
 {
-    let Some(line) = line_at(text, at) else {
-        return None;
-    };
-    let Some(number) = count_in(name, line.text) else {
-        return None;
-    };
+    let line = line_at(text, at)?;
+    let number = count_in(name, line.text)?;
     Some(Counted {
         number,
         behind: line.behind,

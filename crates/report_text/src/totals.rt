@@ -123,8 +123,6 @@ pub fn summary(
     ensures { IfOk result (λ text. text.items ≡ summary_text number (map shown_cpu cpus.now) counters.now) }
 {
     let mut text = Vec::new(alloc);
-    match add_summary(&mut text, number, cpus, counters) {
-        Ok(()) => Ok(text),
-        Err(_) => Err(NoMemory),
-    }
+    add_summary(&mut text, number, cpus, counters)?;
+    Ok(text)
 }

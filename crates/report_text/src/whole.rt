@@ -54,9 +54,7 @@ fn add_cpus(text: &mut Vec<u8>, cpus: &[Processor]) -> Result<(), AllocError>
 fn add_entries(text: &mut Vec<u8>, history: &[Entry]) -> Result<(), NoMemory>
     ensures { OnOk result (text.new.items ≡ text.old.items ++ history_lines history.now) }
 {
-    let Ok(()) = add_number_line(text, b"HISTORY ", history.len() as u64) else {
-        return Err(NoMemory);
-    };
+    add_number_line(text, b"HISTORY ", history.len() as u64)?;
     add_history(text, history)
 }
 
@@ -65,9 +63,7 @@ fn add_entries(text: &mut Vec<u8>, history: &[Entry]) -> Result<(), NoMemory>
 fn add_events(text: &mut Vec<u8>, events: &[Event]) -> Result<(), NoMemory>
     ensures { OnOk result (text.new.items ≡ text.old.items ++ schedule_lines events.now) }
 {
-    let Ok(()) = add_number_line(text, b"SCHEDULE ", events.len() as u64) else {
-        return Err(NoMemory);
-    };
+    add_number_line(text, b"SCHEDULE ", events.len() as u64)?;
     add_schedule(text, events)
 }
 
@@ -96,7 +92,8 @@ fn add_run_part(text: &mut Vec<u8>, history: &[Entry], events: &[Event]) -> Resu
 {
     add_entries(text, history)?;
     add_events(text, events)?;
-    text.extend_from_slice(b"END\n").map_err(|_| NoMemory)
+    text.extend_from_slice(b"END\n")?;
+    Ok(())
 }
 
 /// The report of a run, by the CPUs in the order of their numbers, what is shown in the order of the listing,
@@ -116,9 +113,7 @@ pub fn report<S: SharedBytes>(
         ≡ report_text (shown_of cpus.now shows.now (S.bytes storage.now) history.now events.now)) }
 {
     let mut text = Vec::new(alloc);
-    let Ok(()) = add_state_part(&mut text, cpus, shows, storage) else {
-        return Err(NoMemory);
-    };
+    add_state_part(&mut text, cpus, shows, storage)?;
     add_run_part(&mut text, history, events)?;
     Ok(text)
 }

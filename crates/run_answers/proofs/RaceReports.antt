@@ -4,7 +4,7 @@ use Rattle.std.specs.Prelude.{All, count_by}
 use Rattle.std.proofs.lemmas.Result.{IfOk-weaker}
 use Rattle.tx_journal.specs.Content.{Content}
 use Rattle.tx_journal.specs.Image.{IsImage, cpu_of_event}
-use Rattle.tx_machine.specs.Machine.{Seen, setting_of, state_of, opened}
+use Rattle.tx_report.specs.Machine.{Seen, setting_of, state_of, opened}
 use Rattle.tx_meaning.specs.Limits.{Setting}
 use Rattle.tx_meaning.specs.Meaning.{IsSetting, meaning, is_external}
 use Rattle.tx_meaning.specs.Schedules.{IsComplete}

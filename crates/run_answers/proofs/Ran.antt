@@ -8,7 +8,7 @@ use Rattle.report_text.specs.Summary.{summary_text}
 use Rattle.tx_gen.specs.Programs.{listing_of}
 use Rattle.tx_journal.specs.Content.{Content}
 use Rattle.tx_journal.specs.declared.events.Event.{Event}
-use Rattle.tx_machine.specs.Machine.{Seen, opened, setting_of, state_of}
+use Rattle.tx_report.specs.Machine.{Seen, opened, setting_of, state_of}
 use Rattle.tx_meaning.specs.Limits.{Setting}
 use Rattle.tx_meaning.specs.Meaning.{meaning}
 use Rattle.tx_meaning.specs.Schedules.{planned, round}

@@ -20,8 +20,8 @@ use Rattle.tx_headline.proofs.Queue.{queue_changes, before_most}
 use Rattle.tx_headline.proofs.After.{known_first}
 use Rattle.tx_headline.proofs.Commits.{commits}
 use Rattle.tx_headline.proofs.Served.{served}
-use Rattle.tx_machine.proofs.Laws.{unrejected_head}
-use Rattle.tx_machine.proofs.Most.{meaning_more}
+use Rattle.tx_report.proofs.Laws.{unrejected_head}
+use Rattle.tx_report.proofs.Most.{meaning_more}
 use Rattle.run_answers.proofs.Replays.{replayed}
 use Rattle.run_answers.specs.Serial.{IsSerial, IsSerialRun, IsOrderly, IsBounded}
 

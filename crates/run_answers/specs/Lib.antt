@@ -6,3 +6,8 @@ pub mod Runs
 pub mod Reports
 pub mod Races
 pub mod Checks
+-- what callers name of crates below
+pub use Rattle.tx_report.specs.Machine
+pub use Rattle.tx_schedule.specs.Ran
+pub use Rattle.tx_report.specs.Report
+pub use Rattle.tx_report.specs.Shown

@@ -3,7 +3,7 @@ use Rattle.std.specs.Prelude.{◌≡◌, ℕ, ◌<◌, ◌⊎◌, List, length, 
 use Rattle.tx_journal.specs.Content.{Content}
 use Rattle.tx_journal.specs.Image.{cpu_of_event}
 use Rattle.tx_journal.specs.declared.events.Event.{Event}
-use Rattle.tx_machine.specs.Machine.{Seen, opened, setting_of}
+use Rattle.tx_report.specs.Machine.{Seen, opened, setting_of}
 use Rattle.tx_meaning.specs.Limits.{Setting}
 use Rattle.tx_meaning.specs.Meaning.{meaning, is_external}
 use Rattle.tx_meaning.specs.Schedules.{IsComplete}

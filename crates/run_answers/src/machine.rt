@@ -1,6 +1,6 @@
 //! Machines of listings that are run.
 ghost use Rattle.std.specs.Prelude.{◌≡◌, ◌≤◌, IfOk};
-ghost use Rattle.tx_machine.specs.Machine.{opened};
+ghost use Rattle.tx_report.specs.Machine.{opened};
 ghost use Rattle.tx_meaning.specs.Limits.{external_limit};
 ghost use Rattle.run_answers.specs.Runs.{AreLimits, externals_in, running};
 
@@ -8,8 +8,8 @@ use listing_answers::NoMemory;
 use std::alloc::Global;
 use std::sync::Arc;
 use tx_journal::{Event, Image};
-use tx_machine::machine::Machine;
 use tx_meaning::Limits;
+use tx_report::Machine;
 
 /// How many interruptions from outside the schedule of an image has.
 fn externals_in(image: &Image) -> u32
@@ -35,11 +35,6 @@ pub fn open(alloc: Global, image: Image, turns: u32, tick: u32) -> Result<Machin
         tick,
         externals: externals_in(&image),
     };
-    let Ok(shared) = Arc::new(alloc, image) else {
-        return Err(NoMemory);
-    };
-    match Machine::open(alloc, shared, limits) {
-        Ok(machine) => Ok(machine),
-        Err(_) => Err(NoMemory),
-    }
+    let shared = Arc::new(alloc, image)?;
+    Machine::open(alloc, shared, limits)
 }

@@ -1,6 +1,6 @@
 //! What is due to a listing whose CPUs race: what comes before the race, and what behind it.
 ghost use Rattle.std.specs.Prelude.{◌≡◌, ℕ, ◌<◌, [], List, length, IfOk, IfErr};
-ghost use Rattle.tx_machine.specs.Machine.{opened};
+ghost use Rattle.tx_report.specs.Machine.{opened};
 ghost use Rattle.listing_answers.specs.Due.{IsStatus};
 ghost use Rattle.run_answers.specs.Races.{HasRaced, IsDueToRace, IsNoRace, MayRace, racing};
 ghost use Rattle.run_answers.specs.Runs.{AreLimits};
@@ -9,9 +9,8 @@ use listing_answers::{Answer, NoMemory, refuse, refuse_long_listing};
 use std::alloc::Global;
 use std::sync::Arc;
 use tx_journal::Image;
-use tx_machine::machine::Machine;
 use tx_meaning::Limits;
-use tx_report::{report, status};
+use tx_report::{Machine, report, status};
 use z_assemble::assemble;
 
 /// Why no race begins.
@@ -78,11 +77,9 @@ pub fn report_race(alloc: Global, machine: &Machine) -> Result<Answer, NoMemory>
     ensures statuses { IfOk result (λ answer. IsStatus answer.status) }
 {
     let _recorded = machine.events();
-    match report(alloc, machine) {
-        Ok(text) => Ok(Answer {
-            status: status(machine),
-            text,
-        }),
-        Err(_) => Err(NoMemory),
-    }
+    let text = report(alloc, machine)?;
+    Ok(Answer {
+        status: status(machine),
+        text,
+    })
 }

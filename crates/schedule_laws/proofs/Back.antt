@@ -23,9 +23,9 @@ use Rattle.z_fields.specs.declared.fault.Kind.{Kind}
 use Rattle.z_fields.specs.declared.fault.Kind.TheVariants.{BadSchedule}
 use Rattle.z_fields.specs.declared.schedule.Run.{Run}
 use Rattle.listing_laws.proofs.Numbers.{AreDigits, digits_are, all_by, number_is}
-use Rattle.deck_laws.proofs.Rows.{shortened_so}
 use Rattle.deck_laws.proofs.Data.{prefix_all}
 use Rattle.schedule_laws.proofs.Marks.{AreBelow, small, event_passes}
+use Rattle.listing_laws.proofs.Texts.{shortened_so}
 
 -- ---- items
 

@@ -20,7 +20,7 @@ use Rattle.z_reading.specs.Text.{lines_of}
 use Rattle.z_assemble.specs.Whole.{blank, ready, ready_for, known_in, image_of, First, Second, Stands}
 use Rattle.z_assemble.proofs.Images.{AreRead, are_read}
 use Rattle.z_assemble.proofs.Plans.{first_fits}
-use Rattle.deck_laws.proofs.Rows.{Row, ended, text_of_rows, rows_append, one_piece, Runs, first_runs, runs_on}
+use Rattle.deck_laws.proofs.Rows.{Row, ended, text_of_rows, rows_append, Runs, first_runs, runs_on}
 use Rattle.deck_laws.proofs.Rows.{rows_count}
 use Rattle.schedule_laws.specs.Taken.{MayTake, with_schedule}
 use Rattle.schedule_laws.proofs.Marks.{AreBelow, all_below, fewer}
@@ -29,6 +29,7 @@ use Rattle.schedule_laws.proofs.Row.{line_of, row, capital, line_kept, events_ta
 use Rattle.schedule_laws.proofs.Moved.{later, moved, first_moves}
 use Rattle.schedule_laws.proofs.Again.{AreScheds, scheds_over, second_over, given, second_given}
 use Rattle.statement_laws.proofs.Lines.{no_events_first}
+use Rattle.listing_laws.proofs.Texts.{one_piece}
 
 -- ---- lists
 

@@ -44,13 +44,14 @@ use Rattle.z_instr.specs.Table.{kind_at}
 use Rattle.z_effect.specs.One.{one, effect, length_of}
 use Rattle.z_effect.specs.Outcome.{Outcome, Did, Divides, Aborts, ended}
 use Rattle.z_effect.specs.Outcome as outcome
-use Rattle.tx_progress.proofs.Rows.{any_row, implied}
+use Rattle.tx_progress.proofs.Rows.{any_row}
 use Rattle.tx_progress.proofs.Standing.{tests_find_nothing}
 use Rattle.tx_serial.specs.Attempt.{Run}
 use Rattle.tx_serial.specs.Fate.{Goes, fate}
 use Rattle.tx_serial.specs.Run.{outcome_of}
 use Rattle.tx_serial.proofs.Passing.{passes}
 use Rattle.tx_serial.proofs.FreeOperands.{not_excepted}
+use Rattle.z_instr.proofs.PlainImmediates.{implied}
 
 -- ---- which instruction aborts, and with which code
 

@@ -6,3 +6,4 @@ mod moving;
 mod replying;
 
 pub use replying::replies;
+pub use tx_step::Trace;

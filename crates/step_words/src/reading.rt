@@ -12,6 +12,15 @@ use input_parts::cut;
 use std::alloc::{AllocError, Global};
 use tx_journal::read_number;
 
+/// The first address that can be looked at.
+const FIRST: u64 = 8_192;
+
+/// The number of bytes of storage.
+const SIZE: u64 = 1_048_576;
+
+/// The most bytes that a command looks at.
+const MOST: u64 = 256;
+
 /// The command that is a letter alone.
 const BARE: &[u8] = b"H";
 
@@ -45,13 +54,13 @@ fn can_be_seen(first: u64, count: u64) -> bool
     if count < 1 {
         return false;
     }
-    if 256 < count {
+    if MOST < count {
         return false;
     }
-    if first < 8192 {
+    if first < FIRST {
         return false;
     }
-    first <= 1_048_576 - count
+    first <= SIZE - count
 }
 
 /// An address and a number of bytes that can be looked at; None exactly where a text is none.

@@ -1,10 +1,10 @@
 -- Marked items laid one after the other, by the marks below a place.
 use Rattle.std.proofs.Common.{◌≡◌, ◌≢◌, ℕ, ◌+◌, ◌*◌, ◌/◌, ◌%◌, ◌<◌, ◌≤◌, Bool, true, false, cond}
-use Rattle.std.proofs.Common.{List, length, get_or, take, drop, Some, None, refl, sym, ap}
+use Rattle.std.proofs.Common.{List, length, get_or, take, Some, None, refl, sym, ap}
 use Rattle.std.proofs.Common.{◌∙◌, arith}
 use Rattle.std.specs.Prelude.{◌||◌}
 use Rattle.std.proofs.lemmas.Bool.{cases_lt, cond-true, or_right}
-use Rattle.std.proofs.lemmas.List.{get_or-take, get_or_past, length-take, length-take-le, length-drop}
+use Rattle.std.proofs.lemmas.List.{get_or-take, get_or_past, length-take}
 use Rattle.std.proofs.lemmas.Nat.{mul-add-lt}
 use Rattle.std.proofs.Math.Nat.{mod-lt, mul_comm}
 use Rattle.bit_set.specs.Bits.{IsNext, NoneMarked, lies_in}
@@ -13,7 +13,7 @@ use Rattle.slot_index.specs.Slots.{slot_in}
 use borrow.Enum.Arm.{by_way}
 use Rattle.slot_index.proofs.Found.{slot_in-has, slot_cases}
 use Rattle.z_regs.specs.Written.{range_at}
-use Rattle.z_regs.proofs.OneArea.{in_range}
+use Rattle.z_regs.proofs.OneArea.{in_range, length-range_at}
 use Rattle.store_cache.specs.Sizes.{block_size}
 use Rattle.store_cache.specs.Overlay.{nothing, with_one, with_bytes}
 use Rattle.store_cache.specs.Entries.{items_of}
@@ -79,9 +79,6 @@ one_below size pos blocks items marks from end cell place slot next found is =
         ∙ sym (items_of-at size blocks items (take from marks) q at.0 at.1))
         (λ absent. items_of-none size blocks items (take (cell + 1) marks) q absent
         ∙ sym (items_of-none size blocks items (take from marks) q absent))
-
-pub length-range_at : (items : List ℕ) (cell n : ℕ) → cell + n ≤ length items → length (range_at items cell n) ≡ n
-length-range_at items cell n room = length-take-le n (drop cell items) (omega (arith, length-drop cell items))
 
 -- the next marked bytes, all of one block
 pub run_below : (blocks items : List ℕ) (marks : List Bool) (from end cell n place slot : ℕ)

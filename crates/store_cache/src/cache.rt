@@ -12,9 +12,9 @@ use crate::laying::{lay_bytes, lay_values};
 use bit_set::BitSet;
 use byteorder::{BigEndian, ByteOrder};
 use slot_index::SlotIndex;
-use std::alloc::{AllocError, Global};
+use std::alloc::Global;
 use std::marker::Model;
-use z_regs::{Bytes, STORAGE_SIZE};
+use z_regs::{Bytes, NoMemory, STORAGE_SIZE};
 
 /// The bytes of a block.
 pub const BLOCK_SIZE: usize = 128;
@@ -27,16 +27,6 @@ pub const BLOCKS: usize = 8192;
 
 /// How many blocks may be stored.
 pub const MOST_BLOCKS: usize = 64;
-
-/// Want of memory.
-#[derive(Clone, Copy, Debug, PartialEq, Eq)]
-pub struct NoMemory;
-
-impl From<AllocError> for NoMemory {
-    fn from(_error: AllocError) -> NoMemory {
-        NoMemory
-    }
-}
 
 /// The stores of an attempt into at most `MOST_BLOCKS` blocks. Blocks are numbered as in storage, their
 /// address divided by 128.

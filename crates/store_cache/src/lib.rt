@@ -8,7 +8,8 @@ mod cache;
 mod laws;
 mod laying;
 
-pub use cache::{BLOCK_SIZE, BLOCKS, MOST_BLOCKS, NoMemory, StoreCache};
+pub use cache::{BLOCK_SIZE, BLOCKS, MOST_BLOCKS, StoreCache};
 pub use laws::{
     bytes_are_stored_in_turn, lays_stores_in_program_order, one_store_is_seen, the_last_value_lasts,
 };
+pub use z_regs::NoMemory;

@@ -38,7 +38,7 @@ use Rattle.tx_attempt.specs.Gathered.{HasRoomFor}
 use Rattle.tx_attempt.specs.Performed.{StoresFirst}
 use Rattle.tx_attempt.specs.Tracked.{Tracked, IsSound}
 use Rattle.tx_attempt.proofs.GatheredBlocks.{one-block}
-use Rattle.tx_attempt.proofs.GatheredStores.{stores_by, no-stores, some-stores}
+use Rattle.tx_attempt.proofs.GatheredStores.{stores_by, no-stores, some-stores, first-end}
 use Rattle.tx_attempt.proofs.Stored.{first-size, first-small, trimmed-stores}
 
 -- ---- the blocks of the first operand
@@ -63,13 +63,6 @@ all-small prefix (r ∷ rs) h =
     let small : r.length ≤ area_size = omega (arith, most) in
     (small, all-small prefix rs (All-tail (IsAccessible prefix) r rs h))
 
-get-all : (prefix : Option ℕ) (rs : List Range) (r : Range) → All (IsAccessible prefix) rs
-    → slice_get rs 0 ≡ Some r → IsAccessible prefix r
-get-all prefix [] r h get = absurd (cc)
-get-all prefix (q ∷ rs) r h get =
-    let same : q ≡ r = cc in
-    subst (IsAccessible prefix) same (All-head (IsAccessible prefix) q rs h)
-
 pub block-there : (prefix : Option ℕ) (need : List Range) (r : Range) (k : ℕ) → is_prefix prefix ≡ true
     → All (IsAccessible prefix) need → StoresFirst need → slice_get need 0 ≡ Some r → r.store ≡ true
     → k < r.length
@@ -82,7 +75,7 @@ block-there prefix need r k ok accessible first get e lt =
     let size : length bytes ≡ 256 = length-replicate {A = ℕ} 256 0 in
     let few = first-small prefix need accessible in
     let enough : stored_size need ≤ length bytes = omega (arith, first-size need first, few, size) in
-    let most = (get-all prefix need r accessible get).most in
+    let most = (first-end prefix need r accessible get).most in
     let inside : length (take r.length bytes) ≡ r.length =
     length-take-le r.length bytes (omega (arith, most, size)) in
     let all : operand_stores prefix need bytes ≡ stores_at prefix r.first (take r.length bytes) =
@@ -257,7 +250,7 @@ advanced-sound t i general prefix need bytes nest f k s sound live may ok access
     let sets : Sets = touching (sets_of t.footprint) (absolute_ranges prefix need) in
     let ends : (r : Range) → slice_get need 0 ≡ Some r → r.store ≡ true → (j : ℕ) → j < r.length
     → absolute_of prefix (r.first + j) < storage_size = λ r get store j lt.
-    let end = (get-all prefix need r accessible get).end in
+    let end = (first-end prefix need r accessible get).end in
     absolute_within prefix (r.first + j) ok (omega (arith, end, lt)) in
     let there = operand-all (λ a. sets.blocks (a / block_size) ≡ true) prefix need bytes first
     (λ r get store j lt. or_right ((sets_of t.footprint).blocks (absolute_of prefix

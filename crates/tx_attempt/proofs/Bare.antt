@@ -22,8 +22,9 @@ use Rattle.tx_attempt.specs.Storages.{storage_of}
 use Rattle.tx_attempt.specs.Performed.{IsFetched, IsLeft, IsKeptApart, StoresFirst, no_range, first_size}
 use Rattle.tx_attempt.specs.Performed.{first_bytes}
 use Rattle.tx_attempt.proofs.Fetching.{all-inside, touched-fetched, taken-at}
-use Rattle.tx_attempt.proofs.Returning.{after-over, length-range}
+use Rattle.tx_attempt.proofs.Returning.{after-over}
 use Rattle.tx_attempt.proofs.Stored.{none-written, plain-outcome}
+use Rattle.z_regs.proofs.OneArea.{length-range_at}
 
 -- an option without a value
 pub none-so : (o : Option ℕ) → is_some o ≡ false → o ≡ None
@@ -76,7 +77,7 @@ pub brought-back : (need : List Range) (o : Outcome) (s t new kept : List ℕ) �
     → new ≡ written t (get_or need 0 no_range).first kept → new ≡ s
 brought-back need o s t new kept first h ek et en =
     let a = get_or need 0 no_range in
-    let size : length kept ≡ a.length = ap length ek ∙ length-range s a.first a.length h in
+    let size : length kept ≡ a.length = ap length ek ∙ length-range_at s a.first a.length h in
     en ∙ ap (λ (x : List ℕ). written x a.first kept) et ∙ after-over need o s kept first h size
     ∙ ap (written s a.first) ek ∙ written_same s a.first a.length h
 

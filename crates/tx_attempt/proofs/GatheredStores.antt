@@ -16,7 +16,6 @@ use Rattle.tx_progress.specs.Progress.{laying}
 use Rattle.tx_attempt.specs.Gathered.{IsDoubleword}
 use Rattle.tx_attempt.specs.Performed.{StoresFirst, first_size}
 use Rattle.tx_attempt.proofs.Stored.{none-stores, first-stores, trimmed-stores}
-use Rattle.tx_attempt.proofs.Begun.{none-lasting}
 
 abbrev pub stores_by : Option ℕ → List Range → List ℕ → List Store
 stores_by prefix rs bytes = operand_stores prefix rs (take (first_size rs) bytes)
@@ -50,11 +49,6 @@ some-stores prefix (q ∷ rs) r bytes get e first =
 
 pub overlay-stays : (o : Overlay) (ss : List Store) → ss ≡ [] → o ≡ laying o ss
 overlay-stays o ss h = sym (ap (laying o) h)
-
-pub lasting-stays : (i : Instr) (o : Overlay) (ss : List Store) → ss ≡ [] → o ≡ laying o (lasting_of i ss)
-lasting-stays i o ss h =
-    sym (ap (λ (x : List Store). laying o (lasting_of i x)) h
-    ∙ ap (laying o) (none-lasting (stores_lastingly (entry_at i.op.number))))
 
 -- stores of another operation do not last
 pub others-last-not : (i : Instr) (o : Overlay) (ss : List Store)

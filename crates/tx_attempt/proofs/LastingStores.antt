@@ -19,12 +19,13 @@ use Rattle.z_effect.specs.Outcome.{Did}
 use Rattle.z_effect.specs.Registers.{register, advanced}
 use Rattle.z_effect.specs.TransactionEffect.{transaction_effect}
 use Rattle.z_instr.specs.Roles.{stores_lastingly}
-use Rattle.tx_progress.proofs.Rows.{any_row, implied}
+use Rattle.tx_progress.proofs.Rows.{any_row}
 use Rattle.tx_attempt.specs.declared.performing.Ended.{Ended}
 use Rattle.tx_attempt.specs.Gathered.{IsDoubleword}
 use Rattle.tx_attempt.specs.Gathered.{IsStoredDoubleword}
 use Rattle.tx_attempt.specs.Performed.{outcome_from, trimmed, first_size}
 use Rattle.tx_attempt.proofs.Laying.{ended-so, stored_in}
+use Rattle.z_instr.proofs.PlainImmediates.{implied}
 
 abbrev is_lasting : Transaction → Bool
 is_lasting transaction.StoreLasting = true

@@ -8,18 +8,17 @@ use Rattle.std.specs.List.{list_all}
 use Rattle.std.proofs.lemmas.Bool.{cases_lt, and_parts}
 use Rattle.std.proofs.lemmas.List.{get_or_past}
 use Rattle.std.proofs.lemmas.List.Elements.{All-nil, All-cons, All-head, All-tail, All-append}
-use Rattle.z_regs.specs.Prefix.{storage_size, is_prefix, absolute_of, is_accessible}
+use Rattle.z_regs.specs.Prefix.{storage_size, is_prefix, absolute_of}
 use Rattle.z_regs.specs.Absolute.{IsAccessible, absolute_range, absolute_ranges, to_edge, part_of}
 use Rattle.z_regs.specs.declared.ranges.Range.{Range}
-use Rattle.z_regs.proofs.Exchange.{IsArea, area, moves}
+use Rattle.z_regs.proofs.Exchange.{area, moves, stays_inside}
 use Rattle.z_regs.proofs.MovedBytes.{one_area, two_areas}
 use Rattle.z_instr.specs.Operands.{Span, IsSmall, is_inside}
 use Rattle.z_instr.specs.Access.{accessible_pages}
 use Rattle.z_touch.specs.Refusals.{range_of}
-use Rattle.z_touch.proofs.SmallRanges.{inside_ends}
 use Rattle.store_cache.specs.Overlay.{Overlay}
 use Rattle.tx_footprint.specs.Places.{IsInStorage}
-use Rattle.tx_serial.proofs.FreeOperands.{usable}
+use Rattle.tx_serial.proofs.FreeOperands.{accessible_span}
 use Rattle.tx_progress.specs.Progress.{seen_through}
 use Rattle.tx_attempt.specs.Storages.{storage_of}
 
@@ -44,21 +43,6 @@ nothing_beyond o prefix s a ok size none h =
     sym (ap (λ v. unwrap_or v (get_or s b 0)) (none b past) ∙ get_or_past s b 0 end)
 
 -- ---- ranges in storage
-
-stays_inside : (p a n : ℕ) → IsArea p → a + n ≤ storage_size → n ≤ to_edge a
-    → absolute_of (Some p) a + n ≤ storage_size
-stays_inside p a n r h k =
-    let m = moves p a r.low in
-    elim (cases_lt a 8192) [
-      | inl low ↦ omega (arith, m.first low, r.aligned, r.high, k)
-      | inr high ↦ elim (cases_lt a p) [
-        | inl below ↦ omega (arith, m.between high below, h)
-        | inr from ↦ elim (cases_lt a (p + 8192)) [
-          | inl own ↦ omega (arith, m.own from own, r.aligned, r.high, k, h)
-          | inr past ↦ omega (arith, m.beyond past, h)
-        ]
-      ]
-    ]
 
 in_storage : (r : Range) → r.first + r.length ≤ storage_size → IsInStorage r
 in_storage r h a low high = omega (arith, h, low, high)
@@ -101,16 +85,6 @@ ranges_in_storage prefix (r ∷ rs) ok h =
     (ranges_in_storage prefix rs ok (All-tail (IsAccessible prefix) r rs h))
 
 -- ---- operands that are inside
-
-accessible_span : (prefix : Option ℕ) (s : Span) → IsSmall s → is_inside (accessible_pages prefix) s ≡ true
-    → IsAccessible prefix (range_of s)
-accessible_span prefix s small inside =
-    let same : s.first + 0 ≡ s.first = omega arith in
-    record {
-      first = subst (λ a. is_accessible prefix a ≡ true) same (usable prefix s 0 small inside small.some);
-      end = inside_ends prefix s small inside;
-      most = small.most;
-    }
 
 pub accessible_spans : (prefix : Option ℕ) (ss : List Span) → All IsSmall ss
     → list_all (is_inside (accessible_pages prefix)) ss ≡ true → All (IsAccessible prefix) (map range_of ss)

@@ -3,8 +3,7 @@ use Rattle.std.proofs.Common.{◌≡◌, ℕ, zero, suc, ◌+◌, ◌<◌, ◌�
 use Rattle.std.proofs.Common.{◌-◌, refl, sym, ap, ◌∙◌, arith, length, get_or, take, drop, inl, inr}
 use Rattle.std.specs.Prelude.{map, cond, All}
 use Rattle.std.proofs.lemmas.Bool.{cases_lt}
-use Rattle.std.proofs.lemmas.List.{ext_get_or, length-take, length-take-le, length-drop, get_or_past}
-use Rattle.std.proofs.lemmas.List.{take_more, get_or-drop}
+use Rattle.std.proofs.lemmas.List.{ext_get_or, length-take, get_or_past}
 use Rattle.std.proofs.lemmas.List.Elements.{All-nil, All-cons}
 use Rattle.std.proofs.Math.Seq.{take-append_seam}
 use Rattle.z_regs.specs.Absolute.{IsAccessible}
@@ -19,6 +18,7 @@ use Rattle.z_regs.proofs.Writes.{inside, written_same}
 use Rattle.tx_serial.specs.Flat.{Storage, bytes_seen}
 use Rattle.tx_attempt.specs.Performed.{IsFetched, StoresNone, StoresFirst, no_range, first_size, first_bytes}
 use Rattle.tx_attempt.proofs.Stored.{none-written}
+use Rattle.z_regs.proofs.OneArea.{length-range_at}
 
 -- ---- bytes written twice
 
@@ -65,16 +65,6 @@ pub come-back : (s zs ys : List ℕ) (a n : ℕ) → a + n ≤ length s → leng
 come-back s zs ys a n h l size e =
     over s zs ys a (omega (arith, h, size)) (omega (arith, l, size))
     ∙ ap (written s a) e ∙ written_same s a n h
-
-pub length-range : (s : List ℕ) (a n : ℕ) → a + n ≤ length s → length (range_at s a n) ≡ n
-length-range s a n h = length-take-le n (drop a s) (omega (arith, length-drop a s, h))
-
--- one byte more
-pub range-more : (s : List ℕ) (a k : ℕ) → a + k < length s
-    → range_at s a k ++ get_or s (a + k) 0 ∷ [] ≡ range_at s a (k + 1)
-range-more s a k h =
-    let short : k < length (drop a s) = omega (arith, length-drop a s, h) in
-    ap (λ b. range_at s a k ++ b ∷ []) (sym (get_or-drop a s k 0)) ∙ sym (take_more (drop a s) k 0 short)
 
 -- ---- true bytes
 
@@ -198,14 +188,14 @@ returned need o s mid lent-now t again new xs ys kept other first ha hb ly lx em
     let longer : length lent-now ≡ length mid =
     ap length el ∙ length-written mid a.first xs (omega (arith, in-mid, lx)) in
     let in-lent : a.first + a.length ≤ length lent-now = omega (arith, in-mid, longer) in
-    let short : length kept ≡ a.length = ap length ek ∙ length-range mid a.first a.length in-mid in
+    let short : length kept ≡ a.length = ap length ek ∙ length-range_at mid a.first a.length in-mid in
     let back : again ≡ mid =
     ea ∙ ap (λ (x : List ℕ). written x a.first kept) et ∙ after-over need o lent-now kept first in-lent short
     ∙ ap (λ (x : List ℕ). written x a.first kept) el
     ∙ come-back mid xs kept a.first a.length in-mid (omega (arith, lx)) short ek in
     en ∙ ap (λ (x : List ℕ). written x b.first other) (back ∙ em)
     ∙ come-back s ys other b.first b.length hb (omega (arith, ly))
-    (ap length eo ∙ length-range s b.first b.length hb) eo
+    (ap length eo ∙ length-range_at s b.first b.length hb) eo
 
 -- ---- what is stored
 
@@ -214,7 +204,7 @@ apart : (r : Range) (t xs rest : List ℕ) (b : Bool) → r.first + r.length ≤
     → take (cond b r.length 0) (xs ++ rest) ≡ cond b (range_at t r.first r.length) []
 apart r t xs rest false h e = refl
 apart r t xs rest true h e =
-    let size : length xs ≡ r.length = ap length e ∙ length-range t r.first r.length h in
+    let size : length xs ≡ r.length = ap length e ∙ length-range_at t r.first r.length h in
     ap (λ n. take n (xs ++ rest)) (sym size) ∙ take-append_seam xs rest ∙ e
 
 -- the bytes that come back from the first operand are those that are stored

@@ -51,10 +51,6 @@ with_one_more prefix a xs b s =
     ap (laid_over s) (stores_at-append prefix a xs b)
     ∙ laid_twice (stores_at prefix a xs) _ s
 
-pub with_none : (prefix : Option ℕ) (a : ℕ) (s : Storage) → with_bytes_at prefix a [] s ≡ s
-unfolding laid_over
-with_none prefix a s = refl
-
 -- ---- through an overlay
 
 through_at : (o : Overlay) (s : List ℕ) (a : ℕ) → ((x : ℕ) → length s ≤ x → o x ≡ None)

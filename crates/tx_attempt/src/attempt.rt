@@ -118,12 +118,8 @@ impl Attempt {
     pub fn open(alloc: Global) -> Result<Attempt, NoMemory>
         ensures { IfOk result (λ attempt. (c : Cpu) → progress attempt c ≡ resting c) }
     {
-        let Ok(footprint) = Footprint::open(alloc) else {
-            return Err(NoMemory);
-        };
-        let Ok(stores) = StoreCache::open(alloc) else {
-            return Err(NoMemory);
-        };
+        let footprint = Footprint::open(alloc)?;
+        let stores = StoreCache::open(alloc)?;
         Ok(Attempt {
             nest: Nest::none(),
             footprint,
@@ -372,7 +368,11 @@ impl Attempt {
         ensures progress { (c : Cpu) → progress self.new c ≡ progress other.now c }
         ensures count { self.new.count ≡ other.now.count }
     {
+        self.is_sound();
         other.is_sound();
+        if !self.is_live() && !other.is_live() {
+            return;
+        }
         self.nest.copy_from(&other.nest);
         self.footprint.copy_from(&other.footprint);
         copy_constraint(&mut self.constraint, &other.constraint);

@@ -4,9 +4,9 @@ use Rattle.tx_journal.specs.Content.{Content}
 use Rattle.tx_meaning.specs.IdleOutcomes.{is_idle_outcome}
 use Rattle.tx_meaning.specs.Meaning.{is_external}
 use Rattle.tx_meaning.specs.declared.outcome.Outcome.{Outcome}
-use Rattle.tx_machine.specs.Machine.{Seen, setting_of}
-use Rattle.tx_machine.specs.declared.lending.Home.{Home}
-use Rattle.tx_machine.specs.declared.lending.Home.TheVariants as home
+use Rattle.tx_schedule.specs.Machine.{Seen, setting_of}
+use Rattle.tx_schedule.specs.DeclaredLending.Home.{Home}
+use Rattle.tx_schedule.specs.DeclaredLending.Home.TheVariants as home
 
 -- one share for the worker of each CPU, and a last one for the thread that called
 abbrev pub shares_for : Content → ℕ

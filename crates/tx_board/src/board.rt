@@ -3,13 +3,13 @@ ghost use Rattle.std.specs.Prelude.{◌≡◌, ℕ, ◌+◌, ◌-◌, ◌<◌, �
 ghost use Rattle.std.specs.Prelude.{slice_index_or};
 ghost use Rattle.std.specs.List.{All};
 ghost use Rattle.tx_journal.specs.declared.events.Event.TheVariants.{Turn};
-ghost use Rattle.tx_machine.specs.Machine.{after, event_of, setting_of, state_of, most_events};
+ghost use Rattle.tx_schedule.specs.Machine.{after, event_of, setting_of, state_of, most_events};
 ghost use Rattle.tx_meaning.specs.Idle.{is_ready};
 ghost use Rattle.std.specs.FinSet.{items};
-ghost use Rattle.tx_home.specs.Lending.{IsLentBy};
-ghost use Rattle.tx_home.specs.Places.{IsFirstUnlike};
-ghost use Rattle.tx_machine.specs.Lending.{IfLent, kept_of, kept_because, lent_by, refusal_in, home_by, unlike_in};
-ghost use Rattle.tx_machine.specs.declared.lending.Home.TheVariants.{Taken};
+ghost use Rattle.tx_schedule.specs.HomeLending.{IsLentBy};
+ghost use Rattle.tx_schedule.specs.Places.{IsFirstUnlike};
+ghost use Rattle.tx_schedule.specs.Lending.{IfLent, kept_of, kept_because, lent_by, refusal_in, home_by, unlike_in};
+ghost use Rattle.tx_schedule.specs.DeclaredLending.Home.TheVariants.{Taken};
 ghost use Rattle.tx_board.specs.Shares.{shares_for, recorded_by, taken_in};
 
 use crate::turns::{bring_home, cpu_count, is_idle, lend_cpu, make_turn, taken_in};
@@ -17,9 +17,9 @@ use std::alloc::Global;
 use std::marker::PhantomData;
 use std::sync::ledger;
 use std::sync::ledger::Ledger;
-use tx_machine::{Home, Lend, Machine, NoMemory};
 use tx_meaning::Outcome;
 use tx_run::Run;
+use tx_schedule::{Home, Lend, Machine, NoMemory};
 
 /// A ledger that is not opened yet.
 #[derive(Drop)]
@@ -104,9 +104,7 @@ fn shares_of<L: Ledger>(
     let mut shares = Vec::new(alloc);
     for _number in 0..count {
         let share = cut(&mut rest);
-        if shares.push(share).is_err() {
-            return Err(NoMemory);
-        }
+        shares.push(share)?;
     }
     Ok(shares)
 }

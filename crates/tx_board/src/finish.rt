@@ -1,7 +1,7 @@
 //! The rest of a run, in one thread: the round behind the workers, and a run that is made again.
 ghost use Rattle.std.specs.Prelude.{◌≡◌, ℕ, ◌+◌, ◌<◌, ◌≤◌, length, IfOk, IfSome, IfNone, true, false};
 ghost use Rattle.std.specs.Arc.{arc_value};
-ghost use Rattle.tx_machine.specs.Machine.{opened, setting_of, state_of};
+ghost use Rattle.tx_schedule.specs.Machine.{opened, setting_of, state_of};
 ghost use Rattle.tx_meaning.specs.Idle.{is_ready};
 ghost use Rattle.tx_board.specs.Shares.{IsOfSameRun};
 ghost use Rattle.tx_schedule.specs.Ran.{HasNoneReady};
@@ -12,9 +12,8 @@ use std::alloc::Global;
 use std::sync::Arc;
 use std::sync::ledger::Ledger;
 use tx_journal::Image;
-use tx_machine::{Machine, NoMemory};
 use tx_meaning::Limits;
-use tx_schedule::run_round;
+use tx_schedule::{Machine, NoMemory, run_round};
 
 /// The lowest ready CPU at or above a number; None exactly where there is none.
 fn first_ready(machine: &Machine, from: u32) -> Option<u32>

@@ -1,20 +1,20 @@
 //! Turns of a machine that is raced for, and runs that it lends, and how many events they record.
 ghost use Rattle.std.specs.Prelude.{◌≡◌, ℕ, ◌+◌, ◌^◌, ◌<◌, ◌≤◌, true, None, length};
 ghost use Rattle.tx_journal.specs.declared.events.Event.TheVariants.{Turn};
-ghost use Rattle.tx_machine.specs.Machine.{after, event_of, setting_of, state_of, most_events};
+ghost use Rattle.tx_schedule.specs.Machine.{after, event_of, setting_of, state_of, most_events};
 ghost use Rattle.tx_meaning.specs.Idle.{is_ready};
 ghost use Rattle.tx_meaning.specs.IdleOutcomes.{is_idle_outcome};
 ghost use Rattle.std.specs.FinSet.{items};
-ghost use Rattle.tx_home.specs.Lending.{IsLentBy};
-ghost use Rattle.tx_home.specs.Places.{IsFirstUnlike};
-ghost use Rattle.tx_machine.specs.Lending.{IfLent, kept_of, kept_because, lent_by, refusal_in, home_by, unlike_in};
-ghost use Rattle.tx_machine.specs.declared.lending.Home.TheVariants.{Taken};
+ghost use Rattle.tx_schedule.specs.HomeLending.{IsLentBy};
+ghost use Rattle.tx_schedule.specs.Places.{IsFirstUnlike};
+ghost use Rattle.tx_schedule.specs.Lending.{IfLent, kept_of, kept_because, lent_by, refusal_in, home_by, unlike_in};
+ghost use Rattle.tx_schedule.specs.DeclaredLending.Home.TheVariants.{Taken};
 ghost use Rattle.tx_board.specs.Shares.{recorded_by, taken_in};
 
 use tx_journal::Event;
-use tx_machine::{Home, Lend, Machine};
 use tx_meaning::Outcome;
 use tx_run::Run;
+use tx_schedule::{Home, Lend, Machine};
 
 /// The number of CPUs of a machine.
 pub fn cpu_count(machine: &Machine) -> u32

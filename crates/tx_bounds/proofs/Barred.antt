@@ -1,6 +1,6 @@
 -- Only TABORT aborts the transaction that it is executed in, and the constraints bar it.
 use Rattle.std.proofs.Common.{◌≡◌, ℕ, ◌+◌, ◌*◌, ◌^◌, Bool, true, false, List, []}
-use Rattle.std.proofs.Common.{refl, sym, Result, Ok, Err, not}
+use Rattle.std.proofs.Common.{refl, Result, Ok, Err, not}
 use Rattle.std.specs.Prelude.{◌&&◌, nat_eq, nat_le, if◌then◌else◌}
 use Rattle.std.proofs.lemmas.Bool.{true≢false}
 use Rattle.z_arith.specs.declared.Width.{Width}
@@ -36,6 +36,7 @@ use Rattle.z_effect.specs.One.{one, effect, length_of}
 use Rattle.z_effect.specs.Outcome.{Outcome, Did, Divides, Aborts, ended}
 use Rattle.z_effect.specs.Outcome as outcome
 use Rattle.tx_progress.proofs.Rows.{any_row}
+use Rattle.z_instr.proofs.PlainImmediates.{not_second}
 
 -- ---- what does not abort
 
@@ -133,11 +134,6 @@ is_barred e = not (e.permitted && aborts_itself e.kind)
 
 barred_rows : (n : ℕ) → is_barred (entry_at n) ≡ true
 barred_rows = any_row is_barred refl refl
-
-pub not_second : (a b : Bool) → not (a && b) ≡ true → a ≡ true → b ≡ false
-not_second true true h e = absurd (true≢false (sym h))
-not_second true false h e = refl
-not_second false b h e = absurd (true≢false (sym e))
 
 -- what the constraints permit does not abort its transaction
 pub permitted_not : (i : Instr) (c : Cpu) (depth : ℕ) (bytes : List ℕ)

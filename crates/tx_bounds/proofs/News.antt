@@ -19,6 +19,7 @@ use Rattle.tx_meaning.specs.Changes.{without_attempt, aborting}
 use Rattle.tx_meaning.proofs.Walk.{cause_case}
 use Rattle.tx_keeping.specs.Kept.{Kept}
 use Rattle.tx_keeping.specs.Moves.{k_aborting, standing_after}
+use Rattle.std.proofs.Math.Bool.{and-false}
 
 -- ---- entries
 
@@ -71,17 +72,13 @@ not_ended c before now n =
     ap (λ h. list_any (is_end_of c) (drop (length before.history) h)) n.is
     ∙ ap (list_any (is_end_of c)) (dropped before.history n.entries) ∙ n.none
 
-pub and_off : (a : Bool) → (a && false) ≡ false
-and_off true = refl
-and_off false = refl
-
 -- an abort that is no program interruption is no end
 pub abort_news : {c : ℕ} {before : List Entry} (j : ℕ) (w : Why) (at : ℕ) (k : Kept) → is_end_by w ≡ false
     → NoEnd c before k.state.history → NoEnd c before (k_aborting j w at k).state.history
 unfolding k_aborting
 abort_news {c} {before} j w at k off n =
     let count = (k.locals j).attempt.count in
-    one_more (Abort j count w) (ap (λ b. (j == c) && b) off ∙ and_off (j == c))
+    one_more (Abort j count w) (ap (λ b. (j == c) && b) off ∙ and-false (j == c))
     (aborted_history j (k.standings j) count w k.state) n
 
 -- ---- no constrained transaction

@@ -44,6 +44,7 @@ use Rattle.tx_meaning.specs.Stretches.{is_end_by}
 use Rattle.tx_bounds.proofs.Room.{has_room}
 use Rattle.z_instr.proofs.Passing.{and_left}
 use Rattle.tx_serial.proofs.FreeOperands.{found_none}
+use Rattle.tx_progress.proofs.Limits.{breach_none}
 
 -- ---- the nest
 
@@ -81,10 +82,6 @@ free_of [] n h = refl
 free_of (b ∷ bs) n h =
     not_both (entry_at n).permitted (entry_at n).restricted (sets_access_register (entry_at n))
     (not (effective_a (b ∷ bs))) (free_rows n) h
-
-breach_none : (i : Instr) (o : Option ℕ) → breach_refusal i o ≡ None → o ≡ None
-breach_none i None h = refl
-breach_none i (Some n) h = absurd (cc)
 
 permitted_of : (q : Progress) (i : Instr) (kept : constraint.Kept) → q.constraint ≡ Some kept
     → text_refusal_by q i ≡ None → (entry_at i.op.number).permitted ≡ true

@@ -43,7 +43,7 @@ use Rattle.tx_serial.proofs.Passing.{passes}
 use Rattle.tx_progress.specs.Local.{Local}
 use Rattle.tx_progress.specs.Progress.{Progress, begins_constrained}
 use Rattle.tx_progress.specs.Reached.{progress_of, constraint_of, IsFollowed}
-use Rattle.tx_progress.specs.Trial.{breach_refusal, constraint_refusal, place_refusal_by, overflow_refusal_by}
+use Rattle.tx_progress.specs.Trial.{constraint_refusal, place_refusal_by, overflow_refusal_by}
 use Rattle.tx_progress.proofs.Alike.{its_footprint}
 use Rattle.tx_progress.proofs.Facts.{keeps_prefix}
 use Rattle.tx_progress.proofs.Lines.{AreSmall, any_there, range_there, run_there, small_operands}
@@ -51,6 +51,7 @@ use Rattle.tx_progress.proofs.Lines.{either_way}
 use Rattle.tx_progress.proofs.OneMore.{went, open_is_there}
 use Rattle.tx_progress.proofs.Standing.{Stands, run_stands}
 use Rattle.tx_serial.proofs.FreeOperands.{begin_bare}
+use Rattle.tx_progress.proofs.Limits.{breach_none}
 
 -- ---- octowords that are piled up
 
@@ -281,10 +282,6 @@ kept_of (s ∷ ss) k e = by (begins_constrained s.instruction) e
         → kept (attempt_of (s ∷ ss)) ≡ k
     by true h = cc
     by false h = absurd (cc)
-
-breach_none : (i : Instr) (o : Option ℕ) → breach_refusal i o ≡ None → o ≡ None
-breach_none i None h = refl
-breach_none i (Some n) h = absurd (cc)
 
 first_unbroken : (b : Bool) (n : ℕ) (rest : Option ℕ) → first_of b n rest ≡ None → b ≡ false
 first_unbroken true n rest h = absurd (cc)

@@ -22,8 +22,8 @@ use Rattle.tx_serial.proofs.Passing.{passes}
 use Rattle.tx_progress.proofs.Rows.{any_row}
 use Rattle.tx_progress.proofs.Standing.{tests_find_nothing}
 use Rattle.tx_keeping.proofs.Running.{Runs, Stays, keeps_running}
-use Rattle.tx_bounds.proofs.Barred.{not_second}
 use Rattle.tx_serial.proofs.TextStays.{or_first}
+use Rattle.z_instr.proofs.PlainImmediates.{not_second}
 
 -- ---- instructions of transactions
 

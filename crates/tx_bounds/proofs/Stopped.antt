@@ -55,9 +55,6 @@ climb standing s i =
 
 -- ---- live attempts
 
-live_at : (x : ℕ) (s : State) → is_live s x ≡ nat_lt 0 (s.numbers x).completed
-live_at x s = refl
-
 aborted_live : (i : ℕ) (standing : Standing) (n : ℕ) (w : Why) (s : State) (x : ℕ)
     → is_live (aborting i standing n w s) x ≡ is_live (without_attempt i s) x
 unfolding aborting

@@ -203,10 +203,6 @@ rung_queued parms aborts delay after later none (Stays same e) full = e ∙ none
 rung_queued parms aborts delay after later none (Waits off up e) full = absurd (off (sym up ∙ full))
 rung_queued parms aborts delay after later none (Joins here up e) full = e ∙ none
 
-pub parms_after : (w : Why) (st : Standing) → is_end_by w ≡ false → (standing_after w st).parms ≡ st.parms
-parms_after (Program e) st h = absurd (true≢false h)
-parms_after w st h = refl
-
 module _ (m : Setting) (l : Local) (w : Why) (at : ℕ) (leads : Leads l) (goes_on : is_end_by w ≡ false) where
   abbrev left : Local
   left = left_behind l.cpu l.attempt w at

@@ -1,17 +1,16 @@
 -- What a CPU can have, and what is told of it.
-use Rattle.std.proofs.Common.{◌≡◌, ◌∙◌, ap, ap₂, sym, refl, subst, ℕ, ◌+◌, ◌<◌, ◌≤◌, Bool, true}
+use Rattle.std.proofs.Common.{◌≡◌, ◌∙◌, sym, refl, subst, ℕ, ◌+◌, ◌<◌, ◌≤◌, true}
 use Rattle.std.proofs.Common.{List, length, map, get_or, [], Option, Some, None, ◌++◌, ◌∷◌, zero, suc}
-use Rattle.std.specs.Prelude.{is_none, ◌&&◌, slice_get}
+use Rattle.std.specs.Prelude.{is_none, slice_get}
 use Rattle.tx_journal.specs.declared.image.Show.{Show}
 use Rattle.report_text.specs.Report.{state_part}
 use Rattle.tx_check.specs.Seen.{shown_seen}
 use Rattle.std.proofs.lemmas.Option.{slice_get_within, get_or_from_slice_get}
 use Rattle.tx_journal.specs.Content.{Content}
-use Rattle.tx_serial.specs.Apply.{may_act, is_running}
+use Rattle.tx_serial.specs.Apply.{may_act}
 use Rattle.tx_serial.specs.Flat.{FlatState, Pending, address_of}
 use Rattle.tx_serial.specs.Run.{run}
 use Rattle.z_regs.specs.Cpu.{Cpu}
-use Rattle.z_regs.specs.declared.image.RunState.{RunState}
 use Rattle.tx_flat.specs.Open.{IsOpen}
 use Rattle.report_form.specs.Sheet.{IsSheet, last_of}
 use Rattle.report_form.specs.declared.sheet.Sheet.{Sheet}
@@ -25,12 +24,6 @@ use Rattle.tx_check.proofs.FormLines.{HasRow, cpu_line}
 none_of : (b : Option Pending) → is_none (address_of b) ≡ is_none b
 none_of None = refl
 none_of (Some b) = refl
-
-pub may_act_by : (f : FlatState) (i : ℕ) (c : Cpu) (o : Option ℕ) → c ≡ f.cpus i → o ≡ address_of (f.pending i)
-    → (is_running c.state && is_none o) ≡ may_act f i
-may_act_by f i c o is at =
-    ap₂ (λ (s : RunState) (b : Bool). is_running s && b) (ap (λ (x : Cpu). x.state) is)
-    (ap is_none at ∙ none_of (f.pending i))
 
 -- the run is open and so deep
 pub is_live : (f : FlatState) (i depth completed claimed : ℕ) (c : Cpu) → may_act f i ≡ true → 1 ≤ completed

@@ -19,12 +19,11 @@ use Rattle.tx_check.specs.declared.writing.Seen.{Seen}
 use Rattle.tx_check.specs.Seen.{shown_seen}
 use Rattle.tx_check.specs.Lines.{lines_of}
 use Rattle.tx_check.specs.Told.{IsLive, IsTold}
-use Rattle.tx_check.specs.Sound.{IsSound, IsExpected, IsTaken, Believes, cpu_place, joined}
+use Rattle.tx_check.specs.Sound.{IsSound, IsTaken, Believes, cpu_place, joined}
 use Rattle.report_form.specs.Sheet.{IsFirstFault}
 use Rattle.tx_check.specs.declared.checking.CheckFault.{CheckFault}
 use Rattle.tx_check.specs.declared.checking.CheckFault.TheVariants.{Memory, Form, Entry as AtEntry, State}
-use Rattle.tx_check.specs.Lines.{FirstDifference}
-use Rattle.tx_check.specs.Answers.{IsDueText, IsAccepted, IsRefused, HasNoForm, HasNoHistory, HasMisfit, Differs}
+use Rattle.tx_check.specs.Answers.{IsDueText, IsAccepted, IsRefused, HasNoForm, HasNoHistory, HasMisfit}
 use Rattle.tx_check.proofs.FormLines.{HasEvents, events_read, run_told, history_size}
 use Rattle.tx_check.proofs.LineLemmas.{same_lines}
 
@@ -160,24 +159,6 @@ no_history image report lines Memory is h = tt
 no_history image report lines (Form number) is h = absurd h
 no_history image report lines (AtEntry number) is h = subst (λ ls. HasMisfit image ls number) is h
 no_history image report lines (State number) is h = absurd h
-
-pub differing : (image : Content) (report text : List ℕ) (lines due : List (List ℕ)) (s : Sheet) (number : ℕ)
-    → lines ≡ lines_of report → due ≡ lines_of text → IsSheet image lines s → IsDueText image lines s.entries text
-    → FirstDifference lines due number → Differs image report number
-differing image report text lines due s number are others sheet expected difference =
-    let form = subst (λ ls. HasForm image ls s.entries sheet.events) are sheet.form in
-    let e = subst (λ ls. IsExpected image ls s.entries expected.shown expected.after) are expected.expected in
-    record {
-      entries = s.entries;
-      events = sheet.events;
-      form = form;
-      shown = expected.shown;
-      after = expected.after;
-      expected = e;
-      difference =
-          subst (λ ls. FirstDifference (lines_of report) ls number) (others ∙ ap lines_of expected.told)
-          (subst (λ ls. FirstDifference ls due number) are difference);
-    }
 
 pub accepted : (image : Content) (report text : List ℕ) (lines due : List (List ℕ)) (s : Sheet)
     → lines ≡ lines_of report → due ≡ lines_of text → IsSheet image lines s → IsDueText image lines s.entries text

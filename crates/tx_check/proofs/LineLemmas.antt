@@ -3,7 +3,7 @@ use Rattle.std.proofs.Common.{◌≡◌, ◌≢◌, ◌∙◌, ap, ap₂, sym, r
 use Rattle.std.proofs.Common.{List, [], ◌∷◌, ◌++◌, length, take, drop, Bool, true, false, get_or, Some, None}
 use Rattle.std.specs.Prelude.{◌==◌, if◌then◌else◌}
 use Rattle.std.proofs.lemmas.List.{take_all, take_more, length-drop, take-append-drop}
-use Rattle.std.proofs.lemmas.Option.{slice_get-get_or, slice_get_past}
+use Rattle.std.proofs.lemmas.Option.{slice_get-get_or, slice_get_past, same_Some}
 use Rattle.report_form.specs.declared.places.Place.{Place}
 use Rattle.report_form.specs.Text.{lines_of, in_front, IsPlace}
 use Rattle.tx_check.specs.Lines.{FirstDifference}
@@ -30,9 +30,6 @@ same_lines some others is = sym (joined_lines some) ∙ ap joined is ∙ joined_
 
 -- ---- where texts differ
 
-some_same : (x y : List ℕ) → Some x ≡ Some y → x ≡ y
-some_same x y is = cc
-
 some_none : (x : List ℕ) → Some x ≡ None → ⊥
 some_none x is = cc
 
@@ -42,7 +39,7 @@ differ_here xs ys k here there same other = record {
   before = k;
   counted = refl;
   same = same;
-  differs = λ is. other (some_same _ _ (sym (slice_get-get_or xs k [] here) ∙ is ∙ slice_get-get_or ys k [] there));
+  differs = λ is. other (same_Some _ _ (sym (slice_get-get_or xs k [] here) ∙ is ∙ slice_get-get_or ys k [] there));
 }
 
 pub first_longer : (xs ys : List (List ℕ)) (k : ℕ) → k < length xs → length ys ≤ k → take k xs ≡ take k ys

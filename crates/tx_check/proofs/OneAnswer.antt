@@ -27,9 +27,7 @@ use Rattle.tx_check.specs.Told.{IsTold, cpu_in}
 use Rattle.tx_check.specs.Sound.{AreSmall, IsSmall, Believes, IsTaken, IsExpected, cpu_place}
 use Rattle.tx_check.specs.Answers.{IsDue, IsAccepted, HasMisfit, Differs}
 use Rattle.tx_check.proofs.ClaimLines.{counts_told, live_told, none_told}
-
-pub some_same : {A : Type 0} {x y : A} → Some x ≡ Some y → x ≡ y
-some_same e = cc
+use Rattle.std.proofs.lemmas.Option.{same_Some}
 
 -- ---- the numbers that a line tells
 
@@ -112,10 +110,10 @@ one_cpu : (lines : List (List ℕ)) (place : ℕ) (f : FlatState) (history : Lis
 one_cpu lines place f history i c d h g t u =
     let counts =
     one_tally h.counts g.counts h.printed.small_counts g.printed.small_counts
-    (some_same (sym h.printed.counted ∙ g.printed.counted)) in
+    (same_Some _ _ (sym h.printed.counted ∙ g.printed.counted)) in
     let claim =
     one_claim h.claim g.claim h.printed.small g.printed.small
-    (some_same (sym h.printed.claimed ∙ g.printed.claimed)) in
+    (same_Some _ _ (sym h.printed.claimed ∙ g.printed.claimed)) in
     let attempt =
     one_belief f i g.claim c.attempt d.attempt (subst (λ o. Believes f i o c.attempt) claim h.believed) g.believed in
     let cpu = t.cpu ∙ ap (cpu_in f i) attempt ∙ sym u.cpu in
@@ -188,7 +186,7 @@ one_report one_history image lines entries s t f g e d =
     let history : s.history ≡ t.history =
     one_history image (entry_lines image lines entries) s.history t.history f g
     (expected_replay image lines entries s f e) (expected_replay image lines entries t g d) in
-    let after : f ≡ g = some_same (sym e.left.replayed ∙ ap (replay image) history ∙ d.left.replayed) in
+    let after : f ≡ g = same_Some _ _ (sym e.left.replayed ∙ ap (replay image) history ∙ d.left.replayed) in
     let told : (i : ℕ) (c : ShownCpu) → slice_get s.cpus i ≡ Some c → IsTold g t.history i c =
     λ i c at. subst (λ (x : FlatState). IsTold x t.history i c) after
     (subst (λ (x : List Entry). IsTold f x i c) history (e.left.cpus i c at)) in

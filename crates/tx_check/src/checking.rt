@@ -107,9 +107,7 @@ fn expected_state(
 {
     let cpus = seen_cpus(alloc, image, report, sheet, replayed)?;
     let storage = replayed.flat.storage();
-    let Ok(text) = written(alloc, image, cpus.as_slice(), storage) else {
-        return Err(NoMemory);
-    };
+    let text = written(alloc, image, cpus.as_slice(), storage)?;
     Ok(text)
 }
 

@@ -202,7 +202,8 @@ fn claims_of(image: &Image, report: &[u8], sheet: Sheet, cpu: u32) -> Claimed
 fn add_seen(seen: &mut Vec<Seen>, one: Seen) -> Result<(), NoMemory>
     ensures { OnOk result (seen.new.items ≡ seen.old.items ++ one ∷ []) }
 {
-    seen.push(one).map_err(|_| NoMemory)
+    seen.push(one)?;
+    Ok(())
 }
 
 /// The CPUs as they have to be told, in the order of their numbers.

@@ -16,7 +16,7 @@ use Rattle.tx_constraint.proofs.Piling.{with_octowords-append, with_octowords-no
 
 -- ---- nothing broken
 
-unbroken : (b : Bool) (n : ℕ) (rest : Option ℕ) → first_of b n rest ≡ None → (b ≡ false) × (rest ≡ None)
+pub unbroken : (b : Bool) (n : ℕ) (rest : Option ℕ) → first_of b n rest ≡ None → (b ≡ false) × (rest ≡ None)
 unbroken true n rest e = absurd (cc)
 unbroken false n rest e = (refl, e)
 

@@ -1,6 +1,6 @@
 -- Octowords, pages and units said of every byte.
 use Rattle.std.proofs.Common.{◌≡◌, ℕ, ◌+◌, ◌-◌, ◌/◌, ◌%◌, ◌<◌, ◌≤◌, Bool, true, false, ◌||◌, cond, eqb, ltb, List, [], ◌∷◌, get_or, All, refl, sym, ap, subst, ◌∙◌, arith}
-use Rattle.std.specs.Prelude.{◌↔◌}
+use Rattle.std.specs.Prelude.{◌↔◌, nat_lt}
 use Rattle.std.specs.List.{list_any, flat_map, fold, count_by, range_with_len}
 use Rattle.std.proofs.lemmas.Bool.{cases_Bool, cases_eq, cases_lt, or_left, or_right, or_parts, eq-eqb, ne_eqb, eqb-true, eqb-false, ltb-true, ltb-false, leb-true, le-leb}
 use Rattle.std.proofs.lemmas.List.Folds.{list_any_at, Any-from_list_any}
@@ -11,6 +11,10 @@ use Rattle.z_regs.specs.declared.ranges.Range.{Range}
 use Rattle.tx_constraint.specs.Bytes.{pieces, lies_in_one, is_own_page}
 use Rattle.tx_constraint.specs.Octowords.{with_octoword, with_octowords, IsAbove, Ascends}
 use Rattle.tx_constraint.proofs.Lists.{same_tests}
+use Rattle.std.proofs.Common.{Option, None, length}
+use Rattle.z_instr.specs.declared.instr.Instr.{Instr}
+use Rattle.tx_constraint.specs.Constraints.{first_of}
+use Rattle.tx_constraint.specs.Kept.{Kept, next_operand_breach}
 
 -- ---- octowords
 
@@ -251,3 +255,14 @@ in_octoword r some = (
       let same : (r.first + (r.length - 1)) / 32 ≡ r.first / 32 = sym at_last ∙ last in
       le-leb _ _ (omega arith),
 )
+
+pub few_words : (k : Kept) (i : Instr) (ranges : List Range) → next_operand_breach k i ranges ≡ None
+    → length (with_octowords k.octowords ranges) ≤ 4
+unfolding next_operand_breach
+few_words k i ranges h =
+    ltb-false 4 (length (with_octowords k.octowords ranges))
+    (first_no (nat_lt 4 (length (with_octowords k.octowords ranges))) 4 _ h)
+  where
+    first_no : (b : Bool) (n : ℕ) (rest : Option ℕ) → first_of b n rest ≡ None → b ≡ false
+    first_no true n rest g = absurd (cc)
+    first_no false n rest g = refl

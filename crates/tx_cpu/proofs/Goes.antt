@@ -2,7 +2,7 @@
 use Rattle.std.proofs.Common.{◌≡◌, ℕ, suc, ◌/◌, ◌%◌, ◌<◌, ◌≤◌, Bool, true, false, List, [], ◌∷◌, Option}
 use Rattle.std.proofs.Common.{Some, None, refl, sym, ap, subst, ◌∙◌, arith, length, ltb}
 use Rattle.std.specs.Prelude.{◌&&◌, ◌||◌, not, nat_eq, nat_lt, nat_le}
-use Rattle.std.specs.Prelude.{if◌then◌else◌, is_some, All, map, Ok, Err, Result}
+use Rattle.std.specs.Prelude.{if◌then◌else◌, is_some, All, map, Ok}
 use Rattle.std.specs.List.{list_any}
 use Rattle.std.proofs.lemmas.Bool.{true≢false, or_left, and_parts}
 use Rattle.std.proofs.lemmas.Bool.Decides.{nat_tests}
@@ -31,27 +31,28 @@ use Rattle.tx_constraint.specs.Kept.{Kept, next_text_breach, next_operand_breach
 use Rattle.tx_constraint.specs.Octowords.{with_octowords}
 use Rattle.tx_constraint.specs.Operations.{is_permitted, ends}
 use Rattle.tx_footprint.specs.Touched.{Sets, sets_of, touching, fit_of}
-use Rattle.tx_footprint.specs.declared.footprint.Overflow.{Overflow}
-use Rattle.tx_footprint.specs.declared.footprint.Overflow.TheVariants.{Fetch, Store}
 use Rattle.tx_serial.specs.Fate.{Fate, Goes, Ends, Stops}
 use Rattle.tx_serial.specs.Fate.{Refusal, Excepts, Because, fate_after, first_refusal}
 use Rattle.tx_serial.specs.Fate.{operands, fetch_refusal, instruction_at, unreadable, aborts_where}
 use Rattle.tx_serial.specs.Fate.{restricted_refusal, specified_refusal, depth_refusal, operand_refusal}
-use Rattle.tx_serial.specs.Fate.{overflow_in, overflow_of}
+use Rattle.tx_serial.specs.Fate.{overflow_in}
 use Rattle.tx_serial.specs.Flat.{Storage}
 use Rattle.z_instr.specs.Roles.{stores_lastingly}
 use Rattle.tx_serial.proofs.FreeOperands.{inside_operands, inside_block, not_excepted}
 use Rattle.tx_progress.specs.Progress.{Progress}
 use Rattle.tx_progress.specs.Trial.{at_hand, fetched, tried, tests_by, fate_by_progress, text_refusal_by}
-use Rattle.tx_progress.specs.Trial.{place_refusal_by, overflow_refusal_by, constraint_refusal, breach_refusal}
-use Rattle.tx_progress.proofs.Rows.{any_row, begins_are_barred, implied}
+use Rattle.tx_progress.specs.Trial.{place_refusal_by, overflow_refusal_by, constraint_refusal}
+use Rattle.tx_progress.proofs.Rows.{any_row, begins_are_barred}
 use Rattle.tx_attempt.specs.Gathered.{IsStoredDoubleword}
 use Rattle.tx_cpu.specs.Going.{MayGo}
 use Rattle.tx_attempt.specs.Tracked.{Tracked, IsSound, progress}
 use Rattle.tx_attempt.proofs.Reached.{accessible_spans}
 use Rattle.tx_serial.proofs.Frame.{fetched_text, length_some}
-use Rattle.tx_serial.proofs.Passing.{no_fate}
+use Rattle.tx_serial.proofs.Passing.{no_fate, fit_by}
 use Rattle.tx_progress.proofs.Standing.{none_first}
+use Rattle.tx_constraint.proofs.Whole.{few_words}
+use Rattle.tx_progress.proofs.Limits.{breach_none}
+use Rattle.z_instr.proofs.PlainImmediates.{implied}
 
 -- ---- no test has found anything
 
@@ -128,36 +129,20 @@ no-depth true n why h e = under (nat_le 16 n) refl h
     under true g k = absurd (cc)
     under false g k = grind (arith, nat_tests, g)
 
-no-overflow : (r : Result (Unit {0}) Overflow) → overflow_of r ≡ None → r ≡ Ok tt
-no-overflow (Ok u) h = refl
-no-overflow (Err Fetch) h = absurd (cc)
-no-overflow (Err Store) h = absurd (cc)
-
 fits-so : (nest : List Begin) (sets : Sets) → 0 < length nest → overflow_in nest sets ≡ None
     → fit_of sets ≡ Ok tt
 fits-so [] sets some h = absurd (omega (arith, some))
-fits-so (b ∷ bs) sets some h = no-overflow (fit_of sets) h
-
-unbroken : (i : Instr) (o : Option ℕ) → breach_refusal i o ≡ None → o ≡ None
-unbroken i None h = refl
-unbroken i (Some n) h = absurd (cc)
+fits-so (b ∷ bs) sets some h = fit_by (fit_of sets) h
 
 unbroken-of : (breach : Kept → Option ℕ) (i : Instr) (o : Option Kept) (k : Kept) → o ≡ Some k
     → constraint_refusal breach i o ≡ None → breach k ≡ None
 unbroken-of breach i o k e h =
-    unbroken i (breach k) (sym (ap (constraint_refusal breach i) e) ∙ h)
+    breach_none i (breach k) (sym (ap (constraint_refusal breach i) e) ∙ h)
 
 first-not : (b : Bool) (n : ℕ) (rest : Option ℕ) → (if b then Some n else rest) ≡ None
     → (b ≡ false) × (rest ≡ None)
 first-not true n rest h = absurd (cc)
 first-not false n rest h = (refl, h)
-
-few-octowords : (k : Kept) (i : Instr) (need : List Range) → next_operand_breach k i need ≡ None
-    → length (with_octowords k.octowords need) ≤ 4
-unfolding next_operand_breach
-few-octowords k i need h =
-    let over = (first-not (nat_lt 4 (length (with_octowords k.octowords need))) 4 _ h).0 in
-    grind (arith, nat_tests, over)
 
 few-instructions : (k : Kept) (i : Instr) (at : ℕ) → next_text_breach k i at ≡ None → ends i ≡ false
     → k.count < 32
@@ -325,7 +310,7 @@ goes-so text s t c i need sound h =
         few = λ kept ek. few-instructions kept i c.address (text_kept kept ek a.0)
             (ends-not t (is_end (entry_at i.op.number)) sound (some-kept t.constraint kept ek) goes_on);
         octowords = λ kept ek. subst (λ (rs : List Range). length (with_octowords kept.octowords rs) ≤ 4)
-            (sym found.touches) (few-octowords kept i (operands i c) (place_kept kept ek g.0));
+            (sym found.touches) (few_words kept i (operands i c) (place_kept kept ek g.0));
         fits = ap (λ (rs : List Range). fit_of (touching (sets_of t.footprint) (absolute_ranges c.prefix rs)))
             found.touches
             ∙ fits-so t.nest (touching (sets_of t.footprint) (absolute_ranges c.prefix

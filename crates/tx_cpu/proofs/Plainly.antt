@@ -55,10 +55,7 @@ use Rattle.tx_cpu.proofs.Goes.{read-touches}
 use Rattle.tx_cpu.proofs.Programs.{plain_length, plain_reading}
 use Rattle.tx_cpu.proofs.Tests.{heads, tails, planned-read, tried-goes}
 use Rattle.z_regs.proofs.MovedBytes.{ranges_stay}
-
-and-no : (b : Bool) → (b && false) ≡ false
-and-no true = refl
-and-no false = refl
+use Rattle.std.proofs.Math.Bool.{and-false}
 
 -- ---- begins whose shape is known
 
@@ -175,7 +172,7 @@ open-page text page h =
     let same : page * 4096 / 4096 ≡ page = omega arith in
     any-text_pages None text page
     ∙ ap (λ p. nat_lt page 256 && list_any (nat_eq p) text) same
-    ∙ ap (λ b. nat_lt page 256 && b) h ∙ and-no (nat_lt page 256)
+    ∙ ap (λ b. nat_lt page 256 && b) h ∙ and-false (nat_lt page 256)
 
 apart-line : (text : List ℕ) (first n : ℕ) → IsSmall (span first n true) → InLine first n
     → list_any (nat_eq (first / 4096)) text ≡ false
@@ -259,7 +256,7 @@ tested-begin o i general code depth none =
     let ss = spans_in o i general code in
     let block = span (first_address i general) 256 true in
     ap (λ b. cond (nat_eq depth 0 && not b) (block ∷ []) ss) none
-    ∙ ap (λ b. cond b (block ∷ []) ss) (and-no (nat_eq depth 0))
+    ∙ ap (λ b. cond b (block ∷ []) ss) (and-false (nat_eq depth 0))
 
 tested : (d : Demand) (o : Operands) (i : Instr) (general : List ℕ) (code depth : ℕ) (text : List ℕ)
     → All IsSmall (spans_in o i general code)
@@ -410,7 +407,7 @@ resting-admits c i ranges = record {
   bare = λ k lt. refl;
   text = refl;
   allowed = refl;
-  shallow = and-no (begins (entry_at i.op.number));
+  shallow = and-false (begins (entry_at i.op.number));
   place = refl;
   fits = refl;
 }

@@ -35,10 +35,8 @@ const INTERRUPTION_BLOCK: u64 = 0x1800;
 pub fn waiting_with(prefix: Option<u32>, length: u8, block: Option<[u8; 256]>) -> Option<Waiting>
     ensures { result ≡ waits prefix length block }
 {
-    match prefix {
-        None => None,
-        Some(_) => Some(Waiting { length, block }),
-    }
+    prefix?;
+    Some(Waiting { length, block })
 }
 
 /// The interruption that waits after an abort with this diagnostic block.

@@ -131,10 +131,7 @@ impl Cpu {
     pub fn pending(&self) -> Option<u64>
         ensures { result ≡ address_of (local_of self.now).pending }
     {
-        match &self.pending {
-            None => None,
-            Some(block) => Some(block.address),
-        }
+        Some(self.pending.as_ref()?.address)
     }
 
     /// The interruption that waits, where there is one.

@@ -16,8 +16,6 @@ pub struct Block {
 pub fn pending_after(address: Option<u64>, bytes: [u8; 256]) -> Option<Block>
     ensures { pending_of result ≡ pends_after address bytes }
 {
-    match address {
-        None => None,
-        Some(address) => Some(Block { address, bytes }),
-    }
+    let address = address?;
+    Some(Block { address, bytes })
 }

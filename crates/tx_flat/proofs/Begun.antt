@@ -31,7 +31,8 @@ use Rattle.tx_serial.specs.Run.{run, more, more_of, after_fate, after_where, aft
 use Rattle.tx_serial.specs.Run.{mark_in, nest_after}
 use Rattle.tx_serial.proofs.Passing.{passes}
 use Rattle.tx_private.specs.Shows.{begin_at}
-use Rattle.tx_private.proofs.Fetched.{fetched_inside, some_length}
+use Rattle.tx_private.proofs.Fetched.{fetched_inside}
+use Rattle.z_instr.proofs.Distinct.{some_length}
 
 -- ---- the begin lies in storage
 

@@ -77,10 +77,8 @@ fn leave(saved: &CpuImage, a: &Attempt, why: Why) -> CpuImage
 fn pending_at(address: Option<u64>, bytes: [u8; 256]) -> Option<Block>
     ensures { pending_of result ≡ pending_after address bytes }
 {
-    match address {
-        None => None,
-        Some(address) => Some(Block { address, bytes }),
-    }
+    let address = address?;
+    Some(Block { address, bytes })
 }
 
 /// The interruption of an exception that is not filtered waits on a CPU with a prefix, with its block.
@@ -90,13 +88,11 @@ fn waiting_after(prefix: Option<u32>, block: [u8; 256], why: Why) -> Option<Wait
     let Why::Program(e) = why else {
         return None;
     };
-    match prefix {
-        None => None,
-        Some(_) => Some(Waiting {
-            length: e.length,
-            block: Some(block),
-        }),
-    }
+    prefix?;
+    Some(Waiting {
+        length: e.length,
+        block: Some(block),
+    })
 }
 
 /// All that an abort by this cause leaves of a CPU, which was `saved` before the attempt.

@@ -106,9 +106,7 @@ fn fresh_slots(alloc: Global, cpus: &[CpuImage]) -> Result<Vec<Slot>, NoMemory>
             pending: None,
             waiting: None,
         };
-        if slots.push(slot).is_err() {
-            return Err(NoMemory);
-        }
+        slots.push(slot)?;
     }
     Ok(slots)
 }
@@ -126,20 +124,15 @@ fn copies_of(alloc: Global, storage: &Storage, image: &Image) -> Result<Attempt,
 fn block_address(slot: &Slot) -> Option<u64>
     ensures { result ≡ address_of (slot_parts slot.now).pending }
 {
-    match slot.pending {
-        None => None,
-        Some(block) => Some(block.address),
-    }
+    Some(slot.pending.as_ref()?.address)
 }
 
 /// The code of the interruption that waits.
 fn waiting_code(slot: &Slot) -> Option<u16>
     ensures { result ≡ code_waiting (slot_parts slot.now).cpu (slot_parts slot.now).waiting }
 {
-    match slot.waiting {
-        None => None,
-        Some(_) => Some(code_of(slot.image.state)),
-    }
+    slot.waiting.as_ref()?;
+    Some(code_of(slot.image.state))
 }
 
 impl Flat {

@@ -38,13 +38,11 @@ use z_regs::{CpuImage, Guard, RunState, Storage, Waiting};
 fn waiting_on(prefix: Option<u32>, length: u8) -> Option<Waiting>
     ensures { result ≡ waits_with prefix length None }
 {
-    match prefix {
-        None => None,
-        Some(_) => Some(Waiting {
-            length,
-            block: None,
-        }),
-    }
+    prefix?;
+    Some(Waiting {
+        length,
+        block: None,
+    })
 }
 
 /// An exception interrupts the program before the instruction has changed anything.

@@ -1,11 +1,11 @@
 -- Bounds on how many places ranges touch, by their lengths alone.
-use Rattle.std.proofs.Common.{◌≡◌, ℕ, zero, suc, ◌+◌, ◌-◌, ◌/◌, ◌<◌, ◌≤◌, min, Bool, true, false, leb, ltb}
+use Rattle.std.proofs.Common.{◌≡◌, ℕ, zero, suc, ◌+◌, ◌-◌, ◌/◌, ◌<◌, ◌≤◌, min, false, leb, ltb}
 use Rattle.std.proofs.Common.{List, Some, take, ap, ◌∙◌, arith}
 use Rattle.std.specs.Prelude.{◌||◌, slice_get}
 use Rattle.std.proofs.lemmas.Bool.{cases_lt, cases_eq, and_left, and_right, and_parts, lt-leb, le-ltb}
 use borrow.Enum.Arm.{by_way}
 use Rattle.bit_set.specs.Counts.{one_if, count_below}
-use Rattle.bit_set.proofs.Counts.{count_agree, count_le, count_none, count_or}
+use Rattle.bit_set.proofs.Counts.{count_agree, count_le, count_none, count_or, at_most_one}
 use Rattle.z_regs.specs.declared.ranges.Range.{Range}
 use Rattle.tx_footprint.specs.declared.places.Kind.{Kind}
 use Rattle.tx_footprint.specs.declared.places.Kind.TheVariants.{Line, FetchedLine, StoredLine, StoredBlock}
@@ -13,10 +13,6 @@ use Rattle.tx_footprint.specs.Sizes.{block_size}
 use Rattle.tx_footprint.specs.Places.{has_place, size_of, places_of, records, covers, touched_by, lies_in}
 use Rattle.tx_footprint.proofs.Marking.{touched_more}
 use Rattle.tx_footprint.proofs.Spans.{span_is, no_bytes, some_size}
-
-at_most_one : (b : Bool) → one_if b ≤ 1
-at_most_one true = omega arith
-at_most_one false = omega arith
 
 outside : (first end n : ℕ) → lies_in first end n ≡ false → one_if (lies_in first end n) ≡ 0
 outside first end n off = ap one_if off

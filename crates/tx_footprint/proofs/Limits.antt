@@ -20,11 +20,11 @@ use Rattle.tx_footprint.specs.Sizes.{line_size, storage_blocks}
 use Rattle.tx_footprint.specs.Places.{has_place, fetches, stores, touched_by, marked_or_touched}
 use Rattle.tx_footprint.specs.Touched.{Sets, untouched, touching, line_count, block_count, fit_of}
 use Rattle.tx_footprint.specs.Touched.{Touched, sets_of, IsKept}
-use Rattle.tx_footprint.proofs.Marking.{or_false}
+use Rattle.std.proofs.Math.Bool.{or-false}
 
 -- ---- a line is touched where it is fetched or stored
 
-either_way : (store has f s : Bool) → (has || (f || s)) ≡ (((not store && has) || f) || ((store && has) || s))
+pub either_way : (store has f s : Bool) → (has || (f || s)) ≡ (((not store && has) || f) || ((store && has) || s))
 either_way true true true s = refl
 either_way true true false s = refl
 either_way true false f s = refl
@@ -38,7 +38,7 @@ touched_line (r ∷ rs) line =
     ap (λ b. has_place line_size r line || b) (touched_line rs line)
     ∙ either_way r.store (has_place line_size r line) (fetches rs line) (stores rs line)
 
-regroup : (f s a b : Bool) → ((f || s) || (a || b)) ≡ ((f || a) || (s || b))
+pub regroup : (f s a b : Bool) → ((f || s) || (a || b)) ≡ ((f || a) || (s || b))
 regroup true s a b = refl
 regroup false true true b = refl
 regroup false true false b = refl
@@ -86,9 +86,9 @@ fits_from sets e =
 -- no ranges touch nothing more
 pub nothing_more : (sets : Sets) (ranges : List Range) → length ranges ≡ 0 → touching sets ranges ≡ sets
 nothing_more sets [] e = λ i. record {
-  fetched = λ line. or_false (sets.fetched line) i;
-  stored = λ line. or_false (sets.stored line) i;
-  blocks = λ block. or_false (sets.blocks block) i;
+  fetched = λ line. or-false (sets.fetched line) i;
+  stored = λ line. or-false (sets.stored line) i;
+  blocks = λ block. or-false (sets.blocks block) i;
 }
 nothing_more sets (r ∷ rs) e = absurd (omega arith)
 

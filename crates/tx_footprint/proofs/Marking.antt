@@ -1,18 +1,22 @@
 -- Marking and counting the places of ranges, one range and one place after the other.
-use Rattle.std.proofs.Common.{◌≡◌, ◌≢◌, ℕ, ◌+◌, ◌<◌, ◌≤◌, Bool, true, false, ltb, leb, List, length, get_or}
+use Rattle.std.proofs.Common.{◌≡◌, ◌≢◌, ℕ, ◌+◌, ◌<◌, ◌≤◌, Bool, true, false, ltb, leb, List, length, get_or, ◌++◌}
 use Rattle.std.proofs.Common.{set, take, Some, refl, sym, ap, subst, ◌∙◌, arith}
 use Rattle.std.specs.Prelude.{◌||◌, ◌&&◌, not, All, slice_get}
 use Rattle.std.specs.Int.{from_bool}
 use Rattle.std.proofs.lemmas.Bool.{cases_eq, cases_lt, and_right, and_from, or_from, le-leb, lt-ltb, le-ltb}
 use Rattle.std.proofs.lemmas.List.{get_or-take, length-take, get_or-set_same, get_or-set_other}
-use Rattle.std.proofs.lemmas.List.Folds.{list_any_more, list_any_at}
+use Rattle.std.proofs.lemmas.List.Folds.{list_any_more, list_any_at, list_any-append}
 use Rattle.std.proofs.lemmas.Option.{get_or_from_slice_get, slice_get_within}
 use borrow.Enum.Arm.{by_way}
 use Rattle.bit_set.specs.Counts.{one_if, count_below, but_at}
 use Rattle.bit_set.proofs.Counts.{count_agree, count_but_at, but_at-same, but_at-other}
 use Rattle.z_regs.specs.declared.ranges.Range.{Range}
 use Rattle.tx_footprint.specs.declared.places.Kind.{Kind}
-use Rattle.tx_footprint.specs.Places.{IsInStorage, covers, touched_by, lies_in, marked_or_touched}
+use Rattle.tx_footprint.specs.Places.{IsInStorage, covers, touched_by, lies_in, marked_or_touched, has_place}
+use Rattle.std.proofs.Math.Bool.{or-false, or_assoc}
+use Rattle.std.specs.List.{list_any}
+use Rattle.tx_footprint.specs.Sizes.{line_size, block_size}
+use Rattle.tx_footprint.specs.Touched.{Sets, touching}
 
 pub storage_at : (ranges : List Range) (i : ℕ) (r : Range) → All IsInStorage ranges
     → slice_get ranges i ≡ Some r → IsInStorage r
@@ -46,17 +50,9 @@ still_untouched kind ranges i r place e before off =
     touched_more kind ranges i r place e
     ∙ or_from (touched_by kind (take i ranges) place) (covers kind r place) before off
 
-pub or_assoc : (a b c : Bool) → ((a || b) || c) ≡ (a || (b || c))
-or_assoc true b c = refl
-or_assoc false b c = refl
-
 or_true : (a : Bool) → (a || true) ≡ true
 or_true true = refl
 or_true false = refl
-
-pub or_false : (a : Bool) → (a || false) ≡ a
-or_false true = refl
-or_false false = refl
 
 -- one range more: what it touches is added to what was marked or touched
 pub marked_more : (marks : List Bool) (kind : Kind) (ranges : List Range) (i : ℕ) (r : Range) (place : ℕ)
@@ -100,7 +96,7 @@ count_next n there first at le lt =
       alike,
       count_but_at n so_far at true lt,
       ap one_if
-          (ap (λ b. there at || b) (lies_not_yet first at) ∙ or_false (there at)),
+          (ap (λ b. there at || b) (lies_not_yet first at) ∙ or-false (there at)),
       one_or_other (there at),
     )
   where
@@ -156,3 +152,18 @@ count_end n marks kind ranges i first end r e places =
 pub at_most_one : (b : Bool) → from_bool b ≤ 1
 at_most_one true = omega arith
 at_most_one false = omega arith
+
+-- what is touched in two turns
+pub touching_twice : (sets : Sets) (xs ys : List Range) → touching (touching sets xs) ys ≡ touching sets (xs
+    ++ ys)
+touching_twice sets xs ys i = record {
+  fetched = λ line. in_turn (λ r. not r.store && has_place line_size r line) (sets.fetched line) i;
+  stored = λ line. in_turn (λ r. r.store && has_place line_size r line) (sets.stored line) i;
+  blocks = λ block. in_turn (λ r. r.store && has_place block_size r block) (sets.blocks block) i;
+}
+  where
+    in_turn : (test : Range → Bool) (was : Bool)
+        → ((was || list_any test xs) || list_any test ys) ≡ (was || list_any test (xs ++ ys))
+    in_turn test was =
+        or_assoc was (list_any test xs) (list_any test ys)
+        ∙ ap (λ b. was || b) (sym (list_any-append test xs ys))

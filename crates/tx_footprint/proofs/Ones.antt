@@ -6,8 +6,8 @@ use Rattle.std.specs.Prelude.{◌||◌, slice_get}
 use Rattle.z_regs.specs.declared.ranges.Range.{Range}
 use Rattle.tx_footprint.specs.declared.places.Kind.{Kind}
 use Rattle.tx_footprint.specs.Places.{covers, lies_in}
-use Rattle.tx_footprint.proofs.Marking.{or_false}
 use Rattle.tx_footprint.proofs.Limits.{AreAdded}
+use Rattle.std.proofs.Math.Bool.{or-false}
 
 -- the places of a span were added, which are those of the range
 pub one_added : (kind : Kind) (r : Range) (first end : ℕ) (before after : List Bool) → length after ≡ length before
@@ -15,7 +15,7 @@ pub one_added : (kind : Kind) (r : Range) (first end : ℕ) (before after : List
     → ((k : ℕ) → lies_in first end k ≡ covers kind r k) → AreAdded kind (r ∷ []) before after
 one_added kind r first end before after size marks places = record {
   size = size;
-  marks = λ k. marks k ∙ ap (λ b. get_or before k false || b) (places k ∙ sym (or_false (covers kind r k)));
+  marks = λ k. marks k ∙ ap (λ b. get_or before k false || b) (places k ∙ sym (or-false (covers kind r k)));
 }
 
 -- the count of a set that has room for so many places

@@ -9,9 +9,9 @@ pub use crate::places::BLOCKS;
 use crate::places::{Kind, added, mark, mark_new, mark_span, mark_span_new, most_places, span_of};
 use bit_set::BitSet;
 use line_table::{LINES, MOST_HELD};
-use std::alloc::{AllocError, Global};
+use std::alloc::Global;
 use std::marker::Model;
-use z_regs::{Range, Touches};
+use z_regs::{NoMemory, Range, Touches};
 
 /// How many lines a footprint may have; as many as a CPU may hold.
 pub const MOST_LINES: u32 = MOST_HELD;
@@ -26,16 +26,6 @@ pub enum Overflow {
     Fetch,
     /// There would be too many stored blocks.
     Store,
-}
-
-/// Want of memory.
-#[derive(Clone, Copy, Debug, PartialEq, Eq)]
-pub struct NoMemory;
-
-impl From<AllocError> for NoMemory {
-    fn from(_error: AllocError) -> NoMemory {
-        NoMemory
-    }
 }
 
 /// What an attempt has touched: the lines that it fetched, the lines that it stored and the blocks
@@ -189,10 +179,8 @@ impl Footprint {
         ensures found { IfSome result (λ line. IsNext self.now.stored from LINES line) }
         ensures none { IfNone result (NoneMarked self.now.stored from LINES) }
     {
-        match self.stored.next(from as usize, LINES) {
-            Some(line) => Some(line as u32),
-            None => None,
-        }
+        let line = self.stored.next(from as usize, LINES)?;
+        Some(line as u32)
     }
 
     /// How many lines there are, each counted once whether it was fetched or stored or both.

@@ -11,6 +11,7 @@ mod footprint;
 mod laws;
 mod places;
 
-pub use footprint::{BLOCKS, Footprint, MOST_BLOCKS, MOST_LINES, NoMemory, Overflow};
+pub use footprint::{BLOCKS, Footprint, MOST_BLOCKS, MOST_LINES, Overflow};
 pub use laws::{adds_in_turn, counts_a_line_once, has_the_places_of_its_addresses};
 pub use places::{BLOCK_SIZE, LINE_SIZE};
+pub use z_regs::NoMemory;

@@ -4,4 +4,5 @@
 mod draws;
 mod programs;
 
-pub use programs::{NoMemory, counters, generate};
+pub use programs::{counters, generate};
+pub use z_regs::NoMemory;

@@ -7,16 +7,7 @@ ghost use Rattle.tx_gen.specs.Programs.{drawn_program, show_line, for_first, lis
 
 use crate::draws::Draws;
 use std::alloc::{AllocError, Global};
-
-/// There was no memory.
-#[derive(Clone, Copy, Debug, PartialEq, Eq)]
-pub struct NoMemory;
-
-impl From<AllocError> for NoMemory {
-    fn from(_error: AllocError) -> NoMemory {
-        NoMemory
-    }
-}
+use z_regs::NoMemory;
 
 /// The bytes of the longest listing, of eight CPUs, and some more.
 const ROOM: usize = 1024;

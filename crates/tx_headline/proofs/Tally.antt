@@ -30,13 +30,14 @@ use Rattle.tx_keeping.specs.Moves.{standing_after}
 use Rattle.tx_keeping.specs.Turn.{k_external, k_interrupting, k_happen, k_idle, k_turn, k_turn_where}
 use Rattle.tx_keeping.specs.Turn.{k_to_tail, next_address}
 use Rattle.tx_bounds.proofs.Walk.{Walk, IsOwn, in_a_turn}
-use Rattle.tx_bounds.proofs.News.{aborted_history, and_off}
+use Rattle.tx_bounds.proofs.News.{aborted_history}
 use Rattle.tx_bounds.proofs.OtherTurns.{aborted_dead, aborted_elsewhere, same_left, conflict_counts}
 use Rattle.tx_bounds.proofs.Paid.{left_now, left_of}
 use Rattle.tx_bounds.proofs.Potential.{left_below, left_at}
 use Rattle.tx_headline.specs.Since.{is_conflict, is_conflict_abort_of, is_other_abort_of}
 use Rattle.tx_headline.proofs.Lists.{none_more}
 use Rattle.tx_serial.proofs.Entries.{at_put_other, at_put_same}
+use Rattle.std.proofs.Math.Bool.{and-false}
 
 -- none of the entries since ends a transaction of the CPU
 pub record Plain (c : ℕ) (before : List Entry) (k : Kept) : Type 0 where
@@ -74,8 +75,8 @@ pub record Spends (m : Setting) (c : ℕ) (before : List Entry) (e : Event) (k :
   pub plain : Plain c before (k_happen m e k).kept
 
 conflict_no_end : (stored : Bool) (line c n : ℕ) → is_end_of c (Abort c n (conflict_on stored line)) ≡ false
-conflict_no_end true line c n = and_off (c == c)
-conflict_no_end false line c n = and_off (c == c)
+conflict_no_end true line c n = and-false (c == c)
+conflict_no_end false line c n = and-false (c == c)
 
 conflict_is : (stored : Bool) (line : ℕ) → is_conflict (conflict_on stored line) ≡ true
 conflict_is true line = refl
@@ -232,7 +233,7 @@ module _ (m : Setting) (i c : ℕ) (before : List Entry) (first : Kept) where
       let now = ap (λ (s : Standing). s.aborts) (abort_standing at w k) in
       tally_more k (k_aborting c w at k) (abort_of c w k) true (abort_history c at w k) off
       (and_from (c == c) (is_conflict w) (eq-eqb c c refl) is)
-      (ap (λ b. c == c && not b) is ∙ and_off (c == c)) (omega (arith, now, counts)) n
+      (ap (λ b. c == c && not b) is ∙ and-false (c == c)) (omega (arith, now, counts)) n
 
   -- and otherwise no less is left to it
   plain_kept : (at : ℕ) (w : Why) (k : Kept) → c ≡ i → is_end_of c (abort_of c w k) ≡ false
@@ -295,17 +296,17 @@ module _ (m : Setting) (i c : ℕ) (before : List Entry) (first : Kept) where
       inr (inl (ended_with k (k_aborting c (Program e) at k) (abort_of c (Program e) k)
       (abort_history c at (Program e) k) (and_from (c == c) true (eq-eqb c c refl) refl) low a.tally))
   own_abort at FetchOverflow k own is low a =
-      inr (inr (plain_kept at FetchOverflow k is (and_off (c == c)) refl refl a))
+      inr (inr (plain_kept at FetchOverflow k is (and-false (c == c)) refl refl a))
   own_abort at StoreOverflow k own is low a =
-      inr (inr (plain_kept at StoreOverflow k is (and_off (c == c)) refl refl a))
+      inr (inr (plain_kept at StoreOverflow k is (and-false (c == c)) refl refl a))
   own_abort at Restricted k own is low a =
-      inr (inr (plain_kept at Restricted k is (and_off (c == c)) refl refl a))
+      inr (inr (plain_kept at Restricted k is (and-false (c == c)) refl refl a))
   own_abort at (Filtered e) k own is low a =
-      inr (inr (plain_kept at (Filtered e) k is (and_off (c == c)) refl refl a))
+      inr (inr (plain_kept at (Filtered e) k is (and-false (c == c)) refl refl a))
   own_abort at Depth k own is low a =
-      inr (inr (plain_kept at Depth k is (and_off (c == c)) refl refl a))
+      inr (inr (plain_kept at Depth k is (and-false (c == c)) refl refl a))
   own_abort at (Tabort code) k own is low a =
-      inr (inr (plain_kept at (Tabort code) k is (and_off (c == c)) refl refl a))
+      inr (inr (plain_kept at (Tabort code) k is (and-false (c == c)) refl refl a))
   own_abort at (FetchConflict line) k own is low a = absurd own
   own_abort at (StoreConflict line) k own is low a = absurd own
   own_abort at Starved k own is low a = absurd own
@@ -323,7 +324,7 @@ module _ (m : Setting) (i c : ℕ) (before : List Entry) (first : Kept) where
       (λ e.
       let kind = a.kind (ap (is_live k.state) e ∙ live) in
       inl (subst (λ x. Counts (k_aborting x Starved at k)) e
-      (conflict_tally at Starved k (and_off (c == c)) refl
+      (conflict_tally at Starved k (and-false (c == c)) refl
       (ap (λ b. if b then (k.standings c).aborts + 1 else (k.standings c).aborts) kind) a.tally)))
       (λ other. inl (other_tally i at Starved k other a.tally))
 
@@ -341,7 +342,7 @@ module _ (m : Setting) (i c : ℕ) (before : List Entry) (first : Kept) where
 
   outside_kept : (at : ℕ) (k : Kept) → c ≡ i → Asking k → Keeps (k_aborting c External at k)
   unfolding k_aborting aborting
-  outside_kept at k own a = plain_kept at External k own (and_off (c == c)) refl refl a
+  outside_kept at k own a = plain_kept at External k own (and-false (c == c)) refl refl a
 
   keeps_last : (k : Kept) → Keeps k → Keeps (k_to_tail i k)
   keeps_last k a =

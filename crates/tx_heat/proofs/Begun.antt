@@ -14,8 +14,8 @@ use Rattle.tx_serial.specs.Fate.{Fate, Goes, Ends, Stops, fate, operands}
 use Rattle.tx_serial.specs.Flat.{FlatState, Storage}
 use Rattle.tx_serial.specs.Run.{run, more, after, after_fate, after_where, outcome_of}
 use Rattle.tx_serial.proofs.Passing.{passes}
-use Rattle.tx_progress.proofs.Rows.{implied}
 use Rattle.tx_serial.proofs.FreeOperands.{begin_bare}
+use Rattle.z_instr.proofs.PlainImmediates.{implied}
 
 -- ---- by the table of instructions
 

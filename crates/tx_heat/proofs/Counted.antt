@@ -21,7 +21,7 @@ use Rattle.tx_heat.specs.Conflicts.{Conflict}
 use Rattle.tx_heat.specs.Heats.{line_heat, heats, is_reject_at, is_abort_at, is_apart_at}
 use Rattle.tx_heat.specs.Watched.{AreCounted, HasRoom, IsBelow}
 use Rattle.tx_heat.specs.declared.counting.LineHeat.{LineHeat}
-use Rattle.tx_meaning.proofs.Room.{bit_small}
+use Rattle.bit_set.proofs.Counts.{at_most_one}
 
 abbrev plus : LineHeat → ℕ → ℕ → ℕ → LineHeat
 plus h rejects aborts disjoint = record {
@@ -130,9 +130,9 @@ room_here lines k v d n r a f lt is room = record {
       let it : v ≡ h = cc in
       let before = room.each k (get_or lines k d) (slice_get-get_or lines k d lt) in
       subst (λ x. IsBelow x n) (sym is ∙ it) record {
-        rejects = omega (arith, before.rejects, bit_small r);
-        aborts = omega (arith, before.aborts, bit_small a);
-        disjoint = omega (arith, before.disjoint, bit_small f);
+        rejects = omega (arith, before.rejects, at_most_one r);
+        aborts = omega (arith, before.aborts, at_most_one a);
+        disjoint = omega (arith, before.disjoint, at_most_one f);
       })
       (λ ne.
       let inside : j < length lines = omega (arith, slice_get_within (set lines k v) j h e, length-set lines k v) in

@@ -19,10 +19,10 @@ use Rattle.tx_meaning.specs.Turn.{Turned, happen, turn, turn_where, external}
 use Rattle.tx_meaning.specs.Views.{AreKnown}
 use Rattle.tx_meaning.proofs.Books.{turn_booked, external_booked, idle_or_not}
 use Rattle.tx_meaning.specs.Changes.{with_event}
-use Rattle.tx_machine.proofs.Most.{at_most, entries_at_most}
+use Rattle.tx_schedule.proofs.Most.{at_most, entries_at_most}
 use Rattle.tx_heat.specs.Conflicts.{conflict_where, abort_of, aborts_by, rejects_by, entries_in}
 use Rattle.tx_heat.specs.Conflicts.{conflicts_in, conflicts_from, conflicts}
-use Rattle.tx_machine.proofs.Laws.{interrupted_by}
+use Rattle.tx_schedule.proofs.Laws.{interrupted_by}
 
 -- ---- one event
 

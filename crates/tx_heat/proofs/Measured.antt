@@ -8,7 +8,7 @@ use Rattle.tx_meaning.specs.Limits.{Setting}
 use Rattle.tx_meaning.specs.Meaning.{IsSetting, meaning}
 use Rattle.tx_meaning.specs.State.{State, beginning}
 use Rattle.tx_meaning.specs.Views.{AreKnown, GoesOnWith}
-use Rattle.tx_machine.specs.Machine.{Seen, setting_of, state_of, event_of, after, most_events}
+use Rattle.tx_schedule.specs.Machine.{Seen, setting_of, state_of, event_of, after, most_events}
 use Rattle.tx_heat.specs.Conflicts.{conflicts, conflicts_in}
 use Rattle.tx_heat.specs.Heats.{Heated, heat_of, all_finished}
 use Rattle.tx_heat.specs.Watched.{Tracked, AreTracks, AreCounted, IsReached, HasRoom, IsWatched}

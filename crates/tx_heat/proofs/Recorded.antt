@@ -7,8 +7,8 @@ use Rattle.tx_headline.proofs.Recorded.{recorded_mean}
 use Rattle.tx_journal.specs.declared.entries.Entry.{Entry}
 use Rattle.tx_journal.specs.declared.events.Event.{Event}
 use Rattle.tx_journal.specs.declared.events.Event.TheVariants as event
-use Rattle.tx_machine.proofs.Most.{meaning_more}
-use Rattle.tx_machine.specs.Machine.{Seen, setting_of, state_of}
+use Rattle.tx_schedule.proofs.Most.{meaning_more}
+use Rattle.tx_schedule.specs.Machine.{Seen, setting_of, state_of}
 use Rattle.tx_meaning.proofs.Books.{idle_stays, idle_or_not, turn_booked, external_booked}
 use Rattle.tx_meaning.specs.Idle.{idle}
 use Rattle.tx_meaning.specs.Limits.{Setting}

@@ -9,7 +9,7 @@ ghost use Rattle.tx_meaning.specs.Limits.{Setting};
 ghost use Rattle.tx_meaning.specs.Meaning.{IsSetting, is_external};
 ghost use Rattle.tx_meaning.specs.Views.{GoesOnWith};
 ghost use Rattle.tx_meaning.specs.State.{State, beginning, is_live, attempt_of};
-ghost use Rattle.tx_machine.specs.Machine.{setting_of, state_of, event_of, after};
+ghost use Rattle.tx_schedule.specs.Machine.{setting_of, state_of, event_of, after};
 ghost use Rattle.tx_works.specs.Wanted.{wanted};
 ghost use Rattle.tx_heat.specs.Conflicts.{Conflict, line_of_cause, abort_of, reject_of};
 ghost use Rattle.tx_heat.specs.Conflicts.{conflict, conflict_where, aborts_by, conflicts_in};
@@ -22,8 +22,8 @@ use crate::track::Track;
 use std::alloc::{AllocError, Global};
 use tx_control::Why;
 use tx_journal::{Entry, Event};
-use tx_machine::machine::Machine;
 use tx_meaning::Reject;
+use tx_schedule::Machine;
 use z_regs::Touches;
 
 /// The lines of storage.

@@ -2,7 +2,7 @@
 ghost use Rattle.std.specs.Prelude.{◌≡◌, ◌<◌, ◌≤◌, IfOk, All, [], true, length, count_by};
 ghost use Rattle.std.specs.Arc.{arc_value};
 ghost use Rattle.tx_journal.specs.Image.{cpu_of_event};
-ghost use Rattle.tx_machine.specs.Machine.{setting_of, state_of, event_of, after};
+ghost use Rattle.tx_schedule.specs.Machine.{setting_of, state_of, event_of, after};
 ghost use Rattle.tx_meaning.specs.Meaning.{is_external};
 ghost use Rattle.tx_heat.specs.Heats.{heat_of, all_finished};
 
@@ -14,9 +14,8 @@ use std::alloc::Global;
 use std::marker::Model;
 use std::sync::Arc;
 use tx_journal::{Event, Image};
-use tx_machine::machine::Machine;
 use tx_meaning::Limits;
-use tx_schedule::Runnable;
+use tx_schedule::{Machine, Runnable};
 
 /// A machine whose conflicts are counted while its events come. Contracts see the machine; what is counted is what
 /// its recorded events mean.
@@ -28,7 +27,7 @@ pub struct Counting {
 }
 
 impl Model for Counting {
-    ghost use Rattle.tx_machine.specs.Machine.{Seen, seen_code};
+    ghost use Rattle.tx_schedule.specs.Machine.{Seen, seen_code};
     ghost use Rattle.tx_heat.specs.Watched.{IsWatched};
 
     ghost Value = { Seen };

@@ -8,7 +8,7 @@ use crate::writing::{add_lines, add_total};
 use report_text::add_number_line;
 use std::alloc::{AllocError, Global};
 use std::marker::Model;
-pub use tx_machine::machine::NoMemory;
+pub use tx_schedule::NoMemory;
 
 /// The conflicts of a run by line of storage. Contracts see the lines in order, and whether every CPU is finished.
 #[derive(Drop)]

@@ -2,7 +2,7 @@
 ghost use Rattle.std.specs.Prelude.{◌≡◌, ◌<◌, ◌++◌, [], List, All, IfOk, false, length, nat_lt};
 ghost use Rattle.z_regs.specs.declared.ranges.Range.{Range};
 ghost use Rattle.line_table.specs.Sizes.{storage_lines};
-ghost use Rattle.tx_machine.specs.Machine.{setting_of, state_of};
+ghost use Rattle.tx_schedule.specs.Machine.{setting_of, state_of};
 ghost use Rattle.tx_works.specs.Wanted.{wanted};
 ghost use Rattle.tx_heat.specs.Marks.{AreMarksOf};
 ghost use Rattle.tx_heat.specs.Octowords.{are_apart};
@@ -11,7 +11,7 @@ ghost use Rattle.tx_heat.specs.Watched.{AreInside, IsUnused};
 use crate::octowords::Octowords;
 use std::alloc::{AllocError, Global};
 use std::marker::Model;
-use tx_machine::machine::Machine;
+use tx_schedule::Machine;
 use z_regs::Touches;
 
 /// The octowords of a CPU's attempt, how many instructions that has completed, 0 where none is live, and ranges that the

@@ -12,15 +12,15 @@ use Rattle.tx_serial.specs.Apply.{is_running}
 use Rattle.tx_serial.specs.History.{start_of}
 use Rattle.tx_cpu.specs.Parts.{local_of}
 use Rattle.tx_lending.specs.Stranger.{GoesOnLike, SeeAlike}
-use Rattle.tx_marks.specs.Marks.{mode_in}
-use Rattle.tx_marks.specs.Own.{given, is_touched}
-use Rattle.tx_marks.specs.Traces.{is_paged}
+use Rattle.tx_works.specs.Marks.{mode_in}
+use Rattle.tx_works.specs.Own.{given, is_touched}
+use Rattle.tx_works.specs.Traces.{is_paged}
 use Rattle.tx_meaning.specs.Asking.{is_there}
 use Rattle.tx_meaning.specs.Limits.{RunLimits}
 use Rattle.tx_meaning.specs.Turn.{is_tick}
 use Rattle.tx_keeping.specs.Kept.{Kept}
-use Rattle.tx_run.specs.Lent.{Lent}
-use Rattle.tx_run.specs.Made.{AgreeOnPages}
+use Rattle.tx_works.specs.RunLent.{Lent}
+use Rattle.tx_works.specs.RunMade.{AgreeOnPages}
 use Rattle.tx_home.specs.Places.{fits}
 use Rattle.tx_home.specs.Taken.{AreAlikeInNumbers, MayTake}
 

@@ -2,7 +2,7 @@
 use Rattle.std.proofs.Common.{◌≡◌, ℕ, ◌+◌, ◌<◌, length, set, sym, ap, subst, ◌∙◌}
 use Rattle.tx_serial.specs.Flat.{at_put}
 use Rattle.tx_progress.specs.Local.{Beside}
-use Rattle.tx_lines.specs.Owned.{Owned, holders_in, with_lines}
+use Rattle.tx_works.specs.Owned.{Owned, holders_in, with_lines}
 use Rattle.tx_works.specs.declared.slot.Tally.{Tally}
 use Rattle.tx_works.specs.Works.{Seat, Works, seats_of, kept_by}
 use Rattle.tx_keeping.specs.Kept.{beside}

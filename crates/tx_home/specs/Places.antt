@@ -11,13 +11,13 @@ use Rattle.tx_progress.specs.Local.{Local}
 use Rattle.tx_progress.specs.Progress.{seen_through}
 use Rattle.tx_cpu.specs.Parts.{local_of}
 use Rattle.tx_attempt.specs.Same.{AreSameAttempts}
-use Rattle.tx_marks.specs.Own.{given, is_touched}
-use Rattle.tx_marks.specs.Marks.{Marks, mode_in}
-use Rattle.tx_marks.specs.Traces.{is_paged}
+use Rattle.tx_works.specs.Own.{given, is_touched}
+use Rattle.tx_works.specs.Marks.{Marks, mode_in}
+use Rattle.tx_works.specs.Traces.{is_paged}
 use Rattle.tx_meaning.specs.Limits.{RunLimits}
 use Rattle.tx_meaning.specs.State.{Numbers}
 use Rattle.tx_keeping.specs.Kept.{Kept}
-use Rattle.tx_run.specs.Lent.{Lent}
+use Rattle.tx_works.specs.RunLent.{Lent}
 use Rattle.tx_home.specs.declared.place.Place.{Place}
 use Rattle.tx_home.specs.declared.place.Place.TheVariants as place
 use Rattle.tx_home.specs.declared.place.Unlike.{Unlike}

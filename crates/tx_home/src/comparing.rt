@@ -14,8 +14,7 @@ use crate::place::{Place, Unlike};
 use tx_cpu::Cpu;
 use tx_ladder::StopQueue;
 use tx_meaning::Limits;
-use tx_run::Run;
-use tx_works::Slot;
+use tx_works::{Run, Slot};
 use z_regs::{CpuImage, RunState};
 
 /// What the machine's value of a place has added where the turns of a run can't be made.
@@ -165,6 +164,20 @@ fn head(queue: &StopQueue) -> u64
     }
 }
 
+/// Whether it is seen at one look that both attempts are the same: neither is live, so that nothing is left of earlier ones.
+fn both_rest(kept: &Cpu, given: &Cpu) -> bool
+    ensures value { result ≡ true → AreSameAttempts (local_of kept.now).attempt (local_of given.now).attempt }
+    ensures like { result ≡ true → (local_of kept.now).attempt.cpu ≡ (local_of given.now).attempt.cpu
+        → GoesOnLike (local_of given.now).attempt (local_of kept.now).attempt }
+{
+    if kept.live().is_some() || given.live().is_some() {
+        return false;
+    }
+    kept.is_sound();
+    given.is_sound();
+    true
+}
+
 /// Whether both attempts have the same begins, the same footprint and the same constraints. Where they do, and where the CPUs
 /// are the same and as many instructions are completed, the one goes on like the other.
 pub(crate) fn same_attempt(kept: &Cpu, given: &Cpu) -> bool
@@ -173,6 +186,9 @@ pub(crate) fn same_attempt(kept: &Cpu, given: &Cpu) -> bool
         → (local_of kept.now).attempt.count ≡ (local_of given.now).attempt.count
         → GoesOnLike (local_of given.now).attempt (local_of kept.now).attempt }
 {
+    if both_rest(kept, given) {
+        return true;
+    }
     kept.is_sound();
     given.is_sound();
     kept.same_attempt(given)

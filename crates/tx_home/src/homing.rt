@@ -19,8 +19,7 @@ use crate::taking::take;
 use tx_cpu::Program;
 use tx_lending::laws::lent_turns_are_turns;
 use tx_meaning::Limits;
-use tx_run::Run;
-use tx_works::Works;
+use tx_works::{Run, Works};
 
 /// The first place in which a run differs from its machine, where the attempt of the CPU is the same as that from which the
 /// run has started, or not.

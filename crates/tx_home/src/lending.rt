@@ -10,8 +10,7 @@ ghost use Rattle.tx_home.specs.declared.lending.Refusal.TheVariants.{Queue};
 use crate::comparing::attempt;
 use tx_ladder::StopQueue;
 use tx_meaning::Limits;
-use tx_run::Run;
-use tx_works::{Works, is_tick};
+use tx_works::{Run, Works, is_tick};
 
 /// The most steps that a run may make.
 const MOST_STEPS: u32 = 64;

@@ -5,12 +5,12 @@ ghost use Rattle.std.specs.List.{list_any};
 ghost use Rattle.line_table.specs.declared.table.Mode.{Mode};
 ghost use Rattle.tx_cpu.specs.Parts.{local_of};
 ghost use Rattle.tx_lending.specs.Stranger.{SeeAlike};
-ghost use Rattle.tx_lines.specs.Owned.{holders_in, storage_in};
-ghost use Rattle.tx_marks.specs.Marks.{mode_in};
-ghost use Rattle.tx_marks.specs.Own.{given, is_touched};
-ghost use Rattle.tx_marks.specs.Traces.{is_paged};
+ghost use Rattle.tx_works.specs.Owned.{holders_in, storage_in};
+ghost use Rattle.tx_works.specs.Marks.{mode_in};
+ghost use Rattle.tx_works.specs.Own.{given, is_touched};
+ghost use Rattle.tx_works.specs.Traces.{is_paged};
 ghost use Rattle.tx_meaning.specs.Asking.{is_there};
-ghost use Rattle.tx_run.specs.Made.{AgreeOnPages};
+ghost use Rattle.tx_works.specs.RunMade.{AgreeOnPages};
 ghost use Rattle.tx_home.specs.Places.{at, in_bytes, in_lines, in_pages, in_storage, lacking, mode_value, page_value};
 ghost use Rattle.tx_home.specs.declared.place.Place.TheVariants.{Text};
 
@@ -18,8 +18,7 @@ use crate::comparing::at;
 use crate::place::{Place, Unlike};
 use line_table::Mode;
 use tx_cpu::{Cpu, Program};
-use tx_lines::Lines;
-use tx_run::Run;
+use tx_works::{Lines, Run};
 use z_regs::Guard;
 
 /// A mode as a number.

@@ -5,19 +5,18 @@ ghost use Rattle.tx_cpu.specs.Parts.{local_of};
 ghost use Rattle.tx_lending.specs.Away.{GoAway, ran};
 ghost use Rattle.tx_lending.specs.Stranger.{GoesOnLike, SeeAlike};
 ghost use Rattle.tx_lending.specs.Turns.{steps_of, with_turns};
-ghost use Rattle.tx_marks.specs.Marks.{mode_in};
-ghost use Rattle.tx_marks.specs.Own.{given, is_touched};
-ghost use Rattle.tx_marks.specs.Traces.{is_paged};
+ghost use Rattle.tx_works.specs.Marks.{mode_in};
+ghost use Rattle.tx_works.specs.Own.{given, is_touched};
+ghost use Rattle.tx_works.specs.Traces.{is_paged};
 ghost use Rattle.tx_meaning.specs.Limits.{turn_limit};
 ghost use Rattle.tx_meaning.specs.State.{is_live};
 ghost use Rattle.tx_keeping.specs.Kept.{beside};
-ghost use Rattle.tx_run.specs.Made.{AgreeOnPages};
+ghost use Rattle.tx_works.specs.RunMade.{AgreeOnPages};
 ghost use Rattle.tx_works.specs.Works.{Seat, IsSameSize, kept_by};
 ghost use Rattle.tx_home.specs.Taken.{HasRoomFor, with_turns_noted, left_by};
 
 use tx_journal::{Entry, Event};
-use tx_run::Run;
-use tx_works::Works;
+use tx_works::{Run, Works};
 
 /// Adds an item so many times.
 fn add_times<T: Copy + Drop>(items: &mut Vec<T>, item: T, times: u32)

@@ -16,6 +16,7 @@ use Rattle.tx_journal.specs.declared.image.Show.{Show}
 use Rattle.tx_journal.specs.Content.{Content}
 use Rattle.tx_journal.specs.Image.{IsImage, IsStarting, IsShown, AreApart, HasFreeArea, IsInArea}
 use Rattle.tx_journal.specs.Image.{cpu_of_event}
+use Rattle.std.proofs.lemmas.Option.{same_Some}
 
 -- ---- parts of an image
 
@@ -171,9 +172,6 @@ not_a_short_block s block short shown = omega (arith, shown.block block)
 
 -- ---- prefixes
 
-the_number : (m n : ℕ) → Some m ≡ Some n → m ≡ n
-the_number m n is = cc
-
 first_and_last : (IsTrue (is_prefix (Some 8192))) × (IsTrue (is_prefix (Some 1040384)))
 first_and_last = (refl, refl)
 
@@ -188,8 +186,8 @@ not_the_same_prefix apart = apart 40960 refl refl
 
 other_prefixes : AreApart (entering (Some 40960)) (entering (Some 49152))
 other_prefixes p some other =
-    let one : 40960 ≡ p = the_number 40960 p some in
-    let two : 49152 ≡ p = the_number 49152 p other in
+    let one : 40960 ≡ p = same_Some 40960 p some in
+    let two : 49152 ≡ p = same_Some 49152 p other in
     omega arith
 
 -- both pages of the area of hex A000 hold no instruction, and the next page may
@@ -200,5 +198,5 @@ not_text_in_an_area guard has free =
 
 text_beside_an_area : (page : ℕ) → IsInArea (Some 40960) page → (10 ≤ page) × (page < 12)
 text_beside_an_area page inside =
-    let same : 40960 ≡ inside.first = the_number 40960 inside.first inside.begins in
+    let same : 40960 ≡ inside.first = same_Some 40960 inside.first inside.begins in
     (omega (arith, inside.low), omega (arith, inside.high))

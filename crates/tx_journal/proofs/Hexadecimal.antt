@@ -1,19 +1,16 @@
 -- Halfwords and doublewords in hexadecimal.
 use Rattle.std.proofs.Common.{◌≡◌, ℕ, ◌<◌, ◌^◌, zero, suc, List, Result, Ok, arith, sym, ap, ◌∙◌, refl}
-use Rattle.std.specs.Int.{to_be_bytes, from_be_bytes, bytes_high_first, byte_at}
+use Rattle.std.specs.Int.{to_be_bytes, from_be_bytes, bytes_high_first}
 use mir.Syntax.{w16, w64}
 use Rattle.std.proofs.lemmas.Nat.{from_be_bytes-to_be_bytes_2, from_be_bytes-to_be_bytes_8}
 use Rattle.hex.specs.declared.error.FromHexError.{FromHexError}
 use Rattle.hex.specs.Hex.{encode_lower, decode_sized, IsBytes}
 use Rattle.hex.proofs.HexLemmas.{decode_sized-encode_lower}
+use Rattle.z_regs.proofs.Items.{byte_small}
 
-pub byte_below : (k n : ℕ) → byte_at k n < 256
-byte_below zero n = omega arith
-byte_below (suc k) n = omega arith
-
-high_first_bytes : (k n : ℕ) → IsBytes (bytes_high_first k n)
+pub high_first_bytes : (k n : ℕ) → IsBytes (bytes_high_first k n)
 high_first_bytes zero n i = omega arith
-high_first_bytes (suc k) n zero = byte_below k n
+high_first_bytes (suc k) n zero = byte_small k n
 high_first_bytes (suc k) n (suc i) = high_first_bytes k n i
 
 -- what is written of a number is read as its bytes

@@ -14,7 +14,7 @@ use Rattle.tx_journal.specs.Schedule.{event_text, further_text, events_text, row
 use Rattle.tx_journal.specs.Schedule.{schedule_text, IsNumbered}
 use Rattle.tx_journal.proofs.Decimals.{lacks_number, above_digits, lacks_not_there, lacks_rest, same_cut}
 
-lacks_front : (c d : ℕ) (xs : List ℕ) → d ≢ c → Lacks c xs → Lacks c (d ∷ xs)
+pub lacks_front : (c d : ℕ) (xs : List ℕ) → d ≢ c → Lacks c xs → Lacks c (d ∷ xs)
 lacks_front c d xs other lacks zero below = other
 lacks_front c d xs other lacks (suc i) below = lacks i (omega arith)
 

@@ -17,4 +17,5 @@ pub use image::{Image, Show};
 pub use laws::{a_text_is_one_line, a_text_is_one_schedule, entries_read_back};
 pub use numbers::read_number;
 pub use reading::read_entry;
-pub use writing::{NoMemory, add_history, add_schedule, entry_text, schedule_text};
+pub use writing::{add_history, add_schedule, entry_text, schedule_text};
+pub use z_regs::NoMemory;

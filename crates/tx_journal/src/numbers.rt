@@ -31,12 +31,8 @@ pub(crate) fn read_small(text: &[u8]) -> Option<u32>
     ensures some { IfSome result (λ n. text.now ≡ decimal n) }
     ensures none { IfNone result ((n : ℕ) → n < 2 ^ 32 → text.now ≢ decimal n) }
 {
-    let Some(number) = read_number(text) else {
-        return None;
-    };
-    let Ok(number) = u32::try_from(number) else {
-        return None;
-    };
+    let number = read_number(text)?;
+    let number = u32::try_from(number).ok()?;
     Some(number)
 }
 
@@ -57,12 +53,8 @@ pub(crate) fn first_number(text: &[u8]) -> Option<(u64, &[u8])>
     ensures fits { IfSome result (λ parts. parts.0 < 2 ^ 64) }
     ensures none { IfNone result ((n : ℕ) (rest : List ℕ) → n < 2 ^ 64 → text.now ≢ number_before n rest) }
 {
-    let Some((digits, rest)) = cut(text) else {
-        return None;
-    };
-    let Some(number) = read_number(digits) else {
-        return None;
-    };
+    let (digits, rest) = cut(text)?;
+    let number = read_number(digits)?;
     Some((number, rest))
 }
 
@@ -72,12 +64,8 @@ pub(crate) fn first_small(text: &[u8]) -> Option<(u32, &[u8])>
     ensures fits { IfSome result (λ parts. parts.0 < 2 ^ 32) }
     ensures none { IfNone result ((n : ℕ) (rest : List ℕ) → n < 2 ^ 32 → text.now ≢ number_before n rest) }
 {
-    let Some((number, rest)) = first_number(text) else {
-        return None;
-    };
-    let Ok(number) = u32::try_from(number) else {
-        return None;
-    };
+    let (number, rest) = first_number(text)?;
+    let number = u32::try_from(number).ok()?;
     Some((number, rest))
 }
 
@@ -100,9 +88,7 @@ pub(crate) fn read_halfword(text: &[u8]) -> Option<u16>
     ensures none { IfNone result ((n : ℕ) → n < 2 ^ 16 → text.now ≢ encode_lower (to_be_bytes w16 n)) }
 {
     let mut bytes = [0u8; 2];
-    let Ok(()) = hex::decode_to_slice(text, &mut bytes) else {
-        return None;
-    };
+    hex::decode_to_slice(text, &mut bytes).ok()?;
     let halfword = u16::from_be_bytes(bytes);
     if !is_hexadecimal(text, &halfword.to_be_bytes()) {
         return None;
@@ -116,9 +102,7 @@ pub(crate) fn read_doubleword(digits: &[u8]) -> Option<u64>
     ensures none { IfNone result ((n : ℕ) → n < 2 ^ 64 → digits.now ≢ encode_lower (to_be_bytes w64 n)) }
 {
     let mut bytes = [0u8; 8];
-    let Ok(()) = hex::decode_to_slice(digits, &mut bytes) else {
-        return None;
-    };
+    hex::decode_to_slice(digits, &mut bytes).ok()?;
     let doubleword = u64::from_be_bytes(bytes);
     if !is_hexadecimal(digits, &doubleword.to_be_bytes()) {
         return None;

@@ -65,9 +65,7 @@ fn read_address(text: &[u8]) -> Option<u64>
     ensures within { IfSome result IsLineAddress }
     ensures none { IfNone result ((a : ℕ) → IsLineAddress a → text.now ≢ encode_lower (to_be_bytes w64 a)) }
 {
-    let Some(address) = read_doubleword(text) else {
-        return None;
-    };
+    let address = read_doubleword(text)?;
     if !is_line_address(address) {
         return None;
     }
@@ -80,16 +78,10 @@ fn read_detail(code: u64, text: &[u8]) -> Option<Detail>
     ensures none { IfNone result ((d : Detail) → HasDetail code d → text.now ≢ detail_text d) }
 {
     if says_exception(code) {
-        let Some(exception) = read_halfword(text) else {
-            return None;
-        };
-        return Some(Detail::Exception(exception));
+        return Some(Detail::Exception(read_halfword(text)?));
     }
     if says_line(code) {
-        let Some(address) = read_address(text) else {
-            return None;
-        };
-        return Some(Detail::Line(address));
+        return Some(Detail::Line(read_address(text)?));
     }
     if !says_nothing(code) || text != b"-".as_slice() {
         return None;
@@ -102,12 +94,8 @@ fn read_reason(text: &[u8]) -> Option<Reason>
     ensures some { IfSome result (λ r. IsReason r × (text.now ≡ reason_text r)) }
     ensures none { IfNone result ((r : Reason) → IsReason r → text.now ≢ reason_text r) }
 {
-    let Some((code, rest)) = first_number(text) else {
-        return None;
-    };
-    let Some(detail) = read_detail(code, rest) else {
-        return None;
-    };
+    let (code, rest) = first_number(text)?;
+    let detail = read_detail(code, rest)?;
     Some(Reason { code, detail })
 }
 
@@ -116,12 +104,8 @@ fn read_commit(text: &[u8]) -> Option<Line>
     ensures some { IfSome result (λ l. IsLine l × (codes "C " ++ text.now ≡ words_text l)) }
     ensures none { IfNone result ((l : Line) → IsLine l → codes "C " ++ text.now ≢ words_text l) }
 {
-    let Some((cpu, rest)) = first_small(text) else {
-        return None;
-    };
-    let Some(count) = read_small(rest) else {
-        return None;
-    };
+    let (cpu, rest) = first_small(text)?;
+    let count = read_small(rest)?;
     Some(Line::Commit(cpu, count))
 }
 
@@ -130,15 +114,9 @@ fn read_abort(text: &[u8]) -> Option<Line>
     ensures some { IfSome result (λ l. IsLine l × (codes "A " ++ text.now ≡ words_text l)) }
     ensures none { IfNone result ((l : Line) → IsLine l → codes "A " ++ text.now ≢ words_text l) }
 {
-    let Some((cpu, rest)) = first_small(text) else {
-        return None;
-    };
-    let Some((count, rest)) = first_small(rest) else {
-        return None;
-    };
-    let Some(reason) = read_reason(rest) else {
-        return None;
-    };
+    let (cpu, rest) = first_small(text)?;
+    let (count, rest) = first_small(rest)?;
+    let reason = read_reason(rest)?;
     Some(Line::Abort(cpu, count, reason))
 }
 
@@ -148,26 +126,11 @@ fn read_words(text: &[u8]) -> Option<Line>
     ensures none { IfNone result ((l : Line) → IsLine l → text.now ≢ words_text l) }
 {
     match text {
-        [b'S', b' ', rest @ ..] => {
-            let Some(cpu) = read_small(rest) else {
-                return None;
-            };
-            Some(Line::Step(cpu))
-        }
+        [b'S', b' ', rest @ ..] => Some(Line::Step(read_small(rest)?)),
         [b'C', b' ', rest @ ..] => read_commit(rest),
         [b'A', b' ', rest @ ..] => read_abort(rest),
-        [b'T', b' ', rest @ ..] => {
-            let Some(cpu) = read_small(rest) else {
-                return None;
-            };
-            Some(Line::Tdb(cpu))
-        }
-        [b'I', b' ', rest @ ..] => {
-            let Some(cpu) = read_small(rest) else {
-                return None;
-            };
-            Some(Line::Interrupt(cpu))
-        }
+        [b'T', b' ', rest @ ..] => Some(Line::Tdb(read_small(rest)?)),
+        [b'I', b' ', rest @ ..] => Some(Line::Interrupt(read_small(rest)?)),
         _ => None,
     }
 }
@@ -177,9 +140,7 @@ fn read_line(text: &[u8]) -> Option<Line>
     ensures some { IfSome result (λ l. IsLine l × (text.now ≡ line_text l)) }
     ensures none { IfNone result ((l : Line) → IsLine l → text.now ≢ line_text l) }
 {
-    let Some(words) = text.strip_suffix(b"\n") else {
-        return None;
-    };
+    let words = text.strip_suffix(b"\n")?;
     read_words(words)
 }
 
@@ -191,8 +152,6 @@ pub fn read_entry(text: &[u8]) -> Option<EntryText>
     ensures some { IfSome result (Spells text.now) }
     ensures none { IfNone result ((l : Line) → IsLine l → text.now ≢ line_text l) }
 {
-    let Some(line) = read_line(text) else {
-        return None;
-    };
+    let line = read_line(text)?;
     Some(line.fields())
 }

@@ -10,10 +10,7 @@ ghost use Rattle.tx_journal.specs.Schedule.{schedule_text};
 use crate::lines::{Detail, Line, Reason};
 use crate::{Entry, Event};
 use std::alloc::{AllocError, Global};
-
-/// There was no memory.
-#[derive(Clone, Copy, Debug, PartialEq, Eq)]
-pub struct NoMemory;
+use z_regs::NoMemory;
 
 /// Events in a line.
 const ROW: usize = 16;
@@ -272,7 +269,8 @@ fn add_rows(text: &mut Vec<u8>, events: &[Event]) -> Result<(), AllocError>
 pub fn add_history(text: &mut Vec<u8>, entries: &[Entry]) -> Result<(), NoMemory>
     ensures { OnOk result (text.new.items ≡ text.old.items ++ history_text entries.now) }
 {
-    add_entries(text, entries).map_err(|_| NoMemory)
+    add_entries(text, entries)?;
+    Ok(())
 }
 
 /// Adds events to a text as SCHED lines of the listing, sixteen events to a line. `NoMemory` comes for want
@@ -280,7 +278,8 @@ pub fn add_history(text: &mut Vec<u8>, entries: &[Entry]) -> Result<(), NoMemory
 pub fn add_schedule(text: &mut Vec<u8>, events: &[Event]) -> Result<(), NoMemory>
     ensures { OnOk result (text.new.items ≡ text.old.items ++ schedule_text events.now) }
 {
-    add_rows(text, events).map_err(|_| NoMemory)
+    add_rows(text, events)?;
+    Ok(())
 }
 
 /// The line of an entry, with its line feed. `NoMemory` comes for want of memory.
@@ -288,10 +287,8 @@ pub fn entry_text(alloc: Global, entry: &Entry) -> Result<Vec<u8>, NoMemory>
     ensures { IfOk result (λ text. text.items ≡ entry_text entry.now) }
 {
     let mut text = Vec::new(alloc);
-    match add_entry(&mut text, entry) {
-        Ok(()) => Ok(text),
-        Err(_) => Err(NoMemory),
-    }
+    add_entry(&mut text, entry)?;
+    Ok(text)
 }
 
 /// Events as SCHED lines of the listing, sixteen events to a line, each with its line feed; no line where

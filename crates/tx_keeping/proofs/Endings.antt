@@ -1,15 +1,12 @@
 -- The abort of a live attempt: the machine that keeps leaves what the meaning does.
 use Rattle.std.proofs.Common.{◌≡◌, ◌≢◌, ℕ, Bool, true, List, [], ◌∷◌, ◌++◌, Some}
 use Rattle.std.proofs.Common.{refl, sym, ap, subst, ◌∙◌}
-use Rattle.std.specs.Prelude.{◌&&◌}
-use Rattle.std.proofs.lemmas.Bool.{or_right, and_from}
 use Rattle.tx_control.specs.declared.causes.Why.{Why}
 use Rattle.tx_ladder.specs.Rungs.{Standing}
 use Rattle.tx_journal.specs.declared.entries.Entry.{Entry}
 use Rattle.tx_journal.specs.declared.entries.Entry.TheVariants.{Abort}
 use Rattle.line_table.specs.declared.table.Mode.TheVariants.{Exclusive}
-use Rattle.tx_serial.specs.Attempt.{Run, Open}
-use Rattle.tx_serial.specs.Ending.{fits, is_open, comes_from_outside, is_cause, ending}
+use Rattle.tx_serial.specs.Ending.{fits, comes_from_outside}
 use Rattle.tx_serial.specs.Run.{run}
 use Rattle.tx_serial.proofs.Entries.{at_put_same, at_put_other}
 use Rattle.tx_progress.proofs.Parts.{put_twice}
@@ -25,6 +22,7 @@ use Rattle.tx_keeping.proofs.Needed.{Leaves, abort_leaves, lasting_in_stored}
 use Rattle.tx_keeping.proofs.Truth.{Truth, Untouched, live_is, kept_is}
 use Rattle.tx_keeping.proofs.Moves.{IsGood, Moved, moved_good, moved_other, ends_after, same_after}
 use Rattle.tx_keeping.proofs.Moves.{abort_hits}
+use Rattle.tx_progress.proofs.Endings.{fits_open}
 
 -- the attempt of a CPU that was left so is aborted; the address is that of the instruction that is told of
 abbrev pub ended_by : ℕ → Why → ℕ → Beside → Kept → Kept
@@ -131,16 +129,9 @@ module _ (m : Setting) (s : IsSetting m) where
 
 -- ---- causes from outside fit
 
-fits_outside : (text : List ℕ) (p : Run) (why : Why) → p.mark ≡ Open → comes_from_outside text p why ≡ true
-    → fits text p why ≡ true
-unfolding fits
-fits_outside text p why opens comes =
-    or_right (is_cause (ending text p) why) (is_open p.mark && comes_from_outside text p why)
-    (and_from (is_open p.mark) (comes_from_outside text p why) (ap is_open opens) comes)
-
 pub outside_fits : (m : Setting) (k : Kept) (i : ℕ) (why : Why) → Truth m k
     → comes_from_outside (text_of m) (run (kept_flat m k) i (k.locals i).attempt.count) why ≡ true
     → fits (text_of m) (run (kept_flat m k) i (k.locals i).attempt.count) why ≡ true
 outside_fits m k i why t comes =
-    fits_outside (text_of m) (run (kept_flat m k) i (k.locals i).attempt.count) why
+    fits_open (text_of m) (run (kept_flat m k) i (k.locals i).attempt.count) why
     (t.each i).followed.opens comes

@@ -1,7 +1,7 @@
 -- The lines that a turn needs are few: with all that a live attempt has touched no more than a CPU may hold.
 use Rattle.std.proofs.Common.{◌≡◌, ◌≢◌, ℕ, ◌+◌, ◌-◌, ◌*◌, ◌/◌, ◌<◌, ◌≤◌, Bool, true, false, eqb, List, []}
 use Rattle.std.proofs.Common.{◌∷◌, ◌++◌, Option, Some, None, refl, sym, ap, subst, ◌∙◌, arith, length, map}
-use Rattle.std.specs.Prelude.{◌||◌, ◌&&◌, not, nat_le, cond, All, Result, Ok, Err}
+use Rattle.std.specs.Prelude.{◌||◌, ◌&&◌, not, nat_le, cond, All, Ok}
 use Rattle.std.specs.List.{list_any}
 use Rattle.std.proofs.lemmas.Bool.{or_cases, or_left, or_right, cases_eq, eq-eqb, and_parts, leb-false}
 use Rattle.std.proofs.lemmas.List.Folds.{list_any-append}
@@ -20,8 +20,7 @@ use Rattle.line_table.specs.Sizes.{storage_lines}
 use Rattle.tx_footprint.specs.Sizes.{line_size}
 use Rattle.tx_footprint.specs.Places.{has_place, fetches, stores}
 use Rattle.tx_footprint.specs.Touched.{Sets, untouched, touching, fit_of}
-use Rattle.tx_footprint.proofs.Limits.{fits_from}
-use Rattle.tx_control.specs.declared.begins.Begin.{Begin}
+use Rattle.tx_footprint.proofs.Limits.{fits_from, regroup}
 use Rattle.tx_meaning.specs.Needs.{needs_of, operand_needs, interruption_ranges}
 use Rattle.tx_meaning.specs.Changes.{is_needed}
 use Rattle.tx_meaning.proofs.Needs.{needed_lines}
@@ -33,13 +32,11 @@ use Rattle.z_instr.specs.declared.operand.Operands.TheVariants.{StoredAndFetched
 use Rattle.z_instr.specs.declared.operand.Operands.TheVariants.{BothFetched}
 use Rattle.z_instr.proofs.SmallOperands.{sizes}
 use Rattle.z_touch.specs.Refusals.{range_of}
-use Rattle.tx_footprint.specs.declared.footprint.Overflow.{Overflow}
-use Rattle.tx_footprint.specs.declared.footprint.Overflow.TheVariants.{Fetch, Store}
 use Rattle.tx_serial.specs.Attempt.{footprint}
-use Rattle.tx_serial.specs.Fate.{Goes, operands, overflow_in, overflow_of}
+use Rattle.tx_serial.specs.Fate.{Goes, operands}
 use Rattle.tx_serial.specs.Flat.{FlatState}
 use Rattle.tx_serial.specs.Run.{run}
-use Rattle.tx_serial.proofs.Passing.{passes}
+use Rattle.tx_serial.proofs.Passing.{passes, fits_in}
 use Rattle.tx_progress.specs.Progress.{Progress}
 use Rattle.tx_progress.specs.Local.{Local}
 use Rattle.tx_progress.specs.Reached.{IsFollowed, progress_of}
@@ -183,12 +180,6 @@ few_interruption (Some bytes) = omega arith
 
 -- ---- an attempt that keeps the limits
 
-four : (a b c d : Bool) → ((a || b) || (c || d)) ≡ ((a || c) || (b || d))
-four true b c d = refl
-four false true true d = refl
-four false true false d = refl
-four false false c d = refl
-
 pub fitting_room : (sets : Sets) (prefix : Option ℕ) (ranges : List Range)
     → fit_of (touching sets (absolute_ranges prefix ranges)) ≡ Ok tt
     → HasRoom sets (operand_needs prefix ranges)
@@ -199,7 +190,7 @@ fitting_room sets prefix ranges fits =
     (λ line. (sets.fetched line || sets.stored line) || is_needed (needs_of abs) line)
     (λ line. (sets.fetched line || fetches abs line) || (sets.stored line || stores abs line))
     (λ line lt. ap (λ b. (sets.fetched line || sets.stored line) || b) (needed_lines abs line)
-    ∙ four (sets.fetched line) (sets.stored line) (fetches abs line) (stores abs line)) in
+    ∙ regroup (sets.fetched line) (sets.stored line) (fetches abs line) (stores abs line)) in
     record { few = omega (arith, same, most) }
 
 -- ---- what a turn needs
@@ -229,16 +220,6 @@ spans_few FetchedSelected i general code = selected_few (selects i.mask code) _
 spans_few StoredSelected i general code = selected_few (selects i.mask code) _
 spans_few StoredAndFetched i general code = omega arith
 spans_few BothFetched i general code = omega arith
-
--- an attempt whose limits a test has asked for
-no_overflow : (r : Result (Unit {0}) Overflow) → overflow_of r ≡ None → r ≡ Ok tt
-no_overflow (Ok u) h = refl
-no_overflow (Err Fetch) h = absurd (cc)
-no_overflow (Err Store) h = absurd (cc)
-
-fits_in : (nest : List Begin) (sets : Sets) → nest ≢ [] → overflow_in nest sets ≡ None → fit_of sets ≡ Ok tt
-fits_in [] sets some h = absurd (some refl)
-fits_in (outermost ∷ inner) sets some h = no_overflow (fit_of sets) h
 
 record Goes_so (q : Progress) (ranges : List Range) : Type 0 where
   short : AreShort ranges

@@ -14,4 +14,5 @@ pub use ladder::{DELAY_BASE, Ladder, Next};
 pub use parms::{
     Choice, DELAY, FIRM, LATE, MOST_ABORTS, MOST_REJECTS, Parms, REJECT, STARVE, STOP,
 };
-pub use queue::{NoMemory, StopQueue};
+pub use queue::StopQueue;
+pub use z_regs::NoMemory;

@@ -3,19 +3,10 @@ ghost use Rattle.std.specs.Prelude.{◌≡◌, ◌≢◌, ℕ, ◌<◌, ◌↔�
 ghost use Rattle.std.specs.Prelude.{All, AllPairs, IsNone, IfOk, slice_get};
 ghost use Rattle.tx_ladder.specs.Waiting.{Waiting, waits_in};
 
-use std::alloc::{AllocError, Global};
+use std::alloc::Global;
 use std::collections::VecDeque;
 use std::marker::Model;
-
-/// Want of memory.
-#[derive(Clone, Copy, Debug, PartialEq, Eq)]
-pub struct NoMemory;
-
-impl From<AllocError> for NoMemory {
-    fn from(_error: AllocError) -> NoMemory {
-        NoMemory
-    }
-}
+use z_regs::NoMemory;
 
 /// The CPUs that wait to run alone, each at most once, in the order in which they will.
 #[derive(Drop)]

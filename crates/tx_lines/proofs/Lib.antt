@@ -3,3 +3,5 @@ pub mod Next
 pub mod Granting
 pub mod SameGrant
 pub mod Lent
+-- what callers name of crates below
+pub use Rattle.tx_run.proofs.Doublewords

@@ -3,8 +3,8 @@ use Rattle.std.specs.Prelude.{◌≡◌, ℕ, ◌/◌, ◌&&◌, not, nat_eq, is
 use Rattle.std.specs.List.{list_any}
 use Rattle.line_table.specs.declared.table.Mode.{Mode}
 use Rattle.tx_serial.specs.Flat.{Storage}
-use Rattle.tx_marks.specs.Own.{bytes_at}
-use Rattle.tx_marks.specs.Marks.{mode_in}
+use Rattle.tx_run.specs.Own.{bytes_at}
+use Rattle.tx_run.specs.Marks.{mode_in}
 use Rattle.tx_run.specs.Lent.{Lent, IsFor}
 
 -- of lines that are held the bytes are those of storage, but for those in text pages, which are the image's

@@ -3,3 +3,9 @@ pub mod Owned
 pub mod Lent
 pub mod Next
 pub mod Spare
+-- what callers name of crates below
+pub use Rattle.tx_run.specs.Lent as RunLent
+pub use Rattle.tx_run.specs.Made
+pub use Rattle.tx_run.specs.Own
+pub use Rattle.tx_run.specs.Marks
+pub use Rattle.tx_run.specs.Traces

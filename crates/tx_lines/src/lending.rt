@@ -4,12 +4,12 @@ ghost use Rattle.line_table.specs.Sizes.{storage_lines};
 ghost use Rattle.z_regs.specs.Prefix.{storage_size};
 ghost use Rattle.tx_progress.specs.Progress.{seen_through};
 ghost use Rattle.tx_cpu.specs.Parts.{local_of};
-ghost use Rattle.tx_lending.specs.Away.{GoAway, ran};
-ghost use Rattle.tx_lending.specs.Stranger.{GoesOnLike, SeeAlike};
-ghost use Rattle.tx_marks.specs.Own.{given, is_touched, line_bytes};
-ghost use Rattle.tx_marks.specs.Traces.{below, is_paged};
+ghost use Rattle.tx_run.specs.Away.{GoAway, ran};
+ghost use Rattle.tx_run.specs.Stranger.{GoesOnLike, SeeAlike};
+ghost use Rattle.tx_run.specs.Own.{given, is_touched, line_bytes};
+ghost use Rattle.tx_run.specs.Traces.{below, is_paged};
 ghost use Rattle.tx_run.specs.Made.{AgreeOnPages};
-ghost use Rattle.tx_marks.specs.Marks.{mode_in};
+ghost use Rattle.tx_run.specs.Marks.{mode_in};
 ghost use Rattle.tx_lines.specs.Lent.{HasLines};
 ghost use Rattle.tx_lines.specs.Owned.{holders_in, storage_in, with_lines};
 

@@ -7,4 +7,6 @@ pub mod lending;
 pub mod lines;
 mod windows;
 
-pub use lines::{Lines, NoMemory};
+pub use lines::Lines;
+pub use tx_run::{Room, Run};
+pub use z_regs::NoMemory;

@@ -26,11 +26,7 @@ use tx_cpu::{Cpu, Done};
 use tx_footprint::Footprint;
 use tx_meaning::Need;
 use z_instr::instr::Instr;
-use z_regs::Touches;
-
-/// There was no memory.
-#[derive(Clone, Copy, Debug, PartialEq, Eq)]
-pub struct NoMemory;
+use z_regs::{NoMemory, Touches};
 
 /// The bytes of storage, which CPU holds which of its lines, and the copies that CPUs have of those. The bytes are
 /// as they are seen, the copies that are held exclusively laid over storage.
@@ -60,9 +56,7 @@ impl Lines {
         ensures cpus { IfOk result (λ lines. lines.cpus ≡ cpus) }
         ensures nobody { IfOk result (λ lines. holders_in lines ≡ nobody) }
     {
-        let Ok(lines) = CoherentLines::open(alloc, bytes, cpus) else {
-            return Err(NoMemory);
-        };
+        let lines = CoherentLines::open(alloc, bytes, cpus)?;
         Ok(Lines { lines })
     }
 

@@ -7,11 +7,11 @@ ghost use Rattle.tx_progress.specs.Doing.{executed};
 ghost use Rattle.tx_progress.specs.Progress.{is_live, seen_through};
 ghost use Rattle.tx_cpu.specs.Parts.{local_of, beside};
 ghost use Rattle.tx_cpu.specs.Plans.{HasRoom, HasDoneRoom, IsPrepared};
-ghost use Rattle.tx_lending.specs.Away.{GoAway, ran};
-ghost use Rattle.tx_lending.specs.Stranger.{GoesOnLike, SeeAlike};
-ghost use Rattle.tx_marks.specs.Own.{bytes_at, given, is_touched};
-ghost use Rattle.tx_marks.specs.Traces.{is_paged};
-ghost use Rattle.tx_marks.specs.Marks.{mode_in};
+ghost use Rattle.tx_run.specs.Away.{GoAway, ran};
+ghost use Rattle.tx_run.specs.Stranger.{GoesOnLike, SeeAlike};
+ghost use Rattle.tx_run.specs.Own.{bytes_at, given, is_touched};
+ghost use Rattle.tx_run.specs.Traces.{is_paged};
+ghost use Rattle.tx_run.specs.Marks.{mode_in};
 ghost use Rattle.tx_run.specs.Made.{AgreeOnPages};
 
 use line_copies::{CoherentLines, Handback, Held, Window};

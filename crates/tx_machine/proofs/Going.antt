@@ -6,12 +6,12 @@ use Rattle.tx_meaning.specs.Meaning.{meaning}
 use Rattle.tx_meaning.specs.Room.{live_attempts}
 use Rattle.tx_meaning.specs.State.{State, is_live, cpus_of}
 use Rattle.tx_meaning.proofs.Room.{room}
-use Rattle.tx_works.specs.Works.{Works, Seat, kept_by, seats_of, numbers_of}
+use Rattle.tx_home.specs.Works.{Works, Seat, kept_by, seats_of, numbers_of}
 use Rattle.tx_machine.specs.Machine.{Stands, nobody, most_events}
-use Rattle.tx_works.specs.Ready.{owed, MayClimb, MayHold, MayTurn, IsInReach, image_storage}
+use Rattle.tx_home.specs.Ready.{owed, MayClimb, MayHold, MayTurn, IsInReach, image_storage}
 use Rattle.tx_machine.proofs.Shown.{shown}
-use Rattle.tx_works.proofs.Turns.{may_turn, may_want}
-use Rattle.tx_works.specs.Wanted.{MayWant}
+use Rattle.tx_home.proofs.Turns.{may_turn, may_want}
+use Rattle.tx_home.specs.Wanted.{MayWant}
 use Rattle.tx_machine.proofs.Most.{at_most}
 use Rattle.tx_machine.proofs.Read.{reads_state}
 use Rattle.std.specs.Prelude.{◌||◌, ◌&&◌, nat_lt, is_none}
@@ -22,7 +22,7 @@ use Rattle.bit_set.proofs.Counts.{count_agree}
 use Rattle.line_table.specs.Sizes.{storage_lines, held_limit}
 use Rattle.tx_ladder.specs.Waiting.{waits_in}
 use Rattle.tx_cpu.specs.Parts.{local_of}
-use Rattle.tx_lines.specs.Owned.{storage_in}
+use Rattle.tx_home.specs.Owned.{storage_in}
 use Rattle.tx_progress.specs.Progress.{resting}
 use Rattle.tx_progress.specs.Trial.{fate_by_progress}
 use Rattle.tx_meaning.specs.declared.asking.Need.{Need}

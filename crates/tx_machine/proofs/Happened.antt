@@ -16,7 +16,7 @@ use Rattle.tx_meaning.specs.State.{cpus_of}
 use Rattle.tx_keeping.specs.Kept.{Kept}
 use Rattle.tx_keeping.specs.Keeping.{keeping}
 use Rattle.tx_keeping.specs.Turn.{k_happen}
-use Rattle.tx_works.specs.Works.{Works, IsSameSize, kept_by}
+use Rattle.tx_home.specs.Works.{Works, IsSameSize, kept_by}
 use Rattle.tx_machine.specs.Machine.{Stands, IsLeft, nobody}
 use Rattle.tx_machine.proofs.Shown.{keeping_more, recorded, recorded_or_idle}
 

@@ -26,12 +26,12 @@ use Rattle.tx_keeping.specs.Told.{turned_of}
 use Rattle.tx_keeping.specs.Turn.{k_happen, k_turned}
 use Rattle.tx_keeping.proofs.Events.{happens_alike, keeping_is, grows_only, views_kept}
 use Rattle.tx_meaning.proofs.Walk.{at_put_case}
-use Rattle.tx_bounds.proofs.Heads.{heads_in_all}
+use Rattle.tx_opacity.proofs.Heads.{heads_in_all}
 use Rattle.tx_opacity.specs.Opacity.{SeesOneRun}
 use Rattle.tx_opacity.proofs.Opaque.{opaque}
 use Rattle.tx_headline.specs.Queue.{QueueChanges}
 use Rattle.tx_headline.proofs.Queue.{queue_changes}
-use Rattle.tx_works.specs.Works.{Works, Seat, IsSameSize, kept_by, numbers_of}
+use Rattle.tx_home.specs.Works.{Works, Seat, IsSameSize, kept_by, numbers_of}
 use Rattle.tx_home.specs.Taken.{HasRoomFor}
 use Rattle.tx_home.specs.declared.place.Unlike.{Unlike}
 use Rattle.tx_machine.specs.Machine.{Stands, nobody}

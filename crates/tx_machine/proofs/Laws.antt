@@ -20,16 +20,16 @@ use Rattle.tx_keeping.specs.Turn.{k_happen}
 use Rattle.tx_meaning.specs.Views.{GoesOnWith, KeepsViews, HoldsTouched}
 use Rattle.tx_keeping.proofs.Events.{legal, grows_only, views_kept, touched_held}
 use Rattle.tx_meaning.specs.Heads.{head_turns}
-use Rattle.tx_bounds.proofs.Heads.{heads_in_all}
-use Rattle.tx_bounds.proofs.Meant.{stops}
-use Rattle.tx_bounds.proofs.Stretched.{ages_within}
+use Rattle.tx_opacity.proofs.Heads.{heads_in_all}
+use Rattle.tx_opacity.proofs.Meant.{stops}
+use Rattle.tx_opacity.proofs.Stretched.{ages_within}
 use Rattle.tx_ladder.specs.Waiting.{waits_in}
 use Rattle.tx_opacity.specs.Opacity.{SeesOneRun}
 use Rattle.tx_opacity.proofs.Opaque.{opaque}
 use Rattle.tx_headline.specs.Queue.{QueueChanges, others_before}
 use Rattle.tx_headline.proofs.Bounds.{turns_left, ages_short}
 use Rattle.tx_headline.proofs.Queue.{queue_changes, before_most}
-use Rattle.tx_works.specs.Works.{Works, kept_by}
+use Rattle.tx_home.specs.Works.{Works, kept_by}
 use Rattle.tx_machine.specs.Machine.{Stands, nobody}
 use Rattle.tx_machine.proofs.Most.{meaning_more}
 use Rattle.tx_machine.proofs.Read.{reads_state}

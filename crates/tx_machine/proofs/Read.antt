@@ -8,7 +8,7 @@ use Rattle.tx_keeping.specs.Turn.{k_idle}
 use Rattle.tx_keeping.proofs.Turning.{idle_is}
 use Rattle.tx_serial.specs.Flat.{FlatState}
 use Rattle.tx_cpu.specs.Parts.{local_of}
-use Rattle.tx_lines.specs.Owned.{storage_in}
+use Rattle.tx_home.specs.Owned.{storage_in}
 use Rattle.tx_meaning.specs.Limits.{Setting}
 use Rattle.tx_meaning.specs.Meaning.{meaning}
 use Rattle.tx_meaning.specs.State.{State, flat_of, cpu_of}
@@ -28,8 +28,8 @@ use Rattle.tx_serial.specs.Fate.{Fate, fate}
 use Rattle.tx_serial.specs.Run.{run}
 use Rattle.tx_meaning.specs.State.{attempt_of}
 use Rattle.z_regs.specs.Absolute.{absolute_ranges}
-use Rattle.tx_works.specs.Wanted.{wanted, wanted_by, real_ranges}
-use Rattle.tx_works.specs.Works.{Works, kept_by}
+use Rattle.tx_home.specs.Wanted.{wanted, wanted_by, real_ranges}
+use Rattle.tx_home.specs.Works.{Works, kept_by}
 use Rattle.tx_machine.specs.Machine.{Stands, nobody}
 use Rattle.tx_machine.proofs.Shown.{shown}
 

@@ -22,8 +22,8 @@ use Rattle.tx_keeping.specs.Kept.{Kept, kept_flat, kept_finished}
 use Rattle.tx_keeping.specs.Turn.{k_idle}
 use Rattle.tx_keeping.proofs.Needed.{is_awaited}
 use Rattle.tx_keeping.proofs.Truth.{Truth, live_is}
-use Rattle.tx_bounds.proofs.Running.{run_runs}
-use Rattle.tx_works.specs.Works.{Works, Seat, kept_by, seats_of}
+use Rattle.tx_opacity.proofs.Running.{run_runs}
+use Rattle.tx_home.specs.Works.{Works, Seat, kept_by, seats_of}
 use Rattle.tx_home.specs.Lending.{refusal_of}
 use Rattle.tx_home.specs.declared.lending.Refusal.{Refusal}
 use Rattle.tx_home.specs.declared.lending.Refusal.TheVariants as refusal

@@ -20,8 +20,8 @@ use Rattle.tx_keeping.proofs.Events.{keeping_is, keeping_good, happens_alike, he
 use Rattle.tx_keeping.proofs.Moves.{IsGood}
 use Rattle.tx_keeping.proofs.Room.{AllWithin}
 use Rattle.tx_keeping.proofs.Turning.{idle_is}
-use Rattle.tx_bounds.proofs.Stopped.{Between, between, some_stop}
-use Rattle.tx_works.specs.Works.{Works, kept_by}
+use Rattle.tx_opacity.proofs.Stopped.{Between, between, some_stop}
+use Rattle.tx_home.specs.Works.{Works, kept_by}
 use Rattle.tx_machine.specs.Machine.{Stands, nobody}
 
 -- ---- what is true

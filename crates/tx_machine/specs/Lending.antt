@@ -10,7 +10,7 @@ use Rattle.tx_home.specs.declared.lending.Refusal.{Refusal}
 use Rattle.tx_home.specs.declared.lending.Refusal.TheVariants.{Away}
 use Rattle.tx_home.specs.declared.place.Unlike.{Unlike}
 use Rattle.tx_meaning.specs.declared.asking.Reject.{Reject}
-use Rattle.tx_run.specs.Lent.{Lent}
+use Rattle.tx_home.specs.RunLent.{Lent}
 use Rattle.tx_machine.specs.Machine.{Seen, setting_of}
 use Rattle.tx_machine.specs.declared.lending.Lend.{Lend}
 use Rattle.tx_machine.specs.declared.lending.Lend.TheVariants as lend

@@ -21,8 +21,8 @@ use Rattle.tx_meaning.specs.Shown.{commits_of, aborts_of}
 use Rattle.tx_meaning.specs.Turn.{Turned, happen}
 use Rattle.tx_keeping.specs.Keeping.{keeping}
 use Rattle.tx_meaning.specs.declared.counts.Counts.{Counts}
-use Rattle.tx_works.specs.declared.slot.Tally.{Tally}
-use Rattle.tx_works.specs.Works.{Seat, Works, kept_by}
+use Rattle.tx_home.specs.DeclaredSlot.Tally.{Tally}
+use Rattle.tx_home.specs.Works.{Seat, Works, kept_by}
 
 -- its image, its limits, the recorded events, the reject in the last event, where there was one, and for each CPU whether
 -- its run is away

@@ -5,8 +5,8 @@ use Rattle.tx_ladder.specs.Parameters.{Parameters}
 use Rattle.tx_ladder.specs.Rungs.{fresh}
 use Rattle.tx_progress.specs.Local.{Local, settled}
 use Rattle.tx_cpu.specs.Parts.{local_of}
-use Rattle.tx_works.specs.declared.slot.Tally.{Tally}
-use Rattle.tx_works.specs.Works.{Seat}
+use Rattle.tx_home.specs.DeclaredSlot.Tally.{Tally}
+use Rattle.tx_home.specs.Works.{Seat}
 
 abbrev pub nothing_counted : Tally
 nothing_counted = record { attempts = 0; delay = 0; turns = 0; asked = 0; rejected = 0 }

@@ -26,10 +26,8 @@ ghost use Rattle.tx_machine.specs.declared.lending.Home.TheVariants.{Taken};
 use crate::lending::Home;
 use crate::machine::Machine;
 use tx_cpu::Program;
-use tx_home::{Unlike, home};
+use tx_home::{Run, Unlike, Works, home};
 use tx_meaning::{Limits, Reject};
-use tx_run::Run;
-use tx_works::Works;
 
 /// A run comes home to all that a machine keeps, behind which so many external events may still come.
 fn come_home(

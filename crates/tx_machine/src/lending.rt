@@ -5,8 +5,7 @@ ghost use Rattle.tx_machine.specs.Lending.{IfLent, kept_of, kept_because, lent_b
 ghost use Rattle.tx_machine.specs.Machine.{Seen};
 
 use crate::machine::Machine;
-use tx_home::{Place, Refusal, lend, why_kept};
-use tx_run::Run;
+use tx_home::{Place, Refusal, Run, lend, why_kept};
 
 /// What comes of asking for a CPU.
 #[derive(Drop)]

@@ -9,7 +9,7 @@ pub mod opening;
 mod runs;
 
 pub use lending::{Home, Lend};
-pub use machine::{Machine, NoMemory};
-pub use tx_home::{Place, Refusal};
+pub use machine::Machine;
+pub use tx_home::{Place, Refusal, Tally};
 pub use tx_meaning::Counts;
-pub use tx_works::Tally;
+pub use z_regs::NoMemory;

@@ -29,28 +29,18 @@ ghost use Rattle.tx_machine.specs.Machine.{IsLeft, Stands, setting_of, state_of,
 ghost use Rattle.tx_meaning.specs.Shown.{levels_at, counts_at, commits_of, aborts_of};
 ghost use Rattle.tx_machine.specs.Machine.{code_awaited, counts_with, most_events};
 ghost use Rattle.tx_machine.specs.Machine.{tally_at};
-ghost use Rattle.tx_works.specs.Wanted.{wanted};
+ghost use Rattle.tx_home.specs.Wanted.{wanted};
 
 use crate::opening::{open_program, open_works};
 use crate::runs::Runs;
-use std::alloc::{AllocError, Global};
+use std::alloc::Global;
 use std::marker::Model;
 use std::sync::Arc;
 use tx_cpu::{Cpu, Program};
+use tx_home::{Tally, Works};
 use tx_journal::{Entry, Event, Image};
 use tx_meaning::{Counts, Limits, Outcome, Reject};
-use tx_works::{Tally, Works};
-use z_regs::{CpuImage, RunState, Touches};
-
-/// There was no memory.
-#[derive(Clone, Copy, Debug, PartialEq, Eq)]
-pub struct NoMemory;
-
-impl From<AllocError> for NoMemory {
-    fn from(_error: AllocError) -> NoMemory {
-        NoMemory
-    }
-}
+use z_regs::{CpuImage, NoMemory, RunState, Touches};
 
 /// CPUs that share one storage, after events, with a run for each CPU that may be lent out. Contracts see a machine as its
 /// image, its limits, the recorded events, the reject in the last event, and which runs are away; all else that it shows is
@@ -121,10 +111,8 @@ fn aborts_in(history: &[Entry], cpu: u32) -> u32
 fn code_awaited(cpu: &Cpu) -> Option<u16>
     ensures { let local = local_of cpu.now in result ≡ code_awaited local.attempt.cpu.state local.waiting }
 {
-    match cpu.waiting() {
-        None => None,
-        Some(_) => Some(code_of(cpu.image().state)),
-    }
+    cpu.waiting().as_ref()?;
+    Some(code_of(cpu.image().state))
 }
 
 /// What is counted of a CPU beside the history, and in it.

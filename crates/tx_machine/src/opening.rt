@@ -6,27 +6,23 @@ ghost use Rattle.tx_journal.specs.Content.{Content};
 ghost use Rattle.line_table.specs.Holders.{nobody};
 ghost use Rattle.tx_progress.specs.Local.{settled};
 ghost use Rattle.tx_cpu.specs.Parts.{local_of};
-ghost use Rattle.tx_lines.specs.Owned.{holders_in};
+ghost use Rattle.tx_home.specs.Owned.{holders_in};
 ghost use Rattle.tx_machine.specs.Opened.{AreUnused, IsUnused};
 
-use crate::machine::NoMemory;
 use std::alloc::Global;
 use std::sync::Arc;
 use tx_cpu::{Cpu, Program};
+use tx_home::{Lines, Slot, Tally, Works};
 use tx_journal::Image;
 use tx_ladder::{Ladder, Parms, StopQueue};
-use tx_lines::Lines;
-use tx_works::{Slot, Tally, Works};
-use z_regs::CpuImage;
+use z_regs::{CpuImage, NoMemory};
 
 /// A CPU that starts like this.
 fn slot_of(alloc: Global, start: CpuImage, parms: Parms) -> Result<Slot, NoMemory>
     ensures cpu { IfOk result (λ slot. local_of slot.cpu ≡ settled (cpu_of start)) }
     ensures unused { IfOk result (λ slot. IsUnused parms slot) }
 {
-    let Ok(cpu) = Cpu::open(alloc, start) else {
-        return Err(NoMemory);
-    };
+    let cpu = Cpu::open(alloc, start)?;
     Ok(Slot {
         cpu,
         ladder: Ladder::new(parms),
@@ -47,9 +43,7 @@ fn slots_of(alloc: Global, cpus: &[CpuImage], parms: Parms) -> Result<Vec<Slot>,
     let mut slots = Vec::new(alloc);
     for start in cpus {
         let slot = slot_of(alloc, *start, parms)?;
-        let Ok(()) = slots.push(slot) else {
-            return Err(NoMemory);
-        };
+        slots.push(slot)?;
     }
     Ok(slots)
 }
@@ -67,15 +61,11 @@ pub fn open_works(alloc: Global, image: &Image, most: usize) -> Result<Works, No
     ensures events_room { IfOk result (λ w. most ≤ w.events_room) }
 {
     let cpus = image.cpu_count();
-    let Ok(queue) = StopQueue::open(alloc, cpus) else {
-        return Err(NoMemory);
-    };
+    let queue = StopQueue::open(alloc, cpus)?;
     let slots = slots_of(alloc, image.cpus.as_slice(), image.parms)?;
     let history = Vec::with_capacity(alloc, most)?;
     let events = Vec::with_capacity(alloc, most)?;
-    let Ok(lines) = Lines::open(alloc, image.storage.as_slice(), cpus) else {
-        return Err(NoMemory);
-    };
+    let lines = Lines::open(alloc, image.storage.as_slice(), cpus)?;
     Ok(Works {
         slots,
         lines,
@@ -89,11 +79,7 @@ pub fn open_works(alloc: Global, image: &Image, most: usize) -> Result<Works, No
 pub fn open_program(alloc: Global, image: Arc<Image>) -> Result<Arc<Program>, NoMemory>
     ensures { IfOk result (λ program. arc_value program ≡ arc_value image) }
 {
-    let Ok(program) = Program::open(alloc, image) else {
-        return Err(NoMemory);
-    };
-    let Ok(shared) = Arc::new(alloc, program) else {
-        return Err(NoMemory);
-    };
+    let program = Program::open(alloc, image)?;
+    let shared = Arc::new(alloc, program)?;
     Ok(shared)
 }

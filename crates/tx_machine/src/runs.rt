@@ -3,13 +3,13 @@ ghost use Rattle.std.specs.Prelude.{◌≡◌, ◌<◌, List, None, true, false,
 ghost use Rattle.std.specs.Prelude.{IfOk, IfSome, ℕ};
 ghost use Rattle.tx_machine.specs.Runs.{IsOf, is_away};
 
-use crate::machine::NoMemory;
 use std::alloc::Global;
 use std::marker::Model;
 use std::mem;
 use std::sync::Arc;
 use tx_cpu::Program;
-use tx_run::{Room, Run};
+use tx_home::{Room, Run};
+use z_regs::NoMemory;
 
 /// Where the run of a CPU is.
 #[derive(Drop)]
@@ -45,10 +45,7 @@ fn room_for(alloc: Global, program: &Arc<Program>, cpu: u32) -> Result<Room, NoM
     ensures { IfOk result (λ r. r.1 ≡ cpu) }
 {
     let shared = Arc::try_clone(program)?;
-    match Room::reserve(alloc, shared, cpu) {
-        Ok(room) => Ok(room),
-        Err(_) => Err(NoMemory),
-    }
+    Room::reserve(alloc, shared, cpu)
 }
 
 /// The run that stands at a place, or is made there; none where it is away.
@@ -71,9 +68,7 @@ impl Runs {
         let mut places = Vec::with_capacity(alloc, cpus as usize)?;
         for cpu in 0..cpus {
             let room = room_for(alloc, program, cpu)?;
-            let Ok(()) = places.push(Place::Reserved(room)) else {
-                return Err(NoMemory);
-            };
+            places.push(Place::Reserved(room))?;
         }
         Ok(Runs { places })
     }

@@ -1,6 +1,6 @@
 -- Places that are marked one after the other, byte by byte and operand by operand, each by what a test says of it.
 use Rattle.std.proofs.Common.{◌≡◌, ℕ, zero, suc, ◌+◌, Bool, true, false, List, [], ◌∷◌, ◌++◌}
-use Rattle.std.proofs.Common.{take, Option, Some, refl, sym, ap, ◌∙◌, arith}
+use Rattle.std.proofs.Common.{take, Option, Some, sym, ap, ◌∙◌, arith}
 use Rattle.std.specs.Prelude.{◌||◌, cond, if◌then◌else◌, slice_get}
 use Rattle.std.specs.List.{flat_map, filter, list_any}
 use Rattle.std.proofs.lemmas.Grind.{flat_map-append}
@@ -10,14 +10,7 @@ use Rattle.z_regs.specs.Prefix.{absolute_of}
 use Rattle.z_regs.specs.declared.ranges.Range.{Range}
 use Rattle.tx_lending.specs.Places.{places_from}
 use Rattle.tx_needs.proofs.Ranges.{more_ranges}
-
-or_assoc : (a b c : Bool) → ((a || b) || c) ≡ (a || (b || c))
-or_assoc true b c = refl
-or_assoc false b c = refl
-
-or_false : (a : Bool) → (a || false) ≡ a
-or_false true = refl
-or_false false = refl
+use Rattle.std.proofs.Math.Bool.{or-false, or_assoc}
 
 -- ---- bytes one after the other
 
@@ -25,7 +18,7 @@ or_false false = refl
 up_more : (test : ℕ → Bool) (prefix : Option ℕ) (first n : ℕ) → list_any test (places_from prefix first (suc n))
     ≡ (list_any test (places_from prefix first n) || test (absolute_of prefix (first + n)))
 up_more test prefix first zero =
-    or_false (test (absolute_of prefix first))
+    or-false (test (absolute_of prefix first))
     ∙ ap (λ b. test (absolute_of prefix b)) (omega arith)
 up_more test prefix first (suc n) =
     let next : suc first + n ≡ first + suc n = omega arith in
@@ -57,7 +50,7 @@ any_more test places rs r =
     ap (list_any test) (flat_map-append places rs (r ∷ []))
     ∙ list_any-append test (flat_map places rs) (places r ++ [])
     ∙ ap (λ b. list_any test (flat_map places rs) || b)
-    (list_any-append test (places r) [] ∙ or_false (list_any test (places r)))
+    (list_any-append test (places r) [] ∙ or-false (list_any test (places r)))
 
 -- marks of the first operands, and of one more
 pub operand_marked : (test : ℕ → Bool) (places : Range → List ℕ) (ranges : List Range) (i : ℕ) (r : Range)

@@ -1,16 +1,18 @@
 //! The bytes of a run: storage as the run has made it, and each byte that it has touched as it was before.
-ghost use Rattle.std.specs.Prelude.{◌≡◌, ℕ, ◌+◌, ◌*◌, ◌/◌, ◌<◌, ◌≤◌, true, false, ◌||◌, nat_eq, All, length, IsTrue};
-ghost use Rattle.std.specs.Prelude.{IfOk, IfSome, None, if◌then◌else◌, vec_len, vec_capacity};
+ghost use Rattle.std.specs.Prelude.{◌≡◌, ℕ, ◌+◌, ◌/◌, ◌<◌, ◌≤◌, true, false, ◌||◌, nat_eq, All, length, IsTrue};
+ghost use Rattle.std.specs.Prelude.{IfSome, None, if◌then◌else◌, vec_len, vec_capacity};
 ghost use Rattle.std.specs.List.{flat_map, slice_index_or};
 ghost use Rattle.byteorder.specs.Endian.{big_bytes};
 ghost use Rattle.z_regs.specs.Prefix.{storage_size, is_prefix};
 ghost use Rattle.z_regs.specs.Written.{range_at};
 ghost use Rattle.line_table.specs.Sizes.{storage_lines};
+ghost use Rattle.bit_set.specs.Bits.{lies_in};
+ghost use Rattle.z_instr.specs.Operands.{from_up};
 ghost use Rattle.tx_lending.specs.Places.{is_among, places_from};
 ghost use Rattle.tx_marks.specs.Own.{bytes_at, is_touched, given, line_bytes};
 
+use crate::paged::PagedSet;
 use crate::placing::stay;
-use bit_set::BitSet;
 use std::alloc::Global;
 use std::marker::Model;
 use z_regs::{Bytes, NoMemory, STORAGE_SIZE, Storage, Touches, place_of};
@@ -24,41 +26,23 @@ pub struct OwnBytes {
     /// Storage as it is now.
     pub now: Storage,
     before: Storage,
-    touched: BitSet,
+    touched: PagedSet,
 }
 
 impl Model for OwnBytes {
     ghost use Rattle.std.specs.Prelude.{◌≡◌, length};
+    ghost use Rattle.z_regs.specs.Prefix.{storage_size};
     ghost use Rattle.tx_marks.specs.Own.{Own};
 
     ghost Value = { Own };
 
     ghost view = { λ b. record { now = b.now; before = b.before; touched = b.touched } };
 
-    ghost invariant = { λ b. (length b.before ≡ 1048576) × (length b.touched ≡ 1048576) };
-}
-
-/// A set with room for so many words of 64 numbers, and none in it.
-pub(crate) fn open_set(alloc: Global, words: usize) -> Result<BitSet, NoMemory>
-    ensures size { IfOk result (λ set. length set ≡ 64 * words) }
-    ensures none { IfOk result (λ set. (k : ℕ) → slice_index_or set k false ≡ false) }
-{
-    match BitSet::open(alloc, words) {
-        Ok(set) => Ok(set),
-        Err(_) => Err(NoMemory),
-    }
-}
-
-/// Takes all numbers out of a set.
-pub(crate) fn clear_set(set: &mut BitSet)
-    ensures size { length set.new ≡ length set.old }
-    ensures none { (k : ℕ) → slice_index_or set.new k false ≡ false }
-{
-    set.clear();
+    ghost invariant = { λ b. (length b.before ≡ storage_size) × (length b.touched ≡ storage_size) };
 }
 
 /// Puts the bytes of other storage at all places of a set.
-fn lay(now: &mut Storage, before: &Storage, places: &BitSet)
+fn lay(now: &mut Storage, before: &Storage, places: &PagedSet)
     requires size { length places.now ≡ storage_size }
     ensures { (a : ℕ) → bytes_at now.new a ≡
         (if slice_index_or places.now a false then bytes_at before.now a else bytes_at now.old a) }
@@ -66,7 +50,7 @@ fn lay(now: &mut Storage, before: &Storage, places: &BitSet)
     let bytes = before.as_slice();
     let _size = now.as_slice();
     let mut from = 0;
-    while let Some(at) = places.next(from, STORAGE_SIZE as usize) {
+    while let Some(at) = places.next(from) {
         now.put(at as u64, bytes[at]);
         from = at + 1;
     }
@@ -89,25 +73,21 @@ fn filled(room: Vec<u8>, bytes: &[u8]) -> Storage
 pub struct OwnRoom {
     now: Vec<u8>,
     before: Vec<u8>,
-    touched: BitSet,
+    touched: PagedSet,
     ghost now_empty: { vec_len now ≡ 0 },
-    ghost now_room: { 1048576 ≤ vec_capacity now },
+    ghost now_room: { storage_size ≤ vec_capacity now },
     ghost before_empty: { vec_len before ≡ 0 },
-    ghost before_room: { 1048576 ≤ vec_capacity before },
-    ghost size: { length touched ≡ 1048576 },
+    ghost before_room: { storage_size ≤ vec_capacity before },
+    ghost size: { length touched ≡ storage_size },
     ghost none: { (a : ℕ) → slice_index_or touched a false ≡ false },
 }
 
 impl OwnRoom {
     /// Memory for the bytes of a run. The error is want of memory.
     pub fn reserve(alloc: Global) -> Result<OwnRoom, NoMemory> {
-        let Ok(now) = Vec::with_capacity(alloc, STORAGE_SIZE as usize) else {
-            return Err(NoMemory);
-        };
-        let Ok(before) = Vec::with_capacity(alloc, STORAGE_SIZE as usize) else {
-            return Err(NoMemory);
-        };
-        let touched = open_set(alloc, STORAGE_SIZE as usize / 64)?;
+        let now = Vec::with_capacity(alloc, STORAGE_SIZE as usize)?;
+        let before = Vec::with_capacity(alloc, STORAGE_SIZE as usize)?;
+        let touched = PagedSet::open(alloc)?;
         Ok(OwnRoom {
             now,
             before,
@@ -161,6 +141,35 @@ impl OwnBytes {
         stay(prefix, first, length) && self.touched.has_run(first as usize, end as usize)
     }
 
+    /// Whether it is seen at one look that none of so many bytes from a real address on is touched, for a CPU with this prefix.
+    fn are_untouched(&self, prefix: Option<u32>, first: u64, length: u32) -> bool
+        requires prefix_in { IsTrue (is_prefix prefix) }
+        requires inside { first + length ≤ storage_size }
+        ensures places { result ≡ true → places_from prefix first length ≡ from_up first length }
+        ensures none { result ≡ true → (a : ℕ) → first ≤ a → a < first + length
+            → is_touched self.entry.now a ≡ false }
+    {
+        let end = first + u64::from(length);
+        stay(prefix, first, length) && self.touched.has_none(first as usize, end as usize)
+    }
+
+    /// Marks the bytes at so many places as touched, none of which is; their values are kept.
+    fn touch_run(&mut self, first: u64, length: u32)
+        requires some { 0 < length }
+        requires inside { first + length ≤ storage_size }
+        requires none { (a : ℕ) → first ≤ a → a < first + length → is_touched self.old a ≡ false }
+        ensures now { self.new.now ≡ self.old.now }
+        ensures given { (a : ℕ) → given self.new a ≡ given self.old a }
+        ensures touched { (a : ℕ) → is_touched self.new a
+            ≡ (is_touched self.old a || lies_in first (first + length) a) }
+    {
+        let from = first as usize;
+        let end = from + length as usize;
+        let bytes = &self.now.as_slice()[from..end];
+        self.before.lay(from, bytes);
+        self.touched.insert_run(from, end);
+    }
+
     /// Marks so many bytes from a real address on as touched, for a CPU with this prefix.
     pub fn touch_places(&mut self, prefix: Option<u32>, first: u64, length: u32)
         requires prefix_in { IsTrue (is_prefix prefix) }
@@ -170,7 +179,11 @@ impl OwnBytes {
         ensures touched { (a : ℕ) → is_touched self.new a
             ≡ (is_touched self.old a || is_among (places_from prefix first length) a) }
     {
-        if self.are_touched(prefix, first, length) {
+        if length == 0 || self.are_touched(prefix, first, length) {
+            return;
+        }
+        if self.are_untouched(prefix, first, length) {
+            self.touch_run(first, length);
             return;
         }
         for k in 0..length {
@@ -212,7 +225,7 @@ impl OwnBytes {
         ensures untouched { (a : ℕ) → is_touched self.new a ≡ false }
     {
         lay(&mut self.now, &self.before, &self.touched);
-        clear_set(&mut self.touched);
+        self.touched.clear();
     }
 
     /// The bytes stay as they are, and none is touched any more.
@@ -220,7 +233,7 @@ impl OwnBytes {
         ensures now { self.new.now ≡ self.old.now }
         ensures untouched { (a : ℕ) → is_touched self.new a ≡ false }
     {
-        clear_set(&mut self.touched);
+        self.touched.clear();
     }
 
     /// The lowest touched place from this one on, and its byte before it was touched; None exactly where there
@@ -232,7 +245,7 @@ impl OwnBytes {
         ensures first { IfSome result (λ p. (a : ℕ) → from ≤ a → a < p.0 → is_touched self.entry.now a ≡ false) }
         ensures none { result ≡ None → (a : ℕ) → from ≤ a → is_touched self.entry.now a ≡ false }
     {
-        let at = self.touched.next(from as usize, STORAGE_SIZE as usize)?;
+        let at = self.touched.next(from as usize)?;
         Some((at as u64, self.before.as_slice()[at]))
     }
 

@@ -4,6 +4,7 @@
 
 mod bytes;
 mod marks;
+mod paged;
 mod placing;
 mod traces;
 

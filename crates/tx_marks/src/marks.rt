@@ -6,7 +6,7 @@ ghost use Rattle.tx_meaning.specs.Asking.{is_there};
 ghost use Rattle.tx_meaning.specs.Needs.{needs_of};
 ghost use Rattle.tx_marks.specs.Marks.{mode_in, with_need, with_needs, first_missing};
 
-use crate::bytes::{clear_set, open_set};
+use crate::paged::{clear_set, open_set};
 use bit_set::BitSet;
 use line_table::{LINES, Mode};
 use std::alloc::Global;

@@ -7,7 +7,7 @@ ghost use Rattle.z_regs.specs.Prefix.{storage_size, is_prefix};
 ghost use Rattle.tx_lending.specs.Places.{is_among, places_from};
 ghost use Rattle.tx_marks.specs.Traces.{is_stored, is_paged, lies_on, has_page};
 
-use crate::bytes::{clear_set, open_set};
+use crate::paged::{clear_set, open_set};
 use crate::placing::stay;
 use bit_set::BitSet;
 use std::alloc::Global;
@@ -29,13 +29,14 @@ pub struct Traces {
 
 impl Model for Traces {
     ghost use Rattle.std.specs.Prelude.{◌≡◌, length};
+    ghost use Rattle.z_regs.specs.Prefix.{storage_size};
     ghost use Rattle.tx_marks.specs.Traces.{Traces};
 
     ghost Value = { Traces };
 
     ghost view = { λ t. record { stored = t.stored; pages = t.pages } };
 
-    ghost invariant = { λ t. (length t.stored ≡ 1048576) × (length t.pages ≡ 256) };
+    ghost invariant = { λ t. (length t.stored ≡ storage_size) × (length t.pages ≡ 256) };
 }
 
 impl Traces {

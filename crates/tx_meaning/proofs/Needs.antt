@@ -1,7 +1,7 @@
 -- The needed lines are those of the ranges, each once, in rising order.
 use Rattle.std.proofs.Common.{◌≡◌, ℕ, zero, suc, ◌+◌, ◌-◌, ◌<◌, ◌≤◌, Bool, true, false, List, []}
 use Rattle.std.proofs.Common.{◌∷◌, length, get_or, refl, sym, ap, ◌∙◌, arith}
-use Rattle.std.specs.Prelude.{◌||◌, ◌&&◌, not, ◌==◌, nat_eq, nat_lt, nat_le, if◌then◌else◌, map, fold, All}
+use Rattle.std.specs.Prelude.{◌||◌, ◌&&◌, ◌==◌, nat_eq, nat_lt, nat_le, if◌then◌else◌, map, fold, All}
 use Rattle.std.specs.Prelude.{AllPairs}
 use Rattle.std.specs.List.{list_any, flat_map, range_with_len}
 use Rattle.std.proofs.lemmas.Bool.{cases_eq, or_cases, or_left, or_right, and_parts, and_from}
@@ -18,7 +18,8 @@ use Rattle.tx_meaning.specs.declared.asking.Need.{Need}
 use Rattle.tx_meaning.specs.Needs.{first_line, last_line, has_line, lines_of, with_number, rising, mode_for}
 use Rattle.tx_meaning.specs.Needs.{needs_of}
 use Rattle.tx_meaning.specs.Changes.{is_needed}
-use Rattle.tx_footprint.proofs.Marking.{or_false}
+use Rattle.std.proofs.Math.Bool.{or-false}
+use Rattle.tx_footprint.proofs.Limits.{either_way}
 
 same_bool : (a b : Bool) → (a ≡ true → b ≡ true) → (b ≡ true → a ≡ true) → a ≡ b
 same_bool true b to from = sym (to refl)
@@ -112,14 +113,6 @@ all_lines (r ∷ rest) x =
     ∙ ap (λ b. b || has x (flat_map lines_of rest)) (lines_are r x)
     ∙ ap (λ b. has_place line_size r x || b) (all_lines rest x)
 
-either_way : (store here f s : Bool)
-    → (here || (f || s)) ≡ (((not store && here) || f) || ((store && here) || s))
-either_way true true true s = refl
-either_way true true false s = refl
-either_way true false f s = refl
-either_way false true f s = refl
-either_way false false f s = refl
-
 fetched_or_stored : (ranges : List Range) (x : ℕ)
     → list_any (λ r. has_place line_size r x) ranges ≡ (fetches ranges x || stores ranges x)
 fetched_or_stored [] x = refl
@@ -176,7 +169,7 @@ sorted_has sorted (n ∷ rest) x =
     or_group false b c = refl
 
 rising_has : (numbers : List ℕ) (x : ℕ) → has x (rising numbers) ≡ has x numbers
-rising_has numbers x = sorted_has [] numbers x ∙ or_false (has x numbers)
+rising_has numbers x = sorted_has [] numbers x ∙ or-false (has x numbers)
 
 -- each number is above the one before it
 abbrev IsAbove : ℕ → List ℕ → Type 0

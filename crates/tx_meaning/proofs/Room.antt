@@ -4,7 +4,7 @@ use Rattle.std.proofs.Common.{◌∷◌, ◌++◌, Some, None, length, refl, sym
 use Rattle.std.specs.Prelude.{◌==◌, if◌then◌else◌, nat_lt, All}
 use Rattle.std.proofs.lemmas.List.Elements.{All-head, All-tail}
 use Rattle.bit_set.specs.Counts.{one_if, count_below, but_at}
-use Rattle.bit_set.proofs.Counts.{count_agree, count_but_at, count_none}
+use Rattle.bit_set.proofs.Counts.{count_agree, count_but_at, count_none, at_most_one}
 use Rattle.tx_control.specs.declared.causes.Why.{Why}
 use Rattle.tx_control.specs.declared.causes.Why.TheVariants.{Starved, External}
 use Rattle.tx_ladder.specs.Rungs.{Standing, rejecting}
@@ -39,10 +39,6 @@ live_put n i v s known =
     (λ x lo. live_where (x == i) v (s.numbers x)) in
     let put = count_but_at n (is_live s) i (nat_lt 0 v.completed) known in
     omega arith
-
-pub bit_small : (b : Bool) → one_if b ≤ 1
-bit_small true = omega arith
-bit_small false = omega arith
 
 -- entries and live attempts
 pub places : ℕ → State → ℕ
@@ -117,7 +113,7 @@ module _ (m : Setting) (i : ℕ) (known : i < cpus_of m) (most : ℕ) where
   unfolding places
   fewer_put v s few =
       let put = live_put (cpus_of m) i v s known in
-      let up : one_if (nat_lt 0 v.completed) ≤ 1 = bit_small (nat_lt 0 v.completed) in
+      let up : one_if (nat_lt 0 v.completed) ≤ 1 = at_most_one (nat_lt 0 v.completed) in
       omega arith
 
   fewer_entry : (e : Entry) (s : State) → Few s → Fewer (with_entry e s)

@@ -7,7 +7,7 @@ use Rattle.std.proofs.lemmas.List.Elements.{All-nil, All-cons, All-head, All-tai
 use Rattle.z_regs.specs.Prefix.{storage_size, is_prefix, absolute_of}
 use Rattle.z_regs.specs.Absolute.{IsAccessible, absolute_range, absolute_ranges, to_edge, part_of}
 use Rattle.z_regs.specs.declared.ranges.Range.{Range}
-use Rattle.z_regs.proofs.Exchange.{IsArea, area, moves}
+use Rattle.z_regs.proofs.Exchange.{area, stays_inside}
 use Rattle.z_regs.proofs.MovedBytes.{one_area, two_areas}
 use Rattle.tx_meaning.specs.Needs.{stored, interruption_ranges}
 
@@ -15,21 +15,6 @@ use Rattle.tx_meaning.specs.Needs.{stored, interruption_ranges}
 pub record IsSmallPlace (r : Range) : Type 0 where
   pub small : r.length ≤ 256
   pub inside : r.first + r.length ≤ storage_size
-
-stays_inside : (p a n : ℕ) → IsArea p → a + n ≤ storage_size → n ≤ to_edge a
-    → absolute_of (Some p) a + n ≤ storage_size
-stays_inside p a n r h k =
-    let m = moves p a r.low in
-    elim (cases_lt a 8192) [
-      | inl low ↦ omega (arith, m.first low, r.aligned, r.high, k)
-      | inr high ↦ elim (cases_lt a p) [
-        | inl below ↦ omega (arith, m.between high below, h)
-        | inr from ↦ elim (cases_lt a (p + 8192)) [
-          | inl own ↦ omega (arith, m.own from own, r.aligned, r.high, k, h)
-          | inr past ↦ omega (arith, m.beyond past, h)
-        ]
-      ]
-    ]
 
 range-placed : (Q : Range → Type 0) (prefix : Option ℕ) (r : Range)
     → ((s : Range) → IsSmallPlace s → Q s) → is_prefix prefix ≡ true → IsSmallPlace r

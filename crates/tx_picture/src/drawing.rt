@@ -7,7 +7,7 @@ ghost use Rattle.tx_watch.specs.Window.{turns_in, entries_in};
 use crate::elements::{arrow_element, attempt_element, entry_element, turn_element};
 use crate::frame::{head, legend};
 use std::alloc::{AllocError, Global};
-use tx_machine::machine::{Machine, NoMemory};
+use tx_machine::{Machine, NoMemory};
 use tx_watch::marks::{Arrow, Attempt, Mark, Picture, Placed};
 use tx_watch::{Window, observe};
 

@@ -4,7 +4,7 @@ use Rattle.std.proofs.Common.{[], ◌∷◌}
 use Rattle.std.proofs.Common.{Option, Some, None, refl, sym, ap, subst, ◌∙◌, arith, length, get_or, take}
 use Rattle.std.proofs.Common.{drop}
 use Rattle.std.proofs.Common.{inl, inr, ◌⊎◌, lit<}
-use Rattle.std.specs.Prelude.{map, nat_eq, nat_lt, if◌then◌else◌, Ok, Err}
+use Rattle.std.specs.Prelude.{map, nat_eq, if◌then◌else◌, Ok, Err}
 use Rattle.std.proofs.lemmas.Bool.{cases_lt}
 use Rattle.z_regs.specs.Prefix.{storage_size, is_prefix, absolute_of}
 use Rattle.z_regs.proofs.Exchange.{seen_at, length-seen, absolute_within}
@@ -24,6 +24,7 @@ use Rattle.tx_serial.proofs.Frame.{blocked, no_wrong}
 use Rattle.tx_serial.proofs.Listed.{bytes_below_at, taken}
 use Rattle.tx_private.specs.Reading.{IsCopy}
 use Rattle.tx_private.proofs.Laid.{length-bytes}
+use Rattle.z_instr.proofs.Distinct.{some_length}
 
 pub copy_size : (seen : List ℕ) (p : Run) → is_prefix p.cpu.prefix ≡ true → IsCopy seen p
     → length seen ≡ storage_size
@@ -120,9 +121,6 @@ some_by : (x y : Bool) → 0 < (if x then 2 else if y then 4 else 6)
 some_by true y = lit< tt
 some_by false true = lit< tt
 some_by false false = lit< tt
-
-pub some_length : (b : ℕ) → 0 < length_by b
-some_length b = some_by (nat_lt b 64) (nat_lt b 192)
 
 -- ---- what is read
 

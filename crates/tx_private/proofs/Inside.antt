@@ -6,7 +6,7 @@ use Rattle.std.specs.List.{list_all, All}
 use Rattle.std.proofs.lemmas.Bool.{cases_lt, and_parts}
 use Rattle.std.proofs.lemmas.List.{length-map}
 use Rattle.std.proofs.lemmas.List.Elements.{All-nil, All-cons, All-head, All-tail, All-append}
-use Rattle.z_regs.specs.Prefix.{storage_size, is_prefix, absolute_of, is_accessible}
+use Rattle.z_regs.specs.Prefix.{storage_size, is_prefix, absolute_of}
 use Rattle.z_regs.specs.Absolute.{IsAccessible, absolute_range, absolute_ranges, to_edge}
 use Rattle.z_regs.specs.declared.ranges.Range.{Range}
 use Rattle.z_regs.proofs.Exchange.{IsArea, area, moves}
@@ -22,18 +22,9 @@ use Rattle.z_effect.specs.After.{AreInside, ranges_of}
 use Rattle.tx_footprint.specs.Places.{IsInStorage}
 use Rattle.tx_serial.specs.Attempt.{Run}
 use Rattle.tx_serial.specs.Fate.{operand_refusal, operands}
-use Rattle.tx_serial.proofs.FreeOperands.{usable, operands_inside}
+use Rattle.tx_serial.proofs.FreeOperands.{operands_inside, accessible_span}
 
 -- ---- by real addresses
-
-accessible_span : (prefix : Option ℕ) (s : Span) → IsSmall s → is_inside (accessible_pages prefix) s ≡ true
-    → IsAccessible prefix (range_of s)
-accessible_span prefix s small inside = record {
-  first = subst (λ a. is_accessible prefix a ≡ true) (let e : s.first + 0 ≡ s.first = omega arith in e)
-      (usable prefix s 0 small inside small.some);
-  end = inside_ends prefix s small inside;
-  most = small.most;
-}
 
 accessible_spans : (prefix : Option ℕ) (ss : List Span) → All IsSmall ss
     → list_all (is_inside (accessible_pages prefix)) ss ≡ true → All (IsAccessible prefix) (map range_of ss)

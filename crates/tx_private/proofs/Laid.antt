@@ -56,10 +56,6 @@ one_more prefix a n b xs s e =
     ∙ laid_twice (stores_at prefix a xs) (stores_at prefix (a + length xs) (b ∷ [])) s
     ∙ ap (λ m. at_put (with_bytes_at prefix a xs s) (absolute_of prefix (a + m)) b) (sym e)
 
-pub none_yet : (prefix : Option ℕ) (a : ℕ) (s : Storage) → with_bytes_at prefix a [] s ≡ s
-unfolding laid_over
-none_yet prefix a s = refl
-
 -- a step of the loop over bytes
 pub store_step : (prefix : Option ℕ) (a k : ℕ) (bytes s now new : List ℕ) → k < length bytes
     → function_of now ≡ with_bytes_at prefix a (take k bytes) (function_of s)

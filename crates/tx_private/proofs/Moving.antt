@@ -40,10 +40,11 @@ use Rattle.tx_private.specs.Shows.{Shows, IsLimited, IsTold, EndsInTime, mark_of
 use Rattle.tx_private.specs.Shows.{is_empty}
 use Rattle.tx_private.specs.Moved.{HasMoved}
 use Rattle.tx_private.proofs.Inside.{inside, in_storage}
-use Rattle.tx_private.proofs.Settled.{stored_copy, ends_still, touched_more, at_end, begin_stays, some_steps}
+use Rattle.tx_private.proofs.Settled.{stored_copy, ends_still, touched_more, begin_stays, some_steps}
 use Rattle.tx_private.proofs.Settled.{no_steps}
 use Rattle.tx_private.proofs.Settled.{limited_first, limited_more, plain_inside}
 use Rattle.tx_serial.proofs.FreeOperands.{found_none, none_first}
+use Rattle.tx_serial.proofs.Starting.{last_is}
 
 -- ---- no test refuses
 
@@ -262,7 +263,7 @@ module _ (base : Storage) (text : List ℕ) (a b : kept.Attempt) (p : Run) (i : 
       → IsTold x.at x.length (last_step q.steps)
   told x e d = record {
     step = step_of i (operands i p.cpu) p.cpu;
-    there = at_end p.steps (step_of i (operands i p.cpu) p.cpu);
+    there = last_is p.steps (step_of i (operands i p.cpu) p.cpu);
     address = ap (λ (d : Cpu). d.address) shows.cpu ∙ sym e;
     size = sym d;
   }

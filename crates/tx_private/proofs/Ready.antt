@@ -1,10 +1,10 @@
 -- An instruction that passes the tests of a run that is shown may go.
-use Rattle.std.proofs.Common.{◌≡◌, ◌≢◌, ℕ, ◌<◌, ◌≤◌, Bool, true, false, List, [], ◌∷◌, Option, None}
+use Rattle.std.proofs.Common.{◌≡◌, ◌≢◌, ℕ, ◌<◌, ◌≤◌, Bool, true, false, List, [], None}
 use Rattle.std.proofs.Common.{refl, sym}
 use Rattle.std.proofs.Common.{ap, subst, ◌∙◌, length}
-use Rattle.std.specs.Prelude.{Result, Ok, Err, nat_le, nat_lt, ◌&&◌}
+use Rattle.std.specs.Prelude.{nat_le, ◌&&◌}
 use Rattle.std.specs.List.{All}
-use Rattle.std.proofs.lemmas.Bool.{ltb-false, leb-false}
+use Rattle.std.proofs.lemmas.Bool.{leb-false}
 use Rattle.z_regs.specs.Cpu.{Cpu}
 use Rattle.z_regs.specs.Prefix.{storage_size, is_prefix}
 use Rattle.z_regs.specs.Absolute.{absolute_ranges}
@@ -17,20 +17,16 @@ use Rattle.z_effect.specs.After.{AreInside, ranges_of}
 use Rattle.tx_control.specs.Nesting.{is_constrained}
 use Rattle.tx_control.specs.declared.begins.Begin.{Begin}
 use Rattle.tx_control.specs.declared.causes.Why.TheVariants.{Depth}
-use Rattle.tx_constraint.specs.Constraints.{first_of}
-use Rattle.tx_constraint.specs.Octowords.{with_octowords}
 use Rattle.tx_constraint.specs.Kept.{Kept, next_operand_breach}
 use Rattle.tx_constraint.proofs.Attempts.{few_steps}
 use Rattle.tx_footprint.specs.Places.{IsInStorage}
-use Rattle.tx_footprint.specs.Touched.{Sets, touching, fit_of}
-use Rattle.tx_footprint.specs.declared.footprint.Overflow.{Overflow}
-use Rattle.tx_footprint.specs.declared.footprint.Overflow.TheVariants.{Fetch, Store}
+use Rattle.tx_footprint.specs.Touched.{touching, fit_of}
 use Rattle.tx_serial.specs.Flat.{Storage, bytes_of, laid_over}
 use Rattle.tx_serial.specs.Attempt.{Run, footprint}
 use Rattle.tx_serial.specs.Attempt as run
-use Rattle.tx_serial.specs.Fate.{Passes, operands, aborts_where, overflow_in, overflow_of, fate}
+use Rattle.tx_serial.specs.Fate.{Passes, operands, aborts_where, fate}
 use Rattle.tx_serial.specs.Run.{may_follow, after, after_where, after_fate, outcome_of, more, more_of}
-use Rattle.tx_serial.proofs.Passing.{goes_where_passes}
+use Rattle.tx_serial.proofs.Passing.{goes_where_passes, fits_in}
 use Rattle.tx_private.specs.declared.execution.Completion.{Completion}
 use Rattle.tx_private.proofs.Going.{goes_on}
 use Rattle.tx_serial.proofs.FreeOperands.{begin_bare}
@@ -43,6 +39,7 @@ use Rattle.tx_private.proofs.Inside.{inside, in_storage}
 use Rattle.tx_private.proofs.Laid.{length-bytes}
 use Rattle.tx_private.proofs.Moving.{none_refuses}
 use Rattle.tx_private.proofs.Tested.{place_by, no_breach_by}
+use Rattle.tx_constraint.proofs.Whole.{few_words}
 
 -- a run that is gone shows nothing but its mark
 pub gone : (base : Storage) (a : Attempt) (p : Run) → mark_of a.mark ≡ run.Missing → p.mark ≡ run.Missing
@@ -64,29 +61,9 @@ not_deep true n h e = leb-false 16 n (not_aborted (nat_le 16 n) h)
     not_aborted false g = refl
 not_deep false n h e = absurd (cc)
 
-fit_by : (r : Result (Unit {0}) Overflow) → overflow_of r ≡ None → r ≡ Ok tt
-fit_by (Ok u) h = refl
-fit_by (Err Fetch) h = absurd (cc)
-fit_by (Err Store) h = absurd (cc)
-
-fits_in : (nest : List Begin) (sets : Sets) → nest ≢ [] → overflow_in nest sets ≡ None → fit_of sets ≡ Ok tt
-fits_in [] sets some h = absurd (some refl)
-fits_in (b ∷ bs) sets some h = fit_by (fit_of sets) h
-
 starts : (nest : List Begin) (i : Instr) → nest ≡ [] → may_follow nest i ≡ true
     → begins (entry_at i.op.number) ≡ true
 starts nest i e h = subst (λ n. may_follow n i ≡ true) e h
-
-few_words : (k : Kept) (i : Instr) (ranges : List Range) → next_operand_breach k i ranges ≡ None
-    → length (with_octowords k.octowords ranges) ≤ 4
-unfolding next_operand_breach
-few_words k i ranges h =
-    ltb-false 4 (length (with_octowords k.octowords ranges))
-    (first_no (nat_lt 4 (length (with_octowords k.octowords ranges))) 4 _ h)
-  where
-    first_no : (b : Bool) (n : ℕ) (rest : Option ℕ) → first_of b n rest ≡ None → b ≡ false
-    first_no true n rest g = absurd (cc)
-    first_no false n rest g = refl
 
 pub ready : (base : Storage) (text : List ℕ) (a : Attempt) (p : Run) (i : Instr) (touches absolute : List
     Range)

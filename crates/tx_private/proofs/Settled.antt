@@ -1,7 +1,7 @@
 -- What is kept of a run after one instruction more.
 use Rattle.std.proofs.Common.{◌≡◌, ℕ, ◌+◌, ◌<◌, ◌≤◌, Bool, true, false, not, List, [], ◌∷◌}
-use Rattle.std.proofs.Common.{◌++◌, Option}
-use Rattle.std.proofs.Common.{Some, None, refl, sym, ap, subst, ◌∙◌, length}
+use Rattle.std.proofs.Common.{◌++◌}
+use Rattle.std.proofs.Common.{None, refl, sym, ap, subst, ◌∙◌, length}
 use Rattle.std.specs.Prelude.{map, ◌&&◌, ◌||◌}
 use Rattle.std.specs.List.{list_any}
 use Rattle.std.proofs.lemmas.Bool.{true≢false}
@@ -29,13 +29,10 @@ use Rattle.tx_constraint.specs.Octowords.{with_octowords}
 use Rattle.tx_constraint.specs.Operations.{ends, is_permitted}
 use Rattle.tx_constraint.specs.Constraints.{Step, Attempt, begun, with_step, text_breach, operand_breach}
 use Rattle.tx_constraint.specs.Constraints.{GoesOn}
-use Rattle.tx_constraint.specs.Constraints.{first_of, has_barred, is_too_long, leaves_its_bytes}
-use Rattle.tx_footprint.specs.Places.{has_place}
-use Rattle.tx_footprint.specs.Sizes.{line_size, block_size}
-use Rattle.tx_footprint.proofs.Marking.{or_assoc, or_false}
+use Rattle.tx_constraint.specs.Constraints.{has_barred, is_too_long, leaves_its_bytes}
 use Rattle.tx_footprint.specs.Touched.{Sets, untouched, touching}
 use Rattle.tx_serial.specs.Flat.{Storage, bytes_of, laid_over, operand_stores}
-use Rattle.tx_serial.specs.Attempt.{Run, footprint, attempt_of, last_step}
+use Rattle.tx_serial.specs.Attempt.{Run, footprint, attempt_of}
 use Rattle.tx_serial.specs.Fate.{operands}
 use Rattle.tx_serial.specs.Run.{outcome_of}
 use Rattle.z_instr.specs.Roles.{stores_lastingly}
@@ -44,10 +41,12 @@ use Rattle.tx_private.specs.Done.{outcome_at, is_lasting_kind}
 use Rattle.tx_private.specs.Reading.{IsCopy}
 use Rattle.tx_private.specs.Shows.{EndsInTime, begin_at, begin_length, is_empty, IsLimited}
 use Rattle.tx_constraint.specs.Kept.{Kept, kept, kept_at, added}
-use Rattle.tx_constraint.proofs.Attempts.{octowords_begun, kept_step}
+use Rattle.tx_constraint.proofs.Attempts.{octowords_begun, kept_step, unbroken}
 use Rattle.tx_private.proofs.Laid.{laid_beyond, operands_within, AreIn}
 use Rattle.tx_serial.proofs.SameCauses.{agreeing}
 use Rattle.z_touch.proofs.Reach.{spans_back}
+use Rattle.std.proofs.Math.Bool.{or-false, or_assoc}
+use Rattle.tx_footprint.proofs.Marking.{touching_twice}
 
 -- ---- spans and ranges
 
@@ -101,9 +100,9 @@ ends_still i p s seen bytes ok size inside ends a past =
 
 pub nothing_more : (sets : Sets) → touching sets [] ≡ sets
 nothing_more sets = λ k. record {
-  fetched = λ line. or_false (sets.fetched line) k;
-  stored = λ line. or_false (sets.stored line) k;
-  blocks = λ block. or_false (sets.blocks block) k;
+  fetched = λ line. or-false (sets.fetched line) k;
+  stored = λ line. or-false (sets.stored line) k;
+  blocks = λ block. or-false (sets.blocks block) k;
 }
 
 joined : (a : Bool) (test : Range → Bool) (xs ys : List Range)
@@ -111,23 +110,11 @@ joined : (a : Bool) (test : Range → Bool) (xs ys : List Range)
 joined a test xs ys =
     or_assoc a (list_any test xs) (list_any test ys) ∙ ap (λ b. a || b) (sym (list_any-append test xs ys))
 
-added_in_turn : (sets : Sets) (xs ys : List Range) → touching (touching sets xs) ys ≡ touching sets (xs ++ ys)
-added_in_turn sets xs ys = λ k. record {
-  fetched = λ line. joined (sets.fetched line) (λ r. not r.store && has_place line_size r line) xs ys k;
-  stored = λ line. joined (sets.stored line) (λ r. r.store && has_place line_size r line) xs ys k;
-  blocks = λ block. joined (sets.blocks block) (λ r. r.store && has_place block_size r block) xs ys k;
-}
-
 pub touched_more : (p : Run) (absolute : List Range)
     → touching (footprint p) absolute ≡ touching untouched (p.touched ++ absolute)
-touched_more p absolute = added_in_turn untouched p.touched absolute
+touched_more p absolute = touching_twice untouched p.touched absolute
 
 -- ---- the steps
-
-pub at_end : (steps : List Step) (s : Step) → last_step (steps ++ s ∷ []) ≡ Some s
-at_end [] s = refl
-at_end (x ∷ []) s = refl
-at_end (x ∷ y ∷ rest) s = at_end (y ∷ rest) s
 
 -- behind the begin, a step more is one more of the attempt
 pub behind_begin : (steps : List Step) (s : Step) → (steps ≡ [] → ⊥)
@@ -163,11 +150,6 @@ begins_outside e = not e.permitted || not (begins e)
 none_begins_inside : (n : ℕ) → n < ROWS → begins_outside (entry_at n) ≡ true
 none_begins_inside = passes_row begins_outside refl
 
-no_breach : (is_broken : Bool) (number : ℕ) (rest : Option ℕ) → first_of is_broken number rest ≡ None
-    → (is_broken ≡ false) × (rest ≡ None)
-no_breach true number rest h = absurd (cc)
-no_breach false number rest h = (refl, h)
-
 last_barred : (a : Attempt) (s : Step) → has_barred (with_step a s) ≡ false
     → is_permitted s.instruction ≡ true
 last_barred a s h =
@@ -183,9 +165,9 @@ permitted_by : (a : Attempt) (s : Step) → text_breach (with_step a s) ≡ None
     → is_permitted s.instruction ≡ true
 unfolding text_breach
 permitted_by a s h =
-    let one = no_breach (is_too_long (with_step a s)) 1 _ h in
-    let two = no_breach (leaves_its_bytes (with_step a s)) 2 _ one.1 in
-    let three = no_breach (has_barred (with_step a s)) 3 None two.1 in
+    let one = unbroken (is_too_long (with_step a s)) 1 _ h in
+    let two = unbroken (leaves_its_bytes (with_step a s)) 2 _ one.1 in
+    let three = unbroken (has_barred (with_step a s)) 3 None two.1 in
     last_barred a s three.0
 
 pub plain_inside : (a : Attempt) (s : Step) → text_breach (with_step a s) ≡ None

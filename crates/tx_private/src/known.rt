@@ -87,9 +87,7 @@ impl Readings {
 
     /// Those of an image's assembled instructions, as many as there is room for. The error is want of memory.
     pub fn open(alloc: Global, image: &Image) -> Result<Readings, NoMemory> {
-        let Ok(mut places) = vec![in alloc; None; PLACES] else {
-            return Err(NoMemory);
-        };
+        let mut places = vec![in alloc; None; PLACES]?;
         for start in image.starts.as_slice() {
             keep(&mut places, &image.storage, *start);
         }
@@ -100,9 +98,7 @@ impl Readings {
     pub fn find(&self, address: u64, bytes: &[u8]) -> Option<Instr>
         ensures { IfSome result (λ instr. reading_of bytes.now ≡ Some instr) }
     {
-        let Some(Some(known)) = self.places.get(place_of(address)) else {
-            return None;
-        };
+        let known = self.places.get(place_of(address))?.as_ref()?;
         if is_of(known, bytes) {
             Some(known.instr)
         } else {

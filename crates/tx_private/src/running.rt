@@ -32,9 +32,7 @@ pub fn fresh(alloc: Global, storage: &Storage, readings: Readings) -> Result<Att
     let seen = Storage::open(alloc, storage.as_slice())?;
     let lasting = Storage::open(alloc, storage.as_slice())?;
     let trial = Storage::open(alloc, storage.as_slice())?;
-    let Ok(footprint) = Footprint::open(alloc) else {
-        return Err(NoMemory);
-    };
+    let footprint = Footprint::open(alloc)?;
     Ok(Attempt {
         image: CpuImage::entering(0),
         seen,

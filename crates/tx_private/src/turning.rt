@@ -1,6 +1,6 @@
 //! The copies of storage on which a run works, turned for another CPU.
 ghost use Rattle.std.specs.Prelude.{◌≡◌, ◌≤◌, ◌<◌, ◌+◌, ◌*◌, ◌⊎◌, ℕ, length, IsTrue};
-ghost use Rattle.z_regs.specs.Prefix.{is_prefix, storage_size, absolute_of};
+ghost use Rattle.z_regs.specs.Prefix.{is_prefix, storage_size, area_size, absolute_of};
 ghost use Rattle.z_regs.specs.Seen.{seen_by};
 ghost use Rattle.tx_private.specs.Ready.{IsReady, IsTurned};
 
@@ -16,7 +16,7 @@ const AREA_LINES: u32 = 32;
 fn own_area(prefix: Option<u32>) -> u32
     requires prefix_in { IsTrue (is_prefix prefix) }
     ensures within { result + 32 ≤ LINES }
-    ensures others { (j : ℕ) → 8192 ≤ j → (j < 256 * result) ⊎ (256 * result + 8192 ≤ j)
+    ensures others { (j : ℕ) → area_size ≤ j → (j < 256 * result) ⊎ (256 * result + area_size ≤ j)
         → absolute_of prefix j ≡ j }
 {
     match prefix {

@@ -76,9 +76,7 @@ fn ready_at(storage: &[u8], guard: &Guard, place: usize) -> Option<Ready>
     ensures { IfSome result (λ r. IsReady storage.now (items guard.now) place r) }
 {
     let length = length_of(storage[place]);
-    let Some(instr) = read_from(storage, place) else {
-        return None;
-    };
+    let instr = read_from(storage, place)?;
     let fetched = is_fetched(place as u64, guard, length);
     Some(make_ready(instr, fetched))
 }
@@ -102,9 +100,7 @@ fn add(
     let Some(ready) = ready_at(storage, guard, place) else {
         return Ok(());
     };
-    let Ok(()) = readies.push(ready) else {
-        return Err(NoMemory);
-    };
+    readies.push(ready)?;
     numbers[place / 2] = readies.len() as u32;
     Ok(())
 }
@@ -127,10 +123,8 @@ fn unread(alloc: Global, halfwords: usize) -> Result<Vec<u32>, NoMemory>
     requires { 2 * halfwords ≡ storage_size }
     ensures { IfOk result (λ numbers. (storage text : List ℕ) → AreRead storage text numbers.items []) }
 {
-    match vec![in alloc; 0u32; halfwords] {
-        Ok(numbers) => Ok(numbers),
-        Err(_) => Err(NoMemory),
-    }
+    let numbers = vec![in alloc; 0u32; halfwords]?;
+    Ok(numbers)
 }
 
 /// The number of a halfword, 0 for none.

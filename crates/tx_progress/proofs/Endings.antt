@@ -45,6 +45,7 @@ use Rattle.tx_progress.proofs.Parts.{left_at_rest, followed_fate, followed_outco
 use Rattle.tx_progress.proofs.Alike.{its_footprint}
 use Rattle.tx_progress.proofs.Leaving.{remains_left, aborted_rests, its_address, abort_leaves}
 use Rattle.tx_progress.proofs.Moving.{executed_live, next_of, completed_tells}
+use Rattle.tx_serial.proofs.Starting.{last_is}
 
 -- ---- an attempt ends by itself
 
@@ -96,11 +97,6 @@ undone_leaves text storage locals i instr ranges o why is live h came cause =
     ∙ ap (λ n. outcome_cause n instr o) (its_nest p q is.attempt) ∙ cause))
 
 -- ---- by an overflow
-
-last_is : (steps : List Step) (s : Step) → last_step (steps ++ s ∷ []) ≡ Some s
-last_is [] s = refl
-last_is (x ∷ []) s = refl
-last_is (x ∷ y ∷ rest) s = last_is (y ∷ rest) s
 
 still_resumes : (c now : Cpu) (steps : List Step) (nest : List Begin) (t : Step) (k : ℕ)
     → Stands c now steps nest
@@ -348,30 +344,30 @@ run_tells text storage locals i instr ranges is live h =
 
 -- ---- from outside
 
-pub outside_fits : (text : List ℕ) (p : Run) (why : Why) → p.mark ≡ Open
+pub fits_open : (text : List ℕ) (p : Run) (why : Why) → p.mark ≡ Open
     → comes_from_outside text p why ≡ true → fits text p why ≡ true
 unfolding fits
-outside_fits text p why opens h =
+fits_open text p why opens h =
     or_right (is_cause (ending text p) why) (is_open p.mark && comes_from_outside text p why)
     (ap (λ m. is_open m && comes_from_outside text p why) opens ∙ h)
 
 -- what may come from outside, by what is followed
 pub external_fits : (f : FlatState) (i : ℕ) (local : Local) → IsFollowed f i local
     → fits f.text (run f i local.attempt.count) External ≡ true
-external_fits f i local is = outside_fits f.text (run f i local.attempt.count) External is.opens refl
+external_fits f i local is = fits_open f.text (run f i local.attempt.count) External is.opens refl
 
 pub store_conflict_fits : (f : FlatState) (i line : ℕ) (local : Local) → IsFollowed f i local
     → local.attempt.footprint.stored line ≡ true
     → fits f.text (run f i local.attempt.count) (StoreConflict line) ≡ true
 store_conflict_fits f i line local is h =
-    outside_fits f.text (run f i local.attempt.count) (StoreConflict line) is.opens
+    fits_open f.text (run f i local.attempt.count) (StoreConflict line) is.opens
     (ap (λ sets. sets.stored line) (its_footprint f i local is) ∙ h)
 
 pub fetch_conflict_fits : (f : FlatState) (i line : ℕ) (local : Local) → IsFollowed f i local
     → local.attempt.footprint.fetched line ≡ true → local.attempt.footprint.stored line ≡ false
     → fits f.text (run f i local.attempt.count) (FetchConflict line) ≡ true
 fetch_conflict_fits f i line local is fetched stored =
-    outside_fits f.text (run f i local.attempt.count) (FetchConflict line) is.opens
+    fits_open f.text (run f i local.attempt.count) (FetchConflict line) is.opens
     (ap (λ sets. sets.fetched line && not (sets.stored line)) (its_footprint f i local is)
     ∙ (λ k. fetched k && not (stored k)))
 
@@ -384,4 +380,4 @@ starved_fits f i local instr r rs is constrained h =
     let nest : is_constrained p.nest ≡ true =
     ap is_constrained (its_nest p local.attempt is.attempt) ∙ constrained in
     let goes : fate f.text p ≡ Goes instr (r ∷ rs) = followed_fate f i local is ∙ h in
-    outside_fits f.text p Starved is.opens (λ k. nest k && has_operands (goes k))
+    fits_open f.text p Starved is.opens (λ k. nest k && has_operands (goes k))

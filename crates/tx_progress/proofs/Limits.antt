@@ -2,7 +2,7 @@
 use Rattle.std.proofs.Common.{◌≡◌, ◌≢◌, ℕ, zero, suc, ◌+◌, ◌/◌, ◌<◌, ◌≤◌, Bool, true, false, List, [], ◌∷◌}
 use Rattle.std.proofs.Common.{◌++◌}
 use Rattle.std.proofs.Common.{Option, Some, None, refl, sym, ap, subst, ◌∙◌, arith, length, map, Ok, Err}
-use Rattle.std.specs.Prelude.{if◌then◌else◌, ◌||◌, not, nat_lt, ◌==◌}
+use Rattle.std.specs.Prelude.{if◌then◌else◌, ◌||◌, nat_lt, ◌==◌}
 use Rattle.std.specs.List.{list_any, list_all, All}
 use Rattle.std.proofs.lemmas.Bool.{true≢false, and_parts, and_from, ltb-true, ltb-false, lt-ltb}
 use Rattle.std.proofs.lemmas.List.Elements.{All-head, All-tail}
@@ -14,16 +14,12 @@ use Rattle.z_regs.specs.Absolute.{absolute_ranges}
 use Rattle.z_regs.specs.Prefix.{absolute_of, is_prefix, storage_size}
 use Rattle.z_regs.proofs.Exchange.{absolute_within}
 use Rattle.z_instr.specs.Access.{accessible_pages}
-use Rattle.z_instr.specs.Facts.{is_begin}
 use Rattle.z_instr.specs.Operands.{Span, IsSmall, from_up, spans, tested_spans, is_inside}
-use Rattle.z_instr.specs.Operands.{where_wrong}
 use Rattle.z_instr.specs.Operands.{inaccessible_in, addressing}
 use Rattle.z_instr.specs.Roles.{begins}
 use Rattle.z_instr.specs.Table.{entry_at}
 use Rattle.z_instr.specs.declared.instr.Instr.{Instr}
-use Rattle.z_instr.specs.declared.operand.Demand.{Demand}
-use Rattle.z_instr.specs.declared.operand.Demand.TheVariants.{Nothing, EvenPair, Boundary, AbortCode, Begin}
-use Rattle.z_instr.specs.declared.operand.Demand.TheVariants.{BeginConstrained, ServiceZero}
+use Rattle.z_instr.specs.declared.operand.Demand.TheVariants.{Begin}
 use Rattle.z_instr.proofs.SmallOperands.{sizes}
 use Rattle.z_touch.specs.Refusals.{range_of}
 use Rattle.z_touch.proofs.SmallRanges.{inside_ends}
@@ -35,7 +31,6 @@ use Rattle.tx_footprint.specs.Touched.{Sets, untouched, touching, line_count, bl
 use Rattle.tx_footprint.specs.declared.footprint.Overflow.TheVariants.{Fetch, Store}
 use Rattle.tx_footprint.specs.Sizes.{line_limit, block_limit}
 use Rattle.tx_footprint.specs.Sizes.{line_size, storage_blocks}
-use Rattle.tx_footprint.proofs.Marking.{or_false}
 use Rattle.tx_serial.specs.Alike as alike
 use Rattle.tx_serial.specs.Alike.{addresses_in}
 use Rattle.tx_serial.specs.Attempt.{Run, Missing, footprint}
@@ -47,13 +42,17 @@ use Rattle.tx_serial.proofs.Passing.{passes}
 use Rattle.tx_progress.specs.Local.{Local}
 use Rattle.tx_progress.specs.Reached.{IsFollowed}
 use Rattle.tx_progress.specs.Followed.{KeepsLimits}
-use Rattle.tx_progress.proofs.OneMore.{went, open_is_there, touching_twice}
+use Rattle.tx_progress.proofs.OneMore.{went, open_is_there}
 use Rattle.tx_progress.proofs.Standing.{tests_find_nothing}
 use Rattle.tx_progress.proofs.Lines.{run_there, seen_test, either_way}
 use Rattle.tx_progress.proofs.Alike.{its_footprint}
 use Rattle.tx_progress.proofs.Facts.{stored_line, lasting_line}
 use Rattle.std.proofs.lemmas.Bool.{or_right}
 use Rattle.tx_serial.proofs.FreeOperands.{not_excepted, begin_bare}
+use Rattle.std.proofs.Math.Bool.{or-false}
+use Rattle.tx_footprint.proofs.Marking.{touching_twice}
+use Rattle.z_touch.proofs.Reach.{accessible, tested_all}
+use Rattle.tx_progress.specs.Trial.{breach_refusal}
 
 -- ---- a begin has no operand
 
@@ -81,9 +80,9 @@ untouched_keeps =
 
 touching_none : (sets : Sets) → sets ≡ touching sets []
 touching_none sets k = record {
-  fetched = λ line. sym (or_false (sets.fetched line)) k;
-  stored = λ line. sym (or_false (sets.stored line)) k;
-  blocks = λ block. sym (or_false (sets.blocks block)) k;
+  fetched = λ line. sym (or-false (sets.fetched line)) k;
+  stored = λ line. sym (or-false (sets.stored line)) k;
+  blocks = λ block. sym (or-false (sets.blocks block)) k;
 }
 
 limits_more : (text : List ℕ) (p : Run) (i : Instr) → KeepsLimits (footprint p) → may_follow p.nest i ≡ true
@@ -122,20 +121,6 @@ footprint_limits f i local is =
     (run_limits f i local.attempt.count (open_is_there (run f i local.attempt.count).mark is.opens))
 
 -- ---- all operands lie in storage
-
-accessible : (a : Bool) (code : ℕ) (rest : Option ℕ) → where_wrong (not a) code rest ≡ None → a ≡ true
-accessible true code rest h = refl
-accessible false code rest h = absurd (cc)
-
-pub tested_all : (d : Demand) (ss : List Span) (i : Instr) (general : List ℕ) (depth : ℕ) → is_begin d ≡ false
-    → tested_spans d ss i general depth ≡ ss
-tested_all Nothing ss i general depth h = refl
-tested_all EvenPair ss i general depth h = refl
-tested_all Boundary ss i general depth h = refl
-tested_all AbortCode ss i general depth h = refl
-tested_all Begin ss i general depth h = absurd (true≢false h)
-tested_all BeginConstrained ss i general depth h = absurd (true≢false h)
-tested_all ServiceZero ss i general depth h = refl
 
 abbrev low : ℕ → Bool
 low a = nat_lt a storage_size
@@ -272,3 +257,7 @@ lasting_inside f i a byte local is ok h =
     (or_right (local.attempt.footprint.fetched (a / line_size)) (local.attempt.footprint.stored (a /
     line_size))
     (lasting_line f i a byte local is ok h)))
+
+pub breach_none : (i : Instr) (o : Option ℕ) → breach_refusal i o ≡ None → o ≡ None
+breach_none i None h = refl
+breach_none i (Some n) h = absurd (cc)

@@ -2,10 +2,8 @@
 use Rattle.std.proofs.Common.{◌≡◌, ◌≢◌, ℕ, zero, suc, ◌+◌, Bool, true, false, List, [], ◌∷◌, ◌++◌, Option}
 use Rattle.std.proofs.Common.{Some}
 use Rattle.std.proofs.Common.{None, refl, sym, ap, ◌∙◌, arith, length, inl, inr}
-use Rattle.std.specs.Prelude.{if◌then◌else◌, ◌||◌, ◌&&◌, not, ◌⊎◌, nat_lt}
-use Rattle.std.specs.List.{list_any}
+use Rattle.std.specs.Prelude.{if◌then◌else◌, ◌⊎◌, nat_lt}
 use Rattle.std.proofs.lemmas.List.{length_push}
-use Rattle.std.proofs.lemmas.List.Folds.{list_any-append}
 use Rattle.z_regs.specs.Cpu.{Cpu}
 use Rattle.z_regs.specs.Absolute.{absolute_ranges}
 use Rattle.z_regs.specs.declared.ranges.Range.{Range}
@@ -15,10 +13,7 @@ use Rattle.z_effect.specs.Outcome as outcome
 use Rattle.tx_constraint.specs.Constraints.{Step, with_step}
 use Rattle.tx_constraint.specs.Kept.{Kept, kept, added}
 use Rattle.tx_constraint.proofs.Attempts.{octowords_begun, kept_step}
-use Rattle.tx_footprint.specs.Sizes.{line_size, block_size}
-use Rattle.tx_footprint.specs.Places.{has_place}
-use Rattle.tx_footprint.specs.Touched.{Sets, touching, untouched}
-use Rattle.tx_footprint.proofs.Marking.{or_assoc}
+use Rattle.tx_footprint.specs.Touched.{untouched}
 use Rattle.store_cache.specs.Overlay.{Store}
 use Rattle.tx_serial.specs.Flat.{FlatState, operand_stores}
 use Rattle.tx_serial.specs.Attempt.{Run, Mark, Open, Committed, Overflowed, Missing, attempt_of}
@@ -30,22 +25,9 @@ use Rattle.tx_progress.specs.Progress.{resumed_after}
 use Rattle.tx_progress.specs.Reached.{progress_of, constraint_of, resumption_of}
 use Rattle.tx_progress.specs.Followed.{Advances}
 use Rattle.tx_progress.proofs.SeenStores.{laying_more}
+use Rattle.tx_footprint.proofs.Marking.{touching_twice}
 
 -- ---- the parts of the progress
-
-pub touching_twice : (sets : Sets) (xs ys : List Range) → touching (touching sets xs) ys ≡ touching sets (xs
-    ++ ys)
-touching_twice sets xs ys i = record {
-  fetched = λ line. in_turn (λ r. not r.store && has_place line_size r line) (sets.fetched line) i;
-  stored = λ line. in_turn (λ r. r.store && has_place line_size r line) (sets.stored line) i;
-  blocks = λ block. in_turn (λ r. r.store && has_place block_size r block) (sets.blocks block) i;
-}
-  where
-    in_turn : (test : Range → Bool) (was : Bool)
-        → ((was || list_any test xs) || list_any test ys) ≡ (was || list_any test (xs ++ ys))
-    in_turn test was =
-        or_assoc was (list_any test xs) (list_any test ys)
-        ∙ ap (λ b. was || b) (sym (list_any-append test xs ys))
 
 abbrev kept_where : Bool → Kept → Option Kept
 kept_where constrained k = if constrained then Some k else None

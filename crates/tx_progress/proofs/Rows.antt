@@ -20,6 +20,7 @@ use Rattle.z_instr.specs.Table.{kind_at}
 use Rattle.z_effect.specs.One.{one, effect, length_of}
 use Rattle.z_effect.specs.Outcome.{Outcome, Did}
 use Rattle.z_effect.specs.TransactionEffect.{transaction_effect}
+use Rattle.z_instr.proofs.PlainImmediates.{implied}
 
 -- a computed test of the table, said of every number
 pub any_row : (test : Entry → Bool) → list_all test (map entry_of TABLE) ≡ true → test no_entry ≡ true
@@ -81,10 +82,6 @@ kind_done (kind.General g) n i c depth bytes h = absurd (true≢false (sym h))
 kind_done (kind.Storage s) n i c depth bytes h = absurd (true≢false (sym h))
 kind_done (kind.Branch b) n i c depth bytes h = absurd (true≢false (sym h))
 kind_done (kind.Transaction t) n i c depth bytes h = transaction_done t n i c depth h
-
-pub implied : (a b : Bool) → (not a || b) ≡ true → a ≡ true → b ≡ true
-implied true b h e = h
-implied false b h e = absurd (true≢false (sym e))
 
 -- a begin and an end are always completed
 pub role_done : (i : Instr) (c : Cpu) (depth : ℕ) (bytes : List ℕ)

@@ -3,6 +3,7 @@
 #![tactic(auto)]
 
 mod gate;
+mod locking;
 mod racing;
 mod workers;
 

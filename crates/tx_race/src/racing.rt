@@ -1,7 +1,7 @@
 //! A race: workers for all CPUs, and then the rest of the round.
 ghost use Rattle.std.specs.Prelude.{◌≡◌, ◌+◌, ◌≤◌, [], length, vec_len, IfOk, IfSome};
 ghost use Rattle.tx_board.specs.Shares.{IsOfSameRun, HasTurnsAlone, shares_for};
-ghost use Rattle.tx_schedule.specs.Ran.{HasNoneReady};
+ghost use Rattle.tx_board.specs.Ran.{HasNoneReady};
 
 use crate::gate::Gate;
 use crate::workers::{Job, Signals, jobs_of, work};
@@ -11,8 +11,10 @@ use std::sync::ledger::Ledger;
 use std::sync::{Mutex, Wait, ledger};
 use std::thread;
 use std::thread::Threads;
-use tx_board::{Blank, Board, Raced, Share, cpu_count, finish_round, is_of_run, run_again};
-use tx_machine::{Lend, Machine, NoMemory};
+use tx_board::{
+    Blank, Board, Lend, Machine, NoMemory, Raced, Share, cpu_count, finish_round, is_of_run,
+    run_again,
+};
 use tx_meaning::Limits;
 
 /// The most lockings of a worker.

@@ -2,11 +2,11 @@
 ghost use Rattle.std.specs.Prelude.{◌≡◌, ◌≤◌, IfOk, vec_len};
 
 use crate::gate::Gate;
+use crate::locking::locked;
 use std::alloc::Global;
 use std::sync::ledger::Ledger;
 use std::sync::{Mutex, Wait};
-use tx_board::{Board, Share, cpu_count};
-use tx_machine::{Home, Lend, NoMemory};
+use tx_board::{Board, Home, Lend, NoMemory, Share, cpu_count};
 use tx_meaning::Outcome;
 use tx_pace::{Calls, Paces};
 use tx_run::{Run, RunStep};
@@ -59,9 +59,7 @@ pub fn jobs_of<L: Ledger>(alloc: Global, shares: Vec<Share<L>>) -> Result<Vec<Jo
     let mut jobs = Vec::new(alloc);
     let mut cpu = 0;
     for share in shares {
-        if jobs.push(Job { cpu, share }).is_err() {
-            return Err(NoMemory);
-        }
+        jobs.push(Job { cpu, share })?;
         cpu += 1;
     }
     Ok(jobs)
@@ -86,7 +84,7 @@ fn turns_now(turns: u32) -> Next {
 
 /// One locking, in which the CPU is lent. None where the machine that is found has no such CPU.
 fn lend_once<L: Ledger, R: Wait>(rt: &R, board: &Mutex<Board<L>>, cpu: u32) -> Option<Lend> {
-    let mut guard = board.lock(rt);
+    let mut guard = locked(rt, board);
     if cpu >= cpu_count(guard.machine()) {
         return None;
     }
@@ -100,7 +98,7 @@ fn home_once<L: Ledger, R: Wait>(
     share: &mut Share<L>,
     run: Run,
 ) -> Option<Home> {
-    let mut guard = board.lock(rt);
+    let mut guard = locked(rt, board);
     if run.cpu() >= cpu_count(guard.machine()) {
         return None;
     }

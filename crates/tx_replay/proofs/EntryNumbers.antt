@@ -12,7 +12,7 @@ use Rattle.tx_serial.specs.Flat.{FlatState}
 use Rattle.history_laws.specs.Fitting.{Fits}
 use Rattle.tx_replay.specs.Replay.{NoneFits}
 use Rattle.tx_replay.specs.Told.{Tells, TellsEntry}
-use Rattle.std.proofs.lemmas.Option.{none-some}
+use Rattle.std.proofs.lemmas.Option.{none-some, same_Some}
 
 kinds : {t u : EntryText} → t ≡ u → t.kind ≡ u.kind
 kinds is = ap (λ (t : EntryText). t.kind) is
@@ -111,9 +111,6 @@ abort_only f t o kind only e sound tells fits =
     let cause = (subst IsSound a.is sound).2 in
     ap (abort_by t) (only a.why cause a.tells (subst (Fits f) a.is fits)) ∙ ap Some (sym a.is)
 
-pub some_same : {A : Type 0} {x y : A} → Some x ≡ Some y → x ≡ y
-some_same h = cc
-
 -- where the line means no entry, none has it that fits
 pub none_has : (f : FlatState) (line : List ℕ)
     → ((e : Entry) → IsSound e → entry_text e ≡ line → Fits f e → None ≡ Some e) → NoneFits f line
@@ -123,7 +120,7 @@ none_has f line only e sound fits is = none-some e (only e sound is fits)
 pub misfit_has : (f : FlatState) (line : List ℕ) (x : Entry) → apply f x ≡ None
     → ((e : Entry) → IsSound e → entry_text e ≡ line → Fits f e → Some x ≡ Some e) → NoneFits f line
 misfit_has f line x none only e sound fits is =
-    let same : x ≡ e = some_same (only e sound is fits) in
+    let same : x ≡ e = same_Some _ _ (only e sound is fits) in
     none-some fits.0 (sym none ∙ ap (apply f) same ∙ fits.1)
 
 -- by the numbers that were read

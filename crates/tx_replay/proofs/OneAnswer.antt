@@ -15,6 +15,7 @@ use Rattle.tx_serial.specs.History.{replay_from, start_of}
 use Rattle.history_laws.proofs.Fitting.{one_fits}
 use Rattle.history_laws.proofs.Histories.{first}
 use Rattle.tx_replay.specs.Replay.{IsReplay, NoneFits, IsFirstMisfit}
+use Rattle.std.proofs.lemmas.Option.{same_Some}
 
 -- ---- one history goes on where the other ends
 
@@ -32,12 +33,9 @@ heads x y xs ys is = cc
 tails : (x y : List ℕ) (xs ys : List (List ℕ)) → x ∷ xs ≡ y ∷ ys → xs ≡ ys
 tails x y xs ys is = cc
 
-some_same : {A : Type 0} {x y : A} → Some x ≡ Some y → x ≡ y
-some_same e = cc
-
 unread : (f g : FlatState) → replay_from [] (Some f) ≡ Some g → f ≡ g
 unfolding replay_from
-unread f g is = some_same is
+unread f g is = same_Some _ _ is
 
 goes_on : (f : FlatState) (es ds : List Entry) (g h : FlatState) (more : List (List ℕ))
     → replay_from es (Some f) ≡ Some g → replay_from ds (Some f) ≡ Some h → All IsSound es → All IsSound ds
@@ -57,7 +55,7 @@ goes_on f (e ∷ es) (d ∷ ds) g h more a b s t is =
     let same : e ≡ d =
     one_fits f e d (All-head IsSound e es s) (All-head IsSound d ds t) (one.next, one.fits)
     (two.next, two.fits) text in
-    let states : two.next ≡ one.next = some_same (sym two.fits ∙ ap (apply f) (sym same) ∙ one.fits) in
+    let states : two.next ≡ one.next = same_Some _ _ (sym two.fits ∙ ap (apply f) (sym same) ∙ one.fits) in
     let on =
     goes_on one.next es ds g h more one.rest
     (subst (λ (x : FlatState). replay_from ds (Some x) ≡ Some h) states two.rest)

@@ -42,18 +42,8 @@ fn plain_cause(code: u64, detail: u64) -> Option<Why>
         EXTERNAL_INTERRUPTION => Some(Why::External),
         FETCH_OVERFLOW => Some(Why::FetchOverflow),
         STORE_OVERFLOW => Some(Why::StoreOverflow),
-        FETCH_CONFLICT => {
-            let Some(line) = line_at(detail) else {
-                return None;
-            };
-            Some(Why::FetchConflict(line))
-        }
-        STORE_CONFLICT => {
-            let Some(line) = line_at(detail) else {
-                return None;
-            };
-            Some(Why::StoreConflict(line))
-        }
+        FETCH_CONFLICT => Some(Why::FetchConflict(line_at(detail)?)),
+        STORE_CONFLICT => Some(Why::StoreConflict(line_at(detail)?)),
         RESTRICTED_INSTRUCTION => Some(Why::Restricted),
         NESTING_DEPTH => Some(Why::Depth),
         STARVED => Some(Why::Starved),

@@ -25,10 +25,8 @@ fn abort_of(flat: &mut Flat, text: EntryText) -> Option<Entry>
     ensures only { (e : Entry) → IsSound e → TellsEntry e text → Fits (state_of flat.old) e → result ≡ Some e }
     ensures unchanged { flat.new ≡ flat.old }
 {
-    match cause_of(flat, text) {
-        Some(why) => Some(Entry::Abort(text.cpu, text.count, why)),
-        None => None,
-    }
+    let why = cause_of(flat, text)?;
+    Some(Entry::Abort(text.cpu, text.count, why))
 }
 
 /// The entry that the numbers of a line mean, which is none of an abort. No other entry has such a line.
@@ -53,9 +51,7 @@ fn with_line(alloc: Global, entry: Entry, line: &[u8]) -> Result<Option<Entry>, 
     ensures text { IfOk result (λ o. IfSome o (λ e. entry_text e ≡ line.now)) }
     ensures only { IfOk result (λ o. entry_text entry ≡ line.now → o ≡ Some entry) }
 {
-    let Ok(own) = entry_text(alloc, &entry) else {
-        return Err(NoMemory);
-    };
+    let own = entry_text(alloc, &entry)?;
     if own.as_slice() != line {
         return Ok(None);
     }

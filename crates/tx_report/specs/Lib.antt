@@ -2,3 +2,5 @@
 pub mod Ends
 pub mod Shown
 pub mod Report
+-- what callers name of crates below
+pub use Rattle.tx_machine.specs.Machine

@@ -7,4 +7,6 @@ mod ends;
 mod processors;
 mod whole;
 
-pub use whole::{NoMemory, report, status, summary};
+pub use tx_machine::Machine;
+pub use whole::{report, status, summary};
+pub use z_regs::NoMemory;

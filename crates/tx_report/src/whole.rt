@@ -6,18 +6,9 @@ ghost use Rattle.tx_report.specs.Report.{report_of, status_of, summary_of};
 use crate::bytes::MachineBytes;
 use crate::counters::counter_values;
 use crate::processors::{cpu_count, processors};
-use std::alloc::{AllocError, Global};
+use std::alloc::Global;
 use tx_machine::machine::Machine;
-
-/// There was no memory.
-#[derive(Clone, Copy, Debug, PartialEq, Eq)]
-pub struct NoMemory;
-
-impl From<AllocError> for NoMemory {
-    fn from(_error: AllocError) -> NoMemory {
-        NoMemory
-    }
-}
+use z_regs::NoMemory;
 
 /// The status of the run: 0 where every CPU of the machine is finished, else 6.
 pub fn status(machine: &Machine) -> u8
@@ -41,10 +32,8 @@ pub fn report(alloc: Global, machine: &Machine) -> Result<Vec<u8>, NoMemory>
     let storage = MachineBytes { machine };
     let history = machine.journal();
     let events = machine.events();
-    match report_text::report(alloc, cpus.as_slice(), shows, &storage, history, events) {
-        Ok(text) => Ok(text),
-        Err(_) => Err(NoMemory),
-    }
+    let text = report_text::report(alloc, cpus.as_slice(), shows, &storage, history, events)?;
+    Ok(text)
 }
 
 /// The short summary of a machine that has run the generator's listing of this number: how many CPUs there
@@ -56,8 +45,6 @@ pub fn summary(alloc: Global, number: u64, machine: &Machine) -> Result<Vec<u8>,
 {
     let cpus = processors(alloc, machine)?;
     let counters = counter_values(machine, number);
-    match report_text::summary(alloc, number, cpus.as_slice(), &counters) {
-        Ok(text) => Ok(text),
-        Err(_) => Err(NoMemory),
-    }
+    let text = report_text::summary(alloc, number, cpus.as_slice(), &counters)?;
+    Ok(text)
 }

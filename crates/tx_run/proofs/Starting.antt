@@ -4,10 +4,10 @@ use Rattle.std.specs.Prelude.{if◌then◌else◌}
 use Rattle.std.specs.List.{slice_index_or}
 use Rattle.z_regs.specs.declared.ranges.Range.{Range}
 use Rattle.z_instr.specs.declared.instr.Instr.{Instr}
-use Rattle.tx_progress.specs.Doing.{executed}
+use Rattle.tx_progress.specs.Doing.{Executed, executed}
 use Rattle.tx_progress.specs.Local.{Beside}
 use Rattle.tx_progress.specs.Progress.{is_live}
-use Rattle.tx_cpu.specs.Parts.{local_of}
+use Rattle.tx_cpu.specs.Parts.{Parts, local_of, beside}
 use Rattle.tx_lending.specs.Away.{is_plain}
 use Rattle.tx_lending.specs.Places.{is_among, operand_places}
 use Rattle.tx_marks.specs.Own.{is_touched, bytes_at}
@@ -45,3 +45,9 @@ executed-starts m other i ranges start before marks after plain opens marked = r
       (contraposed (is_among (operand_places ranges (local_of m.reached).attempt) place) (is_touched m.own place)
       (marked place) bare)) a;
 }
+
+-- what an instruction leaves of a CPU, which is the same as another one
+pub executed-by : (x : Executed) (i : Instr) (ranges : List Range) (p q : Parts) (bytes : List ℕ)
+    → x ≡ executed i ranges (beside p bytes) → p ≡ q → x.after ≡ (executed i ranges (beside q bytes)).after
+executed-by x i ranges p q bytes is same =
+    ap (λ (y : Executed). y.after) is ∙ ap (λ (r : Parts). (executed i ranges (beside r bytes)).after) same

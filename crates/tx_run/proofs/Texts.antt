@@ -50,7 +50,7 @@ use Rattle.tx_marks.specs.Marks.{mode_in}
 use Rattle.tx_marks.specs.Own.{is_touched}
 use Rattle.tx_marks.specs.Traces.{is_stored, is_paged, has_page}
 use Rattle.tx_run.specs.Made.{Made, IsMade, AgreeOnPages, from, now, laid, turn_lays, fate_lays, paged, turn_traces}
-use Rattle.tx_progress.proofs.Limits.{tested_all}
+use Rattle.z_touch.proofs.Reach.{tested_all}
 
 -- ---- text at places
 

@@ -76,12 +76,14 @@ pub(crate) fn give<V: Bytes>(steps: &Steps, program: &Program, into: &mut Cpu, b
     ensures count { (local_of into.new).attempt.count ≡ (local_of steps.now.reached).attempt.count }
     ensures size { length (V.bytes base.new) ≡ storage_size }
 {
-    steps.start.is_sound();
-    has_prefix(&steps.start);
+    let start = steps.start();
+    let reached = steps.reached();
+    start.is_sound();
+    has_prefix(start);
     into.is_sound();
-    into.go_on_as(&steps.reached);
-    if steps.reached.live().is_some() {
-        add_stores(&steps.traces, &steps.reached, into);
+    into.go_on_as(reached);
+    if reached.live().is_some() {
+        add_stores(&steps.traces, reached, into);
     } else {
         lay_stored(&steps.traces, &steps.own.now, base);
     }

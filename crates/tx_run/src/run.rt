@@ -192,14 +192,14 @@ impl Run {
     pub fn start(&self) -> &Cpu
         ensures { result.now ≡ self.now.made.start }
     {
-        &self.steps.start
+        self.steps.start()
     }
 
     /// The CPU as its steps have left it.
     pub fn reached(&self) -> &Cpu
         ensures { result.now ≡ self.now.made.reached }
     {
-        &self.steps.reached
+        self.steps.reached()
     }
 
     /// What holds of every run: its steps are so many turns of the CPU from its start on, no more than it may make.

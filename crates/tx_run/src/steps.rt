@@ -46,8 +46,8 @@ const LINES_A_PAGE: u32 = 16;
 /// how many they are.
 #[derive(Drop)]
 pub(crate) struct Steps {
-    pub(crate) start: Cpu,
-    pub(crate) reached: Cpu,
+    start: Box<Cpu>,
+    reached: Box<Cpu>,
     pub(crate) own: OwnBytes,
     pub(crate) traces: Traces,
     pub(crate) needed: LineMarks,
@@ -60,8 +60,8 @@ impl Model for Steps {
     ghost Value = { Made };
 
     ghost view = { λ s. record {
-      start = s.start;
-      reached = s.reached;
+      start = s.start.value;
+      reached = s.reached.value;
       own = s.own;
       traces = s.traces;
       needed = s.needed;
@@ -72,25 +72,33 @@ impl Model for Steps {
 /// Memory for the steps of a run. None of the bytes is written yet; the CPUs run, with zeros in their registers.
 #[derive(Drop)]
 pub(crate) struct StepsRoom {
-    start: Cpu,
-    reached: Cpu,
+    start: Box<Cpu>,
+    reached: Box<Cpu>,
     own: OwnRoom,
     traces: Traces,
     needed: LineMarks,
-    ghost start_so: { local_of start ≡ settled (started 0) },
-    ghost reached_so: { local_of reached ≡ settled (started 0) },
+    ghost start_so: { local_of start.value ≡ settled (started 0) },
+    ghost reached_so: { local_of reached.value ≡ settled (started 0) },
     ghost stored: { (a : ℕ) → is_stored traces a ≡ false },
     ghost pages: { (page : ℕ) → is_paged traces page ≡ false },
     ghost none: { (line : ℕ) → mode_in needed line ≡ None },
 }
 
+/// A CPU that runs, with zeros in its registers, in memory of its own. The error is want of memory.
+fn open_cpu(alloc: Global) -> Result<Box<Cpu>, NoMemory>
+    ensures { IfOk result (λ cpu. local_of cpu.value ≡ settled (started 0)) }
+{
+    let cpu = Cpu::open(alloc, CpuImage::entering(0))?;
+    let boxed = Box::new(alloc, cpu)?;
+    Ok(boxed)
+}
+
 impl StepsRoom {
     /// Memory for the steps of a run. The error is want of it.
     pub(crate) fn reserve(alloc: Global) -> Result<StepsRoom, NoMemory> {
-        let start = CpuImage::entering(0);
         Ok(StepsRoom {
-            start: Cpu::open(alloc, start)?,
-            reached: Cpu::open(alloc, start)?,
+            start: open_cpu(alloc)?,
+            reached: open_cpu(alloc)?,
             own: OwnRoom::reserve(alloc)?,
             traces: Traces::open(alloc)?,
             needed: LineMarks::open(alloc)?,
@@ -151,12 +159,26 @@ fn is_made_away(instr: &Instr) -> bool
 }
 
 impl Steps {
+    /// The CPU as it was lent.
+    pub(crate) fn start(&self) -> &Cpu
+        ensures { result.now ≡ self.now.start }
+    {
+        &self.start
+    }
+
+    /// The CPU as it has become.
+    pub(crate) fn reached(&self) -> &Cpu
+        ensures { result.now ≡ self.now.reached }
+    {
+        &self.reached
+    }
+
     /// The prefix of the CPU.
     fn prefix(&self) -> Option<u32>
         ensures value { result ≡ (local_of self.now.reached).attempt.cpu.prefix }
         ensures prefix_in { IsTrue (is_prefix result) }
     {
-        self.reached.image().prefix
+        self.reached().image().prefix
     }
 
     /// The byte that the CPU sees over its storage at a place.
@@ -165,7 +187,7 @@ impl Steps {
         ensures { result ≡ seen_through (local_of self.now.reached).attempt.overlay (bytes_at self.now.own.now) place }
     {
         let _size = self.own.now.as_slice();
-        self.reached.seen(place, &self.own.now)
+        self.reached().seen(place, &self.own.now)
     }
 
     /// How many bytes the next instruction has, by the first of them.
@@ -174,7 +196,7 @@ impl Steps {
         ensures { let q = (local_of self.now.reached).attempt in result ≡ length_by
             (seen_through q.overlay (bytes_at self.now.own.now) (absolute_of q.cpu.prefix q.cpu.address)) }
     {
-        let place = place_of(self.prefix(), self.reached.image().address);
+        let place = place_of(self.prefix(), self.reached().image().address);
         u32::from(length_of(self.seen(place)))
     }
 
@@ -196,7 +218,7 @@ impl Steps {
             || has_page (text_places (bytes_at self.old.own.now) (local_of self.old.reached).attempt) page) }
     {
         let prefix = self.prefix();
-        let address = self.reached.image().address;
+        let address = self.reached().image().address;
         let length = self.length();
         self.own.touch_places(prefix, address, length);
         self.traces.mark_pages(prefix, address, length);
@@ -274,7 +296,7 @@ impl Steps {
         ensures needed { self.new.needed ≡ self.old.needed }
         ensures steps { self.new.steps ≡ self.old.steps }
     {
-        self.reached.is_sound();
+        self.reached().is_sound();
         let _size = self.own.now.as_slice();
         self.reached.execute(instr, need, &mut self.own.now)
     }
@@ -312,9 +334,9 @@ impl Steps {
             → 0 < length (local_of self.now.reached).attempt.nest }
     {
         the_next_instruction_is_text();
-        self.reached.is_sound();
+        self.reached().is_sound();
         let _prefix = self.prefix();
-        self.reached.prepare(program)
+        self.reached().prepare(program)
     }
 
     /// No step has been made: the CPU is as it was lent, and each byte as it was before.
@@ -425,9 +447,9 @@ impl Steps {
             → 0 < length (local_of self.now.reached).attempt.nest }
     {
         the_next_instruction_is_text();
-        self.reached.is_sound();
+        self.reached().is_sound();
         let _prefix = self.prefix();
-        self.reached.plain(program)
+        self.reached().plain(program)
     }
 
     /// Makes the next instruction, which goes, where it may be made away, with these lines, and completes.

@@ -36,6 +36,7 @@ use Rattle.tx_serial.specs.Fate.{Refusal, first_refusal, tests, operand_refusal,
 use Rattle.tx_serial.specs.Fate.{text_refusal, restricted_refusal, specified_refusal, depth_refusal}
 use Rattle.tx_serial.specs.Fate.{place_refusal, overflow_refusal}
 use Rattle.tx_serial.specs.Text.{IsFree}
+use Rattle.z_regs.specs.Absolute.{IsAccessible}
 
 -- ---- what is found by no test
 
@@ -293,3 +294,12 @@ inside_block text i c a h names =
     let in_all = and_parts (is_inside accessible s) true passed.inside in
     subst (λ first. first + 256 ≤ 1048576) n.2
     (inside_ends c.prefix s (small_block (first_address i c.general)) in_all.0)
+
+pub accessible_span : (prefix : Option ℕ) (s : Span) → IsSmall s → is_inside (accessible_pages prefix) s ≡ true
+    → IsAccessible prefix (range_of s)
+accessible_span prefix s small inside = record {
+  first = subst (λ a. is_accessible prefix a ≡ true) (let e : s.first + 0 ≡ s.first = omega arith in e)
+      (usable prefix s 0 small inside small.some);
+  end = inside_ends prefix s small inside;
+  most = small.most;
+}

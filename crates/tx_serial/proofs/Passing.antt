@@ -1,28 +1,32 @@
 -- An instruction goes exactly where no test refuses it.
-use Rattle.std.proofs.Common.{◌≡◌, ℕ, Bool, true, false, List, [], ◌∷◌, Option, Some, None, refl, sym, ap}
+use Rattle.std.proofs.Common.{◌≡◌, ℕ, Bool, true, false, List, [], ◌∷◌, Option, Some, None, refl, sym, ap, ◌≢◌}
 use Rattle.std.proofs.Common.{subst, ◌∙◌}
 use Rattle.std.proofs.lemmas.Bool.{true≢false}
 use Rattle.z_regs.specs.declared.ranges.Range.{Range}
 use Rattle.z_instr.specs.declared.instr.Instr.{Instr}
 use Rattle.tx_control.specs.declared.begins.Begin.{Begin}
 use Rattle.tx_serial.specs.Attempt.{Run}
-use Rattle.tx_serial.specs.Fate.{Fate, Goes, Ends, Stops, Refusal, Excepts, Because, fate, fate_by}
-use Rattle.tx_serial.specs.Fate.{fate_by_tests, fate_after}
+use Rattle.tx_serial.specs.Fate.{Fate, Goes, Ends, Stops, Refusal, Excepts, Because, fate, fate_by, overflow_of}
+use Rattle.tx_serial.specs.Fate.{fate_by_tests, fate_after, overflow_in}
 use Rattle.z_touch.specs.Refusals.{at_fetch}
 use Rattle.tx_serial.specs.Fate.{unreadable, fetch_refusal, instruction_at, first_refusal, tests, operands}
 use Rattle.tx_serial.specs.Fate.{Passes}
+use Rattle.std.specs.Prelude.{Result, Ok, Err}
+use Rattle.tx_footprint.specs.declared.footprint.Overflow.{Overflow}
+use Rattle.tx_footprint.specs.declared.footprint.Overflow.TheVariants.{Fetch, Store}
+use Rattle.tx_footprint.specs.Touched.{Sets, fit_of}
 
 goes : Fate → Bool
 goes (Goes i ranges) = true
 goes (Ends why) = false
 goes (Stops e) = false
 
-pub instruction_in : Instr → Fate → Instr
+instruction_in : Instr → Fate → Instr
 instruction_in d (Goes i ranges) = i
 instruction_in d (Ends why) = d
 instruction_in d (Stops e) = d
 
-pub ranges_in : Fate → List Range
+ranges_in : Fate → List Range
 ranges_in (Goes i ranges) = ranges
 ranges_in (Ends why) = []
 ranges_in (Stops e) = []
@@ -74,3 +78,12 @@ goes_where_passes text p i ranges h =
     ∙ ap (fate_by text p None) h.reads
     ∙ ap (fate_by_tests p i) h.passed
     ∙ sym (ap (Goes i) h.touches)
+
+pub fit_by : (r : Result (Unit {0}) Overflow) → overflow_of r ≡ None → r ≡ Ok tt
+fit_by (Ok u) h = refl
+fit_by (Err Fetch) h = absurd (cc)
+fit_by (Err Store) h = absurd (cc)
+
+pub fits_in : (nest : List Begin) (sets : Sets) → nest ≢ [] → overflow_in nest sets ≡ None → fit_of sets ≡ Ok tt
+fits_in [] sets some h = absurd (some refl)
+fits_in (b ∷ bs) sets some h = fit_by (fit_of sets) h

@@ -1,5 +1,5 @@
 -- An image starts with the text pages of its guard, and nothing is still to be stored there.
-use Rattle.std.proofs.Common.{◌≡◌, ℕ, zero, suc, ◌+◌, ◌/◌, ◌<◌, true, List, [], ◌∷◌, Option, Some, None}
+use Rattle.std.proofs.Common.{◌≡◌, ℕ, zero, suc, ◌+◌, ◌/◌, ◌<◌, true, List, [], ◌∷◌, Option, Some, None, ◌++◌}
 use Rattle.std.proofs.Common.{refl, sym, subst, ◌∙◌, arith}
 use Rattle.std.specs.Prelude.{nat_eq}
 use Rattle.std.specs.List.{list_any, All}
@@ -22,6 +22,8 @@ use Rattle.tx_serial.specs.Text as text
 use Rattle.tx_serial.specs.Text.{SameText, IsKept, IsPlaced, IsAwaited}
 use Rattle.tx_serial.proofs.Entries.{entry_changes}
 use Rattle.tx_serial.proofs.TextKept.{entry_keeps, entry_keeps_text}
+use Rattle.tx_constraint.specs.Constraints.{Step}
+use Rattle.tx_serial.specs.Attempt.{last_step}
 
 -- ---- the pages
 
@@ -130,3 +132,8 @@ replay_keeps_text image history after is h = (replayed image history after is h)
 pub replay_keeps_pages : (image : Content) (history : List Entry) (after : FlatState) → IsImage image
     → replay image history ≡ Some after → after.text ≡ (start_of image).text
 replay_keeps_pages image history after is h = (replayed image history after is h).pages
+
+pub last_is : (steps : List Step) (s : Step) → last_step (steps ++ s ∷ []) ≡ Some s
+last_is [] s = refl
+last_is (x ∷ []) s = refl
+last_is (x ∷ y ∷ rest) s = last_is (y ∷ rest) s

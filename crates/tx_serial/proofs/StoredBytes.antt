@@ -1,12 +1,10 @@
 -- An instruction leaves a byte for each place of its stored operands.
-use Rattle.std.proofs.Common.{◌≡◌, ℕ, zero, suc, ◌+◌, ◌*◌, ◌-◌, ◌%◌, ◌≤◌, Bool, true, false, List, [], ◌∷◌}
+use Rattle.std.proofs.Common.{◌≡◌, ℕ, zero, suc, ◌+◌, ◌-◌, ◌≤◌, Bool, true, false, List, [], ◌∷◌}
 use Rattle.std.proofs.Common.{Option, refl, sym, ap, subst, ◌∙◌, arith, length, length-append, lit≤, take}
 use Rattle.std.proofs.Common.{drop}
-use Rattle.std.specs.Prelude.{cond, map, nat_eq, nat_le, ◌&&◌, if◌then◌else◌, get_or, nat_lt}
-use Rattle.std.proofs.lemmas.List.{length_push, length-map}
-use Rattle.std.proofs.Math.Nat.{zero-mul}
+use Rattle.std.specs.Prelude.{cond, map, nat_eq, nat_le, ◌&&◌, if◌then◌else◌}
+use Rattle.std.proofs.lemmas.List.{length-map}
 use Rattle.byteorder.specs.Numbers.{length-bytes_high_first}
-use Rattle.z_arith.specs.declared.Width.{Width}
 use Rattle.z_arith.specs.Sum.{add_of}
 use Rattle.z_arith.specs.Whole.{bits, modulo}
 use Rattle.z_regs.specs.Cpu.{Cpu}
@@ -27,19 +25,19 @@ use Rattle.z_instr.specs.declared.kind.Storage.{Storage}
 use Rattle.z_instr.specs.declared.kind.Storage.TheVariants as storage
 use Rattle.z_instr.specs.declared.kind.Transaction.{Transaction}
 use Rattle.z_instr.specs.declared.kind.Transaction.TheVariants as transaction
-use Rattle.z_instr.specs.declared.kind.Combination.{Combination}
 use Rattle.z_instr.specs.Kinds.{operands_of}
 use Rattle.z_instr.specs.Table.{kind_at}
 use Rattle.z_effect.specs.Registers.{register, operand_in, advanced, with_condition, with_register}
 use Rattle.z_effect.specs.Operations.{combined, logic_of}
-use Rattle.z_effect.specs.StorageEffect.{storage_effect, number, stored, items, results, mixed, lead}
+use Rattle.z_effect.specs.StorageEffect.{storage_effect, number, stored, lead}
 use Rattle.z_instr.specs.Kinds.{item}
 use Rattle.z_effect.specs.TransactionEffect.{transaction_effect}
 use Rattle.z_effect.specs.Outcome.{Outcome, Did, Overflowed, Divides, Aborts, ended}
 use Rattle.z_effect.specs.One.{one, effect, length_of}
 use Rattle.z_instr.proofs.TableFacts.{operands_at}
 use Rattle.tx_serial.specs.Flat as flat
-use Rattle.tx_serial.specs.Flat.{bytes_seen, operand_bytes}
+use Rattle.tx_serial.specs.Flat.{bytes_seen, operand_bytes, laid_over, with_bytes_at}
+use Rattle.z_effect.proofs.Lengths.{length-items, length-results}
 
 -- ---- how many bytes
 
@@ -65,29 +63,6 @@ length-operand_bytes prefix s (r ∷ rs) =
     let rest = length-operand_bytes prefix s rs in
     let both = length-append (bytes_seen prefix s r.first r.length) (operand_bytes prefix s rs) in
     omega arith
-
-length-items : (k : ℕ) (w : Width) (r : ℕ) (c : Cpu) → length (items k w r c) ≡ k * bytes_of (item w)
-unfolding items
-length-items zero w r c = sym (zero-mul (bytes_of (item w)))
-length-items (suc k) w r c =
-    grind (
-      arith,
-      length-append (items k w r c) (stored (item w) (register c ((r + k) % 16))),
-      length-items k w r c,
-      length-bytes_high_first (bytes_of (item w)) (register c ((r + k) % 16)),
-    )
-
-length-results : (k : ℕ) (m : Combination) (ahead : ℕ) (a b : List ℕ) → length (results k m ahead a b) ≡ k
-unfolding results
-length-results zero m ahead a b = refl
-length-results (suc k) m ahead a b =
-    let before = results k m ahead a b in
-    omega (
-      arith,
-      length_push before (mixed m (get_or a k 0)
-          (if nat_lt k ahead then get_or b k 0 else get_or before (k - ahead) 0)),
-      length-results k m ahead a b,
-    )
 
 -- ---- an outcome that stores has so many bytes
 
@@ -222,3 +197,7 @@ one_fills i c depth bytes h =
     (effect_fills (kind_at i.op.number) (length_of i) i c depth bytes
     (subst (λ (o : Operands). length bytes ≡ touched_size (map range_of (spans_in o i c.general
     c.condition))) same h))
+
+pub with_none : (prefix : Option ℕ) (a : ℕ) (s : flat.Storage) → with_bytes_at prefix a [] s ≡ s
+unfolding laid_over
+with_none prefix a s = refl

@@ -22,7 +22,7 @@ use Rattle.tx_meaning.specs.Turn.{happen}
 use Rattle.tx_meaning.specs.Views.{AreKnown}
 use Rattle.tx_machine.specs.Machine.{Seen, setting_of, state_of, event_of, opened}
 use Rattle.tx_machine.specs.Machine.{after as after_event}
-use Rattle.tx_works.specs.Wanted.{wanted}
+use Rattle.tx_machine.specs.Wanted.{wanted}
 use Rattle.step_changes.specs.Seen.{CpuSeen, Sight, cpus_seen, word_at}
 use Rattle.step_changes.specs.Stored.{has, completed_in, completed_of, in_spans, lives_where, may_be_live}
 use Rattle.step_changes.specs.Due.{goes_on, is_due, may_change}

@@ -31,7 +31,7 @@ use Rattle.tx_meaning.specs.Needs.{stored, interruption_ranges}
 use Rattle.tx_meaning.specs.State.{State, is_live, cpus_of}
 use Rattle.tx_meaning.specs.declared.asking.Need.{Need}
 use Rattle.tx_meaning.specs.declared.outcome.Outcome.{Outcome}
-use Rattle.tx_works.specs.Wanted.{real_ranges, operands_of, wanted_by}
+use Rattle.tx_machine.specs.Wanted.{real_ranges, operands_of, wanted_by}
 use Rattle.tx_meaning.specs.declared.asking.Reject.{Reject}
 use Rattle.tx_meaning.specs.Asking.{is_there}
 use Rattle.tx_meaning.specs.Changes.{with_event, counting_turn}

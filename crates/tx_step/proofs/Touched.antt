@@ -27,7 +27,7 @@ use Rattle.tx_keeping.proofs.Events.{keeping_is, keeping_good, happens_alike}
 use Rattle.tx_keeping.proofs.Moves.{IsGood}
 use Rattle.tx_keeping.proofs.Truth.{Truth, flat_is, attempt_is, footprint_is, live_is}
 use Rattle.tx_keeping.proofs.Turning.{happen_ok}
-use Rattle.tx_works.specs.Wanted.{wanted, wanted_by, real_ranges}
+use Rattle.tx_machine.specs.Wanted.{wanted, wanted_by, real_ranges}
 use Rattle.tx_step.proofs.Framed.{happens_same, Same}
 use Rattle.tx_step.proofs.Going.{goes_on_unchanged}
 

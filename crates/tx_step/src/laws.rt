@@ -8,7 +8,7 @@ ghost use Rattle.tx_meaning.specs.Meaning.{IsSetting, meaning};
 ghost use Rattle.tx_meaning.specs.State.{cpus_of, flat_of, footprint_of};
 ghost use Rattle.tx_meaning.specs.Turn.{happen};
 ghost use Rattle.tx_meaning.specs.Views.{AreKnown};
-ghost use Rattle.tx_works.specs.Wanted.{wanted};
+ghost use Rattle.tx_machine.specs.Wanted.{wanted};
 ghost use Rattle.tx_step.specs.Traces.{Traced, forward_from, back_from};
 ghost use Rattle.tx_step.specs.Moves.{Move, after_moves};
 

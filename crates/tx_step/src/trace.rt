@@ -25,8 +25,8 @@ use std::sync::Arc;
 use step_changes::stored::{Asked, StoredLines};
 use step_changes::view::{Step, View};
 use tx_journal::{Event, Image};
+pub use tx_machine::NoMemory;
 use tx_machine::machine::Machine;
-pub use tx_machine::machine::NoMemory;
 use tx_meaning::Limits;
 use z_regs::CpuImage;
 

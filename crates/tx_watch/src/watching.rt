@@ -12,7 +12,7 @@ use crate::window::Window;
 use std::alloc::{AllocError, Global};
 use tx_control::Why;
 use tx_journal::{Entry, Event, Image};
-use tx_machine::machine::{Machine, NoMemory};
+use tx_machine::{Machine, NoMemory};
 use tx_meaning::{Outcome, Reject};
 use z_decode::{decode, length_of};
 use z_instr::instr::Instr;

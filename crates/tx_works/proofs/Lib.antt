@@ -16,3 +16,5 @@ pub mod Lined
 pub mod Wanted
 pub mod Turns
 pub mod Plainly
+-- what callers name of crates below
+pub use Rattle.tx_lines.proofs.Doublewords

@@ -44,18 +44,14 @@ impl Works {
         requires { cpu < length self.now.slots }
         ensures { result ≡ meaning.kept_back self.now.queue cpu }
     {
-        match self.queue.head() {
-            None => None,
-            Some(head) => {
-                if head == cpu {
-                    return None;
-                }
-                if self.queue.has(cpu) {
-                    return Some(Outcome::Queued);
-                }
-                Some(Outcome::Stopped)
-            }
+        let head = self.queue.head()?;
+        if head == cpu {
+            return None;
         }
+        if self.queue.has(cpu) {
+            return Some(Outcome::Queued);
+        }
+        Some(Outcome::Stopped)
     }
 
     /// The counted turns of the CPU.

@@ -16,4 +16,5 @@ pub mod works;
 
 pub use events::is_tick;
 pub use slot::{Slot, Tally};
+pub use tx_lines::{Lines, Room, Run};
 pub use works::Works;

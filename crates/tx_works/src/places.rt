@@ -1,7 +1,7 @@
 //! The bytes that a turn needs, by absolute addresses.
 ghost use Rattle.std.specs.Prelude.{◌≡◌, ◌+◌, ◌<◌, ◌≤◌, ◌++◌, ◌∷◌, [], All, IsTrue, List, Option, ℕ, is_some, length};
 ghost use Rattle.z_regs.specs.Absolute.{absolute_ranges, IsAccessible};
-ghost use Rattle.z_regs.specs.Prefix.{is_prefix, absolute_of, storage_size};
+ghost use Rattle.z_regs.specs.Prefix.{is_prefix, absolute_of, area_size, storage_size};
 ghost use Rattle.tx_meaning.specs.Needs.{stored, interruption_ranges};
 
 use z_regs::{Range, Touches, place_of};
@@ -51,7 +51,7 @@ pub fn block_places(address: u64, prefix: Option<u32>) -> Touches
 /// Appends bytes of the first area.
 fn put_low(places: &mut Touches, first: u64, size: u32, prefix: Option<u32>)
     requires prefix_in { IsTrue (is_prefix prefix) }
-    requires low { first + size ≤ 8192 }
+    requires low { first + size ≤ area_size }
     requires some { 0 < size }
     requires room { length places.old < 4 }
     ensures { places.new ≡ places.old ++ stored (absolute_of prefix first) size ∷ [] }

@@ -271,10 +271,8 @@ impl Works {
         requires { cpu < length self.now.slots }
         ensures { (rest : Seat) → result ≡ block_awaited ((kept_by rest self.now).locals cpu).waiting }
     {
-        match self.slots[cpu as usize].cpu.waiting() {
-            None => None,
-            Some(waiting) => Some(waiting.block.is_some()),
-        }
+        let waiting = self.slots[cpu as usize].cpu.waiting().as_ref()?;
+        Some(waiting.block.is_some())
     }
 
     /// What is left to do comes before the next instruction: a block that is pending, then an interruption.

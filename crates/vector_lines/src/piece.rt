@@ -1,5 +1,6 @@
 //! Pieces of storage.
 ghost use Rattle.std.specs.Prelude.{◌≡◌, ◌+◌, ◌-◌, ◌<◌, ◌≤◌, vec_len, slice_get, None};
+ghost use Rattle.z_regs.specs.Prefix.{storage_size};
 
 use crate::fault::Fault;
 use crate::numbers::{bytes_of, hexadecimal};
@@ -13,7 +14,7 @@ pub struct Piece {
     pub first: u64,
     /// The bytes.
     pub bytes: Vec<u8>,
-    ghost inside: { first + vec_len bytes ≤ 1048576 },
+    ghost inside: { first + vec_len bytes ≤ storage_size },
 }
 
 /// The address and the digits of a piece.

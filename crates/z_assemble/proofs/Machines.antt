@@ -41,6 +41,7 @@ use Rattle.z_setup.specs.declared.parameter.Parameter.TheVariants.{Reject, Firm,
 use Rattle.z_fields.specs.declared.schedule.Run.{Run}
 use Rattle.z_text.specs.declared.token.Token.{Token}
 use Rattle.z_assemble.proofs.Passed.{then_ok, where_ok, same_ok, is_true}
+use Rattle.std.proofs.lemmas.Option.{same_Some}
 
 -- ---- one element changed
 
@@ -151,9 +152,6 @@ nobody_has n cpus k d h l e =
     (same_number n _ e (get_or cpus k d) refl) in
     false≢true (sym h ∙ y)
 
-some_is : (a b : ℕ) → Some a ≡ Some b → a ≡ b
-some_is a b e = cc
-
 -- one of two CPUs gets a prefix that nobody has
 cases_at : (k i : ℕ) {C : Type 0} → (k ≡ i → C) → (k ≢ i → C) → C
 cases_at k i {C} same other = by (k == i) refl
@@ -191,7 +189,7 @@ with_area tasks n i v cpus area none clear s = record {
   apart = taken_prefix (to_nat v) i cpus none s.apart;
   clear = change_all (IsClear tasks) i (with_prefix (to_nat v)) cpus
       (λ c h p e. subst (λ q. list_any (task_places_in q) tasks ≡ false)
-      (some_is (to_nat v) p e) clear) s.clear;
+      (same_Some (to_nat v) p e) clear) s.clear;
 }
 
 -- ---- what is shown

@@ -8,6 +8,7 @@ use Rattle.z_setup.specs.Machine.{Machine, Known, task_gives}
 use Rattle.z_fields.specs.Pieces.{without_end}
 use Rattle.z_reading.specs.Text.{lines_of}
 use Rattle.z_assemble.specs.Whole.{◌>>=◌, on, fault_at, blank, ready, known_in, image_of, first_over}
+use Rattle.z_assemble.specs.Whole.{most_bytes, most_lines}
 use Rattle.z_assemble.specs.Whole.{second_over, finished, after_first, over_lines, assembled, First, Second}
 use Rattle.z_assemble.specs.Whole.{FaultInFirst, FaultInSecond, Stands, FirstFault, too_long, too_many}
 use Rattle.z_assemble.specs.Whole.{in_first, in_second, no_cpu, IsOutcome, HasFault}
@@ -97,7 +98,7 @@ Says text (Ok image) = Stands text image
 Says text (Err f) = FirstFault text f
 
 module _ (text : List ℕ) where
-  finished_says : nat_lt 16777216 (length text) ≡ false → nat_lt 262144 (length (lines_of text)) ≡ false →
+  finished_says : nat_lt most_bytes (length text) ≡ false → nat_lt most_lines (length (lines_of text)) ≡ false →
       (p : Plan) → First 1 (lines_of text) blank p →
       (m : Machine) → Second (known_in p) p.tasks (ready p) m → (b : Bool) → (p.cpus == 0) ≡ b →
       Says text (if b then Err (fault_at 0 NoCpu) else Ok (image_of p.begins m))
@@ -114,51 +115,51 @@ module _ (text : List ℕ) where
     is = refl;
   }
 
-  second_says : nat_lt 16777216 (length text) ≡ false → nat_lt 262144 (length (lines_of text)) ≡ false →
+  second_says : nat_lt most_bytes (length text) ≡ false → nat_lt most_lines (length (lines_of text)) ≡ false →
       (p : Plan) → First 1 (lines_of text) blank p →
       (r : Result Machine ListingFault) → SaysSecond (known_in p) p.tasks (ready p) r →
       Says text (r >>= finished p)
   second_says s l p f (Ok m) g = finished_says s l p f m g (p.cpus == 0) refl
   second_says s l p f (Err e) g = in_second s l p f g
 
-  first_says : nat_lt 16777216 (length text) ≡ false → nat_lt 262144 (length (lines_of text)) ≡ false →
+  first_says : nat_lt most_bytes (length text) ≡ false → nat_lt most_lines (length (lines_of text)) ≡ false →
       (r : Result Plan ListingFault) → SaysFirst 1 (lines_of text) blank r → Says text (r >>= after_first)
   first_says s l (Ok p) f = second_says s l p f (second_over (known_in p) p.tasks (ready p))
       (says_second (known_in p) p.tasks (ready p))
   first_says s l (Err e) f = in_first s l f
 
-  lines_say : nat_lt 16777216 (length text) ≡ false → (b : Bool) →
-      nat_lt 262144 (length (lines_of text)) ≡ b →
+  lines_say : nat_lt most_bytes (length text) ≡ false → (b : Bool) →
+      nat_lt most_lines (length (lines_of text)) ≡ b →
       Says text (if b then Err (fault_at 0 TooManyLines) else first_over 1
       (lines_of text) blank >>= after_first)
   lines_say s true e = too_many s e refl
   lines_say s false e = first_says s e (first_over 1 (lines_of text) blank)
       (says_first 1 (lines_of text) blank)
 
-  text_says : (b : Bool) → nat_lt 16777216 (length text) ≡ b →
+  text_says : (b : Bool) → nat_lt most_bytes (length text) ≡ b →
       Says text (if b then Err (fault_at 0 ListingTooLong) else over_lines (lines_of text))
   text_says true e = too_long e refl
-  text_says false e = lines_say e (nat_lt 262144 (length (lines_of text))) refl
+  text_says false e = lines_say e (nat_lt most_lines (length (lines_of text))) refl
 
   pub says : Says text (assembled text)
   unfolding assembled
-  says = text_says (nat_lt 16777216 (length text)) refl
+  says = text_says (nat_lt most_bytes (length text)) refl
 
   -- the other way: what stands is what is computed
-  short_is : nat_lt 16777216 (length text) ≡ false → assembled text ≡ over_lines (lines_of text)
+  short_is : nat_lt most_bytes (length text) ≡ false → assembled text ≡ over_lines (lines_of text)
   unfolding assembled
   short_is s = ap (λ b. if b then Err (fault_at 0 ListingTooLong) else over_lines (lines_of text)) s
 
-  few_is : nat_lt 16777216 (length text) ≡ false → nat_lt 262144 (length (lines_of text)) ≡ false →
+  few_is : nat_lt most_bytes (length text) ≡ false → nat_lt most_lines (length (lines_of text)) ≡ false →
       assembled text ≡ (first_over 1 (lines_of text) blank >>= after_first)
   few_is s l = short_is s ∙ ap (λ b. if b then Err (fault_at 0 TooManyLines) else first_over 1
       (lines_of text) blank >>= after_first) l
 
-  plan_is : nat_lt 16777216 (length text) ≡ false → nat_lt 262144 (length (lines_of text)) ≡ false →
+  plan_is : nat_lt most_bytes (length text) ≡ false → nat_lt most_lines (length (lines_of text)) ≡ false →
       (p : Plan) → First 1 (lines_of text) blank p → assembled text ≡ after_first p
   plan_is s l p f = few_is s l ∙ ap (λ r. r >>= after_first) (first_is 1 (lines_of text) blank p f)
 
-  machine_is : nat_lt 16777216 (length text) ≡ false → nat_lt 262144 (length (lines_of text)) ≡ false →
+  machine_is : nat_lt most_bytes (length text) ≡ false → nat_lt most_lines (length (lines_of text)) ≡ false →
       (p : Plan) → First 1 (lines_of text) blank p → (m : Machine) →
       Second (known_in p) p.tasks (ready p) m → assembled text ≡ finished p m
   machine_is s l p f m g = plan_is s l p f ∙ ap (λ r. r >>= finished p)
@@ -230,7 +231,7 @@ same_fault text e f h g = err_is (assembled text) e f (fault_is text e h) (fault
 
 -- Both readings one after the other are the whole, with each as the code has it.
 pub lines_stand : (lines : List (List ℕ)) (start p : Plan) (r m : Machine) (image : Content) →
-    length lines ≤ 262144 → start ≡ blank → first_over 1 lines start ≡ Ok p →
+    length lines ≤ most_lines → start ≡ blank → first_over 1 lines start ≡ Ok p →
     r ≡ ready p → second_over (known_in p) p.tasks r ≡ Ok m → (p.cpus == 0) ≡ false →
     image ≡ image_of p.begins m → over_lines lines ≡ Ok image
 lines_stand lines start p r m image few s f e g c i =

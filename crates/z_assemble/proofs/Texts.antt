@@ -12,14 +12,10 @@ use Rattle.std.proofs.lemmas.Grind.{same_number_lists}
 use Rattle.std.proofs.lemmas.List.{length-take-le, length-drop, get_or-take, get_or-drop}
 use Rattle.std.proofs.lemmas.List.Elements.{All-contains}
 use Rattle.std.proofs.lemmas.List.Folds.{list_any_at}
-use Rattle.z_instr.proofs.Bytes.{reads_bytes}
-use Rattle.z_instr.proofs.Distinct.{opcode_gives_length}
-use Rattle.z_instr.proofs.Spelled.{reads_opcode, reads_length}
+use Rattle.z_instr.proofs.Spelled.{read_size}
 use Rattle.z_instr.specs.Layout.{length_by}
 use Rattle.z_instr.specs.Operands.{HoldsByteOf}
-use Rattle.z_instr.specs.Reading.{Reads}
 use Rattle.z_instr.specs.Table.{entry_at}
-use Rattle.z_instr.specs.declared.instr.Instr.{Instr}
 use Rattle.tx_journal.specs.Image.{length_at, instruction_at, HasReading, HoldsText, IsRising}
 use Rattle.z_reading.specs.Listing.{Task}
 use Rattle.z_setup.specs.Machine.{places_in, task_places_in}
@@ -95,10 +91,6 @@ pub record IsText (storage : List ℕ) (tasks : List Task) (start : ℕ) : Type 
   pub high : start + length_at storage start ≤ 1048576
   pub clear : (area : ℕ) → list_any (task_places_in area) tasks ≡ false → start < area + 8192 →
       area < start + length_at storage start → ⊥
-
-read_size : (bytes : List ℕ) (i : Instr) → Reads bytes i → length bytes ≡ length_by (get_or bytes 0 0)
-read_size bytes i r = reads_length bytes i r ∙ sym
-    (opcode_gives_length i.op.number bytes i.op.known (reads_bytes bytes i r) (reads_opcode bytes i r))
 
 code_size : (storage : List ℕ) (here row : ℕ) → (c : HasCode storage here row) → 0 < size_of_row row →
     length_at storage here ≡ length c.bytes

@@ -128,12 +128,19 @@ finished p m = if p.cpus == 0 then Err (fault_at 0 NoCpu) else Ok (image_of p.be
 abbrev pub after_first : Plan → Result Content ListingFault
 after_first p = second_over (known_in p) p.tasks (ready p) >>= finished p
 
+-- the most bytes that a listing may have, and the most lines
+abbrev pub most_bytes : ℕ
+most_bytes = 16777216
+
+abbrev pub most_lines : ℕ
+most_lines = 262144
+
 abbrev pub over_lines : List (List ℕ) → Result Content ListingFault
-over_lines lines = if nat_lt 262144 (length lines) then Err
+over_lines lines = if nat_lt most_lines (length lines) then Err
     (fault_at 0 TooManyLines) else first_over 1 lines blank >>= after_first
 
 unfoldable pub assembled : List ℕ → Result Content ListingFault
-assembled text = if nat_lt 16777216 (length text) then Err (fault_at 0 ListingTooLong) else over_lines
+assembled text = if nat_lt most_bytes (length text) then Err (fault_at 0 ListingTooLong) else over_lines
     (lines_of text)
 
 -- ---- the same in words on whole lines
@@ -167,8 +174,8 @@ FaultInSecond k (t ∷ ts) m f =
 pub record Stands (text : List ℕ) (image : Content) : Type 0 where
   pub plan : Plan
   pub machine : Machine
-  pub size : nat_lt 16777216 (length text) ≡ false
-  pub lines : nat_lt 262144 (length (lines_of text)) ≡ false
+  pub size : nat_lt most_bytes (length text) ≡ false
+  pub lines : nat_lt most_lines (length (lines_of text)) ≡ false
   pub first : First 1 (lines_of text) blank plan
   pub second : Second (known_in plan) plan.tasks (ready plan) machine
   pub some : (plan.cpus == 0) ≡ false
@@ -176,15 +183,15 @@ pub record Stands (text : List ℕ) (image : Content) : Type 0 where
 
 -- the tests of the whole text and of its lines, in their order: each kind of first fault
 pub data FirstFault (text : List ℕ) (f : ListingFault) : Type 0 where
-  too_long : nat_lt 16777216 (length text) ≡ true → IsFault 0 ListingTooLong f → FirstFault text f
-  too_many : nat_lt 16777216 (length text) ≡ false → nat_lt 262144 (length (lines_of text)) ≡ true →
+  too_long : nat_lt most_bytes (length text) ≡ true → IsFault 0 ListingTooLong f → FirstFault text f
+  too_many : nat_lt most_bytes (length text) ≡ false → nat_lt most_lines (length (lines_of text)) ≡ true →
       IsFault 0 TooManyLines f → FirstFault text f
-  in_first : nat_lt 16777216 (length text) ≡ false → nat_lt 262144 (length (lines_of text)) ≡ false →
+  in_first : nat_lt most_bytes (length text) ≡ false → nat_lt most_lines (length (lines_of text)) ≡ false →
       FaultInFirst 1 (lines_of text) blank f → FirstFault text f
-  in_second : nat_lt 16777216 (length text) ≡ false → nat_lt 262144 (length (lines_of text)) ≡ false →
+  in_second : nat_lt most_bytes (length text) ≡ false → nat_lt most_lines (length (lines_of text)) ≡ false →
       (p : Plan) → First 1 (lines_of text) blank p →
       FaultInSecond (known_in p) p.tasks (ready p) f → FirstFault text f
-  no_cpu : nat_lt 16777216 (length text) ≡ false → nat_lt 262144 (length (lines_of text)) ≡ false →
+  no_cpu : nat_lt most_bytes (length text) ≡ false → nat_lt most_lines (length (lines_of text)) ≡ false →
       (p : Plan) → First 1 (lines_of text) blank p →
       (m : Machine) → Second (known_in p) p.tasks (ready p) m → (p.cpus == 0) ≡ true → IsFault 0 NoCpu f →
       FirstFault text f

@@ -14,6 +14,7 @@ ghost use Rattle.z_setup.specs.Setup.{machine_of, known_of};
 ghost use Rattle.z_assemble.specs.Steps.{Passes, on_line};
 ghost use Rattle.z_reading.specs.Text.{lines_of, copies};
 ghost use Rattle.z_assemble.specs.Whole.{on, first_on, first_over, second_on, second_over, blank, no_label};
+ghost use Rattle.z_assemble.specs.Whole.{most_bytes, most_lines};
 ghost use Rattle.z_assemble.specs.Whole.{with_page, with_pages, pages_with};
 ghost use Rattle.z_assemble.specs.Whole.{image_of, finished, after_first, over_lines, assembled, Stands};
 ghost use Rattle.z_assemble.specs.Whole.{HasFault, IsOutcome, fault_at, ready_for};
@@ -71,8 +72,8 @@ fn first_on(
 
 /// Reads all lines of the draft's text for the first time.
 fn first_over(alloc: Global, draft: &mut Draft) -> Result<(), AssembleFault>
-    requires size { length draft.old.works.text.now ≤ 16777216 }
-    requires lines { length (pieces_by 10 draft.old.works.text.now) ≤ 262144 }
+    requires size { length draft.old.works.text.now ≤ most_bytes }
+    requires lines { length (pieces_by 10 draft.old.works.text.now) ≤ most_lines }
     ensures { Passes result (first_over 1 (pieces_by 10 draft.old.works.text.now) (plan_of draft.old))
         (plan_of draft.new) }
 {
@@ -298,8 +299,8 @@ fn whole_fault(kind: Kind) -> AssembleFault
 
 /// The image that the lines of a text in capitals stand for, or the first fault.
 fn over_lines(alloc: Global, text: &[u8]) -> Result<Parts, AssembleFault>
-    requires size { length text.now ≤ 16777216 }
-    requires lines { length (pieces_by 10 text.now) ≤ 262144 }
+    requires size { length text.now ≤ most_bytes }
+    requires lines { length (pieces_by 10 text.now) ≤ most_lines }
     ensures { IsOutcome result (over_lines (pieces_by 10 text.now)) }
 {
     let mut draft = blank(alloc, text)?;

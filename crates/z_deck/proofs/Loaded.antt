@@ -20,6 +20,7 @@ use Rattle.z_deck.specs.declared.card.CardType.{CardType}
 use Rattle.z_deck.specs.declared.card.CardType.TheVariants.{Section, Text, End}
 use Rattle.z_deck.specs.declared.fault.Kind.TheVariants as kinds
 use Rattle.z_deck.proofs.Faults.{behind}
+use Rattle.std.proofs.Math.Bool.{or-false, or_assoc}
 
 -- ---- one more card
 
@@ -40,30 +41,22 @@ more_bytes origin (c ∷ cards) card address =
     ap (λ o. over o (byte_on origin c address)) (more_bytes origin cards card address)
     ∙ over_over (byte_on origin card address) (byte_from origin cards address) (byte_on origin c address)
 
-or_none : (b : Bool) → (b || false) ≡ b
-or_none true = refl
-or_none false = refl
-
-pub or_or : (a b c : Bool) → ((a || b) || c) ≡ (a || (b || c))
-or_or true b c = refl
-or_or false b c = refl
-
 pub pass_more : (origin : ℕ) (ended : Bool) (cards : List (List ℕ)) (card : List ℕ) → Pass origin ended cards
     → fault_of origin (ended || ends cards) card ≡ None → Pass origin ended (cards ++ card ∷ [])
 pass_more origin ended [] card passed fair =
-    (ap (λ b. fault_of origin b card) (sym (or_none ended)) ∙ fair, tt)
+    (ap (λ b. fault_of origin b card) (sym (or-false ended)) ∙ fair, tt)
 pass_more origin ended (c ∷ cards) card passed fair = (
   passed.0,
   pass_more origin (ended || is_end (type_of c)) cards card passed.1
-      (ap (λ b. fault_of origin b card) (or_or ended (is_end (type_of c)) (ends cards)) ∙ fair),
+      (ap (λ b. fault_of origin b card) (or_assoc ended (is_end (type_of c)) (ends cards)) ∙ fair),
 )
 
 pub ends_more : (cards : List (List ℕ)) (card : List ℕ)
     → ends (cards ++ card ∷ []) ≡ (ends cards || is_end (type_of card))
-ends_more [] card = or_none (is_end (type_of card))
+ends_more [] card = or-false (is_end (type_of card))
 ends_more (c ∷ cards) card =
     ap (λ b. is_end (type_of c) || b) (ends_more cards card)
-    ∙ sym (or_or (is_end (type_of c)) (ends cards) (is_end (type_of card)))
+    ∙ sym (or_assoc (is_end (type_of c)) (ends cards) (is_end (type_of card)))
 
 -- ---- bytes over others
 

@@ -21,9 +21,10 @@ use Rattle.z_deck.specs.declared.fault.Kind.{Kind}
 use Rattle.z_deck.specs.declared.fault.Kind.TheVariants as kinds
 use Rattle.z_deck.proofs.Faults.{fault_is, fault_by, fault_for, many_on, within_on, above_on, accessible, section}
 use Rattle.z_deck.proofs.Faults.{inside, ending, empty_within, range_within}
-use Rattle.z_deck.proofs.Loaded.{first_cards, nothing_loaded, pass_more, ends_more, section_loaded, empty_loaded, or_or}
+use Rattle.z_deck.proofs.Loaded.{first_cards, nothing_loaded, pass_more, ends_more, section_loaded, empty_loaded}
 use Rattle.z_deck.proofs.Loaded.{text_loaded, end_loaded, still_open}
 use Rattle.z_deck.proofs.Decks.{fault_in, short_in, no_end_in, deck_in}
+use Rattle.std.proofs.Math.Bool.{or-false, or_assoc}
 
 -- ---- what a card without a fault is
 
@@ -220,10 +221,6 @@ front_same x y s t whole also same = (
 none_left : (x s : List ℕ) → length x ≡ 80 → x ++ s ≡ [] → ⊥
 none_left x s whole none = absurd (omega (arith, length-append x s, ap length none))
 
-or_none : (b : Bool) → (b || false) ≡ b
-or_none true = refl
-or_none false = refl
-
 module _ (origin : ℕ) where
   -- cards without a fault, and a fault behind the first of them: never of the same bytes
   clash : (ended : Bool) (before cards : List (List ℕ)) (rest : List ℕ) (kind : Kind) → Pass origin ended before
@@ -234,7 +231,7 @@ module _ (origin : ℕ) where
       let whole = fair_size origin ended c q.0 in
       let card : take 80 rest ≡ c = ap (take 80) same ∙ take_at c (concat cards) 80 whole in
       let here : fault_of origin ended c ≡ Some kind =
-      ap₂ (λ (b : Bool) (x : List ℕ). fault_of origin b x) (sym (or_none ended)) (sym card) ∙ fault in
+      ap₂ (λ (b : Bool) (x : List ℕ). fault_of origin b x) (sym (or-false ended)) (sym card) ∙ fault in
       let fair = q.0 in cc
   clash ended (b ∷ before) [] rest kind p q same some fault =
       none_left b (concat before ++ rest) (fair_size origin ended b p.0)
@@ -244,7 +241,7 @@ module _ (origin : ℕ) where
       (fair_size origin ended c q.0) (sym (append_assoc b (concat before) rest) ∙ same) in
       clash (ended || is_end (type_of b)) before cards rest kind p.1
       (subst (λ (x : List ℕ). Pass origin (ended || is_end (type_of x)) cards) (sym parts.0) q.1) parts.1 some
-      (ap (λ x. fault_of origin x (take 80 rest)) (or_or ended (is_end (type_of b)) (ends before)) ∙ fault)
+      (ap (λ x. fault_of origin x (take 80 rest)) (or_assoc ended (is_end (type_of b)) (ends before)) ∙ fault)
 
   -- cards without a fault of the same bytes are the same
   same_cards : (ended : Bool) (some others : List (List ℕ)) → Pass origin ended some → Pass origin ended others
@@ -277,14 +274,14 @@ module _ (origin : ℕ) where
       let card : take 80 rest ≡ c =
       ap (take 80) (same ∙ append_assoc c (concat cards) behind) ∙ take_at c (concat cards ++ behind) 80 whole in
       let here : fault_of origin ended c ≡ Some kind =
-      ap₂ (λ (b : Bool) (x : List ℕ). fault_of origin b x) (sym (or_none ended)) (sym card) ∙ f in
+      ap₂ (λ (b : Bool) (x : List ℕ). fault_of origin b x) (sym (or-false ended)) (sym card) ∙ f in
       let fair = q.0 in cc
   same_place ended (b ∷ before) [] rest behind kind other p q same s t f g =
       let whole = fair_size origin ended b p.0 in
       let card : take 80 behind ≡ b =
       ap (take 80) (sym same ∙ append_assoc b (concat before) rest) ∙ take_at b (concat before ++ rest) 80 whole in
       let here : fault_of origin ended b ≡ Some other =
-      ap₂ (λ (e : Bool) (x : List ℕ). fault_of origin e x) (sym (or_none ended)) (sym card) ∙ g in
+      ap₂ (λ (e : Bool) (x : List ℕ). fault_of origin e x) (sym (or-false ended)) (sym card) ∙ g in
       let fair = p.0 in cc
   same_place ended (b ∷ before) (c ∷ cards) rest behind kind other p q same s t f g =
       let parts = front_same b c (concat before ++ rest) (concat cards ++ behind) (fair_size origin ended b p.0)
@@ -292,10 +289,10 @@ module _ (origin : ℕ) where
       (sym (append_assoc b (concat before) rest) ∙ same ∙ append_assoc c (concat cards) behind) in
       let g2 : fault_of origin ((ended || is_end (type_of b)) || ends cards) (take 80 behind) ≡ Some other =
       ap (λ (x : List ℕ). fault_of origin ((ended || is_end (type_of x)) || ends cards) (take 80 behind)) parts.0
-      ∙ ap (λ x. fault_of origin x (take 80 behind)) (or_or ended (is_end (type_of c)) (ends cards)) ∙ g in
+      ∙ ap (λ x. fault_of origin x (take 80 behind)) (or_assoc ended (is_end (type_of c)) (ends cards)) ∙ g in
       let rest_same = same_place (ended || is_end (type_of b)) before cards rest behind kind other p.1
       (subst (λ (x : List ℕ). Pass origin (ended || is_end (type_of x)) cards) (sym parts.0) q.1) parts.1 s t
-      (ap (λ x. fault_of origin x (take 80 rest)) (or_or ended (is_end (type_of b)) (ends before)) ∙ f) g2 in
+      (ap (λ x. fault_of origin x (take 80 rest)) (or_assoc ended (is_end (type_of b)) (ends before)) ∙ f) g2 in
       (ap suc rest_same.0, rest_same.1)
 
   -- ---- the cards of a deck

@@ -1,6 +1,6 @@
 //! What a deck says.
 ghost use Rattle.std.specs.Prelude.{◌≡◌, ℕ, ◌<◌, Some, length, slice_index};
-ghost use Rattle.z_regs.specs.Prefix.{storage_size};
+ghost use Rattle.z_regs.specs.Prefix.{storage_size, area_size};
 
 /// What a deck says when it is loaded.
 #[derive(Drop)]
@@ -10,6 +10,6 @@ pub struct Deck {
     /// The address where the program enters, if the deck has one, below 1,048,576.
     pub entry: Option<u32>,
     ghost size: { length storage.items ≡ storage_size },
-    ghost low: { (address : ℕ) → address < 8192 → slice_index storage.items address ≡ 0 },
+    ghost low: { (address : ℕ) → address < area_size → slice_index storage.items address ≡ 0 },
     ghost within: { (address : ℕ) → entry ≡ Some address → address < storage_size },
 }

@@ -114,8 +114,6 @@ pub fn deck_listing(alloc: Global, deck: &Deck) -> Result<Vec<u8>, NoMemory>
     ensures { IfOk result (λ text. text.items ≡ listing_of deck.now.storage.items deck.now.entry) }
 {
     let mut text = Vec::new(alloc);
-    match add_listing(&mut text, deck) {
-        Ok(()) => Ok(text),
-        Err(_) => Err(NoMemory),
-    }
+    add_listing(&mut text, deck)?;
+    Ok(text)
 }

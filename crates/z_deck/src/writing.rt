@@ -144,8 +144,6 @@ pub fn write_deck(alloc: Global, image: &Image) -> Result<Vec<u8>, NoMemory>
     ensures { IfOk result (λ deck. deck.items ≡ deck_of_image image.now) }
 {
     let mut deck = Vec::new(alloc);
-    match add_deck(&mut deck, image) {
-        Ok(()) => Ok(deck),
-        Err(_) => Err(NoMemory),
-    }
+    add_deck(&mut deck, image)?;
+    Ok(deck)
 }

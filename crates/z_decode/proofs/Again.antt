@@ -1,6 +1,6 @@
 -- Bytes whose fields are taken apart by a whole layout are spelled by it again.
 use Rattle.std.proofs.Common.{◌≡◌, ℕ, zero, suc, ◌+◌, ◌*◌, ◌/◌, ◌%◌, ◌^◌, ◌<◌, true, false, Bool, ◌&&◌, nat_eq, not, ◌-◌, ◌≤◌, inl, inr}
-use Rattle.std.proofs.Common.{List, [], ◌∷◌, if◌then◌else◌, map, length, get_or, refl, sym, ap, ap₂, subst, ◌∙◌, arith}
+use Rattle.std.proofs.Common.{List, [], ◌∷◌, if◌then◌else◌, map, length, refl, sym, ap, ap₂, subst, ◌∙◌, arith}
 use Rattle.std.proofs.Common.{eq-eqb, lit<}
 use Rattle.std.proofs.Math.Nat.{mul-add-div_right, div-div-eq-div-mul, pow-suc, zero-div}
 use Rattle.std.proofs.lemmas.Bool.{eqb-true, cases_lt}
@@ -11,7 +11,7 @@ use Rattle.z_instr.specs.declared.layout.Field.{Field}
 use Rattle.z_instr.specs.declared.layout.Field.TheVariants.{Opcode, R1, R2, R3, X, B, D, B2, D2, Imm, Mask, Spare}
 use Rattle.z_instr.specs.Layouts.{rank, is_of, width, digit, paired, spelled, digits_from, number_in, taken, has, is_once, is_whole}
 use Rattle.z_instr.specs.Reading.{AreBytes}
-use Rattle.z_instr.proofs.Digits.{power_above, digit_at, AreDigits, are_digits, unpaired, digits_of_bytes}
+use Rattle.z_instr.proofs.Digits.{power_above, digit_at, AreDigits, are_digits, unpaired, digits_of_bytes, one_later}
 use Rattle.z_instr.proofs.Passing.{and_left, and_right}
 use Rattle.z_instr.proofs.Wholes.{rank_own, taken_whole}
 
@@ -136,9 +136,6 @@ rank_below Imm = lit< tt
 rank_below Mask = lit< tt
 rank_below Spare = lit< tt
 
-same_eq : (n : ℕ) → nat_eq n n ≡ true
-same_eq n = eq-eqb n n refl
-
 same_digits : (ds : List Digit) (hs gs : List ℕ) → is_once ds ≡ true → length hs ≡ length ds → length gs ≡ length ds →
     ((r k : ℕ) → r < 12 → digit_at ds hs r k ≡ digit_at ds gs r k) → hs ≡ gs
 same_digits [] [] [] o l m e = refl
@@ -152,7 +149,9 @@ same_digits (d ∷ ds) (h ∷ hs) (g ∷ gs) o l m e =
     (λ r k b. later r k (is_of r d && nat_eq d.index k) refl (e r k b)))
   where
     here : (is_of (rank d.field) d && nat_eq d.index d.index) ≡ true
-    here = ap₂ (λ x y. x && y) (same_eq (rank d.field)) (same_eq d.index)
+    here =
+        ap₂ (λ x y. x && y) (eq-eqb (rank d.field) (rank d.field) refl)
+        (eq-eqb d.index d.index refl)
 
     first : h ≡ g
     first =
@@ -172,11 +171,6 @@ same_digits (d ∷ ds) (h ∷ hs) (g ∷ gs) o l m e =
     later r k false f s = s
 
 -- ---- bytes
-
-one_later : (n k x : ℕ) (bytes : List ℕ) → digits_from n (suc k) (x ∷ bytes) ≡ digits_from n k bytes
-one_later zero k x bytes = refl
-one_later (suc n) k x bytes =
-    ap (λ hs. get_or bytes k 0 / 16 ∷ (get_or bytes k 0 % 16 ∷ hs)) (one_later n (suc k) x bytes)
 
 paired_again : (bytes : List ℕ) → paired (digits_from (length bytes) 0 bytes) ≡ bytes
 paired_again [] = refl

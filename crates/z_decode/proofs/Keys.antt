@@ -59,9 +59,6 @@ key_of_line l = key_of (entry_of l)
 keys_rise : is_rising (map key_of_line TABLE) ≡ true
 keys_rise = refl
 
-key_there : (n : ℕ) → n < ROWS → get_or (map key_of_line TABLE) n 0 ≡ key_of (entry_at n)
-key_there n h = get_or-map key_of_line TABLE n blank 0 h ∙ ap key_of (line_is n blank h)
-
 lines_rise : (x i j : ℕ) → i ≤ j → j < length TABLE →
     ordering_index (nat_cmp (key_of_line (get_or TABLE i blank)) x) ≤
     ordering_index (nat_cmp (key_of_line (get_or TABLE j blank)) x)

@@ -1,6 +1,7 @@
 pub mod Stored
 pub mod Storeless
 pub mod Examples
+pub mod Lengths
 pub mod Lasting
 pub mod Prefix
 mod TransactionExamples

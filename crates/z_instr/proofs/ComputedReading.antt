@@ -26,7 +26,7 @@ use Rattle.z_instr.proofs.TakenApart.{taken_apart}
 
 -- ---- the row is the instruction's
 
-rows : (n : ℕ) → n < ROWS → n < length table
+pub rows : (n : ℕ) → n < ROWS → n < length table
 rows n h = subst (λ (t : List Entry). n < length t) same_table h
 
 never_before : (bytes : List ℕ) (i : Instr) → Reads bytes i → (k : ℕ) → k < i.op.number →

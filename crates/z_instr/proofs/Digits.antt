@@ -181,7 +181,7 @@ pub are_digits : (ds : List Digit) (v : ℕ → ℕ) → AreDigits (map (digit v
 are_digits [] v = tt
 are_digits (d ∷ ds) v = (mod_below (v (rank d.field) / 16 ^ d.index) 16 (omega arith), are_digits ds v)
 
-one_later : (n k x : ℕ) (bytes : List ℕ) → digits_from n (suc k) (x ∷ bytes) ≡ digits_from n k bytes
+pub one_later : (n k x : ℕ) (bytes : List ℕ) → digits_from n (suc k) (x ∷ bytes) ≡ digits_from n k bytes
 one_later zero k x bytes = refl
 one_later (suc n) k x bytes =
     ap (λ hs. get_or bytes k 0 / 16 ∷ (get_or bytes k 0 % 16 ∷ hs)) (one_later n (suc k) x bytes)

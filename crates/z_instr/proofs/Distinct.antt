@@ -15,6 +15,7 @@ use Rattle.z_instr.specs.Places.{opcode_at, HasOpcode}
 use Rattle.z_instr.specs.Reading.{AreBytes}
 use Rattle.z_instr.proofs.Passing.{passes, and_left, and_right}
 use Rattle.z_instr.proofs.TableFacts.{same_table, opcode_length}
+use Rattle.std.proofs.Common.{nat_lt, cond}
 
 passes_pair : (test : Entry → Entry → Bool) (es : List Entry) (m n : ℕ) (d : Entry) →
     all_pairs test es ≡ true → m < n → n < length es → test (get_or es m d) (get_or es n d) ≡ true
@@ -122,3 +123,11 @@ pub opcode_gives_length : (n : ℕ) (bytes : List ℕ) → n < ROWS → AreBytes
 opcode_gives_length n bytes h b f =
     let p = place (entry_at n).format in
     ap length_by (sym (leads p bytes b)) ∙ ap (λ o. length_by (lead p o)) f ∙ opcode_length n h
+
+pub some_length : (first : ℕ) → 0 < length_by first
+some_length first = by (nat_lt first 64) (nat_lt first 192)
+  where
+    by : (a b : Bool) → 0 < cond a 2 (cond b 4 6)
+    by true b = omega arith
+    by false true = omega arith
+    by false false = omega arith

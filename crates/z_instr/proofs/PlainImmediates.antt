@@ -1,7 +1,7 @@
 -- Immediates without a sign.
-use Rattle.std.proofs.Common.{◌≡◌, ℕ, ◌<◌, ◌≤◌, nat_eq, nat_le, Bool, true, false, ◌||◌, not, refl, arith}
-use Rattle.std.specs.Prelude.{ℤ, pos, negsuc}
-use Rattle.std.proofs.lemmas.Bool.{leb-true, eqb-true, lt-ltb, ltb-true}
+use Rattle.std.proofs.Common.{◌≡◌, ℕ, ◌<◌, ◌≤◌, nat_eq, nat_le, Bool, true, false, ◌||◌, not, refl, arith, sym}
+use Rattle.std.specs.Prelude.{ℤ, pos, negsuc, ◌&&◌}
+use Rattle.std.proofs.lemmas.Bool.{leb-true, eqb-true, lt-ltb, ltb-true, true≢false}
 use Rattle.z_instr.specs.declared.instr.Instr.{Instr}
 use Rattle.z_instr.specs.declared.table.TheConstants.{ROWS}
 use Rattle.z_instr.specs.Table.{Entry, entry_at}
@@ -14,7 +14,7 @@ use Rattle.z_instr.proofs.Within.{instr_fits, numbers_of}
 fitting_immediate : (n : ℕ) → n < ROWS → has_fitting_immediate (entry_at n) ≡ true
 fitting_immediate = passes_row has_fitting_immediate refl
 
-implied : (a b : Bool) → (not a || b) ≡ true → a ≡ true → b ≡ true
+pub implied : (a b : Bool) → (not a || b) ≡ true → a ≡ true → b ≡ true
 implied true b h e = h
 implied false b h e = cc
 
@@ -54,3 +54,8 @@ begins i h =
     plain 65536 (entry_at i.op.number) i.imm
     (implied _ _ (and_right _ _ (and_right _ _ (fitting_immediate i.op.number i.op.known))) h)
     (immediate i)
+
+pub not_second : (a b : Bool) → not (a && b) ≡ true → a ≡ true → b ≡ false
+not_second true true h e = absurd (true≢false (sym h))
+not_second true false h e = refl
+not_second false b h e = absurd (true≢false (sym e))

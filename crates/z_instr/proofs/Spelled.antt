@@ -3,7 +3,7 @@ use Rattle.std.proofs.Common.{◌≡◌, ℕ, ◌<◌, ◌%◌, ◌^◌, true, r
 use Rattle.std.proofs.Math.Nat.{mod-eq_of_lt}
 use Rattle.z_instr.specs.declared.instr.Instr.{Instr}
 use Rattle.z_instr.specs.Table.{entry_at}
-use Rattle.z_instr.specs.Layout.{format_length, place}
+use Rattle.z_instr.specs.Layout.{format_length, place, length_by}
 use Rattle.z_instr.specs.Layouts.{layout_of, width, taken}
 use Rattle.z_instr.specs.Made.{fields_of}
 use Rattle.z_instr.specs.Places.{HasOpcode, opcode_at, is_spare_zero}
@@ -11,6 +11,8 @@ use Rattle.z_instr.specs.Reading.{Reads, number_of, spelling}
 use Rattle.z_instr.proofs.TableFacts.{opcode_room}
 use Rattle.z_instr.proofs.Wholes.{whole, format_at, room_at, length_spelled, place_holds, ranks, taken_whole}
 use Rattle.z_instr.proofs.Digits.{power_above}
+use Rattle.z_instr.proofs.Bytes.{reads_bytes}
+use Rattle.z_instr.proofs.Distinct.{opcode_gives_length}
 
 -- what the digits of an instruction's bytes hold of a field
 taken_of : (i : Instr) (r : ℕ) → r < 12 → get_or ranks r 0 ≡ r →
@@ -46,3 +48,7 @@ reads_spare bytes i r =
   where
     none : (n : ℕ) → 0 % 16 ^ n ≡ 0
     none n = mod-eq_of_lt (power_above n)
+
+pub read_size : (bytes : List ℕ) (i : Instr) → Reads bytes i → length bytes ≡ length_by (get_or bytes 0 0)
+read_size bytes i r = reads_length bytes i r ∙ sym
+    (opcode_gives_length i.op.number bytes i.op.known (reads_bytes bytes i r) (reads_opcode bytes i r))

@@ -110,6 +110,10 @@ signed_word_of_r2 = source.Second signed_word
 
 -- ---- the rows
 
+-- How many rows there are.
+abbrev pub row_count : ℕ
+row_count = 188
+
 unfoldable pub table : List Entry
 table =
     row (codes "SPM") 0x04 form.RRSingle Restricted (General general.SetProgramMask) ∷

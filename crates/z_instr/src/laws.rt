@@ -5,7 +5,7 @@ ghost use Rattle.std.specs.Prelude.{◌↔◌, Some, None, ◌*◌, ◌%◌, ◌
 ghost use Rattle.std.specs.List.{list_any};
 ghost use Rattle.z_instr.specs.Operands.{Span, IsSmall, pieces, spans, HoldsByteOf};
 ghost use Rattle.z_instr.specs.Kinds.{operands_of, demand_of};
-ghost use Rattle.z_instr.specs.Table.{table, entry_at, kind_at};
+ghost use Rattle.z_instr.specs.Table.{table, row_count, entry_at, kind_at};
 ghost use Rattle.z_instr.specs.Layout.{length_by, format_length, place, room};
 ghost use Rattle.z_instr.specs.Facts.{has_fitting_name, is_refused_alike, has_two_lists, is_service, is_begin};
 ghost use Rattle.z_instr.specs.Layouts.{layout_of, is_whole, taken, spelled, width};
@@ -17,10 +17,10 @@ ghost use Rattle.z_instr.specs.declared.instr.Instr.{Instr};
 ghost use Rattle.z_instr.specs.declared.layout.Digit.{Digit};
 ghost use Rattle.z_instr.specs.declared.table.TheConstants.{ROWS};
 
-/// The code's number of rows is that of the defined table, which has 188.
+/// The code's number of rows is that of the defined table, which has as many as is written beside it.
 pub fn rows_are_counted()
     ensures all { ROWS ≡ length table }
-    ensures number { length table ≡ 188 }
+    ensures number { length table ≡ row_count }
 {}
 
 /// No two rows have one name, and no bytes have the opcodes of two rows in their places.

@@ -1,5 +1,5 @@
 -- The bytes of instructions in storage, and their lines.
-use Rattle.std.proofs.Common.{◌≡◌, ℕ, ◌+◌, ◌<◌, ◌≤◌, zero, suc, nat_lt, Bool, true, false, cond, List, [], ◌∷◌}
+use Rattle.std.proofs.Common.{◌≡◌, ℕ, ◌+◌, ◌<◌, ◌≤◌, zero, suc, List, [], ◌∷◌}
 use Rattle.std.proofs.Common.{length, get_or, take, drop, arith, sym, ap, ◌∙◌, refl}
 use Rattle.std.specs.Prelude.{All}
 use Rattle.std.proofs.lemmas.List.{length-take, length-drop}
@@ -7,28 +7,13 @@ use Rattle.z_instr.specs.declared.instr.Instr.{Instr}
 use Rattle.z_instr.specs.Computing.{reading_of}
 use Rattle.z_instr.specs.Layout.{length_by}
 use Rattle.z_instr.specs.Reading.{Reads}
-use Rattle.z_instr.proofs.Bytes.{reads_bytes}
 use Rattle.z_instr.proofs.ComputedReading.{computes}
-use Rattle.z_instr.proofs.Distinct.{opcode_gives_length}
-use Rattle.z_instr.proofs.Spelled.{reads_opcode, reads_length}
+use Rattle.z_instr.proofs.Distinct.{some_length}
+use Rattle.z_instr.proofs.Spelled.{read_size}
 use Rattle.tx_journal.specs.Image.{HasReading, length_at}
 use Rattle.z_list.specs.Listing.{code_at, line_text, line_for, line_at, HasLine}
 
 -- ---- the bytes are all there
-
-length_by_its_first : (bytes : List ℕ) (i : Instr) → Reads bytes i
-    → length bytes ≡ length_by (get_or bytes 0 0)
-length_by_its_first bytes i reads =
-    reads_length bytes i reads ∙ sym (opcode_gives_length i.op.number bytes i.op.known
-    (reads_bytes bytes i reads) (reads_opcode bytes i reads))
-
-some_length : (first : ℕ) → 0 < length_by first
-some_length first = by (nat_lt first 64) (nat_lt first 192)
-  where
-    by : (a b : Bool) → 0 < cond a 2 (cond b 4 6)
-    by true b = omega arith
-    by false true = omega arith
-    by false false = omega arith
 
 first_of : (n : ℕ) (bytes : List ℕ) → 0 < length (take n bytes) → get_or (take n bytes) 0 0 ≡ get_or bytes 0 0
 first_of zero bytes some = absurd (omega arith)
@@ -44,7 +29,7 @@ pub code_is_whole : (storage : List ℕ) (start : ℕ) → HasReading storage st
     → start + length_at storage start ≤ length storage
 code_is_whole storage start has =
     let n = length_at storage start in
-    let whole = length_by_its_first (code_at storage start) has.instr has.reads in
+    let whole = read_size (code_at storage start) has.instr has.reads in
     let some : 0 < length (code_at storage start) =
     omega (arith, some_length (get_or (code_at storage start) 0 0)) in
     let same = ap length_by (first_of n (drop start storage) some ∙ first_in start storage) in

@@ -28,12 +28,9 @@ use Rattle.z_list.specs.declared.parts.Operand.TheVariants.{Number, Target, Inde
 use Rattle.z_list.specs.Operands.{operand_at, operands_at, operands_by, operands_of, target_text, based_text, pair_text, operand_text, further_text, field_text, instruction_text}
 use Rattle.z_list.proofs.Distances.{close, long_is_close, displacement_is_long, second_is_long, immediate_is_close}
 use Rattle.z_list.proofs.Told.{one_instruction}
+use Rattle.tx_journal.proofs.OneSchedule.{lacks_front}
 
 -- ---- where an operand ends
-
-lacks_front : (c d : ℕ) (xs : List ℕ) → d ≢ c → Lacks c xs → Lacks c (d ∷ xs)
-lacks_front c d xs other lacks zero below = other
-lacks_front c d xs other lacks (suc i) below = lacks i (omega arith)
 
 lacks_signed : (c : ℕ) (z : ℤ) → mag z < 2 ^ 63 → c < 45 → Lacks c (signed_decimal z)
 lacks_signed c (pos n) small low = lacks_number c n (omega arith) (omega arith)

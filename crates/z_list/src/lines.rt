@@ -117,8 +117,6 @@ pub fn listing(alloc: Global, image: &Image) -> Result<Vec<u8>, NoMemory>
 {
     let mut text = Vec::new(alloc);
     let _cpus = image.cpu_count();
-    match add_lines(&mut text, image.storage.as_slice(), image.starts.as_slice()) {
-        Ok(()) => Ok(text),
-        Err(_) => Err(NoMemory),
-    }
+    add_lines(&mut text, image.storage.as_slice(), image.starts.as_slice())?;
+    Ok(text)
 }

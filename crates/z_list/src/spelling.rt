@@ -110,8 +110,6 @@ pub fn instruction_text(alloc: Global, instr: &Instr) -> Result<Vec<u8>, NoMemor
     ensures { IfOk result (λ text. text.items ≡ instruction_text instr.now) }
 {
     let mut text = Vec::new(alloc);
-    match add_instruction(&mut text, instr) {
-        Ok(()) => Ok(text),
-        Err(_) => Err(NoMemory),
-    }
+    add_instruction(&mut text, instr)?;
+    Ok(text)
 }

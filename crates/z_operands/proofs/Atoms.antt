@@ -2,7 +2,7 @@
 use Rattle.std.proofs.Common.{◌≡◌, ℕ, zero, suc, ◌+◌, ◌-◌, ◌<◌, ◌≤◌, ℤ, Bool, true, false, if◌then◌else◌}
 use Rattle.std.proofs.Common.{◌==◌, List, [], ◌∷◌, ◌++◌, length, take, drop, get_or, slice_index, Option}
 use Rattle.std.proofs.Common.{Some, None, option_map, refl, sym, ap, ◌∙◌, arith, append_assoc, append-nil}
-use Rattle.std.proofs.Common.{drop-drop, length-drop, add-one}
+use Rattle.std.proofs.Common.{length-drop, add-one}
 use Rattle.std.proofs.lemmas.Grind.{common_steps}
 use Rattle.std.proofs.lemmas.List.{drop_all}
 use Rattle.z_text.specs.Expressions.{expression_size, expression_of, end_of, end_after, sum_of, term_value}
@@ -22,6 +22,7 @@ use Rattle.z_operands.specs.declared.operand.Atom.TheVariants.{Value}
 use Rattle.z_operands.specs.declared.operand.Operand.{Operand}
 use Rattle.z_operands.specs.declared.operand.Piece.{Piece}
 use Rattle.z_fields.proofs.Loops.{drop_here}
+use Rattle.z_text.proofs.Pieces.{drop_twice}
 
 -- ---- the parts of tokens
 
@@ -44,9 +45,6 @@ first_atom v (t ∷ ts) n h e =
     let d : n ≡ suc (atom_size (t ∷ ts) - 1) = omega arith in
     ap (λ atoms. atom_at v (t ∷ ts) ∷ atoms) (atoms_skip v (atom_size (t ∷ ts) - 1) ts
     ∙ ap (λ m. atoms_from v 0 (drop m (t ∷ ts))) (sym d))
-
-drop_twice : {X : Type 0} (n at : ℕ) (text : List X) → drop n (drop at text) ≡ drop (at + n) text
-drop_twice n at text = grind (arith, drop-drop)
 
 pub atoms_pushed : (v : Valuation) (ts : List Token) (at end : ℕ) (old : List Atom) (a : Atom)
     (whole : List Atom) → at < length ts →

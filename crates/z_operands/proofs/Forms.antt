@@ -8,6 +8,7 @@ use Rattle.z_instr.specs.declared.instr.Fields.{Fields}
 use Rattle.z_operands.specs.Operands.{takes, has_form, with_slot, fields_from, ◌>>=◌}
 use Rattle.z_operands.specs.declared.operand.Operand.{Operand}
 use Rattle.z_fields.proofs.Loops.{drop_here}
+use Rattle.std.proofs.Math.Bool.{and-false}
 
 form_here : (ss : List Slot) (os : List Operand) (i : ℕ) (s : Slot) (o : Operand) → i < length ss →
     i < length os →
@@ -34,16 +35,12 @@ pub form_ends : (ss : List Slot) (os : List Operand) (i : ℕ) → length ss ≤
 form_ends ss os i h k = ap (λ l. has_form l (drop i os)) (drop_all i ss h)
     ∙ ap (has_form []) (drop_all i os k)
 
-and_no : (b : Bool) → (b && false) ≡ false
-and_no true = refl
-and_no false = refl
-
 pub form_differs : (ss : List Slot) (os : List Operand) → (length ss ≡ length os → ⊥) → has_form ss os ≡ false
 form_differs [] [] h = absurd (h refl)
 form_differs [] (o ∷ os) h = refl
 form_differs (s ∷ ss) [] h = refl
 form_differs (s ∷ ss) (o ∷ os) h =
-    ap (λ b. takes s o && b) (form_differs ss os (λ e. h (omega arith))) ∙ and_no (takes s o)
+    ap (λ b. takes s o && b) (form_differs ss os (λ e. h (omega arith))) ∙ and-false (takes s o)
 
 pub form_length : (ss : List Slot) (os : List Operand) → has_form ss os ≡ true → length ss ≡ length os
 form_length [] [] e = refl

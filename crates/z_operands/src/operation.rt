@@ -116,10 +116,7 @@ fn row_named(name: &[u8]) -> Option<u16>
     if let Some(row) = row_in_order(name) {
         return Some(row);
     }
-    match find(name) {
-        Some(op) => Some(op.number),
-        None => None,
-    }
+    Some(find(name)?.number)
 }
 
 fn instruction(row: Option<u16>, mask: Option<u8>) -> Option<Operation>

@@ -7,6 +7,7 @@ use Rattle.std.proofs.lemmas.Grind.{get_or-set_at}
 use Rattle.std.proofs.lemmas.List.{ext_get_or, get_or-append_right, get_or_append_left, get_or-drop, get_or-take, get_or-set_other, length-set, length-take-le}
 use Rattle.z_regs.specs.Prefix.{storage_size, is_prefix, absolute_of}
 use Rattle.z_regs.specs.Seen.{seen_by}
+use Rattle.z_regs.specs.Absolute.{to_edge}
 
 -- what the test of a prefix says
 pub record IsArea (p : ℕ) : Type 0 where
@@ -176,3 +177,19 @@ seen_set prefix s a b h size within =
           ∙ sym (seen_at prefix s i h size (omega arith))
           ∙ sym (get_or-set_other (seen_by prefix s) a i b 0 other)
     ])
+
+-- what lies in storage, and in one area, lies in storage by absolute addresses too
+pub stays_inside : (p a n : ℕ) → IsArea p → a + n ≤ storage_size → n ≤ to_edge a
+    → absolute_of (Some p) a + n ≤ storage_size
+stays_inside p a n r h k =
+    let m = moves p a r.low in
+    elim (cases_lt a 8192) [
+      | inl low ↦ omega (arith, m.first low, r.aligned, r.high, k)
+      | inr high ↦ elim (cases_lt a p) [
+        | inl below ↦ omega (arith, m.between high below, h)
+        | inr from ↦ elim (cases_lt a (p + 8192)) [
+          | inl own ↦ omega (arith, m.own from own, r.aligned, r.high, k, h)
+          | inr past ↦ omega (arith, m.beyond past, h)
+        ]
+      ]
+    ]

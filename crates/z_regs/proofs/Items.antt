@@ -47,7 +47,7 @@ number_copied n item seen a e = sym (big_from-take 0 n n item (omega arith)) ∙
 
 -- ---- bytes back from their number
 
-byte_small : (k v : ℕ) → byte_at k v < 256
+pub byte_small : (k v : ℕ) → byte_at k v < 256
 byte_small zero v = mod-lt v (omega arith)
 byte_small (suc k) v = mod-lt (v / 256 ^ suc k) (omega arith)
 

@@ -13,7 +13,7 @@ use Rattle.z_regs.proofs.Writes.{length-written, below, above, inside}
 pub in_range : (s : List ℕ) (a n k : ℕ) → k < n → get_or (range_at s a n) k 0 ≡ get_or s (a + k) 0
 in_range s a n k h = get_or-take n (drop a s) k 0 h ∙ get_or-drop a s k 0
 
-length-range_at : (s : List ℕ) (a n : ℕ) → a + n ≤ length s → length (range_at s a n) ≡ n
+pub length-range_at : (s : List ℕ) (a n : ℕ) → a + n ≤ length s → length (range_at s a n) ≡ n
 length-range_at s a n h = length-take-le n (drop a s) (omega (arith, length-drop a s))
 
 -- absolute addresses go on in an area as real ones do

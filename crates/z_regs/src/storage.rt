@@ -4,14 +4,10 @@ ghost use Rattle.z_regs.specs.Prefix.{storage_size};
 ghost use Rattle.z_regs.specs.Written.{range_at, written};
 ghost use Rattle.byteorder.specs.Endian.{big_number, big_bytes};
 
-use crate::Bytes;
 use crate::number::number_in;
+use crate::{Bytes, NoMemory};
 use std::alloc::Global;
 use std::marker::Model;
-
-/// There was no memory.
-#[derive(Clone, Copy, Debug, PartialEq, Eq)]
-pub struct NoMemory;
 
 /// All of storage: 1,048,576 bytes from address 0 on. Contracts see their list.
 #[derive(Drop)]
@@ -24,7 +20,7 @@ impl Model for Storage {
 
     ghost view = { λ s. s.bytes.items };
 
-    ghost invariant = { λ s. vec_len s.bytes ≡ 1048576 };
+    ghost invariant = { λ s. vec_len s.bytes ≡ storage_size };
 }
 
 impl Storage {
@@ -33,10 +29,8 @@ impl Storage {
         requires { length bytes.now ≡ storage_size }
         ensures { IfOk result (λ storage. storage ≡ bytes.now) }
     {
-        match Vec::from_slice(alloc, bytes) {
-            Ok(bytes) => Ok(Storage { bytes }),
-            Err(_) => Err(NoMemory),
-        }
+        let bytes = Vec::from_slice(alloc, bytes)?;
+        Ok(Storage { bytes })
     }
 
     /// Storage that is made of these bytes, which are 1,048,576. It takes no memory.

@@ -30,22 +30,16 @@ pub(crate) fn parameter_named(name: &[u8]) -> Option<Parameter>
     if name == b"REJECT".as_slice() {
         return Some(Parameter::Reject);
     }
-    if name == b"FIRM".as_slice() {
-        return Some(Parameter::Firm);
-    }
-    if name == b"LATE".as_slice() {
-        return Some(Parameter::Late);
-    }
     if name == b"STARVE".as_slice() {
         return Some(Parameter::Starve);
     }
-    if name == b"STOP".as_slice() {
-        return Some(Parameter::Stop);
+    match name {
+        b"FIRM" => Some(Parameter::Firm),
+        b"LATE" => Some(Parameter::Late),
+        b"STOP" => Some(Parameter::Stop),
+        b"DELAY" => Some(Parameter::Delay),
+        _ => None,
     }
-    if name == b"DELAY".as_slice() {
-        return Some(Parameter::Delay);
-    }
-    None
 }
 
 fn is_between(choice: Choice, value: i128) -> bool

@@ -1,10 +1,9 @@
 -- Steps of the loops over the bytes of two operands.
-use Rattle.std.proofs.Common.{◌≡◌, ℕ, zero, suc, ◌<◌, ◌≤◌, ◌+◌, ◌-◌, List, [], ◌∷◌, ◌++◌, length, get_or, set}
+use Rattle.std.proofs.Common.{◌≡◌, ℕ, ◌<◌, ◌≤◌, ◌+◌, ◌-◌, List, [], ◌∷◌, ◌++◌, length, get_or, set}
 use Rattle.std.proofs.Common.{Bool, true, false, nat_eq, nat_lt, refl, sym, ap, ◌∙◌, arith, inl, inr}
 use Rattle.std.proofs.Common.{◌⊎◌}
 use Rattle.std.specs.Prelude.{if◌then◌else◌, ◌&&◌}
 use Rattle.std.specs.List.{list_all}
-use Rattle.std.proofs.lemmas.List.{length_push}
 use Rattle.std.proofs.lemmas.List.Folds.{list_all-append}
 use Rattle.std.proofs.lemmas.Bool.{cases_lt, lt-ltb, le-ltb}
 use Rattle.std.proofs.Math.Numerals.{add-one}
@@ -14,21 +13,11 @@ use Rattle.z_effect.specs.After.{range_at, written}
 use Rattle.z_effect.proofs.Stored.{below, above}
 use Rattle.z_regs.proofs.OneArea.{in_range}
 use Rattle.z_regs.proofs.Writes.{written_none, written_more, inside}
+use Rattle.z_effect.proofs.Lengths.{length-results}
 
 -- the second operand's byte of a result, by the results before
 abbrev source_byte : ℕ → ℕ → List ℕ → List ℕ → ℕ
 source_byte k ahead b before = if nat_lt k ahead then get_or b k 0 else get_or before (k - ahead) 0
-
-pub length-results : (k : ℕ) (m : Combination) (ahead : ℕ) (a b : List ℕ) → length (results k m ahead a b) ≡ k
-unfolding results
-length-results zero m ahead a b = refl
-length-results (suc k) m ahead a b =
-    let before = results k m ahead a b in
-    omega (
-      arith,
-      length_push before (mixed m (get_or a k 0) (source_byte k ahead b before)),
-      length-results k m ahead a b,
-    )
 
 -- the next result
 results_more : (k : ℕ) (m : Combination) (ahead : ℕ) (a b : List ℕ)

@@ -23,8 +23,8 @@ use Rattle.z_instr.specs.declared.kind.Combination.{Combination}
 use Rattle.z_instr.specs.declared.kind.Combination.TheVariants as combination
 use Rattle.z_effect.specs.Operations.{logic_of}
 use Rattle.z_effect.specs.StorageEffect.{mixed, results}
-use Rattle.z_storage.proofs.Bytewise.{length-results}
 use Rattle.z_storage.proofs.Moves.{Apart}
+use Rattle.z_effect.proofs.Lengths.{length-results}
 
 -- ---- results of operands of which no byte is a result
 

@@ -1,9 +1,8 @@
 -- The items of several registers, one after the other.
-use Rattle.std.proofs.Common.{◌≡◌, ℕ, zero, suc, ◌<◌, ◌≤◌, ◌+◌, ◌-◌, ◌*◌, ◌%◌, List, length, take, drop, refl}
-use Rattle.std.proofs.Common.{sym, ap, ◌∙◌, arith, length-append}
+use Rattle.std.proofs.Common.{◌≡◌, ℕ, zero, ◌<◌, ◌≤◌, ◌+◌, ◌-◌, ◌*◌, ◌%◌, List, length, take, drop, refl}
+use Rattle.std.proofs.Common.{sym, ap, ◌∙◌, arith}
 use Rattle.std.proofs.lemmas.List.{drop-take, drop-drop, take_all, take_at}
 use Rattle.std.proofs.Math.Numerals.{add-one}
-use Rattle.std.proofs.Math.Nat.{zero-mul}
 use Rattle.byteorder.specs.Endian.{big_from}
 use Rattle.byteorder.specs.Numbers.{big_from-take, length-bytes_high_first}
 use Rattle.z_arith.specs.declared.Width.{Width}
@@ -17,6 +16,7 @@ use Rattle.z_instr.specs.Kinds.{item}
 use Rattle.z_effect.specs.After.{range_at, written}
 use Rattle.z_effect.proofs.Stored.{length-written}
 use Rattle.z_regs.proofs.Writes.{written_none, written_then}
+use Rattle.z_effect.proofs.Lengths.{length-items}
 
 -- ---- stored
 
@@ -28,17 +28,6 @@ length-stored s address size value h =
       arith,
       length-bytes_high_first (bytes_of size) value,
     ))
-
-pub length-items : (k : ℕ) (w : Width) (r : ℕ) (c : Cpu) → length (items k w r c) ≡ k * bytes_of (item w)
-unfolding items
-length-items zero w r c = sym (zero-mul (bytes_of (item w)))
-length-items (suc k) w r c =
-    grind (
-      arith,
-      length-append (items k w r c) (stored (item w) (register c ((r + k) % 16))),
-      length-items k w r c,
-      length-bytes_high_first (bytes_of (item w)) (register c ((r + k) % 16)),
-    )
 
 -- as many bytes as the registers have
 pub whole_items : (k : ℕ) (w : Width) (r : ℕ) (c : Cpu) → take (k * bytes_of (item w)) (items k w r c) ≡

@@ -1,17 +1,18 @@
 -- Bytes that are moved several at a time.
-use Rattle.std.proofs.Common.{◌≡◌, ℕ, zero, suc, ◌≤◌, ◌+◌, ◌-◌, List, ◌∷◌, [], ◌++◌, length, get_or, take, drop, true, ◌||◌, nat_lt, nat_le}
-use Rattle.std.proofs.Common.{◌⊎◌, inl, inr, refl, sym, ap, ◌∙◌, arith, length-drop}
+use Rattle.std.proofs.Common.{◌≡◌, ℕ, zero, suc, ◌≤◌, ◌+◌, ◌-◌, List, ◌∷◌, [], ◌++◌, length, get_or, take, true, ◌||◌, nat_lt, nat_le}
+use Rattle.std.proofs.Common.{◌⊎◌, inl, inr, refl, sym, ap, ◌∙◌, arith}
 use Rattle.std.specs.Prelude.{if◌then◌else◌}
 use Rattle.std.proofs.lemmas.Bool.{cases_lt, lt-ltb}
 use Rattle.std.proofs.lemmas.Bool.Decides.{nat_tests}
-use Rattle.std.proofs.lemmas.List.{length-take-le, take_all, take_more}
+use Rattle.std.proofs.lemmas.List.{take_all, take_more}
 use Rattle.std.proofs.Math.Numerals.{add-one}
 use Rattle.z_regs.specs.Written.{range_at}
 use Rattle.z_instr.specs.declared.kind.Combination.TheVariants.{Move}
 use Rattle.z_effect.specs.StorageEffect.{lead, results}
 use Rattle.z_storage.proofs.Bytewise.{lead_cases}
+use Rattle.z_regs.proofs.OneArea.{length-range_at}
 
--- so many bytes from one place, to another, never store what is fetched later
+-- so length-range_at bytes from one place, to another, never store what is fetched later
 abbrev pub Apart : ℕ → ℕ → ℕ → Type 0
 Apart n target source = (target ≤ source) ⊎ (source + n ≤ target)
 
@@ -21,9 +22,6 @@ apart_cases n target source h = elim (cases_lt source target) [
   | inr low ↦ inl low
   | inl more ↦ inr (grind (arith, nat_tests))
 ]
-
-pub many : (s : List ℕ) (a n : ℕ) → a + n ≤ length s → length (range_at s a n) ≡ n
-many s a n h = length-take-le n (drop a s) (omega (arith, length-drop a s))
 
 -- ---- the results of a move
 
@@ -49,7 +47,7 @@ no_lead n a b o = elim (lead_cases n a b) [
 pub moved_results : (s : List ℕ) (a b n : ℕ) → b + n ≤ length s → Apart n a b →
     results n Move (lead n a b) (range_at s a n) (range_at s b n) ≡ range_at s b n
 moved_results s a b n h o =
-    let size : length (range_at s b n) ≡ n = many s b n h in
+    let size : length (range_at s b n) ≡ n = length-range_at s b n h in
     ap (λ l. results n Move l (range_at s a n) (range_at s b n)) (no_lead n a b o)
     ∙ moved n n (range_at s a n) (range_at s b n) (omega arith) (omega (arith, size))
     ∙ take_all n (range_at s b n) (omega (arith, size))

@@ -11,7 +11,7 @@ use borrow.Enum.Arm.{by_way}
 use Rattle.z_arith.specs.Comparison.{compare_logical_of}
 use Rattle.z_effect.specs.StorageEffect.{order_of_bytes}
 use Rattle.z_effect.specs.After.{range_at}
-use Rattle.z_storage.proofs.Moves.{many}
+use Rattle.z_regs.proofs.OneArea.{length-range_at}
 
 -- ---- two numbers
 
@@ -115,7 +115,7 @@ module _ (s : List ℕ) (a b j c n : ℕ) where
 
   same_size : j + c ≤ n → a + n ≤ length s → b + n ≤ length s
       → length (range_at s (a + j) c) ≡ length (range_at s (b + j) c)
-  same_size h p q = many s (a + j) c (omega arith) ∙ sym (many s (b + j) c (omega arith))
+  same_size h p q = length-range_at s (a + j) c (omega arith) ∙ sym (length-range_at s (b + j) c (omega arith))
 
   pub order_equal : j + c ≤ n → a + n ≤ length s → b + n ≤ length s
       → order_of_bytes (range_at s (a + j) c) (range_at s (b + j) c) ≡ 0

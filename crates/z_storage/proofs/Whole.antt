@@ -13,7 +13,8 @@ use Rattle.z_effect.specs.StorageEffect.{lead, results, with_code_of, storage_ef
 use Rattle.z_effect.specs.Outcome.{Did}
 use Rattle.z_effect.specs.After.{range_at, written, touched, answer_of, cpu_after, storage_after, AreInside}
 use Rattle.z_effect.specs.After.{Leaves}
-use Rattle.z_storage.proofs.Bytewise.{made, length-results}
+use Rattle.z_storage.proofs.Bytewise.{made}
+use Rattle.z_effect.proofs.Lengths.{length-results}
 
 -- the bytes of both operands, first and second
 firsts : (s : List ℕ) (a n : ℕ) (ys : List ℕ) → a + n ≤ length s →

@@ -16,19 +16,11 @@ use Rattle.z_text.specs.declared.token.Token.{Token}
 use Rattle.z_text.specs.declared.token.TokenKind.{TokenKind}
 use Rattle.z_text.specs.declared.token.TokenKind.TheVariants.{Name, Number, Hex, Sign, Open, Close, Comma}
 use Rattle.z_text.specs.declared.token.TokenKind.TheVariants.{Star}
-
-both : (a b : Bool) → (a && b) ≡ true → (a ≡ true) × (b ≡ true)
-both true true e = (refl, refl)
-both true false e = cc
-both false b e = cc
+use Rattle.std.proofs.lemmas.Bool.{or_right, and_parts}
 
 together : (a b : Bool) → a ≡ true → b ≡ true → (a && b) ≡ true
 together true b p q = q
 together false b p q = cc
-
-or_right : (a b : Bool) → b ≡ true → (a || b) ≡ true
-or_right true b e = refl
-or_right false b e = e
 
 or_left : (a b : Bool) → a ≡ true → (a || b) ≡ true
 or_left true b e = refl
@@ -37,13 +29,13 @@ or_left false b e = cc
 all_drop : (p : Token → Bool) (n : ℕ) (ts : List Token) → list_all p ts ≡ true → list_all p (drop n ts) ≡ true
 all_drop p zero ts h = h
 all_drop p (suc n) [] h = refl
-all_drop p (suc n) (t ∷ ts) h = all_drop p n ts (both (p t) (list_all p ts) h).1
+all_drop p (suc n) (t ∷ ts) h = all_drop p n ts (and_parts (p t) (list_all p ts) h).1
 
 all_take : (p : Token → Bool) (n : ℕ) (ts : List Token) → list_all p ts ≡ true → list_all p (take n ts) ≡ true
 all_take p zero ts h = refl
 all_take p (suc n) [] h = refl
 all_take p (suc n) (t ∷ ts) h =
-    let parts = both (p t) (list_all p ts) h in together (p t) _ parts.0 (all_take p n ts parts.1)
+    let parts = and_parts (p t) (list_all p ts) h in together (p t) _ parts.0 (all_take p n ts parts.1)
 
 abbrev serves : Token → Bool
 serves t = is_sign t.kind || is_term t.kind
@@ -52,8 +44,8 @@ signed_serve : (ts : List Token) → are_signed_terms ts ≡ true → list_all s
 signed_serve [] h = refl
 signed_serve (s ∷ []) h = cc
 signed_serve (s ∷ t ∷ ts) h =
-    let parts = both (is_sign s.kind && is_term t.kind) (are_signed_terms ts) h in
-    let pair = both (is_sign s.kind) (is_term t.kind) parts.0 in
+    let parts = and_parts (is_sign s.kind && is_term t.kind) (are_signed_terms ts) h in
+    let pair = and_parts (is_sign s.kind) (is_term t.kind) parts.0 in
     together (serves s) _ (or_left _ _ pair.0) (together (serves t) _ (or_right _ _ pair.1)
     (signed_serve ts parts.1))
 
@@ -101,8 +93,8 @@ no_sum : (text : List ℕ) (labels : Labels) (here : ℕ) (negative : Bool) (ts 
 unfolding sum_of term_value is_good_number
 no_sum text labels here negative [] good fits = refl
 no_sum text labels here negative (t ∷ ts) good fits =
-    let goods = both (is_good_number text t) (list_all (is_good_number text) ts) good in
-    let serve = both (serves t) (list_all serves ts) fits in
+    let goods = and_parts (is_good_number text t) (list_all (is_good_number text) ts) good in
+    let serve = and_parts (serves t) (list_all serves ts) fits in
     by_kind t.kind (span t.first t.end text) labels here negative _ _
     (list_any (lacks_value text labels) ts) goods.0 serve.0 (no_sum text labels here _ ts goods.1 serve.1)
     (no_sum text labels here false ts goods.1 serve.1)

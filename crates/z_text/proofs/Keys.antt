@@ -17,12 +17,12 @@ use Rattle.std.proofs.lemmas.Grind.{common_steps}
 use Rattle.std.proofs.lemmas.Nat.{be_bytes_8}
 use Rattle.z_text.specs.Labels.{word_at, key_of}
 use Rattle.z_text.specs.Line.{is_name, is_letter_or_digit}
-use Rattle.z_text.proofs.Capitals.{both_hold}
+use Rattle.std.proofs.lemmas.Bool.{and_parts}
 
 letter_bounds : (b : ℕ) → is_letter_or_digit b ≡ true → (0 < b) × (b < 256)
 letter_bounds b h = (grind (arith, common_steps), grind (arith, common_steps))
 
-capital_is_letter : (b : ℕ) → is_ascii_uppercase b ≡ true → is_letter_or_digit b ≡ true
+pub capital_is_letter : (b : ℕ) → is_ascii_uppercase b ≡ true → is_letter_or_digit b ≡ true
 capital_is_letter b h = rw h refl
 
 -- A name is letters and digits, and has at most sixteen.
@@ -31,17 +31,17 @@ name_is : (name : List ℕ) → is_name name ≡ true →
 name_is [] h = cc
 name_is (b ∷ bs) h =
     let first : (is_ascii_uppercase b ≡ true)
-    × ((nat_le (length bs) 15 && list_all is_letter_or_digit bs) ≡ true) = both_hold _ _ h in
+    × ((nat_le (length bs) 15 && list_all is_letter_or_digit bs) ≡ true) = and_parts _ _ h in
     let rest : (nat_le (length bs) 15 ≡ true) × (list_all is_letter_or_digit bs ≡ true) =
-    both_hold _ _ first.1 in
+    and_parts _ _ first.1 in
     let begins : is_letter_or_digit b ≡ true = capital_is_letter b first.0 in
     let few : length bs ≤ 15 = leb-true (length bs) 15 rest.0 in
     (rw (begins, rest.1) refl, omega arith)
 
 byte_bound : (name : List ℕ) (i : ℕ) → list_all is_letter_or_digit name ≡ true → get_or name i 0 < 256
 byte_bound [] i h = omega arith
-byte_bound (b ∷ bs) zero h = (letter_bounds b (both_hold _ _ h).0).1
-byte_bound (b ∷ bs) (suc i) h = byte_bound bs i (both_hold _ _ h).1
+byte_bound (b ∷ bs) zero h = (letter_bounds b (and_parts _ _ h).0).1
+byte_bound (b ∷ bs) (suc i) h = byte_bound bs i (and_parts _ _ h).1
 
 eight_bound : (a b c d e f g h : ℕ) → a < 256 → b < 256 → c < 256 → d < 256 → e < 256 → f < 256 → g < 256 →
     h < 256 → (i : ℕ) → get_or (a ∷ b ∷ c ∷ d ∷ e ∷ f ∷ g ∷ h ∷ []) i 0 < 256
@@ -85,15 +85,15 @@ same_bytes : (a b : List ℕ) → list_all is_letter_or_digit a ≡ true → lis
     ((i : ℕ) → get_or a i 0 ≡ get_or b i 0) → a ≡ b
 same_bytes [] [] p q h = refl
 same_bytes [] (y ∷ ys) p q h =
-    let some = (letter_bounds y (both_hold _ _ q).0).0 in
+    let some = (letter_bounds y (and_parts _ _ q).0).0 in
     let none : 0 ≡ y = h 0 in absurd (omega arith)
 same_bytes (x ∷ xs) [] p q h =
-    let some = (letter_bounds x (both_hold _ _ p).0).0 in
+    let some = (letter_bounds x (and_parts _ _ p).0).0 in
     let none : x ≡ 0 = h 0 in absurd (omega arith)
 same_bytes (x ∷ xs) (y ∷ ys) p q h =
     let first : x ≡ y = h 0 in
-    let rest : xs ≡ ys = same_bytes xs ys (both_hold (is_letter_or_digit x) _ p).1
-    (both_hold (is_letter_or_digit y) _ q).1 (λ i. h (suc i)) in ap (λ z. z ∷ xs) first ∙ ap (λ zs. y ∷ zs) rest
+    let rest : xs ≡ ys = same_bytes xs ys (and_parts (is_letter_or_digit x) _ p).1
+    (and_parts (is_letter_or_digit y) _ q).1 (λ i. h (suc i)) in ap (λ z. z ∷ xs) first ∙ ap (λ zs. y ∷ zs) rest
 
 -- The eight bytes of two names are the same at each place.
 same_at : (a b : List ℕ) (at : ℕ) → eight_at a at ≡ eight_at b at →

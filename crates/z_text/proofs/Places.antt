@@ -15,8 +15,8 @@ use Rattle.z_text.specs.Labels.{key_of, place_in}
 use Rattle.z_text.specs.Line.{is_name}
 use Rattle.z_text.specs.declared.expected.Expected.{Expected}
 use Rattle.z_text.specs.declared.labels.Labels.{Labels}
-use Rattle.z_text.proofs.Capitals.{both_hold}
 use Rattle.z_text.proofs.Keys.{same_name, bytes_same, bytes_of_itself}
+use Rattle.std.proofs.lemmas.Bool.{and_parts}
 
 -- A partition point is the length of the prefix that passes.
 pub prefix_from_point : {X : Type 0} (p : X → Bool) (xs : List X) (r : ℕ) (d : X) → r ≤ length xs →
@@ -89,7 +89,7 @@ number_there keys key place i e = by_test (nat_lt place (length keys) && (get_or
     by_test true t =
         let found : Some place ≡ Some i = ap (λ b. if b then Some place else None) (sym t) ∙ e in
         let same : place ≡ i = cc in
-        ap (λ k. get_or keys k 0) (sym same) ∙ same_number _ _ (both_hold _ _ t).1
+        ap (λ k. get_or keys k 0) (sym same) ∙ same_number _ _ (and_parts _ _ t).1
     by_test false t =
         let none : None ≡ Some i = ap (λ b. if b then Some place else None) (sym t) ∙ e in absurd cc
 

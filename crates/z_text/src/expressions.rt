@@ -1,5 +1,6 @@
 //! The longest expression at a place among tokens: where it ends, and its exact value.
 ghost use Rattle.std.specs.Prelude.{◌≡◌, ◌<◌, ◌≤◌, length, IfOk, IfSome, IsTrue};
+ghost use Rattle.z_regs.specs.Prefix.{storage_size};
 ghost use Rattle.z_text.specs.Tokens.{AreTokensIn};
 ghost use Rattle.z_text.specs.Expressions.{is_sign, is_term, begins_term, begins_signed_term};
 ghost use Rattle.z_text.specs.Expressions.{signed_terms_size, expression_size, end_of, expression_of};
@@ -103,7 +104,7 @@ fn value_at(
 ) -> Result<(i128, usize), ExprFault>
     requires tokens { AreTokensIn text.now tokens.now }
     requires at { at ≤ length tokens.now }
-    requires here { here ≤ 1048576 }
+    requires here { here ≤ storage_size }
     ensures value { result ≡ expression_of text.now tokens.now at labels.now here }
     ensures later { IfOk result (λ r. at < r.1) }
     ensures within { IfOk result (λ r. r.1 ≤ length tokens.now) }
@@ -132,7 +133,7 @@ pub fn expression(
 ) -> Result<(i128, usize), ExprFault>
     requires tokens { AreTokensIn text.now tokens.now }
     requires at { at ≤ length tokens.now }
-    requires here { here ≤ 1048576 }
+    requires here { here ≤ storage_size }
     ensures value { result ≡ expression_of text.now tokens.now at labels.now here }
     ensures cause { HasCause text.now tokens.now at labels.now result }
     ensures later { IfOk result (λ r. at < r.1) }

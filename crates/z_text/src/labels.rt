@@ -4,10 +4,10 @@ ghost use Rattle.std.specs.Prelude.{◌≡◌, ◌^◌, ◌-◌, pos, negsuc, �
 use crate::expected::Expected;
 use crate::fields::is_name;
 use crate::key::key_of;
-use crate::token::NoMemory;
 use crate::value::LabelValue;
 use std::alloc::{AllocError, Global};
 use std::collections::BTreeMap;
+use z_regs::NoMemory;
 
 /// Labels and their values, from -2^63 to 2^64 - 1: a finite map from names to values.
 #[derive(Drop)]

@@ -18,4 +18,5 @@ pub use expressions::{expression, expression_end};
 pub use key::key_in_front;
 pub use labels::Labels;
 pub use line::{read_tokens, tokens};
-pub use token::{ExprFault, NoMemory, TextFault, Token, TokenKind};
+pub use token::{ExprFault, TextFault, Token, TokenKind};
+pub use z_regs::NoMemory;

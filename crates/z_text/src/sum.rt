@@ -2,6 +2,7 @@
 ghost use Rattle.std.specs.Prelude.{◌≡◌, ◌∷◌, ◌+◌, ◌-◌, ◌*◌, ◌<◌, ◌≤◌, ◌^◌, pos, negsuc, ◌≤ℤ◌, ◌+ℤ◌, ◌-ℤ◌};
 ghost use Rattle.std.specs.Prelude.{List, length, drop, All, IfSome, Option, Bool, false, if◌then◌else◌};
 ghost use Rattle.std.specs.Prelude.{slice_index, ◌==◌, option_map};
+ghost use Rattle.z_regs.specs.Prefix.{storage_size};
 ghost use Rattle.z_text.specs.Labels.{value_in};
 ghost use Rattle.z_text.specs.Line.{as_read};
 ghost use Rattle.z_text.specs.Numbers.{number_of};
@@ -39,7 +40,7 @@ fn number_value(kind: TokenKind, text: &[u8]) -> Option<i128>
 #[tactic(auto, unfolding(crate::specs::Expressions::term_value))]
 fn term_value(text: &[u8], token: Token, labels: &Labels, here: u64) -> Option<i128>
     requires inside { LiesIn (length text.now) token }
-    requires here { here ≤ 1048576 }
+    requires here { here ≤ storage_size }
     ensures value { result ≡ term_value text.now labels.now here token }
     ensures near { IfSome result IsNear }
 {
@@ -85,7 +86,7 @@ fn with_token(
     requires low { negsuc (2 ^ 72) ≤ℤ sum.value }
     requires high { sum.value ≤ℤ pos (2 ^ 72) }
     requires inside { LiesIn (length text.now) token }
-    requires here { here ≤ 1048576 }
+    requires here { here ≤ storage_size }
     ensures total { (rest : List Token) → total text.now labels.now here sum (token ∷ rest) ≡
         total_after text.now labels.now here result rest }
     ensures low_step { IfSome result (λ s. (sum.value +ℤ negsuc (2 ^ 64 - 1)) ≤ℤ s.value) }
@@ -106,7 +107,7 @@ fn with_token(
 pub(crate) fn sum_of(text: &[u8], tokens: &[Token], labels: &Labels, here: u64) -> Option<i128>
     requires inside { All (LiesIn (length text.now)) tokens.now }
     requires few { length tokens.now ≤ 120 }
-    requires here { here ≤ 1048576 }
+    requires here { here ≤ storage_size }
     ensures { result ≡ sum_of text.now labels.now here false tokens.now }
 {
     let mut sum = RunningSum {

@@ -59,22 +59,6 @@ pub enum ExprFault {
     UnknownLabel,
 }
 
-/// There was no memory.
-#[derive(Clone, Copy, Debug, PartialEq, Eq)]
-pub struct NoMemory;
-
-impl From<AllocError> for NoMemory {
-    fn from(_error: AllocError) -> NoMemory {
-        NoMemory
-    }
-}
-
-impl<T: Drop> From<AllocFailed<T>> for NoMemory {
-    fn from(_error: AllocFailed<T>) -> NoMemory {
-        NoMemory
-    }
-}
-
 impl From<AllocError> for TextFault {
     ghost from_gives = { λ _ e. e ≡ Memory };
 

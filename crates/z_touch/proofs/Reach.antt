@@ -12,6 +12,12 @@ use Rattle.z_instr.specs.Table.{entry_at}
 use Rattle.z_instr.specs.Operands.{Span, IsSmall, spans, spans_in, inaccessible, inaccessible_in, is_inside, is_stored_into, where_wrong, addressing, protection}
 use Rattle.z_regs.specs.declared.ranges.Range.{Range}
 use Rattle.z_touch.specs.Refusals.{range_of, span_of, unreachable, denial, answer, refused}
+use Rattle.std.proofs.Common.{◌≢◌}
+use Rattle.std.proofs.lemmas.Bool.{true≢false}
+use Rattle.z_instr.specs.Facts.{is_begin}
+use Rattle.z_instr.specs.Operands.{tested_spans}
+use Rattle.z_instr.specs.declared.operand.Demand.TheVariants.{Nothing, EvenPair, Boundary, AbortCode, Begin}
+use Rattle.z_instr.specs.declared.operand.Demand.TheVariants.{BeginConstrained, ServiceZero}
 
 list_any-map : (p : Span → Bool) (ranges : List Range) →
     list_any p (map span_of ranges) ≡ list_any (λ r. p (span_of r)) ranges
@@ -78,3 +84,17 @@ answer_fits o i fits e = ap (λ p. answer p i fits) e
 pub answer_refused : (o : Option ℕ) (i : Instr) (fits : Unit {0}) (code : ℕ) (x : Exception)
     → Some code ≡ o → x ≡ refused i code → Err x ≡ answer o i fits
 answer_refused o i fits code x e f = ap Err f ∙ ap (λ p. answer p i fits) e
+
+pub accessible : (a : Bool) (code : ℕ) (rest : Option ℕ) → where_wrong (not a) code rest ≡ None → a ≡ true
+accessible true code rest h = refl
+accessible false code rest h = absurd (cc)
+
+pub tested_all : (d : Demand) (ss : List Span) (i : Instr) (general : List ℕ) (depth : ℕ) → is_begin d ≡ false
+    → tested_spans d ss i general depth ≡ ss
+tested_all Nothing ss i general depth h = refl
+tested_all EvenPair ss i general depth h = refl
+tested_all Boundary ss i general depth h = refl
+tested_all AbortCode ss i general depth h = refl
+tested_all Begin ss i general depth h = absurd (true≢false h)
+tested_all BeginConstrained ss i general depth h = absurd (true≢false h)
+tested_all ServiceZero ss i general depth h = refl

@@ -11,6 +11,7 @@ use Rattle.std.proofs.lemmas.Option.{get_or_from_slice_get, slice_get_within}
 use Rattle.std.proofs.lemmas.List.Folds.{list_all_at, list_all_more, list_any_at, list_any_more}
 use Rattle.z_instr.specs.Operands.{Span, from_up, pieces, IsSmall, is_inside}
 use Rattle.z_instr.specs.Access.{accessible_pages, text_pages, absolute_page}
+use Rattle.std.proofs.Math.Bool.{or-false}
 
 any-from_up : (p first n : ℕ) → list_any (nat_eq p) (from_up first n) ≡ (leb first p && ltb p (first + n))
 any-from_up p first zero = grind (arith, nat_tests)
@@ -23,10 +24,6 @@ any-without p = any-from_up p 2 254
 pub any-with : (prefix p : ℕ) → list_any (nat_eq p) (accessible_pages (Some prefix)) ≡ ltb p 256
 unfolding accessible_pages
 any-with prefix p = any-from_up p 0 256 ∙ grind (arith, nat_tests)
-
-or_false : (b : Bool) → (b || false) ≡ b
-or_false true = refl
-or_false false = refl
 
 kept : (p first : ℕ) (b : Bool) (xs : List ℕ) →
     list_any (nat_eq p) (cond b (first ∷ xs) xs) ≡ ((nat_eq p first && b) || list_any (nat_eq p) xs)
@@ -47,7 +44,7 @@ same p first n test h =
     let b : leb (suc first) p ≡ false = grind (arith, nat_tests) in
     let c : leb first p ≡ true = grind (arith, nat_tests) in
     let d : ltb p (first + suc n) ≡ true = grind (arith, nat_tests) in
-    (λ k. (a k && e k) || ((b k && ltb p (suc first + n)) && test p)) ∙ or_false (test p)
+    (λ k. (a k && e k) || ((b k && ltb p (suc first + n)) && test p)) ∙ or-false (test p)
     ∙ sym (λ k. (c k && d k) && test p)
 
 more : (p first n : ℕ) (test : ℕ → Bool) → first < p →

@@ -2,7 +2,7 @@
 use Rattle.std.proofs.Common.{◌≡◌, ℕ, ◌+◌, ◌*◌, ◌/◌, ◌<◌, Bool, true, false, ◌&&◌, ◌||◌, nat_eq, ltb, lit<, List, [], ◌∷◌, Option, ◌↔◌, refl, ap, sym, ◌∙◌, arith}
 use Rattle.std.specs.List.{list_any}
 use Rattle.std.proofs.lemmas.Bool.Decides.{nat_tests}
-use Rattle.std.proofs.lemmas.Bool.{ltb-true}
+use Rattle.std.proofs.lemmas.Bool.{ltb-true, or_right}
 use Rattle.z_regs.specs.Prefix.{is_prefix, absolute_of}
 use Rattle.z_regs.proofs.MovedBytes.{same_pages}
 use Rattle.z_instr.specs.Operands.{Span, IsSmall, is_stored_into, pieces}
@@ -18,10 +18,6 @@ record Passing (t : ℕ → Bool) (xs : List ℕ) : Type 0 where
   number : ℕ
   there : list_any (nat_eq number) xs ≡ true
   passes : t number ≡ true
-
-or_right : (a b : Bool) → b ≡ true → (a || b) ≡ true
-or_right true b h = refl
-or_right false b h = h
 
 first_or_later : (t : ℕ → Bool) (x : ℕ) (xs : List ℕ) (b : Bool) → t x ≡ b → (b || list_any t xs) ≡ true →
     (list_any t xs ≡ true → Passing t xs) → Passing t (x ∷ xs)

@@ -2,7 +2,7 @@
 //! nothing.
 ghost use Rattle.std.specs.Prelude.{◌≡◌, ◌<◌, ◌≤◌, ◌+◌, ◌/◌, ◌↔◌, ℕ, List, Option, None, Some, true, nat_eq};
 ghost use Rattle.std.specs.List.{list_any};
-ghost use Rattle.z_regs.specs.Prefix.{is_prefix};
+ghost use Rattle.z_regs.specs.Prefix.{area_size, is_prefix, storage_size};
 ghost use Rattle.z_instr.specs.Operands.{Span, IsSmall, is_inside, is_stored_into};
 ghost use Rattle.z_instr.specs.Access.{accessible_pages, text_pages};
 ghost use Rattle.z_touch.specs.Text.{HasStoredText};
@@ -11,9 +11,9 @@ ghost use Rattle.z_touch.specs.Text.{HasStoredText};
 /// from 8,192 on on a CPU without a prefix; so none passes that wraps past 2^64.
 pub fn operands_inside_are_accessible()
     ensures without { (s : Span) → IsSmall s → (is_inside (accessible_pages None) s ≡ true) ↔
-        ((8192 ≤ s.first) × (s.first + s.length ≤ 1048576)) }
+        ((area_size ≤ s.first) × (s.first + s.length ≤ storage_size)) }
     ensures with_prefix { (p : ℕ) (s : Span) → IsSmall s → (is_inside (accessible_pages (Some p)) s ≡ true) ↔
-        (s.first + s.length ≤ 1048576) }
+        (s.first + s.length ≤ storage_size) }
 {}
 
 /// An operand fails the test of protection exactly where it is stored and one of its bytes lies, by its

@@ -5,12 +5,9 @@ use Rattle.std.specs.List.{All, list_all}
 use Rattle.std.proofs.lemmas.List.Elements.{All-head, All-tail}
 use Rattle.z_instr.specs.declared.table.TheConstants.{ROWS}
 use Rattle.z_instr.specs.declared.instr.Instr.{Instr}
-use Rattle.z_instr.specs.declared.operand.Demand.{Demand}
-use Rattle.z_instr.specs.declared.operand.Demand.TheVariants.{Nothing, EvenPair, Boundary, AbortCode, Begin}
-use Rattle.z_instr.specs.declared.operand.Demand.TheVariants.{BeginConstrained, ServiceZero}
 use Rattle.z_instr.specs.Table.{Entry, table, entry_at, no_entry}
 use Rattle.z_instr.specs.Facts.{is_begin}
-use Rattle.z_instr.specs.Operands.{Span, IsSmall, is_inside, tested_spans, where_wrong, unspecified}
+use Rattle.z_instr.specs.Operands.{Span, IsSmall, is_inside, unspecified}
 use Rattle.z_instr.specs.Operands.{inaccessible, inaccessible_in}
 use Rattle.z_instr.proofs.Passing.{passes, and_left, and_right}
 use Rattle.z_instr.proofs.SmallOperands.{sizes}
@@ -23,6 +20,9 @@ use Rattle.z_effect.specs.After.{AreInside, ranges_of}
 use Rattle.z_instr.specs.Access.{accessible_pages, text_pages}
 use Rattle.z_touch.specs.Refusals.{answer, first_of, refusal}
 use Rattle.z_touch.proofs.SmallRanges.{inside_ends}
+use Rattle.z_touch.proofs.Reach.{accessible, tested_all}
+use Rattle.z_instr.proofs.ComputedReading.{rows}
+use Rattle.z_instr.proofs.PlainImmediates.{not_second}
 
 -- ---- no operation on storage begins a transaction, so its operands are what is tested
 
@@ -33,44 +33,21 @@ none_begins : list_all does_not_begin table ≡ true
 unfolding table
 none_begins = refl
 
-in_table : (n : ℕ) → n < ROWS → n < length table
-unfolding table
-in_table n h = h
-
 begins_not : (n : ℕ) → n < ROWS → not (is_storage (kind_at n) && is_begin (entry_at n).demand) ≡ true
 unfolding entry_at kind_at
-begins_not n h = passes does_not_begin table n no_entry none_begins (in_table n h)
-
-other : (a b : Bool) → not (a && b) ≡ true → a ≡ true → b ≡ false
-other true true h e = sym h
-other true false h e = refl
-other false b h e = cc
-
-operands_tested : (d : Demand) (operands : List Span) (i : Instr) (general : List ℕ) (depth : ℕ) →
-    is_begin d ≡ false → tested_spans d operands i general depth ≡ operands
-operands_tested Nothing operands i general depth e = refl
-operands_tested EvenPair operands i general depth e = refl
-operands_tested Boundary operands i general depth e = refl
-operands_tested AbortCode operands i general depth e = refl
-operands_tested Begin operands i general depth e = cc
-operands_tested BeginConstrained operands i general depth e = refl
-operands_tested ServiceZero operands i general depth e = refl
+begins_not n h = passes does_not_begin table n no_entry none_begins (rows n h)
 
 -- ---- what passes is accessible
 
-passed : (b : Bool) (code : ℕ) (after : Option ℕ) → where_wrong (not b) code after ≡ None → b ≡ true
-passed true code after e = refl
-passed false code after e = cc
-
-pages_accessible : (i : Instr) (c : Cpu) (depth : ℕ) (accessible text : List ℕ) →
+pages_accessible : (i : Instr) (c : Cpu) (depth : ℕ) (pages text : List ℕ) →
     is_begin (entry_at i.op.number).demand ≡ false →
-    inaccessible i c.general c.condition depth accessible text ≡ None →
-    list_all (is_inside accessible) (ranges_of i c) ≡ true
+    inaccessible i c.general c.condition depth pages text ≡ None →
+    list_all (is_inside pages) (ranges_of i c) ≡ true
 unfolding inaccessible_in
-pages_accessible i c depth accessible text plain e =
-    ap (list_all (is_inside accessible))
-    (sym (operands_tested (entry_at i.op.number).demand (ranges_of i c) i c.general depth plain))
-    ∙ passed _ _ _ e
+pages_accessible i c depth pages text plain e =
+    ap (list_all (is_inside pages))
+    (sym (tested_all (entry_at i.op.number).demand (ranges_of i c) i c.general depth plain))
+    ∙ accessible _ _ _ e
 
 bytes_in_storage : (prefix : Option ℕ) (rs : List Span) (s : List ℕ) → length s ≡ storage_size → All IsSmall rs →
     list_all (is_inside (accessible_pages prefix)) rs ≡ true → AreInside rs s
@@ -97,7 +74,7 @@ pub let_through : (i : Instr) (c : Cpu) (depth : ℕ) (text : List ℕ) (x y : L
     (s : List ℕ) → length s ≡ storage_size → is_storage (kind_at i.op.number) ≡ true → AreInside (ranges_of i c) s
 let_through i c depth text x y known e s size mine =
     let plain : is_begin (entry_at i.op.number).demand ≡ false =
-    other (is_storage (kind_at i.op.number)) _ (begins_not i.op.number known) mine in
+    not_second (is_storage (kind_at i.op.number)) _ (begins_not i.op.number known) mine in
     let tested = inaccessible i c.general c.condition depth (accessible_pages c.prefix) (text_pages c.prefix text) in
     let passes : tested ≡ None = second_none (unspecified i c.general depth) tested (answered _ i x y e) in
     bytes_in_storage c.prefix (ranges_of i c) s size (sizes (entry_at i.op.number).operands i c.general c.condition)

@@ -9,12 +9,15 @@ use std::alloc::Global;
 use vector_lines::{Case, Fault, Piece, byte_in};
 use z_regs::{Bytes, CpuImage, RunState};
 
+/// Above the numbers of the states without an exception.
+const INTERRUPTED: u64 = 65_536;
+
 /// A number for each state: 0 running, 1 halted.
 fn state_number(state: RunState) -> u64 {
     match state {
         RunState::Running => 0,
         RunState::Halted => 1,
-        RunState::Interrupted(code) => 65_536 + u64::from(code),
+        RunState::Interrupted(code) => INTERRUPTED + u64::from(code),
     }
 }
 

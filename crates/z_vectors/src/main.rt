@@ -7,7 +7,9 @@
 //! what differs, and then how many lines there were and how many differ.
 //!
 //! Behind a line `CHANGED` are lines that were changed so that they must be answered otherwise. The same is
-//! written on them. The exit status is 0 where no line before it differs, and every one behind it does.
+//! written on them; of the lines before it no number is written but that of those that differ, so that a vector
+//! more changes nothing that is written. The exit status is 0 where no line before it differs, and every one
+//! behind it does.
 #![tactic(auto)]
 
 mod compare;
@@ -44,7 +46,11 @@ fn halves(text: &str) -> (&str, &str) {
 fn judge_both(report: &mut Report, alloc: Global, text: &str, view: &mut Watched) -> [bool; 2] {
     let (vectors, changed) = halves(text);
     let vectors = report.judge_all(alloc, vectors, view);
-    report.add_counts(vectors);
+    if changed.is_empty() {
+        report.add_counts(vectors);
+    } else {
+        report.add_mismatches(vectors);
+    }
     let changed = report.judge_all(alloc, changed, view);
     if changed.cases > 0 {
         report.add_counts(changed);

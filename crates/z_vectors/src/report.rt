@@ -76,12 +76,17 @@ impl Report {
         counts
     }
 
-    /// Writes counts.
+    /// Writes how many lines differ.
+    pub fn add_mismatches(&mut self, counts: Counts) {
+        self.lines.add_decimal(counts.mismatches);
+        self.lines.add(" mismatches\n");
+    }
+
+    /// Writes how many lines there were, and how many differ.
     pub fn add_counts(&mut self, counts: Counts) {
         self.lines.add_decimal(counts.cases);
         self.lines.add(" cases, ");
-        self.lines.add_decimal(counts.mismatches);
-        self.lines.add(" mismatches\n");
+        self.add_mismatches(counts);
     }
 
     /// All that is written; an error where there was no memory for some of it.

@@ -3,7 +3,7 @@ use Rattle.std.proofs.Common.{ℕ, ◌⊎◌, List, Option, sym, ap, ◌∙◌, 
 use Rattle.tx_gen.specs.Programs.{listing_of}
 use Rattle.tx_journal.specs.Content.{Content}
 use Rattle.tx_meaning.specs.Schedules.{planned, round}
-use Rattle.tx_report.specs.Report.{report_of, status_of, summary_of}
+use Rattle.run_answers.specs.Report.{report_of, status_of, summary_of}
 use Rattle.z_assemble.specs.Whole.{Stands, FirstFault}
 use Rattle.z_assemble.specs.Words.{fault_line}
 use Rattle.z_assemble.specs.declared.fault.ListingFault.{ListingFault}

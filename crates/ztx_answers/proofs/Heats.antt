@@ -10,14 +10,14 @@ use Rattle.tx_heat.specs.Text.{heat_text}
 use Rattle.tx_heat.specs.Text as printed
 use Rattle.tx_journal.specs.Content.{Content}
 use Rattle.tx_journal.specs.declared.events.Event.{Event}
-use Rattle.tx_machine.specs.Machine.{Seen, opened, setting_of}
+use Rattle.run_answers.specs.Machine.{Seen, opened, setting_of}
 use Rattle.tx_meaning.specs.Limits.{Setting}
 use Rattle.tx_meaning.specs.Meaning.{meaning}
 use Rattle.tx_meaning.specs.Schedules.{planned}
 use Rattle.tx_meaning.specs.State.{cpus_of}
-use Rattle.tx_report.specs.Report.{status_of}
-use Rattle.tx_report.specs.Shown.{cpu_shown}
-use Rattle.tx_schedule.specs.Ran.{HasRun}
+use Rattle.run_answers.specs.Report.{status_of}
+use Rattle.run_answers.specs.Shown.{cpu_shown}
+use Rattle.run_answers.specs.Ran.{HasRun}
 use Rattle.z_assemble.specs.Whole.{Stands}
 use Rattle.ztx_answers.specs.Heats.{IsHeat}
 use Rattle.run_answers.specs.Runs.{running}

@@ -9,3 +9,5 @@ pub mod OneHeat
 pub mod OneStep
 pub mod OneCheck
 pub mod Due
+-- what callers name of crates below
+pub use Rattle.run_answers.proofs.Plans

@@ -3,7 +3,7 @@ use Rattle.std.proofs.Common.{ℕ, ◌⊎◌, List, Option, refl, sym, ap, ◌�
 use Rattle.tx_heat.specs.Text.{heat_text}
 use Rattle.tx_journal.specs.Content.{Content}
 use Rattle.tx_meaning.specs.Schedules.{planned}
-use Rattle.tx_report.specs.Report.{status_of}
+use Rattle.run_answers.specs.Report.{status_of}
 use Rattle.z_assemble.specs.Whole.{Stands, FirstFault}
 use Rattle.z_assemble.specs.Words.{fault_line}
 use Rattle.z_assemble.specs.declared.fault.ListingFault.{ListingFault}

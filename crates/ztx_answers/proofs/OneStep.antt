@@ -12,7 +12,7 @@ use Rattle.step_words.specs.declared.command.StepCommand.{StepCommand}
 use Rattle.step_words.proofs.One.{one_holds as one_reading, same_commands, same_number, never_both}
 use Rattle.tx_journal.specs.Content.{Content}
 use Rattle.tx_meaning.specs.Schedules.{planned}
-use Rattle.tx_report.specs.Report.{status_of}
+use Rattle.run_answers.specs.Report.{status_of}
 use Rattle.z_assemble.specs.Whole.{Stands, FirstFault}
 use Rattle.z_assemble.specs.Words.{fault_line}
 use Rattle.z_assemble.specs.declared.fault.ListingFault.{ListingFault}

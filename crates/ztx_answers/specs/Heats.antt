@@ -5,7 +5,7 @@ use Rattle.tx_heat.specs.Text.{heat_text}
 use Rattle.tx_heat.specs.Text as printed
 use Rattle.tx_journal.specs.Content.{Content}
 use Rattle.tx_meaning.specs.Schedules.{planned}
-use Rattle.tx_report.specs.Report.{status_of}
+use Rattle.run_answers.specs.Report.{status_of}
 use Rattle.z_assemble.specs.Whole.{Stands}
 use Rattle.listing_answers.specs.Due.{IsRefusal}
 use Rattle.run_answers.specs.Runs.{running}

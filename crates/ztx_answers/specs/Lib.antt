@@ -3,3 +3,7 @@ pub mod Steps
 pub mod Heats
 pub mod Requests
 pub mod One
+-- what callers name of crates below
+pub use Rattle.run_answers.specs.Races
+pub use Rattle.run_answers.specs.Reports
+pub use Rattle.run_answers.specs.Runs

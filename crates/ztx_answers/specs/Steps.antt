@@ -7,8 +7,8 @@ use Rattle.step_words.specs.Words as words
 use Rattle.step_words.specs.declared.command.StepCommand.{StepCommand}
 use Rattle.tx_journal.specs.Content.{Content}
 use Rattle.tx_meaning.specs.Schedules.{planned}
-use Rattle.tx_report.specs.Report.{status_of}
-use Rattle.tx_step.specs.Traces.{Traced, at_start}
+use Rattle.run_answers.specs.Report.{status_of}
+use Rattle.step_text.specs.Traces.{Traced, at_start}
 use Rattle.z_assemble.specs.Whole.{Stands}
 use Rattle.z_assemble.specs.Words.{fault_line}
 use Rattle.listing_answers.specs.Due.{IsRefusal, long_fault}

@@ -6,12 +6,10 @@ ghost use Rattle.run_answers.specs.Runs.{AreLimits};
 ghost use Rattle.ztx_answers.specs.Heats.{IsDueToHeat, IsHeat};
 
 use listing_answers::{Answer, NoMemory, refuse};
-use run_answers::open;
+use run_answers::{open, run_planned_on, status};
 use std::alloc::Global;
 use tx_heat::Counting;
 use tx_journal::Image;
-use tx_report::status;
-use tx_schedule::run_planned_on;
 use z_assemble::assemble;
 
 /// The conflicts of an image that is run by its schedule, by one that is drawn, or in the round.
@@ -28,15 +26,11 @@ fn heat_image(
     ensures statuses { IfOk result (λ answer. IsStatus answer.status) }
 {
     let machine = open(alloc, image, turns, tick)?;
-    let Ok(mut counting) = Counting::of(alloc, machine) else {
-        return Err(NoMemory);
-    };
+    let mut counting = Counting::of(alloc, machine)?;
     run_planned_on(&mut counting, seed);
     let status = status(counting.machine());
-    match counting.heat().text(alloc) {
-        Ok(text) => Ok(Answer { status, text }),
-        Err(_) => Err(NoMemory),
-    }
+    let text = counting.heat().text(alloc)?;
+    Ok(Answer { status, text })
 }
 
 /// What `heat` answers to the bytes of a listing: the conflicts of the run that `run` would report with these

@@ -3,9 +3,9 @@ ghost use Rattle.std.specs.Prelude.{◌≡◌, ◌≤◌, ℕ, All, List, IfOk, 
 ghost use Rattle.step_text.specs.Replies.{replies_from};
 ghost use Rattle.step_words.specs.Commands.{AreCommands, IsKnown};
 ghost use Rattle.step_words.specs.Words as words;
-ghost use Rattle.tx_machine.specs.Machine.{setting_of};
-ghost use Rattle.tx_report.specs.Report.{status_of};
-ghost use Rattle.tx_step.specs.Traces.{at_start};
+ghost use Rattle.run_answers.specs.Machine.{setting_of};
+ghost use Rattle.run_answers.specs.Report.{status_of};
+ghost use Rattle.step_text.specs.Traces.{at_start};
 ghost use Rattle.z_assemble.specs.Whole.{Stands};
 ghost use Rattle.listing_answers.specs.Due.{IsStatus};
 ghost use Rattle.run_answers.specs.Runs.{AreLimits};
@@ -13,15 +13,11 @@ ghost use Rattle.ztx_answers.specs.Steps.{AreReplies, IsDueToParts, IsDueToStep}
 
 use input_parts::part;
 use listing_answers::{Answer, NoMemory, refuse};
-use run_answers::open;
+use run_answers::{Machine, open, run_planned, status};
 use std::alloc::Global;
-use step_text::replies;
+use step_text::{Trace, replies};
 use step_words::{CommandFault, StepCommand, fault_line, read_commands};
 use tx_journal::Image;
-use tx_machine::machine::Machine;
-use tx_report::status;
-use tx_schedule::run_planned;
-use tx_step::Trace;
 use z_assemble::assemble;
 
 /// The line between a listing and the commands.
@@ -44,14 +40,9 @@ fn trace_of(alloc: Global, machine: &Machine) -> Result<Trace, NoMemory>
     ensures { IfOk result (λ trace.
         trace ≡ at_start machine.now.image machine.now.limits machine.now.events) }
 {
-    let Ok(image) = machine.shared_image() else {
-        return Err(NoMemory);
-    };
+    let image = machine.shared_image()?;
     let _left = machine.externals_left();
-    match Trace::open(alloc, image, machine.limits(), machine.events()) {
-        Ok(trace) => Ok(trace),
-        Err(_) => Err(NoMemory),
-    }
+    Trace::open(alloc, image, machine.limits(), machine.events())
 }
 
 /// What commands show of the run that a machine has made, with the status of that.
@@ -67,13 +58,11 @@ fn replies_of(
         ≡ replies_from (at_start machine.now.image machine.now.limits machine.now.events) commands.now) }
 {
     let mut trace = trace_of(alloc, machine)?;
-    match replies(alloc, &mut trace, commands) {
-        Ok(text) => Ok(Answer {
-            status: status(machine),
-            text,
-        }),
-        Err(_) => Err(NoMemory),
-    }
+    let text = replies(alloc, &mut trace, commands)?;
+    Ok(Answer {
+        status: status(machine),
+        text,
+    })
 }
 
 /// What commands show of the run of an image.

@@ -8,7 +8,7 @@ use crate::words::Plan;
 use std::alloc::{AllocError, Global};
 use std::sync::Arc;
 use tx_journal::{Event, Image};
-use tx_machine::machine::{Machine, NoMemory};
+use tx_machine::{Machine, NoMemory};
 use tx_meaning::Limits;
 use tx_picture::draw;
 use tx_report::status;
@@ -55,9 +55,7 @@ fn open(alloc: Global, image: Image, plan: Plan) -> Result<Machine, NoMemory>
         tick: plan.tick,
         externals: externals_in(&image),
     };
-    let Ok(shared) = Arc::new(alloc, image) else {
-        return Err(NoMemory);
-    };
+    let shared = Arc::new(alloc, image)?;
     Machine::open(alloc, shared, limits)
 }
 

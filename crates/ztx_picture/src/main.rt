@@ -9,7 +9,7 @@ use answer::{Answer, answer_to, refuse};
 use std::alloc::{AllocError, Global};
 use std::io;
 use std::process::ExitCode;
-use tx_machine::machine::NoMemory;
+use tx_machine::NoMemory;
 use words::{Plan, read};
 use z_assemble::{ListingFault, MOST_BYTES};
 use ztx_io::{InFault, OutFault, ReaderSource, Sink, Source, WriterSink, read_all, write_all};

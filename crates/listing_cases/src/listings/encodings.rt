@@ -1,4 +1,4 @@
-//! Lines with the bytes that an outside assembler, GNU as, makes of them: one for each mnemonic.
+//! Lines with the bytes that an outside assembler, GNU as, makes of them, of many mnemonics and each form.
 
 /// A line's mnemonic and operands, and its bytes.
 pub static ENCODINGS: [&str; 201] = [

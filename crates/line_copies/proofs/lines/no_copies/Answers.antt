@@ -15,9 +15,7 @@ loop-init c =
 
 pub loop-preserved : goal.loop-preserved
 loop-preserved c =
-    let items : c.push.new.self.items ≡ c.loop.copies.items ++ c.in_ok-l1.l1 ∷ [] = c.push.ensures.items
-    ∙ ap (λ b. if b then c.loop.copies.items ++ c.in_ok-l1.l1 ∷ [] else c.loop.copies.items)
-    c.if-is_err.ensures.negation in
+    let items : c.push.new.self.items ≡ c.loop.copies.items ++ c.in_ok-l1.l1 ∷ [] = c.in_ok-push.ensures.items in
     record {
       size = ap length items ∙ length_push c.loop.copies.items c.in_ok-l1.l1
           ∙ ap (λ n. n + 1) c.loop.invariant.size;

@@ -8,4 +8,4 @@ unreachable-requires c =
     let first : FirstFault c.as_slice.result.now fault =
     subst (HasFault c.as_slice.result.now) c.in-Err-Listing.field-0-is c.in-Err-Listing.ensures.fault in
     c.generated_listings_have_images.ensures.no_fault c.args.number fault
-    (subst (λ (text : List ℕ). FirstFault text fault) (c.as_slice.ensures.value ∙ c.in-Ok.ensures) first)
+    (subst (λ (text : List ℕ). FirstFault text fault) (c.as_slice.ensures.value ∙ c.in_ok-listing.ensures) first)

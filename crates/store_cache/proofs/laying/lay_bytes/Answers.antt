@@ -6,7 +6,8 @@ use Rattle.store_cache.specs.Sizes.{block_size}
 use Rattle.store_cache.specs.Overlay.{Overlay, bytes_through}
 use Rattle.store_cache.specs.Entries.{items_of}
 use Rattle.store_cache.proofs.Overlays.{bytes_through-nothing, bytes_through-with_bytes, length-bytes_through}
-use Rattle.store_cache.proofs.Laid.{none_below, run_below, all_below, length-range_at}
+use Rattle.store_cache.proofs.Laid.{none_below, run_below, all_below}
+use Rattle.z_regs.proofs.OneArea.{length-range_at}
 use Rattle.store_cache.proofs.laying.lay_bytes.Goals as goal
 
 pub loop-cell-init : goal.loop-cell-init

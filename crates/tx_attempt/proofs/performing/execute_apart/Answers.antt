@@ -7,9 +7,10 @@ use Rattle.z_effect.specs.After.{range_at, written}
 use Rattle.tx_attempt.specs.Performed.{StoresFirst, no_range}
 use Rattle.tx_attempt.proofs.Bare.{apart-so, brought-back}
 use Rattle.tx_attempt.proofs.Fetching.{all-inside}
-use Rattle.tx_attempt.proofs.Returning.{operand-end, kept-apart, length-range}
+use Rattle.tx_attempt.proofs.Returning.{operand-end, kept-apart}
 use Rattle.tx_attempt.proofs.Small.{small-so, part-small, range-small}
 use Rattle.tx_attempt.proofs.Stored.{operands-first}
+use Rattle.z_regs.proofs.OneArea.{length-range_at}
 use Rattle.tx_attempt.proofs.performing.execute_apart.Goals as goal
 
 pub fetch-requires-clause-few : goal.fetch-requires-clause-few
@@ -41,7 +42,7 @@ returns-clause-done g c =
     (length-take-le c.operand-first.result.length c.args.stored.now (omega (arith, size, c.requires.room)))
     ∙ ap (λ (r : Range). range_at s r.first r.length) first in
     let count : length c.fetch.new.bytes ≡ (get_or need 0 no_range).length =
-    ap length kept ∙ length-range s (get_or need 0 no_range).first (get_or need 0 no_range).length
+    ap length kept ∙ length-range_at s (get_or need 0 no_range).first (get_or need 0 no_range).length
     (omega (arith, end, c.requires.size)) in
     let back : c.exchange.new.bytes
     ≡ range_at t (get_or need 0 no_range).first (get_or need 0 no_range).length =

@@ -11,9 +11,10 @@ use Rattle.tx_progress.specs.Progress.{seen_through}
 use Rattle.tx_attempt.specs.Storages.{storage_of}
 use Rattle.tx_attempt.specs.Performed.{StoresFirst, no_range}
 use Rattle.tx_attempt.proofs.Lent.{at-most-two, mid-size, now-inside, lent-outcome, lent-image}
-use Rattle.tx_attempt.proofs.Returning.{operand-end, operand-small, returned, length-seen, length-range}
+use Rattle.tx_attempt.proofs.Returning.{operand-end, operand-small, returned, length-seen}
 use Rattle.tx_attempt.proofs.Small.{small-so, part-small, range-small, seen-small}
 use Rattle.tx_attempt.proofs.Stored.{operands-first}
+use Rattle.z_regs.proofs.OneArea.{length-range_at}
 use Rattle.tx_attempt.proofs.performing.execute_lent.Goals as goal
 
 pub see-requires-clause-few : goal.see-requires-clause-few
@@ -137,7 +138,7 @@ returns-clause-value g c =
     c.exchange-2.ensures.bytes
     ∙ (λ j. range_at mid (first j).first (lx j)) in
     let size : length c.exchange-2.new.bytes ≡ (get_or need 0 no_range).length =
-    ap length kept ∙ length-range mid (get_or need 0 no_range).first (get_or need 0 no_range).length
+    ap length kept ∙ length-range_at mid (get_or need 0 no_range).first (get_or need 0 no_range).length
     (omega (arith, first-end, long)) in
     let t : List ℕ = g.V.Bytes.bytes c.execute_plain-ended.new.base in
     let back : c.exchange-3.new.bytes
@@ -227,7 +228,7 @@ returns-clause-same g c =
     c.exchange-2.ensures.bytes
     ∙ (λ j. range_at mid (first j).first (lx j)) in
     let size : length c.exchange-2.new.bytes ≡ (get_or need 0 no_range).length =
-    ap length kept ∙ length-range mid (get_or need 0 no_range).first (get_or need 0 no_range).length
+    ap length kept ∙ length-range_at mid (get_or need 0 no_range).first (get_or need 0 no_range).length
     (omega (arith, first-end, long)) in
     let t : List ℕ = g.V.Bytes.bytes c.execute_plain-ended.new.base in
     let again : List ℕ = g.V.Bytes.bytes c.exchange-3.new.base in

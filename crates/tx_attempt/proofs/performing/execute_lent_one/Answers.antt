@@ -12,9 +12,10 @@ use Rattle.tx_progress.specs.Progress.{seen_through}
 use Rattle.tx_attempt.specs.Storages.{storage_of}
 use Rattle.tx_attempt.specs.Performed.{StoresFirst, no_range}
 use Rattle.tx_attempt.proofs.Lent.{now-inside, lent-outcome, lent-image, nothing-seen, nothing-kept, nothing-long}
-use Rattle.tx_attempt.proofs.Returning.{operand-end, returned, length-seen, length-range}
+use Rattle.tx_attempt.proofs.Returning.{operand-end, returned, length-seen}
 use Rattle.tx_attempt.proofs.Small.{small-so, part-small, range-small, seen-small}
 use Rattle.tx_attempt.proofs.Stored.{operands-first}
+use Rattle.z_regs.proofs.OneArea.{length-range_at}
 use Rattle.tx_attempt.proofs.performing.execute_lent_one.Goals as goal
 
 pub see-requires-clause-few : goal.see-requires-clause-few
@@ -85,7 +86,7 @@ returns-clause-value g c =
     ≡ range_at old (get_or need 0 no_range).first (get_or need 0 no_range).length =
     c.exchange.ensures.bytes ∙ (λ j. range_at old (first j).first (lx j)) in
     let count : length c.exchange.new.bytes ≡ (get_or need 0 no_range).length =
-    ap length kept ∙ length-range old (get_or need 0 no_range).first (get_or need 0 no_range).length
+    ap length kept ∙ length-range_at old (get_or need 0 no_range).first (get_or need 0 no_range).length
     (omega (arith, end, c.requires.size)) in
     let t : List ℕ = g.V.Bytes.bytes c.execute_plain-ended.new.base in
     let back : c.exchange-2.new.bytes

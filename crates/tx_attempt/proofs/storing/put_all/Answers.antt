@@ -5,7 +5,8 @@ use Rattle.z_regs.specs.Prefix.{storage_size, absolute_of}
 use Rattle.z_regs.proofs.Exchange.{absolute_within}
 use Rattle.tx_serial.specs.Flat.{Storage, at_put, with_bytes_at}
 use Rattle.tx_attempt.specs.Storages.{storage_of}
-use Rattle.tx_attempt.proofs.Storages.{storage_of-set, with_one_more, with_none}
+use Rattle.tx_attempt.proofs.Storages.{storage_of-set, with_one_more}
+use Rattle.tx_serial.proofs.StoredBytes.{with_none}
 use Rattle.tx_attempt.proofs.storing.put_all.Goals as goal
 
 pub loop-k-init : goal.loop-k-init

@@ -1,6 +1,6 @@
 -- Each turn of the round records an event, and only so many can be recorded.
 use Rattle.std.proofs.Common.{◌-◌, length}
-use Rattle.tx_machine.specs.Machine.{most_events, setting_of}
+use Rattle.tx_schedule.specs.Machine.{most_events, setting_of}
 use Rattle.tx_board.specs.Shares.{IsOfSameRun}
 use Rattle.tx_board.proofs.finish.finish_round.Given as goal
 

@@ -1,6 +1,6 @@
 -- The CPUs that were passed over are not ready.
 use Rattle.std.proofs.Common.{◌≡◌, ℕ, ◌<◌, ◌≤◌, false}
-use Rattle.tx_machine.specs.Machine.{setting_of, state_of}
+use Rattle.tx_schedule.specs.Machine.{setting_of, state_of}
 use Rattle.tx_meaning.specs.Idle.{is_ready}
 use Rattle.tx_board.proofs.finish.first_ready.Given as goal
 

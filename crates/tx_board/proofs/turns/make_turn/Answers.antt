@@ -1,7 +1,7 @@
 -- The events recorded before and behind a turn are those of the meaning.
 use Rattle.std.proofs.Common.{◌+◌, ◌∙◌, length, sym, ap}
 use Rattle.tx_journal.specs.declared.events.Event.TheVariants.{Turn}
-use Rattle.tx_machine.specs.Machine.{Seen, setting_of, state_of, event_of}
+use Rattle.tx_schedule.specs.Machine.{Seen, setting_of, state_of, event_of}
 use Rattle.tx_meaning.specs.declared.outcome.Outcome.{Outcome}
 use Rattle.tx_board.specs.Shares.{recorded_by}
 use Rattle.tx_board.proofs.Recorded.{ready_recorded, events_recorded}

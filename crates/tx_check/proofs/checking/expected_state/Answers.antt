@@ -26,5 +26,5 @@ returns c =
     c.in_ok-cpus.ensures.count (c.in_ok-cpus.ensures.told r.entries r.ended) c.in_ok-cpus.ensures.taken
     c.requires.places.history.line
     (ap (λ t. t ++ behind)
-    (written_as c.in-Ok.text.items _ cpus c.args.image.now.shows _ (bytes_of f.storage) c.in-Ok.ensures
+    (written_as c.in_ok-text.text.items _ cpus c.args.image.now.shows _ (bytes_of f.storage) c.in_ok-text.ensures
     c.as_slice.ensures.value c.storage-storage.ensures))

@@ -5,7 +5,7 @@ use Rattle.std.proofs.lemmas.List.Folds.{list_any-append}
 use Rattle.z_regs.specs.declared.ranges.Range.{Range}
 use Rattle.tx_footprint.specs.Sizes.{line_size, block_size}
 use Rattle.tx_footprint.specs.Places.{has_place}
-use Rattle.tx_footprint.proofs.Marking.{or_assoc}
+use Rattle.std.proofs.Math.Bool.{or_assoc}
 use Rattle.tx_footprint.proofs.laws.adds_in_turn.Goals as goal
 
 -- of the tests of two lists in turn, and of one list of both

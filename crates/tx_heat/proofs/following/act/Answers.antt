@@ -5,10 +5,10 @@ use Rattle.std.specs.Prelude.{slice_get}
 use Rattle.tx_journal.specs.Image.{cpu_of_event}
 use Rattle.tx_journal.specs.declared.entries.Entry.{Entry}
 use Rattle.tx_meaning.specs.State.{State, is_live}
-use Rattle.tx_machine.specs.Machine.{Seen}
+use Rattle.tx_schedule.specs.Machine.{Seen}
 use Rattle.tx_works.specs.Wanted.{wanted}
 use Rattle.tx_heat.specs.Conflicts.{reject_of}
-use Rattle.tx_machine.specs.Machine.{setting_of, state_of}
+use Rattle.tx_schedule.specs.Machine.{setting_of, state_of}
 use Rattle.tx_heat.specs.Watched.{Tracked, AreTracks, HasRoom, SpeaksFor}
 use Rattle.tx_heat.proofs.Followed.{passes_as, quiet_beside, counts_as, not_shorter, room_behind}
 use Rattle.tx_heat.proofs.Passing.{present}

@@ -2,7 +2,7 @@
 use Rattle.std.proofs.Common.{◌≡◌, ◌<◌, Some, false, sym, ap, ◌∙◌, subst, arith, length}
 use Rattle.std.specs.Prelude.{nat_lt, slice_get}
 use Rattle.tx_meaning.specs.State.{is_live}
-use Rattle.tx_machine.specs.Machine.{setting_of, state_of}
+use Rattle.tx_schedule.specs.Machine.{setting_of, state_of}
 use Rattle.tx_heat.specs.Watched.{Tracked, SpeaksFor}
 use Rattle.tx_heat.proofs.Passing.{kept_at}
 use Rattle.tx_heat.proofs.following.follow.Goals as goal

@@ -1,7 +1,7 @@
 -- It is known what the CPU asks for, nobody needs it, or it is found out.
 use Rattle.std.proofs.Common.{◌≡◌, ◌<◌, Some, true, sym, ap, ◌∙◌, subst, arith, length}
 use Rattle.std.proofs.lemmas.Option.{get_or_from_slice_get}
-use Rattle.tx_machine.specs.Machine.{setting_of, state_of}
+use Rattle.tx_schedule.specs.Machine.{setting_of, state_of}
 use Rattle.tx_heat.specs.Watched.{Tracked, IsTrack}
 use Rattle.tx_heat.proofs.Counted.{set_same}
 use Rattle.tx_heat.proofs.Passing.{kept_at, put_track, asked_track, all_rest, speaks_itself, speaks_for_nobody}

@@ -4,7 +4,7 @@ use Rattle.std.specs.Prelude.{slice_get}
 use Rattle.std.proofs.lemmas.List.{length-set}
 use Rattle.std.proofs.lemmas.Option.{slice_get_within}
 use Rattle.tx_journal.specs.Content.{Content}
-use Rattle.tx_machine.specs.Machine.{setting_of, state_of}
+use Rattle.tx_schedule.specs.Machine.{setting_of, state_of}
 use Rattle.tx_heat.specs.Watched.{IsTrack}
 use Rattle.tx_heat.proofs.Tracks.{still_ahead, old_at, here_or_before, no_one_beyond}
 use Rattle.tx_heat.proofs.following.track_all.Goals as goal

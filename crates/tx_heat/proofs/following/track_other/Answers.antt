@@ -2,7 +2,7 @@
 use Rattle.std.proofs.Common.{◌≡◌, ◌≢◌, ℕ, true, sym, ap, ◌∙◌, arith}
 use Rattle.std.specs.Prelude.{nat_lt}
 use Rattle.std.proofs.lemmas.Bool.{lt-ltb}
-use Rattle.tx_machine.specs.Machine.{setting_of, state_of}
+use Rattle.tx_schedule.specs.Machine.{setting_of, state_of}
 use Rattle.tx_heat.proofs.Passing.{unused_track, beside_track}
 use Rattle.tx_heat.proofs.following.track_other.Goals as goal
 

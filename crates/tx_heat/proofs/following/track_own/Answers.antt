@@ -1,6 +1,6 @@
 -- The attempt has completed as much, or is begun.
 use Rattle.std.proofs.Common.{sym, ◌∙◌}
-use Rattle.tx_machine.specs.Machine.{setting_of, state_of}
+use Rattle.tx_schedule.specs.Machine.{setting_of, state_of}
 use Rattle.tx_heat.proofs.Passing.{stay_track, begin_track}
 use Rattle.tx_heat.proofs.following.track_own.Goals as goal
 

@@ -1,5 +1,5 @@
 -- Nothing is asked for, and no attempt completes more.
-use Rattle.tx_machine.specs.Machine.{setting_of, state_of}
+use Rattle.tx_schedule.specs.Machine.{setting_of, state_of}
 use Rattle.tx_heat.proofs.Followed.{waiting_tracks}
 use Rattle.tx_heat.proofs.Waiting.{no_conflict}
 use Rattle.tx_heat.proofs.following.wait.Goals as goal

@@ -5,7 +5,7 @@ use Rattle.std.proofs.lemmas.List.{take_all}
 use Rattle.std.proofs.lemmas.List.FromFn.{length-range_with_len}
 use Rattle.tx_journal.specs.Content.{Content}
 use Rattle.tx_meaning.specs.Idle.{is_finished}
-use Rattle.tx_machine.specs.Machine.{setting_of, state_of}
+use Rattle.tx_schedule.specs.Machine.{setting_of, state_of}
 use Rattle.tx_heat.proofs.Tracks.{one_fails, one_more_passes}
 use Rattle.tx_heat.proofs.measuring.are_finished.Goals as goal
 

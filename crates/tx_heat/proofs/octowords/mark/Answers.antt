@@ -3,10 +3,10 @@ use Rattle.std.proofs.Common.{true, false, sym, ap, ◌∙◌, take}
 use Rattle.std.specs.Prelude.{◌||◌, ◌&&◌}
 use Rattle.z_regs.specs.declared.ranges.Range.{Range}
 use Rattle.tx_footprint.specs.Places.{has_place}
-use Rattle.tx_footprint.proofs.Marking.{or_false, or_assoc}
 use Rattle.tx_heat.specs.Marks.{is_marked}
 use Rattle.tx_heat.specs.Octowords.{meets}
 use Rattle.tx_heat.proofs.Ranges.{any_more}
+use Rattle.std.proofs.Math.Bool.{or-false, or_assoc}
 use Rattle.tx_heat.proofs.octowords.mark.Goals as goal
 
 pub loop-i-init : goal.loop-i-init
@@ -14,8 +14,8 @@ unfolding meets
 loop-i-init c = record {
   touched_size = c.requires.touched;
   stored_size = c.requires.stored;
-  touched = λ k. sym (or_false (is_marked c.args.touched.now k));
-  stored = λ k. sym (or_false (is_marked c.args.stored.now k));
+  touched = λ k. sym (or-false (is_marked c.args.touched.now k));
+  stored = λ k. sym (or-false (is_marked c.args.stored.now k));
 }
 
 pub loop-i-preserved : goal.loop-i-preserved

@@ -4,7 +4,7 @@ use Rattle.tx_serial.specs.Apply.{is_running}
 use Rattle.z_regs.specs.Cpu.{Cpu, cpu_of}
 use Rattle.tx_cpu.specs.Parts.{Parts, local_of}
 use Rattle.tx_lending.specs.Stranger.{GoesOnLike, SeeAlike}
-use Rattle.tx_marks.specs.Own.{given, is_touched}
+use Rattle.tx_works.specs.Own.{given, is_touched}
 use Rattle.tx_meaning.specs.Limits.{Setting}
 use Rattle.tx_works.specs.Works.{Seat, Works, numbers_of, seats_of, kept_by}
 use Rattle.tx_works.specs.contracts.slot.Slot.{the_view}

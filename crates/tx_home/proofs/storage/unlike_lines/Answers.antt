@@ -1,6 +1,6 @@
 use Rattle.std.proofs.Common.{ℕ, Option, Some, refl, sym, ap, ◌∙◌, arith}
-use Rattle.tx_lines.specs.Owned.{holders_in}
-use Rattle.tx_marks.specs.Marks.{mode_in}
+use Rattle.tx_works.specs.Owned.{holders_in}
+use Rattle.tx_works.specs.Marks.{mode_in}
 use Rattle.tx_home.specs.Places.{lacking}
 use Rattle.tx_home.specs.declared.place.Unlike.{Unlike}
 use Rattle.tx_home.proofs.Firsts.{below-found, below-none, up-to, not-lacking}

@@ -2,8 +2,8 @@
 use Rattle.std.proofs.Common.{◌-◌}
 use Rattle.std.specs.Prelude.{◌≡◌, ℕ, ◌<◌, true}
 use Rattle.line_table.specs.declared.table.Mode.{Mode}
-use Rattle.tx_lines.specs.Owned.{holders_in}
-use Rattle.tx_marks.specs.Marks.{mode_in}
+use Rattle.tx_works.specs.Owned.{holders_in}
+use Rattle.tx_works.specs.Marks.{mode_in}
 use Rattle.tx_meaning.specs.Asking.{is_there}
 use Rattle.std.specs.Prelude.{None}
 use Rattle.tx_home.specs.Places.{lacking}

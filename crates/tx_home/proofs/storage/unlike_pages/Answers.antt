@@ -1,7 +1,7 @@
 use Rattle.std.proofs.Common.{ℕ, Option, None, refl, sym, ap, ◌∙◌, arith}
 use Rattle.std.specs.Prelude.{if◌then◌else◌}
 use Rattle.std.specs.FinSet.{items}
-use Rattle.tx_marks.specs.Traces.{is_paged}
+use Rattle.tx_works.specs.Traces.{is_paged}
 use Rattle.tx_home.specs.Places.{at, at_page, page_value}
 use Rattle.tx_home.specs.declared.place.Place.TheVariants.{Text}
 use Rattle.tx_home.specs.declared.place.Unlike.{Unlike}

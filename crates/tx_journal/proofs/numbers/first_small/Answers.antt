@@ -1,10 +1,14 @@
-use Rattle.std.proofs.Common.{arith}
+use Rattle.std.proofs.Common.{◌∙◌, ap, arith}
+use Rattle.std.proofs.lemmas.Bool.{false≢true}
+use Rattle.std.proofs.lemmas.Result.{Ok-from_Ok_iff}
+use Rattle.std.specs.Result.{is_ok}
 use Rattle.tx_journal.proofs.Decimals.{same_start}
 use Rattle.tx_journal.proofs.numbers.first_small.Goals as goal
 
-pub returns-in_default-try_from-clause-none : goal.returns-in_default-try_from-clause-none
-returns-in_default-try_from-clause-none c = λ n rest few is.
+pub returns-in_err-number-2-clause-none : goal.returns-in_err-number-2-clause-none
+returns-in_err-number-2-clause-none c = rw c.from_residual-in_err-number-2.ensures (λ n rest few is.
     let same =
-    same_start c.args.text.now c.in-Some.number n c.in-Some.rest.now rest c.in-Some.ensures.fits
-    (omega arith) c.in-Some.ensures.some is in
-    c.in_default-try_from.ensures (omega arith)
+    same_start c.args.text.now c.in_ok-number.number n c.in_ok-number.rest.now rest c.in_ok-number.ensures.fits
+    (omega arith) c.in_ok-number.ensures.some is in
+    false≢true (c.in_err-number-2.ensures.variant
+    ∙ ap is_ok (Ok-from_Ok_iff c.try_from.result _ _ c.try_from.ensures (omega arith))))

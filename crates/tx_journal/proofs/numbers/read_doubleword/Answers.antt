@@ -1,14 +1,16 @@
 use Rattle.std.proofs.Common.{rules, ◌≡◌, ◌∙◌, ap, sym}
 use Rattle.std.specs.Int.{to_be_bytes}
 use mir.Syntax.{w64}
+use Rattle.std.proofs.lemmas.Bool.{false≢true}
+use Rattle.std.specs.Result.{is_ok}
 use Rattle.hex.specs.Hex.{encode_lower}
 use Rattle.tx_journal.proofs.Hexadecimal.{decode_doubleword, doubleword_again}
 use Rattle.tx_journal.proofs.numbers.read_doubleword.Goals as goal
 
-pub returns-in_default-clause-none : goal.returns-in_default-clause-none
-returns-in_default-clause-none c = λ n few is.
+pub returns-in_err-ok-clause-none : goal.returns-in_err-ok-clause-none
+returns-in_err-ok-clause-none c = rw c.from_residual.ensures (λ n few is.
     let told = rw (decode_doubleword c.args.digits.now n is) at c.decode_to_slice.ensures.value in
-    c.in_default.not-Ok tt told.0
+    false≢true (c.in_err-ok.ensures.variant ∙ ap is_ok told.0))
 
 pub returns-then-not-is_hexadecimal-clause-none : goal.returns-then-not-is_hexadecimal-clause-none
 returns-then-not-is_hexadecimal-clause-none c = λ n few is.

@@ -3,7 +3,7 @@ use Rattle.std.proofs.Common.{sym, subst}
 use Rattle.tx_meaning.specs.Limits.{Setting}
 use Rattle.tx_meaning.specs.Meaning.{meaning}
 use Rattle.tx_meaning.specs.Views.{GoesOnWith}
-use Rattle.tx_works.specs.Works.{Works}
+use Rattle.tx_home.specs.Works.{Works}
 use Rattle.tx_machine.specs.Machine.{Stands, nobody}
 use Rattle.tx_machine.proofs.Homes.{by_answer, room_for, stands_home, executed_home, grows_home, grows_not}
 use Rattle.tx_machine.proofs.homing.come_home.Goals as goal

@@ -13,5 +13,5 @@ invariant_of-result c =
     c.cpu_count-cpus.ensures.count ∙ sym (ap (λ (i : Content). length i.cpus) c.image.view_is)
     ∙ sym (ap (λ (xs : List CpuImage). length (map cpu_of xs)) c.as_slice.ensures.value) in
     fitted c.as_slice.result.now c.cpu_count-cpus.result (vec_len c.in_ok-slots.slots)
-    c.in-Ok-open.lines.cpus c.in-Ok.queue.cpus c.in_ok-slots.ensures (search rules) counted
+    c.in_ok-lines.lines.cpus c.in_ok-queue.queue.cpus c.in_ok-slots.ensures (search rules) counted
     (search rules) (search rules) (search rules)

@@ -9,7 +9,8 @@ use Rattle.z_instr.specs.Operands.{operation}
 use Rattle.z_instr.specs.Access.{accessible_pages, text_pages, unfetched}
 use Rattle.z_touch.specs.Refusals.{fetch_answer}
 use Rattle.tx_serial.specs.Fate.{Excepts, fate_after}
-use Rattle.tx_private.proofs.Fetched.{refused_fate, found, unreadable_fate, goes_on, fetched_inside, some_length}
+use Rattle.tx_private.proofs.Fetched.{refused_fate, found, unreadable_fate, goes_on, fetched_inside}
+use Rattle.z_instr.proofs.Distinct.{some_length}
 use Rattle.tx_private.proofs.reading.read.Goals as goal
 
 pub returns-in-Err : goal.returns-in-Err

@@ -1,11 +1,12 @@
 use Rattle.std.proofs.Common.{sym}
 use Rattle.tx_private.specs.Bytes.{function_of}
-use Rattle.tx_private.proofs.Laid.{none_yet, store_step}
+use Rattle.tx_private.proofs.Laid.{store_step}
+use Rattle.tx_serial.proofs.StoredBytes.{with_none}
 use Rattle.tx_private.proofs.storing.store_bytes.Goals as goal
 
 pub loop-k-init : goal.loop-k-init
 loop-k-init c = record {
-  stored = sym (none_yet c.args.prefix c.args.address (function_of c.args.storage.now));
+  stored = sym (with_none c.args.prefix c.args.address (function_of c.args.storage.now));
   size = c.requires.size;
 }
 

@@ -12,9 +12,9 @@ returns c =
     let text = items c.args.guard.now in
     let half : ℕ = c.args.start / 2 in
     let place : 2 * half ≡ c.args.start = omega (arith, c.if-place-eq1.false) in
-    let readies : c.push.new.self.items ≡ c.args.readies.now.items ++ c.in-Some.ready ∷ [] = c.in-Ok.ensures.items in
+    let readies : c.push.new.self.items ≡ c.args.readies.now.items ++ c.in-Some.ready ∷ [] = c.in_ok-push.ensures.items in
     let number : c.len-2.result ≡ length c.args.readies.now.items + 1 =
-    omega (arith, c.len-2.ensures, c.in-Ok.ensures.len) in
+    omega (arith, c.len-2.ensures, c.in_ok-push.ensures.len) in
     let this : IsReady c.args.storage.now text (2 * half) c.in-Some.ready =
     subst (λ n. IsReady c.args.storage.now text n c.in-Some.ready) (sym place) c.in-Some.ensures in
     subst (λ (xs : List Ready). AreRead c.args.storage.now text

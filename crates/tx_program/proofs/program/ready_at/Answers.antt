@@ -9,7 +9,7 @@ returns c =
     let text = items c.args.guard.now in
     let r = c.make_ready.result in
     record {
-      read = sym c.read_from.ensures ∙ c.in-Some.is ∙ ap Some (sym c.make_ready.ensures.instr);
+      read = sym c.in_ok-instr.ensures ∙ ap Some (sym c.make_ready.ensures.instr);
       size = c.requires.size;
       ends = omega (arith, c.requires.place, c.requires.size);
       fetches = λ known. ap (unfetched (accessible_pages None) (text_pages None text) c.args.place)

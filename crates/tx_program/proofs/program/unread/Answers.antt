@@ -4,7 +4,7 @@ use Rattle.tx_program.specs.Numbered.{AreRead}
 use Rattle.tx_program.proofs.Numbers.{none_read}
 use Rattle.tx_program.proofs.program.unread.Goals as goal
 
-pub returns-in-Ok : goal.returns-in-Ok
-returns-in-Ok c storage text =
+pub returns : goal.returns
+returns c storage text =
     subst (λ (xs : List ℕ). AreRead storage text xs [])
-    (sym (c.in-Ok.ensures.items_if_clones_equal (λ y e. e))) (none_read storage text c.args.halfwords c.requires)
+    (sym (c.in_ok-numbers.ensures.items_if_clones_equal (λ y e. e))) (none_read storage text c.args.halfwords c.requires)

@@ -1,7 +1,7 @@
 -- The machine that is closed is the one that was finished, of the image and the limits that were kept.
 use Rattle.std.proofs.Common.{rules, ◌≡◌, true, ap, sym, ◌∙◌}
 use Rattle.std.proofs.lemmas.Result.{IfOk-weaker}
-use Rattle.tx_machine.specs.Machine.{setting_of}
+use Rattle.tx_board.specs.Machine.{setting_of}
 use Rattle.tx_race.proofs.Settings.{same_setting}
 use Rattle.tx_race.proofs.racing.race_on.Goals as goal
 

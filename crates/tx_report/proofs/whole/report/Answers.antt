@@ -16,11 +16,11 @@ report-requires-clause-size c =
     let machine = c.args.machine.now in
     length-bytes_below storage_size (flat_of (setting_of machine) (state_of machine)).storage
 
-pub returns-in-Ok : goal.returns-in-Ok
+pub returns : goal.returns
 unfolding report_of
-returns-in-Ok c =
+returns c =
     let machine = c.args.machine.now in
-    c.in-Ok.ensures
+    c.in_ok-text.ensures
     ∙ ap text.report_text (told (setting_of machine) (state_of machine) c.as_slice.result.now
     c.as_slice-shows.result.now c.journal-history.result.now c.events-events.result.now
     (ap (map shown_cpu) c.as_slice.ensures.value ∙ c.in_ok-cpus.ensures.shown)

@@ -4,7 +4,7 @@ use Rattle.tx_footprint.specs.Places.{stores}
 use Rattle.tx_journal.specs.Image.{cpu_of_event}
 use Rattle.tx_meaning.specs.Views.{AreKnown}
 use Rattle.tx_machine.specs.Machine.{event_of, setting_of, state_of}
-use Rattle.tx_works.specs.Wanted.{wanted}
+use Rattle.tx_machine.specs.Wanted.{wanted}
 use Rattle.tx_step.proofs.Due.{due_or_same, seen_covers}
 use Rattle.tx_step.proofs.Resting.{has_grown, stay_as_seen}
 use Rattle.tx_step.proofs.Stepped.{follows_idle, follows_more, same_cpus, full_words, same_storage}

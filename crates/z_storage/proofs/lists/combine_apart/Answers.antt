@@ -2,9 +2,9 @@ use Rattle.std.proofs.Common.{◌≡◌, ◌≤◌, ◌+◌, ◌*◌, ◌/◌, �
 use Rattle.z_effect.specs.After.{written}
 use Rattle.z_instr.specs.declared.kind.Combination.TheVariants.{Logic}
 use Rattle.z_regs.proofs.Writes.{length-written}
-use Rattle.z_storage.proofs.Bytewise.{length-results}
 use Rattle.z_storage.proofs.Combined.{combined, next, all_zero, combine_step, all_zero_step, nothing_combined, none_zero}
 use Rattle.z_storage.proofs.Moves.{apart_cases}
+use Rattle.z_effect.proofs.Lengths.{length-results}
 use Rattle.z_storage.proofs.lists.combine_apart.Goals as goal
 
 pub loop-k-init : goal.loop-k-init

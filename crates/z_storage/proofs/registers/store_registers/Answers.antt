@@ -3,7 +3,8 @@ use Rattle.std.proofs.Common.{◌∙◌, ap, take, arith}
 use Rattle.z_regs.specs.Cpu.{cpu_of}
 use Rattle.z_effect.specs.StorageEffect.{items}
 use Rattle.z_effect.specs.After.{written}
-use Rattle.z_storage.proofs.Items.{first_written, length-items}
+use Rattle.z_storage.proofs.Items.{first_written}
+use Rattle.z_effect.proofs.Lengths.{length-items}
 use Rattle.z_storage.proofs.registers.store_registers.Goals as goal
 
 pub returns : goal.returns

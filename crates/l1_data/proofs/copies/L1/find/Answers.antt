@@ -6,23 +6,24 @@ use Rattle.l1_data.specs.Copies.{Copies, copies_of}
 use Rattle.l1_data.proofs.Slotted.{copy_at, copies_of-kept}
 use Rattle.l1_data.proofs.copies.L1.find.Goals as goal
 
-pub returns-in-Some-clause-copy : goal.returns-in-Some-clause-copy
-returns-in-Some-clause-copy c =
+pub returns-clause-copy : goal.returns-clause-copy
+returns-clause-copy c =
     let lines = c.self.inside.index.keys in
     let copies = c.self.inside.copies.items in
-    let slot = c.in-Some.slot in
+    let slot = c.in_ok-slot.slot in
     let now : copies_of c.args.self.now ≡ copy_at lines copies = copies_of-kept c.args.self.now lines copies
     c.self.view_is in
-    let in_room : slot < copy_limit = omega (arith, c.in-Some.ensures.within, c.self.invariant.most) in
+    let in_room : slot < copy_limit = omega (arith, c.in_ok-slot.ensures.within, c.self.invariant.most) in
     let copy : c.index.result.now ≡ get_or copies slot [] = get_or_read copies slot c.index.result.now
     (omega (arith, in_room, c.self.invariant.room)) c.index.ensures [] in
     ap (λ (cs : Copies). cs c.args.line) now
-    ∙ ap (option_map (λ s. get_or copies s [])) (sym c.in-Some.ensures.value)
+    ∙ ap (option_map (λ s. get_or copies s [])) (sym c.in_ok-slot.ensures.value)
     ∙ ap Some (sym copy)
 
-pub returns-in-None-clause-none : goal.returns-in-None-clause-none
-returns-in-None-clause-none c =
+pub returns-in_err-slot-clause-none : goal.returns-in_err-slot-clause-none
+returns-in_err-slot-clause-none c =
     let lines = c.self.inside.index.keys in
     let copies = c.self.inside.copies.items in
-    ap (λ (cs : Copies). cs c.args.line) (copies_of-kept c.args.self.now lines copies c.self.view_is)
-    ∙ ap (option_map (λ s. get_or copies s [])) (sym c.in-None.ensures.value)
+    rw c.from_residual.ensures
+    (ap (λ (cs : Copies). cs c.args.line) (copies_of-kept c.args.self.now lines copies c.self.view_is)
+    ∙ ap (option_map (λ s. get_or copies s [])) (sym c.in_err-slot.ensures.value))

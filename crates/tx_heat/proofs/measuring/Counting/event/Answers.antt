@@ -1,6 +1,6 @@
 -- The conflicts of the event are counted.
 use Rattle.std.proofs.Common.{◌≡◌, ◌≤◌, ◌∙◌, ◌^◌, ◌++◌, sym, ap, subst, length, take, drop, arith}
-use Rattle.tx_machine.specs.Machine.{setting_of, state_of, most_events}
+use Rattle.tx_schedule.specs.Machine.{setting_of, state_of, most_events}
 use Rattle.tx_heat.specs.Conflicts.{conflicts}
 use Rattle.tx_heat.specs.Watched.{AreCounted, HasRoom, IsWatched}
 use Rattle.tx_heat.proofs.Measured.{has_room, watches_next, written_back}

@@ -1,6 +1,6 @@
 -- What is counted is the heat of what is recorded.
 use Rattle.std.proofs.Common.{ap, ◌∙◌}
-use Rattle.tx_machine.specs.Machine.{Seen}
+use Rattle.tx_schedule.specs.Machine.{Seen}
 use Rattle.tx_heat.specs.Heats.{heat_of}
 use Rattle.tx_heat.proofs.Measured.{heat_is}
 use Rattle.tx_heat.proofs.measuring.Counting.heat.Goals as goal

@@ -3,7 +3,7 @@ use Rattle.std.proofs.Common.{◌∙◌, ap, subst, length, rules}
 use Rattle.tx_journal.specs.Content.{Content}
 use Rattle.tx_journal.specs.Image.{IsImage}
 use Rattle.tx_meaning.specs.Meaning.{IsSetting}
-use Rattle.tx_machine.specs.Machine.{setting_of}
+use Rattle.tx_schedule.specs.Machine.{setting_of}
 use Rattle.tx_heat.proofs.Measured.{watches_first}
 use Rattle.tx_heat.proofs.measuring.Counting.of.Goals as goal
 

@@ -1,6 +1,6 @@
 -- What is kept is what the recorded events mean.
 use Rattle.std.proofs.Common.{sym, ap, ◌∙◌}
-use Rattle.tx_lines.specs.Owned.{storage_in}
+use Rattle.tx_home.specs.Owned.{storage_in}
 use Rattle.tx_meaning.specs.State.{flat_of}
 use Rattle.tx_machine.specs.Machine.{Seen, setting_of, state_of}
 use Rattle.tx_machine.specs.declared.machine.Machine.TheInside.{Inside}

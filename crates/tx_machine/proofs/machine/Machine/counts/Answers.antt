@@ -8,7 +8,7 @@ use Rattle.tx_meaning.specs.Limits.{Setting}
 use Rattle.tx_meaning.specs.State.{State}
 use Rattle.tx_meaning.specs.Shown.{counts_at}
 use Rattle.tx_machine.specs.Machine.{counts_with}
-use Rattle.tx_works.specs.Works.{Seat}
+use Rattle.tx_home.specs.Works.{Seat}
 use Rattle.tx_machine.specs.Machine.{Seen, state_of, nobody}
 use Rattle.tx_machine.specs.declared.machine.Machine.TheInside.{Inside}
 use Rattle.tx_machine.proofs.Read.{reads_state}

@@ -5,7 +5,7 @@ use Rattle.std.proofs.lemmas.List.{get_or_default}
 use Rattle.std.specs.Arc.{arc_value}
 use Rattle.tx_meaning.specs.Limits.{Setting}
 use Rattle.tx_meaning.specs.State.{cpu_of}
-use Rattle.tx_works.specs.Works.{Seat}
+use Rattle.tx_home.specs.Works.{Seat}
 use Rattle.tx_machine.specs.Machine.{Seen, setting_of, state_of, nobody}
 use Rattle.tx_machine.specs.declared.machine.Machine.TheInside.{Inside}
 use Rattle.tx_machine.proofs.Read.{reads_cpu}

@@ -11,7 +11,7 @@ use Rattle.std.specs.Prelude.{Option}
 use Rattle.std.specs.Arc.{arc_value}
 use Rattle.z_regs.specs.declared.waiting.Waiting.{Waiting}
 use Rattle.tx_meaning.specs.Meaning.{meaning}
-use Rattle.tx_works.specs.Works.{Seat}
+use Rattle.tx_home.specs.Works.{Seat}
 use Rattle.tx_machine.specs.Machine.{Seen, setting_of, state_of, nobody}
 use Rattle.tx_machine.specs.declared.machine.Machine.TheInside.{Inside}
 use Rattle.tx_machine.proofs.Read.{reads_cpu, reads_waiting}

@@ -4,7 +4,7 @@ use Rattle.std.specs.Arc.{arc_value}
 use Rattle.tx_serial.specs.Apply.{is_running}
 use Rattle.tx_keeping.specs.Kept.{Kept}
 use Rattle.tx_meaning.specs.Limits.{Setting}
-use Rattle.tx_works.specs.Works.{kept_by}
+use Rattle.tx_home.specs.Works.{kept_by}
 use Rattle.tx_home.specs.Lending.{IsLentBy}
 use Rattle.tx_machine.specs.Lending.{kept_of}
 use Rattle.tx_machine.specs.Machine.{Seen, nobody}

@@ -7,7 +7,7 @@ use Rattle.tx_meaning.specs.Limits.{Setting}
 use Rattle.tx_cpu.specs.Parts.{local_of}
 use Rattle.tx_cpu.specs.Plans.{levels_of}
 use Rattle.tx_meaning.specs.Shown.{levels_at}
-use Rattle.tx_works.specs.Works.{Seat}
+use Rattle.tx_home.specs.Works.{Seat}
 use Rattle.tx_machine.specs.Machine.{Seen, setting_of, state_of, nobody}
 use Rattle.tx_machine.specs.declared.machine.Machine.TheInside.{Inside}
 use Rattle.tx_machine.proofs.Read.{reads_levels}

@@ -6,7 +6,7 @@ use Rattle.tx_meaning.specs.Limits.{Setting}
 use Rattle.tx_meaning.specs.State.{State}
 use Rattle.tx_meaning.specs.Idle.{is_spent}
 use Rattle.tx_machine.specs.Machine.{Seen, state_of, nobody}
-use Rattle.tx_works.specs.Works.{kept_by}
+use Rattle.tx_home.specs.Works.{kept_by}
 use Rattle.tx_machine.specs.declared.machine.Machine.TheInside.{Inside}
 use Rattle.tx_machine.proofs.Read.{reads_state}
 use Rattle.tx_machine.proofs.machine.Machine.spent.Goals as goal

@@ -5,7 +5,7 @@ use Rattle.std.proofs.lemmas.List.{get_or_default}
 use Rattle.tx_meaning.specs.Limits.{Setting}
 use Rattle.tx_meaning.specs.Meaning.{meaning}
 use Rattle.tx_meaning.specs.State.{State}
-use Rattle.tx_works.specs.Works.{Seat, Works}
+use Rattle.tx_home.specs.Works.{Seat, Works}
 use Rattle.tx_machine.specs.Machine.{Seen, Stands, state_of, nobody, tally_at}
 use Rattle.tx_machine.specs.declared.machine.Machine.TheInside.{Inside}
 use Rattle.tx_machine.proofs.Read.{reads_state}

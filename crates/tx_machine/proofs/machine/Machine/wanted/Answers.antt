@@ -4,8 +4,8 @@ use Rattle.std.specs.Arc.{arc_value}
 use Rattle.tx_meaning.specs.Limits.{Setting}
 use Rattle.tx_machine.specs.Machine.{Seen, setting_of, state_of, nobody}
 use Rattle.tx_journal.specs.Content.{Content}
-use Rattle.tx_works.specs.Wanted.{MayWant, wanted, wanted_by}
-use Rattle.tx_works.specs.Works.{kept_by}
+use Rattle.tx_home.specs.Wanted.{MayWant, wanted, wanted_by}
+use Rattle.tx_home.specs.Works.{kept_by}
 use Rattle.tx_machine.proofs.Going.{wants}
 use Rattle.tx_machine.proofs.Read.{reads_wanted}
 use Rattle.tx_machine.proofs.machine.Machine.wanted.Goals as goal

@@ -9,9 +9,9 @@ use Rattle.tx_machine.proofs.runs.Runs.open.Goals as goal
 
 pub loop-cpu-preserved : goal.loop-cpu-preserved
 loop-cpu-preserved c = record {
-  many = grind (arith, common_steps, c.in-Ok.ensures.items);
-  home = grind (arith, common_steps, c.in-Ok.ensures.items);
-  own = subst (λ (l : List Place). AreOwn l) (sym c.in-Ok.ensures.items)
+  many = grind (arith, common_steps, c.in_ok-push.ensures.items);
+  home = grind (arith, common_steps, c.in_ok-push.ensures.items);
+  own = subst (λ (l : List Place). AreOwn l) (sym c.in_ok-push.ensures.items)
       (own_pushed c.loop-cpu.places.items (Reserved c.in_ok-room.room) c.loop-cpu.invariant.own
       (c.in_ok-room.ensures ∙ sym c.loop-cpu.invariant.many));
 }

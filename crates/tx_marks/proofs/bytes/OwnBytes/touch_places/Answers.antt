@@ -1,8 +1,10 @@
-use Rattle.std.proofs.Common.{◌+◌, ◌∙◌, ap}
+use Rattle.std.proofs.Common.{◌+◌, ◌∙◌, sym, ap}
 use Rattle.std.specs.Prelude.{◌||◌, nat_eq}
 use Rattle.z_regs.specs.Prefix.{absolute_of}
+use Rattle.tx_lending.specs.Places.{is_among}
 use Rattle.tx_marks.specs.Own.{is_touched}
 use Rattle.tx_marks.proofs.BytesTouched.{up_marked}
+use Rattle.tx_marks.proofs.RunsPlaced.{among_run}
 use Rattle.tx_marks.proofs.bytes.OwnBytes.touch_places.Goals as goal
 
 pub loop-k-preserved : goal.loop-k-preserved
@@ -14,3 +16,9 @@ loop-k-preserved c = record {
       (c.touch.ensures.touched a ∙ ap (λ p. is_touched c.loop-k.self a || nat_eq a p) (c.place_of.ensures
       ∙ ap (λ k. absolute_of c.args.prefix (c.args.first + k)) c.from.ensures));
 }
+
+pub returns-then-are_untouched-clause-touched : goal.returns-then-are_untouched-clause-touched
+returns-then-are_untouched-clause-touched c = λ a.
+    c.touch_run.ensures.touched a
+    ∙ ap (λ b. is_touched c.args.self.now a || b) (sym (among_run c.args.first c.args.length a)
+    ∙ sym (ap (λ places. is_among places a) (c.are_untouched.ensures.places c.if-are_untouched.true)))

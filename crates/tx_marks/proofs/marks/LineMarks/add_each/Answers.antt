@@ -2,7 +2,7 @@ use Rattle.std.proofs.Common.{ap, map, ◌∙◌}
 use Rattle.tx_needs.specs.Needs.{need_at}
 use Rattle.tx_marks.specs.Marks.{mode_in}
 use Rattle.tx_marks.proofs.MarksEach.{none_added, line_added}
-use Rattle.tx_marks.proofs.MarksSmall.{line_in_storage}
+use Rattle.tx_needs.proofs.NeededLines.{line_in_storage}
 use Rattle.tx_marks.proofs.marks.LineMarks.add_each.Goals as goal
 
 pub loop-line-init : goal.loop-line-init

@@ -2,7 +2,7 @@ use Rattle.std.proofs.Common.{Some, ap, sym, map, ◌∙◌}
 use Rattle.tx_needs.specs.Needs.{need_at}
 use Rattle.tx_marks.specs.Marks.{mode_in, first_missing}
 use Rattle.tx_marks.proofs.MarksEach.{line_there, line_missing, none_missing}
-use Rattle.tx_marks.proofs.MarksSmall.{line_in_storage}
+use Rattle.tx_needs.proofs.NeededLines.{line_in_storage}
 use Rattle.tx_marks.proofs.marks.LineMarks.missing_of.Goals as goal
 
 pub is_there-requires : goal.is_there-requires

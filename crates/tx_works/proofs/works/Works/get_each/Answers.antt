@@ -9,7 +9,8 @@ use Rattle.tx_works.specs.Works.{kept_by}
 use Rattle.tx_works.specs.Asks.{rejected_in}
 use Rattle.tx_works.proofs.Leaves.{leaves_at_most}
 use Rattle.tx_works.proofs.Questions.{some_rejected, none_rejected}
-use Rattle.tx_works.proofs.Granted.{still_few, ready_after, ready_for_fewer, mapped_lines, got_on}
+use Rattle.tx_needs.proofs.NeededLines.{mapped_lines}
+use Rattle.tx_works.proofs.Granted.{still_few, ready_after, ready_for_fewer, got_on}
 use Rattle.tx_works.proofs.Granted.{getting_leaves}
 use Rattle.tx_works.proofs.Granted.{getting_goes_on, get_refused, all_got}
 use Rattle.tx_works.proofs.works.Works.get_each.Goals as goal

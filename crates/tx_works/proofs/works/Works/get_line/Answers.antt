@@ -4,7 +4,8 @@ use Rattle.tx_works.specs.Works.{kept_by}
 use Rattle.tx_works.specs.Asks.{asked_by, rejected_in}
 use Rattle.tx_works.proofs.Questions.{some_rejected, none_rejected}
 use Rattle.tx_works.proofs.Granted.{there_already, line_refused, line_granted, grant_leaves, still_few}
-use Rattle.tx_works.proofs.Granted.{some_needs, mapped_lines}
+use Rattle.tx_needs.proofs.NeededLines.{mapped_lines}
+use Rattle.tx_works.proofs.Granted.{some_needs}
 use Rattle.line_table.specs.declared.table.Mode.TheVariants.{Shared}
 use Rattle.tx_works.proofs.works.Works.get_line.Goals as goal
 

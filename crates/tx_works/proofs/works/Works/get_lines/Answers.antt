@@ -8,7 +8,8 @@ use Rattle.tx_meaning.specs.declared.asking.Need.{Need}
 use Rattle.tx_meaning.specs.Needs.{needs_of}
 use Rattle.tx_works.specs.Works.{kept_by}
 use Rattle.tx_works.specs.Asks.{IsFew}
-use Rattle.tx_works.proofs.Granted.{needed_in_storage, few_needed, mapped_lines}
+use Rattle.tx_needs.proofs.NeededLines.{needed_in_storage, mapped_lines}
+use Rattle.tx_works.proofs.Granted.{few_needed}
 use Rattle.tx_works.proofs.works.Works.get_lines.Goals as goal
 
 pub get_each-requires-2-clause-known : goal.get_each-requires-2-clause-known

@@ -68,20 +68,23 @@ all_from_small [] small = All-nil (λ line. line < storage_lines)
 all_from_small (line ∷ rest) small =
     All-cons (λ line. line < storage_lines) line rest small.0 (all_from_small rest small.1)
 
-mapped_lines : (ranges : List Range) (lines : List ℕ)
-    → map (λ (need : Need). need.line) (map (need_at ranges) lines) ≡ lines
-mapped_lines ranges [] = refl
-mapped_lines ranges (line ∷ rest) = ap (λ l. line ∷ l) (mapped_lines ranges rest)
+-- the lines of what is asked for are those that it was made of
+pub mapped_lines : (f : ℕ → Need) → ((line : ℕ) → (f line).line ≡ line) → (lines : List ℕ)
+    → map (λ (need : Need). need.line) (map f lines) ≡ lines
+mapped_lines f same [] = refl
+mapped_lines f same (line ∷ rest) =
+    ap (λ l. l ∷ map (λ (need : Need). need.line) (map f rest)) (same line)
+    ∙ ap (λ l. line ∷ l) (mapped_lines f same rest)
 
-needed_in_storage : (ranges : List Range) (lines : List ℕ)
+pub needed_in_storage : (ranges : List Range) (lines : List ℕ)
     → All (λ (r : Range). r.first + r.length ≤ storage_size) ranges
     → map (need_at ranges) lines ≡ needs_of ranges → All (λ line. line < storage_lines) lines
 unfolding needs_of
 needed_in_storage ranges lines within these =
     let sorted = rising (flat_map lines_of ranges) in
     let same : lines ≡ sorted =
-    sym (mapped_lines ranges lines) ∙ ap (map (λ (need : Need). need.line)) these
-    ∙ mapped_lines ranges sorted in
+    sym (mapped_lines (need_at ranges) (λ line. refl) lines) ∙ ap (map (λ (need : Need). need.line)) these
+    ∙ mapped_lines (need_at ranges) (λ line. refl) sorted in
     subst (All (λ line. line < storage_lines)) (sym same)
     (all_from_small sorted (small_rising (flat_map lines_of ranges) [] (small_ranges ranges within) tt))
 
