@@ -18,7 +18,7 @@ use Rattle.tx_meaning.specs.State.{State, cpus_of, is_live, standing_of}
 use Rattle.tx_meaning.specs.Turn.{happen, interrupting}
 use Rattle.tx_meaning.specs.Views.{AreKnown}
 use Rattle.tx_bounds.proofs.News.{aborted_history}
-use Rattle.tx_machine.proofs.Most.{meaning_more}
+use Rattle.tx_report.proofs.Most.{meaning_more}
 use Rattle.sound_laws.specs.Parts.{HasAtMost}
 use Rattle.sound_laws.proofs.Turns.{took_turns}
 

@@ -20,7 +20,7 @@ use Rattle.tx_meaning.specs.Limits.{Setting}
 use Rattle.tx_meaning.specs.Meaning.{IsSetting, AreEvents, meaning}
 use Rattle.tx_meaning.specs.Room.{is_turn_of}
 use Rattle.tx_meaning.proofs.Books.{turns_counted}
-use Rattle.tx_machine.proofs.Most.{at_most, entries_at_most}
+use Rattle.tx_report.proofs.Most.{at_most, entries_at_most}
 use Rattle.std.proofs.Math.Nat.{mul-le-mul_left}
 use Rattle.tx_meaning.specs.Shown.{commits_of, aborts_of}
 use Rattle.tx_meaning.specs.State.{flat_of, attempt_of, cpus_of, is_live}

@@ -4,10 +4,10 @@ ghost use Rattle.z_regs.specs.Cpu.{cpu_of};
 ghost use Rattle.z_regs.specs.Prefix.{storage_size};
 ghost use Rattle.tx_meaning.specs.Meaning.{IsSetting, AreEvents};
 ghost use Rattle.tx_meaning.specs.State.{flat_of};
-ghost use Rattle.tx_machine.specs.Machine.{setting_of, state_of};
+ghost use Rattle.tx_report.specs.Machine.{setting_of, state_of};
 ghost use Rattle.check_laws.specs.Places.{HasRegisters, HasPlace, HasPlaces};
 
-use tx_machine::machine::Machine;
+use tx_report::Machine;
 use z_regs::CpuImage;
 
 /// How many bytes storage has.

@@ -3,7 +3,7 @@ ghost use Rattle.std.specs.Prelude.{◌≡◌, ◌≢◌, ℕ, List, length, Res
 ghost use Rattle.tx_journal.specs.declared.events.Event.{Event};
 ghost use Rattle.tx_meaning.specs.Limits.{Setting};
 ghost use Rattle.tx_meaning.specs.Meaning.{IsSetting, AreEvents, meaning};
-ghost use Rattle.tx_machine.specs.Machine.{setting_of, state_of};
+ghost use Rattle.tx_report.specs.Machine.{setting_of, state_of};
 ghost use Rattle.tx_report.specs.Report.{report_of};
 ghost use Rattle.tx_check.specs.Answers.{IsAccepted, IsDue};
 ghost use Rattle.tx_check.specs.Sound.{IsSound};
@@ -13,7 +13,7 @@ ghost use Rattle.check_laws.specs.Places.{HasPlaces};
 
 use crate::facts::{has_places, is_set};
 use form_laws::laws::nothing_else_is_due_of_a_sound_report;
-use tx_machine::machine::Machine;
+use tx_report::Machine;
 
 /// The report of a run is sound, where its numbers have their places. It has as many entries as the
 /// history.

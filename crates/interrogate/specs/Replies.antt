@@ -1,7 +1,7 @@
 -- What the holder of a line answers to a request for it.
 use Rattle.std.specs.Prelude.{ℕ, Bool, true, false, ◌&&◌, ◌||◌, not, if◌then◌else◌}
-use Rattle.line_table.specs.declared.table.Mode.{Mode}
-use Rattle.line_table.specs.declared.table.Mode.TheVariants.{Shared, Exclusive}
+use Rattle.tx_footprint.specs.Mode.{Mode}
+use Rattle.tx_footprint.specs.Mode.TheVariants.{Shared, Exclusive}
 use Rattle.tx_control.specs.declared.causes.Why.{Why}
 use Rattle.tx_control.specs.declared.causes.Why.TheVariants.{FetchConflict, StoreConflict}
 use Rattle.tx_ladder.specs.Rungs.{Standing, may_reject, rejecting}

@@ -1,13 +1,12 @@
 //! The answer of a holder.
 ghost use Rattle.std.specs.Prelude.{◌≡◌, ◌<◌};
-ghost use Rattle.line_table.specs.Sizes.{storage_lines};
+ghost use Rattle.tx_footprint.specs.LineTableSizes.{storage_lines};
 ghost use Rattle.tx_footprint.specs.Touched.{sets_of};
 ghost use Rattle.interrogate.specs.Replies.{conflicts, may_hold_out, cause_at, reply, after};
 
 use crate::kinds::{Answer, Asker};
-use line_table::Mode;
 use tx_control::Why;
-use tx_footprint::Footprint;
+use tx_footprint::{Footprint, Mode};
 use tx_ladder::Ladder;
 
 /// Whether a request for the line conflicts with the holder's attempt.

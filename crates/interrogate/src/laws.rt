@@ -1,7 +1,7 @@
 //! Laws of answers, each the contract of a function that does nothing.
 ghost use Rattle.std.specs.Prelude.{◌≡◌, ◌≢◌, ◌+◌, ◌↔◌, ℕ, Bool, IsTrue, true, false, ◌||◌};
-ghost use Rattle.line_table.specs.declared.table.Mode.{Mode};
-ghost use Rattle.line_table.specs.declared.table.Mode.TheVariants.{Shared};
+ghost use Rattle.tx_footprint.specs.Mode.{Mode};
+ghost use Rattle.tx_footprint.specs.Mode.TheVariants.{Shared};
 ghost use Rattle.tx_control.specs.declared.causes.Why.{Why};
 ghost use Rattle.tx_control.specs.declared.causes.Why.TheVariants.{FetchConflict, StoreConflict};
 ghost use Rattle.tx_ladder.specs.Rungs.{Standing};

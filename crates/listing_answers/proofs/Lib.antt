@@ -2,3 +2,5 @@
 pub mod Given
 pub mod DecksGiven
 pub mod Long
+-- what callers name of crates below
+pub use Rattle.listing_laws.proofs.Listings

@@ -3,9 +3,8 @@ use crate::machines::opened;
 use std::alloc::Global;
 use std::test::Fail;
 use tx_journal::Event;
-use tx_machine::{Home, Lend, Machine, Place, Refusal};
 use tx_meaning::Outcome;
-use tx_run::{Reason, Run, RunStep};
+use tx_report::{Home, Lend, Machine, Place, Reason, Refusal, Run, RunStep};
 
 /// What is done with two machines and a run.
 #[derive(Clone, Copy)]

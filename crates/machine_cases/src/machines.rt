@@ -7,8 +7,8 @@ use std::alloc::Global;
 use std::sync::Arc;
 use std::test::Fail;
 use tx_journal::Event;
-use tx_machine::machine::Machine;
 use tx_meaning::limits::{Limits, MOST_TURNS};
+use tx_report::Machine;
 use tx_schedule::{run_drawn, run_given, run_planned, run_round};
 use z_assemble::assemble;
 

@@ -4,9 +4,8 @@ use crate::machines::{Way, ran};
 use std::alloc::Global;
 use std::test::Fail;
 use tx_gen::generate;
-use tx_machine::machine::Machine;
 use tx_meaning::limits::MOST_TURNS;
-use tx_report::{NoMemory, report, status, summary};
+use tx_report::{Machine, NoMemory, report, status, summary};
 
 /// One CPU has committed and is rejected now, one has a block to store, and one is in a transaction.
 static UNFINISHED: &str = " CPU ADDS

@@ -4,7 +4,7 @@ use crate::machines::{Way, ran};
 use std::alloc::Global;
 use std::test::Fail;
 use tx_journal::Event;
-use tx_machine::machine::Machine;
+use tx_report::Machine;
 
 /// Two CPUs that count in one doubleword, and one that halts at once.
 const THREE: &str =

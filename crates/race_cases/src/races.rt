@@ -7,9 +7,8 @@ use std::sync::Arc;
 use std::sync::atomic::{AtomicBool, Ordering};
 use std::test::Fail;
 use tx_journal::{Entry, Image};
-use tx_machine::Machine;
 use tx_meaning::Limits;
-use tx_race::{Gate, OpenGate, Raced, race};
+use tx_race::{Gate, Machine, OpenGate, Raced, race};
 use z_assemble::assemble;
 
 /// Each CPU adds one to the same doubleword, so many times as its second register says.

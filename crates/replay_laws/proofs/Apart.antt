@@ -46,7 +46,7 @@ use Rattle.tx_meaning.specs.declared.asking.Need.{Need}
 use Rattle.tx_meaning.specs.declared.asking.Reject.{Reject}
 use Rattle.tx_meaning.specs.declared.outcome.Outcome.{Outcome}
 use Rattle.tx_meaning.specs.declared.outcome.Outcome.TheVariants as outcome
-use Rattle.tx_report.specs.Shown.{shown_in, cpus_shown, attempt_shown, counts_shown}
+use Rattle.ztx_answers.specs.Shown.{shown_in, cpus_shown, attempt_shown, counts_shown}
 use Rattle.tx_meaning.specs.Shown.{counts_at}
 use Rattle.report_text.specs.Shown.{Shown, ShownCpu}
 use Rattle.schedule_laws.specs.Taken.{with_schedule}

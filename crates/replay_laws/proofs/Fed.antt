@@ -13,8 +13,8 @@ use Rattle.tx_meaning.specs.Schedules.{planned, planned_by}
 use Rattle.tx_meaning.specs.State.{State, cpus_of}
 use Rattle.tx_meaning.specs.Views.{AreKnown}
 use Rattle.tx_headline.proofs.Recorded.{recorded_mean}
-use Rattle.tx_report.specs.Report.{report_of, status_of}
-use Rattle.tx_report.specs.Shown.{shown_in, cpus_shown}
+use Rattle.ztx_answers.specs.Report.{report_of, status_of}
+use Rattle.ztx_answers.specs.Shown.{shown_in, cpus_shown}
 use Rattle.z_assemble.specs.Whole.{Stands}
 use Rattle.z_assemble.proofs.Images.{stands_for_image}
 use Rattle.ztx_answers.specs.Reports.{IsReport}

@@ -13,7 +13,7 @@ use Rattle.tx_keeping.proofs.Events.{legal, grows_only, views_kept, touched_held
 use Rattle.tx_bounds.proofs.Meant.{stops}
 use Rattle.tx_bounds.proofs.Stretched.{ages_within}
 use Rattle.tx_bounds.proofs.Heads.{heads_in_all}
-use Rattle.tx_opacity.proofs.Opaque.{opaque}
+use Rattle.tx_report.proofs.Opaque.{opaque}
 use Rattle.tx_headline.proofs.Bounds.{turns_left, ages_short, turns_of_head}
 use Rattle.tx_headline.proofs.Lists.{all_first, all_later}
 use Rattle.tx_headline.proofs.Queue.{queue_changes, before_most}

@@ -11,3 +11,5 @@ pub use Rattle.tx_report.specs.Machine
 pub use Rattle.tx_schedule.specs.Ran
 pub use Rattle.tx_report.specs.Report
 pub use Rattle.tx_report.specs.Shown
+pub use Rattle.tx_check.specs.Answers
+pub use Rattle.tx_check.specs.declared.checking.CheckFault

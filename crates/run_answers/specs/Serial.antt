@@ -11,7 +11,7 @@ use Rattle.tx_meaning.specs.State.{State, is_head, cpus_of}
 use Rattle.tx_meaning.specs.Turn.{happen}
 use Rattle.tx_meaning.specs.Hits.{hits}
 use Rattle.tx_ladder.specs.Waiting.{waits_in}
-use Rattle.tx_opacity.specs.Opacity.{SeesOneRun}
+use Rattle.tx_report.specs.Opacity.{SeesOneRun}
 use Rattle.tx_headline.specs.Queue.{QueueChanges, others_before}
 use Rattle.tx_headline.specs.Since.{Opens, IsUninterrupted, CommitsAfter, is_program_abort_of}
 use Rattle.tx_headline.specs.Since.{entries_since, turns_after, all_turns_after}

@@ -13,5 +13,6 @@ pub use machine::open;
 pub use raced::{NoRace, prepare_race, refuse_long_race, report_race};
 pub use reported::run;
 pub use summed::summary;
+pub use tx_check::one_answer_is_due;
 pub use tx_report::{Machine, status};
 pub use tx_schedule::{run_planned, run_planned_on};

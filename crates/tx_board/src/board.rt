@@ -18,8 +18,7 @@ use std::marker::PhantomData;
 use std::sync::ledger;
 use std::sync::ledger::Ledger;
 use tx_meaning::Outcome;
-use tx_run::Run;
-use tx_schedule::{Home, Lend, Machine, NoMemory};
+use tx_schedule::{Home, Lend, Machine, NoMemory, Run};
 
 /// A ledger that is not opened yet.
 #[derive(Drop)]

@@ -9,4 +9,4 @@ mod turns;
 pub use board::{Blank, Board, Raced, Share};
 pub use finish::{finish_round, is_of_run, run_again};
 pub use turns::cpu_count;
-pub use tx_schedule::{Home, Lend, Machine, NoMemory};
+pub use tx_schedule::{Home, Lend, Machine, NoMemory, Run, RunStep};

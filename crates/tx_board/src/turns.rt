@@ -13,8 +13,7 @@ ghost use Rattle.tx_board.specs.Shares.{recorded_by, taken_in};
 
 use tx_journal::Event;
 use tx_meaning::Outcome;
-use tx_run::Run;
-use tx_schedule::{Home, Lend, Machine};
+use tx_schedule::{Home, Lend, Machine, Run};
 
 /// The number of CPUs of a machine.
 pub fn cpu_count(machine: &Machine) -> u32

@@ -16,7 +16,7 @@ use Rattle.z_instr.specs.Access.{accessible_pages, text_pages}
 use Rattle.z_instr.specs.Operands.{Span, spans_in, unspecified_in, inaccessible_in, tested_spans}
 use Rattle.z_instr.specs.Operands.{is_inside, is_stored_into, is_refused_service, where_wrong}
 use Rattle.z_instr.specs.Operands.{addressing, protection, operation}
-use Rattle.z_touch.specs.Refusals.{range_of}
+use Rattle.tx_serial.specs.Refusals.{range_of}
 use Rattle.tx_serial.specs.Flat.{Storage}
 use Rattle.tx_serial.specs.Attempt.{Run, at_rest}
 use Rattle.tx_serial.specs.Fate.{Goes, Passes, Refusal, fate, tests, first_refusal, excepted, depth_refusal}

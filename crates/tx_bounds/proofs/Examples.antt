@@ -36,7 +36,7 @@ use Rattle.tx_journal.specs.declared.entries.Entry.TheVariants.{Step, Commit, Ab
 use Rattle.tx_journal.specs.declared.events.Event.{Event}
 use Rattle.tx_journal.specs.declared.events.Event.TheVariants as event
 use Rattle.line_table.specs.Holders.{against}
-use Rattle.interrogate.specs.Replies.{reply}
+use Rattle.tx_keeping.specs.Replies.{reply}
 use Rattle.tx_serial.specs.Flat.{Storage, Pending, laid_over}
 use Rattle.tx_serial.specs.Fate.{cause_in}
 use Rattle.tx_serial.specs.History.{start_of}

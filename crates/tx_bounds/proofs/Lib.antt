@@ -22,3 +22,12 @@ pub mod Barred
 pub mod Paid
 pub mod News
 pub mod Heads
+-- what callers name of crates below
+pub use Rattle.tx_keeping.proofs.Asking
+pub use Rattle.tx_keeping.proofs.Events
+pub use Rattle.tx_keeping.proofs.Getting
+pub use Rattle.tx_keeping.proofs.Moves
+pub use Rattle.tx_keeping.proofs.Truth
+pub use Rattle.tx_keeping.proofs.Turning
+pub use Rattle.tx_progress.proofs.Quiet
+pub use Rattle.tx_serial.proofs.Entries

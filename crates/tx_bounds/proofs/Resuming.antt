@@ -19,7 +19,7 @@ use Rattle.tx_control.specs.declared.begins.Begin as opened
 use Rattle.tx_control.specs.declared.causes.Why.{Why}
 use Rattle.tx_control.specs.declared.causes.Why.TheVariants.{Program}
 use Rattle.tx_constraint.specs.Constraints.{Step}
-use Rattle.store_cache.specs.Overlay.{Store}
+use Rattle.tx_serial.specs.Overlay.{Store}
 use Rattle.tx_serial.specs.Flat.{FlatState}
 use Rattle.tx_serial.specs.Remains.{interrupted_after, pending_after, waiting_after}
 use Rattle.tx_serial.specs.Run.{run}

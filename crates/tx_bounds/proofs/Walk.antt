@@ -28,8 +28,8 @@ use Rattle.tx_ladder.specs.Rungs.{is_starved}
 use Rattle.tx_journal.specs.declared.events.Event.TheVariants as event
 use Rattle.line_table.specs.declared.table.Mode.{Mode}
 use Rattle.line_table.specs.Holders.{Holders, is_against, against}
-use Rattle.interrogate.specs.declared.kinds.Answer.{Answer}
-use Rattle.interrogate.specs.Replies.{cause_at}
+use Rattle.tx_keeping.specs.Answer.{Answer}
+use Rattle.tx_keeping.specs.Replies.{cause_at}
 use Rattle.tx_serial.specs.Flat.{Storage, Pending}
 use Rattle.tx_serial.specs.Fate.{Fate, Goes, Ends, Stops, Refusal, Excepts, Because, cause_in, fate_after}
 use Rattle.tx_serial.specs.Fate.{first_refusal, excepted, aborts_where, overflow_of, overflow_in}

@@ -5,3 +5,7 @@ pub mod Plans
 pub mod Quiet
 pub mod Blocks
 pub mod Going
+-- what callers name of crates below
+pub use Rattle.tx_attempt.specs.Storages
+pub use Rattle.tx_attempt.specs.Same
+pub use Rattle.tx_program.specs.Shapes

@@ -7,3 +7,5 @@ pub mod Stepping
 pub mod Machines
 pub mod Near
 pub mod Kept
+-- what callers name of crates below
+pub use Rattle.tx_private.proofs.Laid

@@ -13,5 +13,6 @@ mod places;
 
 pub use footprint::{BLOCKS, Footprint, MOST_BLOCKS, MOST_LINES, Overflow};
 pub use laws::{adds_in_turn, counts_a_line_once, has_the_places_of_its_addresses};
+pub use line_table::Mode;
 pub use places::{BLOCK_SIZE, LINE_SIZE};
 pub use z_regs::NoMemory;

@@ -8,10 +8,10 @@ use Rattle.tx_meaning.specs.State.{cpus_of}
 use Rattle.tx_meaning.specs.Stretches.{stretch_of}
 use Rattle.tx_meaning.specs.Turn.{happen}
 use Rattle.tx_meaning.specs.Views.{AreKnown}
-use Rattle.tx_keeping.specs.Kept.{Kept}
-use Rattle.tx_keeping.specs.Keeping.{keeping}
-use Rattle.tx_keeping.specs.Turn.{k_happen}
-use Rattle.tx_keeping.proofs.Events.{keeping_is, keeping_good}
+use Rattle.tx_bounds.specs.Kept.{Kept}
+use Rattle.tx_bounds.specs.Keeping.{keeping}
+use Rattle.tx_bounds.specs.Turn.{k_happen}
+use Rattle.tx_bounds.proofs.Events.{keeping_is, keeping_good}
 use Rattle.tx_bounds.proofs.OwnTurns.{After}
 use Rattle.tx_bounds.proofs.Stopped.{between, some_stop}
 use Rattle.tx_bounds.proofs.Stretched.{after_event, held_over, some_starve, cost_of, most_of}

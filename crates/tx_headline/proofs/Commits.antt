@@ -19,12 +19,12 @@ use Rattle.tx_meaning.specs.Stretches.{is_counted_turn}
 use Rattle.tx_meaning.specs.Stretches.{is_interrupted_by, ends_transaction, is_end_of, bound}
 use Rattle.tx_meaning.specs.Stretches.{new_entries}
 use Rattle.tx_meaning.specs.Turn.{happen}
-use Rattle.tx_keeping.specs.Kept.{Kept}
-use Rattle.tx_keeping.specs.Keeping.{keeping}
-use Rattle.tx_keeping.specs.Turn.{k_happen, k_idle}
+use Rattle.tx_bounds.specs.Kept.{Kept}
+use Rattle.tx_bounds.specs.Keeping.{keeping}
+use Rattle.tx_bounds.specs.Turn.{k_happen, k_idle}
 use Rattle.tx_meaning.specs.Views.{AreKnown}
-use Rattle.tx_keeping.proofs.Events.{keeping_is, keeping_good, grows_only}
-use Rattle.tx_keeping.proofs.Turning.{idle_is}
+use Rattle.tx_bounds.proofs.Events.{keeping_is, keeping_good, grows_only}
+use Rattle.tx_bounds.proofs.Turning.{idle_is}
 use Rattle.tx_bounds.proofs.Stopped.{between, some_stop}
 use Rattle.tx_bounds.proofs.OwnEvents.{extra}
 use Rattle.tx_bounds.proofs.Stretched.{cost_of, held_over, some_starve, closes_at_an_end, ages_below}

@@ -17,11 +17,11 @@ use Rattle.tx_meaning.specs.Stretches.{ends_transaction, is_interrupted_by, is_c
 use Rattle.tx_meaning.specs.Stretches.{stretch_of, attempt_turns}
 use Rattle.tx_meaning.specs.Turn.{turn, happen}
 use Rattle.tx_meaning.proofs.Books.{unready_stays}
-use Rattle.tx_keeping.specs.Kept.{Kept}
-use Rattle.tx_keeping.specs.Keeping.{keeping}
-use Rattle.tx_keeping.specs.Turn.{k_happen}
+use Rattle.tx_bounds.specs.Kept.{Kept}
+use Rattle.tx_bounds.specs.Keeping.{keeping}
+use Rattle.tx_bounds.specs.Turn.{k_happen}
 use Rattle.tx_meaning.specs.Views.{AreKnown}
-use Rattle.tx_keeping.proofs.Events.{keeping_is}
+use Rattle.tx_bounds.proofs.Events.{keeping_is}
 use Rattle.tx_bounds.proofs.Meant.{StopsAt, stops}
 use Rattle.tx_bounds.proofs.OwnTurns.{After}
 use Rattle.tx_bounds.proofs.OwnEvents.{extra}

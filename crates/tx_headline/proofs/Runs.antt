@@ -6,9 +6,9 @@ use Rattle.tx_meaning.specs.Meaning.{meaning, meaning_from}
 use Rattle.tx_meaning.specs.State.{State, beginning}
 use Rattle.tx_meaning.specs.Stretches.{Stretch, closed, stretch_of, stretch_from, stretch_after}
 use Rattle.tx_meaning.specs.Turn.{happen}
-use Rattle.tx_keeping.specs.Kept.{Kept, kept_beginning}
-use Rattle.tx_keeping.specs.Keeping.{keeping, keeping_from}
-use Rattle.tx_keeping.specs.Turn.{k_happen}
+use Rattle.tx_bounds.specs.Kept.{Kept, kept_beginning}
+use Rattle.tx_bounds.specs.Keeping.{keeping, keeping_from}
+use Rattle.tx_bounds.specs.Turn.{k_happen}
 
 module _ (m : Setting) where
   pub meant_from : (events more : List Event) (s : State)

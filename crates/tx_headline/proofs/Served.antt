@@ -24,7 +24,7 @@ use Rattle.tx_meaning.specs.Turn.{turn, happen}
 use Rattle.tx_meaning.proofs.Books.{unready_stays, turn_booked, idle_or_not}
 use Rattle.tx_meaning.proofs.Queues.{only_the_head}
 use Rattle.tx_meaning.specs.Views.{AreKnown}
-use Rattle.tx_keeping.proofs.Events.{grows_only}
+use Rattle.tx_bounds.proofs.Events.{grows_only}
 use Rattle.tx_bounds.proofs.Stretched.{under_way}
 use Rattle.tx_bounds.proofs.Heads.{queue_is_open}
 use Rattle.tx_headline.specs.Queue.{HeadGoes, Stays, Leaves, GoesLast, others_before}

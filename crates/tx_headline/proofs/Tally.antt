@@ -16,19 +16,19 @@ use Rattle.tx_journal.specs.declared.entries.Entry.{Entry}
 use Rattle.tx_journal.specs.declared.entries.Entry.TheVariants.{Step, Commit, Abort, Tdb, Interrupt}
 use Rattle.tx_journal.specs.declared.events.Event.{Event}
 use Rattle.tx_journal.specs.declared.events.Event.TheVariants as event
-use Rattle.tx_progress.specs.Local.{Beside}
-use Rattle.tx_serial.specs.Flat.{at_put}
+use Rattle.tx_bounds.specs.Local.{Beside}
+use Rattle.tx_bounds.specs.Flat.{at_put}
 use Rattle.tx_meaning.specs.Limits.{Setting}
 use Rattle.tx_meaning.specs.State.{Numbers, State, is_live}
 use Rattle.tx_meaning.specs.Changes.{with_numbers, with_event, counting_turn, aborting}
 use Rattle.tx_meaning.specs.Stretches.{is_end_by, is_end_of, is_interrupted_by, left_by}
 use Rattle.tx_meaning.specs.declared.outcome.Outcome.{Outcome}
 use Rattle.tx_meaning.proofs.Walk.{at_put_kept, conflict_on}
-use Rattle.tx_keeping.specs.Kept.{Kept, with_state, with_beside}
-use Rattle.tx_keeping.specs.Moves.{k_asking, k_rejecting, k_rejected, k_aborting, k_starting, k_committing}
-use Rattle.tx_keeping.specs.Moves.{standing_after}
-use Rattle.tx_keeping.specs.Turn.{k_external, k_interrupting, k_happen, k_idle, k_turn, k_turn_where}
-use Rattle.tx_keeping.specs.Turn.{k_to_tail, next_address}
+use Rattle.tx_bounds.specs.Kept.{Kept, with_state, with_beside}
+use Rattle.tx_bounds.specs.Moves.{k_asking, k_rejecting, k_rejected, k_aborting, k_starting, k_committing}
+use Rattle.tx_bounds.specs.Moves.{standing_after}
+use Rattle.tx_bounds.specs.Turn.{k_external, k_interrupting, k_happen, k_idle, k_turn, k_turn_where}
+use Rattle.tx_bounds.specs.Turn.{k_to_tail, next_address}
 use Rattle.tx_bounds.proofs.Walk.{Walk, IsOwn, in_a_turn}
 use Rattle.tx_bounds.proofs.News.{aborted_history}
 use Rattle.tx_bounds.proofs.OtherTurns.{aborted_dead, aborted_elsewhere, same_left, conflict_counts}
@@ -36,7 +36,7 @@ use Rattle.tx_bounds.proofs.Paid.{left_now, left_of}
 use Rattle.tx_bounds.proofs.Potential.{left_below, left_at}
 use Rattle.tx_headline.specs.Since.{is_conflict, is_conflict_abort_of, is_other_abort_of}
 use Rattle.tx_headline.proofs.Lists.{none_more}
-use Rattle.tx_serial.proofs.Entries.{at_put_other, at_put_same}
+use Rattle.tx_bounds.proofs.Entries.{at_put_other, at_put_same}
 use Rattle.std.proofs.Math.Bool.{and-false}
 
 -- none of the entries since ends a transaction of the CPU

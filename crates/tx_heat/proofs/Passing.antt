@@ -10,7 +10,7 @@ use Rattle.z_regs.specs.declared.ranges.Range.{Range}
 use Rattle.tx_progress.proofs.Parts.{not_live}
 use Rattle.tx_meaning.specs.Limits.{Setting}
 use Rattle.tx_meaning.specs.State.{State, is_live, attempt_of}
-use Rattle.tx_works.specs.Wanted.{wanted}
+use Rattle.tx_schedule.specs.Wanted.{wanted}
 use Rattle.tx_heat.specs.Marks.{AreMarksOf}
 use Rattle.tx_heat.specs.Octowords.{are_apart}
 use Rattle.tx_heat.specs.Watched.{Tracked, IsUnused, IsTrack, AreTracks, SpeaksFor, Passes, StaysBeside}

@@ -37,8 +37,8 @@ use Rattle.tx_keeping.proofs.Asking.{Keeps}
 use Rattle.tx_keeping.proofs.Events.{keeping_is, keeping_good, views_kept}
 use Rattle.tx_keeping.proofs.Truth.{Truth, flat_is, attempt_is}
 use Rattle.tx_keeping.proofs.Turning.{own_stays, own_fate, happen_ok}
-use Rattle.tx_opacity.proofs.Others.{Left, others_turn, others_interruption}
-use Rattle.tx_works.specs.Wanted.{wanted, wanted_by, real_ranges, operands_of}
+use Rattle.tx_schedule.proofs.Others.{Left, others_turn, others_interruption}
+use Rattle.tx_schedule.specs.Wanted.{wanted, wanted_by, real_ranges, operands_of}
 use Rattle.tx_heat.proofs.Begun.{first_touches_nothing}
 use Rattle.tx_heat.proofs.Went.{More, Went, Over, Same, Further, own_turn, own_interruption, completed}
 

@@ -38,8 +38,8 @@ use Rattle.tx_keeping.proofs.Truth.{Truth}
 use Rattle.tx_keeping.proofs.Moves.{IsGood, restated, one_number}
 use Rattle.tx_keeping.proofs.Asking.{Keeps, keeps_then, keeps_restated}
 use Rattle.tx_keeping.proofs.Getting.{lines_got}
-use Rattle.tx_bounds.proofs.OtherTurns.{aborted_dead}
-use Rattle.tx_opacity.proofs.Own.{Saw}
+use Rattle.tx_schedule.proofs.OtherTurns.{aborted_dead}
+use Rattle.tx_schedule.proofs.Own.{Saw}
 use Rattle.tx_serial.proofs.Entries.{at_put_same}
 
 abbrev pub completed : Kept → ℕ → ℕ

@@ -17,7 +17,7 @@ use Rattle.tx_meaning.specs.Limits.{Setting}
 use Rattle.tx_meaning.specs.State.{State, beginning, attempt_of}
 use Rattle.tx_meaning.specs.Turn.{happen}
 use Rattle.tx_meaning.specs.declared.asking.Reject.{Reject}
-use Rattle.tx_works.specs.Wanted.{wanted}
+use Rattle.tx_schedule.specs.Wanted.{wanted}
 use Rattle.tx_heat.specs.Octowords.{are_apart}
 
 -- The CPU that asks, the CPU that holds, and the line; whether the request was rejected, else the holder's

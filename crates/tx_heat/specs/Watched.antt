@@ -14,7 +14,7 @@ use Rattle.tx_meaning.specs.Meaning.{IsSetting, meaning}
 use Rattle.tx_meaning.specs.Views.{AreKnown}
 use Rattle.tx_meaning.specs.State.{State, is_live, attempt_of}
 use Rattle.tx_schedule.specs.Machine.{Seen, setting_of, state_of}
-use Rattle.tx_works.specs.Wanted.{wanted}
+use Rattle.tx_schedule.specs.Wanted.{wanted}
 use Rattle.tx_heat.specs.Conflicts.{Conflict, conflicts}
 use Rattle.tx_heat.specs.Heats.{line_heat}
 use Rattle.tx_heat.specs.Marks.{Marks, AreMarksOf}

@@ -10,7 +10,7 @@ ghost use Rattle.tx_meaning.specs.Meaning.{IsSetting, is_external};
 ghost use Rattle.tx_meaning.specs.Views.{GoesOnWith};
 ghost use Rattle.tx_meaning.specs.State.{State, beginning, is_live, attempt_of};
 ghost use Rattle.tx_schedule.specs.Machine.{setting_of, state_of, event_of, after};
-ghost use Rattle.tx_works.specs.Wanted.{wanted};
+ghost use Rattle.tx_schedule.specs.Wanted.{wanted};
 ghost use Rattle.tx_heat.specs.Conflicts.{Conflict, line_of_cause, abort_of, reject_of};
 ghost use Rattle.tx_heat.specs.Conflicts.{conflict, conflict_where, aborts_by, conflicts_in};
 ghost use Rattle.tx_heat.specs.Octowords.{are_apart};

@@ -3,7 +3,7 @@ ghost use Rattle.std.specs.Prelude.{◌≡◌, ◌<◌, ◌++◌, [], List, All,
 ghost use Rattle.z_regs.specs.declared.ranges.Range.{Range};
 ghost use Rattle.line_table.specs.Sizes.{storage_lines};
 ghost use Rattle.tx_schedule.specs.Machine.{setting_of, state_of};
-ghost use Rattle.tx_works.specs.Wanted.{wanted};
+ghost use Rattle.tx_schedule.specs.Wanted.{wanted};
 ghost use Rattle.tx_heat.specs.Marks.{AreMarksOf};
 ghost use Rattle.tx_heat.specs.Octowords.{are_apart};
 ghost use Rattle.tx_heat.specs.Watched.{AreInside, IsUnused};

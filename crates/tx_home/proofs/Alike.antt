@@ -8,17 +8,17 @@ use Rattle.std.proofs.lemmas.Bool.Decides.{nat_tests}
 use Rattle.std.proofs.lemmas.Nat.{div-add-mod', mod-mul-add}
 use Rattle.line_table.specs.declared.table.Mode.{Mode}
 use Rattle.tx_journal.specs.Content.{Content}
-use Rattle.tx_serial.specs.Apply.{is_running}
-use Rattle.tx_serial.specs.History.{start_of}
-use Rattle.tx_cpu.specs.Parts.{local_of}
-use Rattle.tx_lending.specs.Stranger.{GoesOnLike, SeeAlike}
+use Rattle.tx_meaning.specs.Apply.{is_running}
+use Rattle.tx_meaning.specs.History.{start_of}
+use Rattle.tx_works.specs.Parts.{local_of}
+use Rattle.tx_works.specs.Stranger.{GoesOnLike, SeeAlike}
 use Rattle.tx_works.specs.Marks.{mode_in}
 use Rattle.tx_works.specs.Own.{given, is_touched}
 use Rattle.tx_works.specs.Traces.{is_paged}
 use Rattle.tx_meaning.specs.Asking.{is_there}
 use Rattle.tx_meaning.specs.Limits.{RunLimits}
 use Rattle.tx_meaning.specs.Turn.{is_tick}
-use Rattle.tx_keeping.specs.Kept.{Kept}
+use Rattle.tx_works.specs.Kept.{Kept}
 use Rattle.tx_works.specs.RunLent.{Lent}
 use Rattle.tx_works.specs.RunMade.{AgreeOnPages}
 use Rattle.tx_home.specs.Places.{fits}

@@ -1,11 +1,11 @@
 -- What a CPU and the lines have become by so many turns, in what is kept.
 use Rattle.std.proofs.Common.{◌≡◌, ℕ, ◌+◌, ◌<◌, length, set, sym, ap, subst, ◌∙◌}
-use Rattle.tx_serial.specs.Flat.{at_put}
-use Rattle.tx_progress.specs.Local.{Beside}
+use Rattle.tx_meaning.specs.Flat.{at_put}
+use Rattle.tx_works.specs.Local.{Beside}
 use Rattle.tx_works.specs.Owned.{Owned, holders_in, with_lines}
 use Rattle.tx_works.specs.declared.slot.Tally.{Tally}
 use Rattle.tx_works.specs.Works.{Seat, Works, seats_of, kept_by}
-use Rattle.tx_keeping.specs.Kept.{beside}
+use Rattle.tx_works.specs.Kept.{beside}
 use Rattle.tx_works.proofs.Seats.{IsAt, put-is, seat-is, beside-is}
 use Rattle.tx_works.proofs.Tables.{put_as_is}
 use Rattle.tx_home.specs.Taken.{left_by}

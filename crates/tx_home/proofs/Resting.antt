@@ -1,8 +1,8 @@
 -- Attempts of two CPUs of which neither has a live one.
 use Rattle.std.proofs.Common.{◌≡◌, None, sym, ap, subst, ◌∙◌}
-use Rattle.tx_progress.specs.Progress.{Progress, resting}
-use Rattle.tx_attempt.specs.Same.{AreSameAttempts, AreSameConstraints}
-use Rattle.tx_lending.specs.Stranger.{GoesOnLike}
+use Rattle.tx_works.specs.Progress.{Progress, resting}
+use Rattle.tx_works.specs.Same.{AreSameAttempts, AreSameConstraints}
+use Rattle.tx_works.specs.Stranger.{GoesOnLike}
 
 -- nothing is left of an earlier one, so both are the same
 pub resting-same : (p q : Progress) → p ≡ resting p.cpu → q ≡ resting q.cpu → AreSameAttempts p q

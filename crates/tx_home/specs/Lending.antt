@@ -2,13 +2,13 @@
 use Rattle.std.specs.Prelude.{length, ◌≡◌, ℕ, ◌+◌, ◌-◌, ◌%◌, Bool, ◌||◌, not, is_some, nat_eq, nat_lt, min, if◌then◌else◌}
 use Rattle.std.specs.Prelude.{List, Option, Some, None}
 use Rattle.std.specs.Option.{option_or}
-use Rattle.tx_cpu.specs.Parts.{local_of}
+use Rattle.tx_works.specs.Parts.{local_of}
 use Rattle.tx_works.specs.Own.{bytes_at}
 use Rattle.tx_works.specs.Marks.{mode_in}
 use Rattle.tx_meaning.specs.Limits.{RunLimits, Setting}
 use Rattle.tx_meaning.specs.Turn.{is_tick}
-use Rattle.tx_keeping.specs.Kept.{Kept}
-use Rattle.tx_keeping.specs.Turn.{k_idle}
+use Rattle.tx_works.specs.Kept.{Kept}
+use Rattle.tx_works.specs.Turn.{k_idle}
 use Rattle.tx_works.specs.LinesLent.{with_lines_of}
 use Rattle.tx_works.specs.RunLent.{Lent}
 use Rattle.tx_home.specs.Places.{attempt_of}

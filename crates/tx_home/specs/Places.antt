@@ -5,18 +5,18 @@ use Rattle.std.specs.List.{list_any, range_with_len}
 use Rattle.line_table.specs.declared.table.Mode.{Mode}
 use Rattle.line_table.specs.declared.table.Mode.TheVariants.{Shared, Exclusive}
 use Rattle.z_regs.specs.Cpu.{Cpu}
-use Rattle.tx_serial.specs.Apply.{is_running}
-use Rattle.tx_serial.specs.Flat.{Storage}
-use Rattle.tx_progress.specs.Local.{Local}
-use Rattle.tx_progress.specs.Progress.{seen_through}
-use Rattle.tx_cpu.specs.Parts.{local_of}
-use Rattle.tx_attempt.specs.Same.{AreSameAttempts}
+use Rattle.tx_meaning.specs.Apply.{is_running}
+use Rattle.tx_meaning.specs.Flat.{Storage}
+use Rattle.tx_works.specs.Local.{Local}
+use Rattle.tx_works.specs.Progress.{seen_through}
+use Rattle.tx_works.specs.Parts.{local_of}
+use Rattle.tx_works.specs.Same.{AreSameAttempts}
 use Rattle.tx_works.specs.Own.{given, is_touched}
 use Rattle.tx_works.specs.Marks.{Marks, mode_in}
 use Rattle.tx_works.specs.Traces.{is_paged}
 use Rattle.tx_meaning.specs.Limits.{RunLimits}
 use Rattle.tx_meaning.specs.State.{Numbers}
-use Rattle.tx_keeping.specs.Kept.{Kept}
+use Rattle.tx_works.specs.Kept.{Kept}
 use Rattle.tx_works.specs.RunLent.{Lent}
 use Rattle.tx_home.specs.declared.place.Place.{Place}
 use Rattle.tx_home.specs.declared.place.Place.TheVariants as place

@@ -1,17 +1,17 @@
 -- What a run has to agree in with its machine to be taken, and what is taken.
 use Rattle.std.specs.Prelude.{◌≡◌, ℕ, ◌+◌, ◌≤◌, ◌++◌, Bool, true, List, [], length, replicate}
 use Rattle.tx_journal.specs.declared.events.Event.TheVariants.{Turn}
-use Rattle.tx_serial.specs.Flat.{at_put}
-use Rattle.tx_progress.specs.Local.{Local, Beside}
-use Rattle.tx_cpu.specs.Parts.{local_of}
+use Rattle.tx_meaning.specs.Flat.{at_put}
+use Rattle.tx_works.specs.Local.{Local, Beside}
+use Rattle.tx_works.specs.Parts.{local_of}
 use Rattle.tx_works.specs.Marks.{mode_in}
 use Rattle.tx_works.specs.Own.{given, is_touched}
 use Rattle.tx_works.specs.Traces.{is_paged}
-use Rattle.tx_lending.specs.Stranger.{GoesOnLike, SeeAlike}
-use Rattle.tx_lending.specs.Turns.{MayMake, steps_of}
+use Rattle.tx_works.specs.Stranger.{GoesOnLike, SeeAlike}
+use Rattle.tx_works.specs.Turns.{MayMake, steps_of}
 use Rattle.tx_meaning.specs.Limits.{RunLimits, Setting}
 use Rattle.tx_meaning.specs.State.{Numbers}
-use Rattle.tx_keeping.specs.Kept.{Kept, text_of, with_beside, with_state}
+use Rattle.tx_works.specs.Kept.{Kept, text_of, with_beside, with_state}
 use Rattle.tx_works.specs.RunLent.{Lent}
 use Rattle.tx_works.specs.RunMade.{AgreeOnPages}
 use Rattle.tx_works.specs.Works.{Works}

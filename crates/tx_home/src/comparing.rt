@@ -1,20 +1,19 @@
 //! What a run that comes home has started from, compared with the CPU as its machine has it now.
 ghost use Rattle.std.specs.Prelude.{◌≡◌, ◌≤◌, true, None, IsTrue, ◌↔◌};
 ghost use Rattle.z_regs.specs.Cpu.{cpu_of};
-ghost use Rattle.tx_serial.specs.Apply.{is_running};
-ghost use Rattle.tx_attempt.specs.Same.{AreSameAttempts};
-ghost use Rattle.tx_cpu.specs.Parts.{local_of};
-ghost use Rattle.tx_lending.specs.Stranger.{GoesOnLike};
+ghost use Rattle.tx_meaning.specs.Apply.{is_running};
+ghost use Rattle.tx_works.specs.Same.{AreSameAttempts};
+ghost use Rattle.tx_works.specs.Parts.{local_of};
+ghost use Rattle.tx_works.specs.Stranger.{GoesOnLike};
 ghost use Rattle.tx_works.specs.Works.{numbers_of};
 ghost use Rattle.tx_home.specs.Places.{at, fits, may_go, turns_kept, attempt_of, head_of, prefix_value};
 ghost use Rattle.tx_home.specs.Places.{in_general, in_access, in_status, in_registers, in_numbers};
 ghost use Rattle.tx_home.specs.Taken.{AreAlikeInNumbers};
 
 use crate::place::{Place, Unlike};
-use tx_cpu::Cpu;
 use tx_ladder::StopQueue;
 use tx_meaning::Limits;
-use tx_works::{Run, Slot};
+use tx_works::{Cpu, Run, Slot};
 use z_regs::{CpuImage, RunState};
 
 /// What the machine's value of a place has added where the turns of a run can't be made.

@@ -2,12 +2,12 @@
 ghost use Rattle.std.specs.Prelude.{◌≡◌, ◌≢◌, ℕ, suc, ◌+◌, ◌<◌, ◌≤◌, ◌++◌, true, None, length, replicate};
 ghost use Rattle.std.specs.FinSet.{items};
 ghost use Rattle.tx_journal.specs.declared.events.Event.TheVariants.{Turn};
-ghost use Rattle.tx_cpu.specs.Parts.{local_of};
-ghost use Rattle.tx_lending.specs.Stranger.{GoesOnLike};
+ghost use Rattle.tx_works.specs.Parts.{local_of};
+ghost use Rattle.tx_works.specs.Stranger.{GoesOnLike};
 ghost use Rattle.tx_meaning.specs.Limits.{Setting};
 ghost use Rattle.tx_meaning.specs.declared.outcome.Outcome.TheVariants.{Executed};
-ghost use Rattle.tx_keeping.specs.Keeping.{keeping_from};
-ghost use Rattle.tx_keeping.specs.Turn.{k_happen, k_turned};
+ghost use Rattle.tx_works.specs.Keeping.{keeping_from};
+ghost use Rattle.tx_works.specs.Turn.{k_happen, k_turned};
 ghost use Rattle.tx_works.specs.Works.{Seat, IsSameSize, kept_by};
 ghost use Rattle.tx_home.specs.Places.{IsFirstUnlike, unlike_by};
 ghost use Rattle.tx_home.specs.Taken.{HasRoomFor, MayTake};
@@ -16,10 +16,8 @@ use crate::comparing::{same_attempt, unlike_numbers, unlike_registers};
 use crate::place::Unlike;
 use crate::storage::unlike_in_storage;
 use crate::taking::take;
-use tx_cpu::Program;
-use tx_lending::laws::lent_turns_are_turns;
 use tx_meaning::Limits;
-use tx_works::{Run, Works};
+use tx_works::{Program, Run, Works, lent_turns_are_turns};
 
 /// The first place in which a run differs from its machine, where the attempt of the CPU is the same as that from which the
 /// run has started, or not.

@@ -1,7 +1,7 @@
 //! A CPU is lent.
 ghost use Rattle.std.specs.Prelude.{◌≡◌, ℕ, ◌+◌, ◌<◌, ◌≤◌, ◌^◌, true, Some, None, length, if◌then◌else◌};
 ghost use Rattle.tx_journal.specs.Content.{Content};
-ghost use Rattle.tx_serial.specs.Apply.{is_running};
+ghost use Rattle.tx_meaning.specs.Apply.{is_running};
 ghost use Rattle.tx_meaning.specs.Limits.{RunLimits};
 ghost use Rattle.tx_works.specs.Works.{Seat, kept_by};
 ghost use Rattle.tx_home.specs.Lending.{has_some, own_refusal, refusal_of, allowance_of, IsLentBy};

@@ -12,4 +12,4 @@ pub mod taking;
 pub use homing::home;
 pub use lending::{Refusal, allowance, lend, why_kept};
 pub use place::{Place, Unlike};
-pub use tx_works::{Lines, Room, Run, Slot, Tally, Works};
+pub use tx_works::{Cpu, Lines, Program, Reason, Room, Run, RunStep, Slot, Tally, Works};

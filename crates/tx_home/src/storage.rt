@@ -3,8 +3,8 @@ ghost use Rattle.std.specs.Prelude.{◌≡◌, ℕ, ◌<◌, None, Some, true, i
 ghost use Rattle.std.specs.FinSet.{items};
 ghost use Rattle.std.specs.List.{list_any};
 ghost use Rattle.line_table.specs.declared.table.Mode.{Mode};
-ghost use Rattle.tx_cpu.specs.Parts.{local_of};
-ghost use Rattle.tx_lending.specs.Stranger.{SeeAlike};
+ghost use Rattle.tx_works.specs.Parts.{local_of};
+ghost use Rattle.tx_works.specs.Stranger.{SeeAlike};
 ghost use Rattle.tx_works.specs.Owned.{holders_in, storage_in};
 ghost use Rattle.tx_works.specs.Marks.{mode_in};
 ghost use Rattle.tx_works.specs.Own.{given, is_touched};
@@ -17,8 +17,7 @@ ghost use Rattle.tx_home.specs.declared.place.Place.TheVariants.{Text};
 use crate::comparing::at;
 use crate::place::{Place, Unlike};
 use line_table::Mode;
-use tx_cpu::{Cpu, Program};
-use tx_works::{Lines, Run};
+use tx_works::{Cpu, Lines, Program, Run};
 use z_regs::Guard;
 
 /// A mode as a number.

@@ -1,16 +1,16 @@
 //! The turns of a run, as turns of its machine's CPU.
 ghost use Rattle.std.specs.Prelude.{◌≡◌, ℕ, ◌+◌, ◌*◌, ◌<◌, ◌≤◌, ◌++◌, List, length, replicate, vec_len, vec_capacity};
 ghost use Rattle.tx_journal.specs.declared.events.Event.TheVariants.{Turn};
-ghost use Rattle.tx_cpu.specs.Parts.{local_of};
-ghost use Rattle.tx_lending.specs.Away.{GoAway, ran};
-ghost use Rattle.tx_lending.specs.Stranger.{GoesOnLike, SeeAlike};
-ghost use Rattle.tx_lending.specs.Turns.{steps_of, with_turns};
+ghost use Rattle.tx_works.specs.Parts.{local_of};
+ghost use Rattle.tx_works.specs.Away.{GoAway, ran};
+ghost use Rattle.tx_works.specs.Stranger.{GoesOnLike, SeeAlike};
+ghost use Rattle.tx_works.specs.Turns.{steps_of, with_turns};
 ghost use Rattle.tx_works.specs.Marks.{mode_in};
 ghost use Rattle.tx_works.specs.Own.{given, is_touched};
 ghost use Rattle.tx_works.specs.Traces.{is_paged};
 ghost use Rattle.tx_meaning.specs.Limits.{turn_limit};
 ghost use Rattle.tx_meaning.specs.State.{is_live};
-ghost use Rattle.tx_keeping.specs.Kept.{beside};
+ghost use Rattle.tx_works.specs.Kept.{beside};
 ghost use Rattle.tx_works.specs.RunMade.{AgreeOnPages};
 ghost use Rattle.tx_works.specs.Works.{Seat, IsSameSize, kept_by};
 ghost use Rattle.tx_home.specs.Taken.{HasRoomFor, with_turns_noted, left_by};

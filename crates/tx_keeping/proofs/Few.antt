@@ -31,7 +31,7 @@ use Rattle.z_instr.specs.declared.operand.Operands.TheVariants.{FetchedSelected,
 use Rattle.z_instr.specs.declared.operand.Operands.TheVariants.{StoredAndFetched}
 use Rattle.z_instr.specs.declared.operand.Operands.TheVariants.{BothFetched}
 use Rattle.z_instr.proofs.SmallOperands.{sizes}
-use Rattle.z_touch.specs.Refusals.{range_of}
+use Rattle.tx_serial.specs.Refusals.{range_of}
 use Rattle.tx_serial.specs.Attempt.{footprint}
 use Rattle.tx_serial.specs.Fate.{Goes, operands}
 use Rattle.tx_serial.specs.Flat.{FlatState}

@@ -79,7 +79,7 @@ use Rattle.tx_progress.proofs.Rows.{role_done}
 use Rattle.z_instr.specs.Roles.{is_end}
 use Rattle.tx_control.specs.declared.begins.Begin.{Begin}
 use Rattle.tx_control.specs.Codes.{fixed_point_overflow_code}
-use Rattle.store_cache.specs.Overlay.{Store}
+use Rattle.tx_serial.specs.Overlay.{Store}
 use Rattle.tx_serial.specs.Ending.{outcome_cause}
 use Rattle.tx_serial.specs.Fate.{cause_in}
 use Rattle.tx_serial.specs.Flat.{operand_bytes, operand_stores, laid_over}

@@ -8,7 +8,7 @@ use Rattle.std.proofs.lemmas.List.Folds.{list_any-append}
 use Rattle.z_regs.specs.Prefix.{is_prefix}
 use Rattle.z_regs.specs.Absolute.{absolute_range, absolute_ranges}
 use Rattle.z_regs.specs.declared.ranges.Range.{Range}
-use Rattle.store_cache.specs.Overlay.{Overlay, Store, with_one}
+use Rattle.tx_serial.specs.Overlay.{Overlay, Store, with_one}
 use Rattle.tx_footprint.specs.Sizes.{line_size}
 use Rattle.tx_footprint.specs.Places.{has_place, stores}
 use Rattle.tx_serial.specs.Flat.{Storage, at_put, laid_over, operand_stores, stores_at, with_bytes_at}

@@ -5,3 +5,6 @@ pub mod Asking
 pub mod Turn
 pub mod Keeping
 pub mod Told
+-- what callers name of crates below
+pub use Rattle.interrogate.specs.Replies
+pub use Rattle.interrogate.specs.declared.kinds.Answer

@@ -2,7 +2,7 @@
 use Rattle.std.specs.Prelude.{◌≡◌, ℕ, ◌/◌, ◌&&◌, not, nat_eq, is_some, if◌then◌else◌, List, Option}
 use Rattle.std.specs.List.{list_any}
 use Rattle.line_table.specs.declared.table.Mode.{Mode}
-use Rattle.tx_serial.specs.Flat.{Storage}
+use Rattle.tx_meaning.specs.Flat.{Storage}
 use Rattle.tx_run.specs.Own.{bytes_at}
 use Rattle.tx_run.specs.Marks.{mode_in}
 use Rattle.tx_run.specs.Lent.{Lent, IsFor}

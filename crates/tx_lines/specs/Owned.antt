@@ -2,9 +2,9 @@
 use Rattle.std.specs.Prelude.{ℕ, List, get_or, Option}
 use Rattle.line_table.specs.declared.table.Mode.{Mode}
 use Rattle.line_table.specs.Holders.{Holders, mode_in}
-use Rattle.tx_serial.specs.Flat.{Storage}
-use Rattle.tx_progress.specs.Local.{Beside}
-use Rattle.tx_cpu.specs.Parts.{Parts, local_of}
+use Rattle.tx_meaning.specs.Flat.{Storage}
+use Rattle.tx_run.specs.Local.{Beside}
+use Rattle.tx_run.specs.Parts.{Parts, local_of}
 
 -- the bytes of storage, the number of CPUs, and the modes of the lines for one CPU after the other
 pub record Owned : Type 0 where

@@ -2,8 +2,8 @@
 ghost use Rattle.std.specs.Prelude.{◌≡◌, ◌≢◌, ℕ, ◌<◌, ◌/◌, length, true, List, None, IfSome};
 ghost use Rattle.line_table.specs.Sizes.{storage_lines};
 ghost use Rattle.z_regs.specs.Prefix.{storage_size};
-ghost use Rattle.tx_progress.specs.Progress.{seen_through};
-ghost use Rattle.tx_cpu.specs.Parts.{local_of};
+ghost use Rattle.tx_run.specs.Progress.{seen_through};
+ghost use Rattle.tx_run.specs.Parts.{local_of};
 ghost use Rattle.tx_run.specs.Away.{GoAway, ran};
 ghost use Rattle.tx_run.specs.Stranger.{GoesOnLike, SeeAlike};
 ghost use Rattle.tx_run.specs.Own.{given, is_touched, line_bytes};
@@ -16,9 +16,8 @@ ghost use Rattle.tx_lines.specs.Owned.{holders_in, storage_in, with_lines};
 use crate::lines::Lines;
 use crate::windows::bring_in;
 use std::marker::Brand;
-use tx_cpu::Cpu;
 use tx_meaning::Need;
-use tx_run::{Difference, Run};
+use tx_run::{Cpu, Difference, Run};
 
 impl Lines {
     /// The bytes of a line.

@@ -8,5 +8,8 @@ pub mod lines;
 mod windows;
 
 pub use lines::Lines;
-pub use tx_run::{Room, Run};
+pub use tx_run::{
+    Cpu, Done, Plain, Plan, Program, Reason, Room, Run, RunStep, Shape, Touch,
+    lent_turns_are_turns, operands_at,
+};
 pub use z_regs::NoMemory;

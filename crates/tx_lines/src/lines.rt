@@ -7,11 +7,11 @@ ghost use Rattle.line_table.specs.Holders.{nobody, holding, against, is_against,
 ghost use Rattle.tx_footprint.specs.Touched.{sets_of};
 ghost use Rattle.tx_meaning.specs.Asking.{is_there};
 ghost use Rattle.tx_meaning.specs.Changes.{left_to, granting, spare_line, is_spare, has_room, giving_up};
-ghost use Rattle.tx_progress.specs.Local.{aborted, block_stored, interruption_taken};
-ghost use Rattle.tx_progress.specs.Doing.{executed};
-ghost use Rattle.tx_progress.specs.Progress.{is_live};
-ghost use Rattle.tx_cpu.specs.Parts.{local_of};
-ghost use Rattle.tx_cpu.specs.Plans.{HasRoom, HasDoneRoom, IsPrepared};
+ghost use Rattle.tx_run.specs.Local.{aborted, block_stored, interruption_taken};
+ghost use Rattle.tx_run.specs.Doing.{executed};
+ghost use Rattle.tx_run.specs.Progress.{is_live};
+ghost use Rattle.tx_run.specs.Parts.{local_of};
+ghost use Rattle.tx_run.specs.Plans.{HasRoom, HasDoneRoom, IsPrepared};
 ghost use Rattle.tx_lines.specs.Owned.{Owned, holders_in, with_lines};
 ghost use Rattle.tx_lines.specs.Spare.{is_unused, lowest_spare, granted};
 ghost use Rattle.tx_lines.specs.Next.{next_against, stands_against};
@@ -22,9 +22,9 @@ use line_table::{MOST_HELD, Mode};
 use std::alloc::Global;
 use std::marker::{Brand, Model};
 use tx_control::Why;
-use tx_cpu::{Cpu, Done};
 use tx_footprint::Footprint;
 use tx_meaning::Need;
+use tx_run::{Cpu, Done};
 use z_instr::instr::Instr;
 use z_regs::{NoMemory, Touches};
 

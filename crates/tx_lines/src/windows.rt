@@ -2,11 +2,11 @@
 //! changes.
 ghost use Rattle.std.specs.Prelude.{◌≡◌, ℕ, ◌<◌, List, false, true, ◌+◌, ◌^◌};
 ghost use Rattle.line_copies.specs.Seen.{holdings_of};
-ghost use Rattle.tx_progress.specs.Local.{aborted, block_stored, interruption_taken};
-ghost use Rattle.tx_progress.specs.Doing.{executed};
-ghost use Rattle.tx_progress.specs.Progress.{is_live, seen_through};
-ghost use Rattle.tx_cpu.specs.Parts.{local_of, beside};
-ghost use Rattle.tx_cpu.specs.Plans.{HasRoom, HasDoneRoom, IsPrepared};
+ghost use Rattle.tx_run.specs.Local.{aborted, block_stored, interruption_taken};
+ghost use Rattle.tx_run.specs.Doing.{executed};
+ghost use Rattle.tx_run.specs.Progress.{is_live, seen_through};
+ghost use Rattle.tx_run.specs.Parts.{local_of, beside};
+ghost use Rattle.tx_run.specs.Plans.{HasRoom, HasDoneRoom, IsPrepared};
 ghost use Rattle.tx_run.specs.Away.{GoAway, ran};
 ghost use Rattle.tx_run.specs.Stranger.{GoesOnLike, SeeAlike};
 ghost use Rattle.tx_run.specs.Own.{bytes_at, given, is_touched};
@@ -16,8 +16,7 @@ ghost use Rattle.tx_run.specs.Made.{AgreeOnPages};
 
 use line_copies::{CoherentLines, Handback, Held, Window};
 use tx_control::Why;
-use tx_cpu::{Cpu, Done};
-use tx_run::Run;
+use tx_run::{Cpu, Done, Run};
 use z_instr::instr::Instr;
 use z_regs::Touches;
 

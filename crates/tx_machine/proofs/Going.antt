@@ -21,16 +21,16 @@ use Rattle.std.proofs.lemmas.Nat.{mul-le}
 use Rattle.bit_set.proofs.Counts.{count_agree}
 use Rattle.line_table.specs.Sizes.{storage_lines, held_limit}
 use Rattle.tx_ladder.specs.Waiting.{waits_in}
-use Rattle.tx_cpu.specs.Parts.{local_of}
+use Rattle.tx_home.specs.Parts.{local_of}
 use Rattle.tx_home.specs.Owned.{storage_in}
-use Rattle.tx_progress.specs.Progress.{resting}
-use Rattle.tx_progress.specs.Trial.{fate_by_progress}
+use Rattle.tx_home.specs.Progress.{resting}
+use Rattle.tx_home.specs.Trial.{fate_by_progress}
 use Rattle.tx_meaning.specs.declared.asking.Need.{Need}
 use Rattle.tx_meaning.specs.Changes.{is_needed}
 use Rattle.tx_meaning.specs.Idle.{idle_by, has_ended}
 use Rattle.tx_meaning.specs.Needs.{operand_needs, block_needs, interruption_needs}
-use Rattle.tx_keeping.specs.Kept.{text_of}
-use Rattle.tx_keeping.specs.Turn.{k_idle}
+use Rattle.tx_home.specs.Kept.{text_of}
+use Rattle.tx_home.specs.Turn.{k_idle}
 
 module _ (m : Setting) (w : Works) (remaining : ℕ) (s : Stands m w remaining) where
   pub owed_at_most : owed w (kept_by (nobody m) w) ≤ length w.events

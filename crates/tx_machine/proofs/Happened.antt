@@ -10,12 +10,12 @@ use Rattle.tx_journal.specs.declared.events.Event.TheVariants as event
 use Rattle.tx_meaning.specs.Limits.{Setting}
 use Rattle.tx_meaning.specs.Meaning.{is_external, meaning}
 use Rattle.tx_meaning.specs.Turn.{happen}
-use Rattle.tx_keeping.specs.Told.{turned_of}
-use Rattle.tx_keeping.proofs.Events.{happens_alike}
+use Rattle.tx_home.specs.Told.{turned_of}
+use Rattle.tx_home.proofs.Events.{happens_alike}
 use Rattle.tx_meaning.specs.State.{cpus_of}
-use Rattle.tx_keeping.specs.Kept.{Kept}
-use Rattle.tx_keeping.specs.Keeping.{keeping}
-use Rattle.tx_keeping.specs.Turn.{k_happen}
+use Rattle.tx_home.specs.Kept.{Kept}
+use Rattle.tx_home.specs.Keeping.{keeping}
+use Rattle.tx_home.specs.Turn.{k_happen}
 use Rattle.tx_home.specs.Works.{Works, IsSameSize, kept_by}
 use Rattle.tx_machine.specs.Machine.{Stands, IsLeft, nobody}
 use Rattle.tx_machine.proofs.Shown.{keeping_more, recorded, recorded_or_idle}

@@ -20,11 +20,11 @@ use Rattle.tx_meaning.specs.Turn.{Turned, happen, turned}
 use Rattle.tx_meaning.specs.Views.{AreKnown, GoesOnWith, KeepsViews}
 use Rattle.tx_meaning.specs.declared.outcome.Outcome.TheVariants.{Executed}
 use Rattle.tx_meaning.proofs.Books.{total, total_at_most, one_counted, counts_of, all_externals}
-use Rattle.tx_keeping.specs.Kept.{Kept, kept_beginning}
-use Rattle.tx_keeping.specs.Keeping.{keeping, keeping_from}
-use Rattle.tx_keeping.specs.Told.{turned_of}
-use Rattle.tx_keeping.specs.Turn.{k_happen, k_turned}
-use Rattle.tx_keeping.proofs.Events.{happens_alike, keeping_is, grows_only, views_kept}
+use Rattle.tx_home.specs.Kept.{Kept, kept_beginning}
+use Rattle.tx_home.specs.Keeping.{keeping, keeping_from}
+use Rattle.tx_home.specs.Told.{turned_of}
+use Rattle.tx_home.specs.Turn.{k_happen, k_turned}
+use Rattle.tx_home.proofs.Events.{happens_alike, keeping_is, grows_only, views_kept}
 use Rattle.tx_meaning.proofs.Walk.{at_put_case}
 use Rattle.tx_opacity.proofs.Heads.{heads_in_all}
 use Rattle.tx_opacity.specs.Opacity.{SeesOneRun}

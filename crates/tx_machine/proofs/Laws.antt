@@ -15,10 +15,10 @@ use Rattle.tx_meaning.specs.Stretches.{stretch_of, left, bound, attempt_turns, c
 use Rattle.tx_meaning.specs.Turn.{happen, interrupting}
 use Rattle.tx_meaning.proofs.Heads.{head_unrejected}
 use Rattle.tx_meaning.proofs.Queues.{queue_moves}
-use Rattle.tx_keeping.specs.Kept.{Kept}
-use Rattle.tx_keeping.specs.Turn.{k_happen}
+use Rattle.tx_home.specs.Kept.{Kept}
+use Rattle.tx_home.specs.Turn.{k_happen}
 use Rattle.tx_meaning.specs.Views.{GoesOnWith, KeepsViews, HoldsTouched}
-use Rattle.tx_keeping.proofs.Events.{legal, grows_only, views_kept, touched_held}
+use Rattle.tx_home.proofs.Events.{legal, grows_only, views_kept, touched_held}
 use Rattle.tx_meaning.specs.Heads.{head_turns}
 use Rattle.tx_opacity.proofs.Heads.{heads_in_all}
 use Rattle.tx_opacity.proofs.Meant.{stops}

@@ -9,3 +9,9 @@ pub mod Laws
 pub mod Places
 pub mod Homes
 pub mod Runner
+-- what callers name of crates below
+pub use Rattle.tx_opacity.proofs.Others
+pub use Rattle.tx_opacity.proofs.Own
+pub use Rattle.tx_headline.proofs.Recorded
+pub use Rattle.tx_opacity.proofs.Opaque
+pub use Rattle.tx_opacity.proofs.OtherTurns

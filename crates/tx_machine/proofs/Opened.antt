@@ -14,14 +14,14 @@ use Rattle.store_cache.specs.Entries.{stores_of, items_of}
 use Rattle.store_cache.specs.Stores.{lasting_bytes}
 use Rattle.tx_ladder.specs.Parameters.{Parameters}
 use Rattle.tx_serial.specs.History.{cpu_at, no_cpu, start_of}
-use Rattle.tx_progress.specs.Local.{Local, settled}
+use Rattle.tx_home.specs.Local.{Local, settled}
 use Rattle.tx_home.specs.Owned.{holders_in}
 use Rattle.tx_meaning.specs.Limits.{Setting}
 use Rattle.tx_meaning.specs.Meaning.{IsSetting, is_external}
 use Rattle.tx_meaning.specs.State.{cpus_of}
 use Rattle.tx_journal.specs.Image.{cpu_of_event}
-use Rattle.tx_keeping.specs.Kept.{kept_beginning}
-use Rattle.tx_keeping.specs.Keeping.{keeping, keeping_from}
+use Rattle.tx_home.specs.Kept.{kept_beginning}
+use Rattle.tx_home.specs.Keeping.{keeping, keeping_from}
 use Rattle.tx_machine.specs.Machine.{Stands, nobody, most_events}
 use Rattle.tx_home.specs.Works.{Seat, Works, kept_by, IsFitted}
 use Rattle.tx_machine.specs.Opened.{IsUnused, AreUnused, kept_of_seat}

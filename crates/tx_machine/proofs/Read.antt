@@ -3,11 +3,11 @@ use Rattle.std.proofs.Common.{◌≡◌, ℕ, Bool, true, false, Option, Some, N
 use Rattle.std.specs.Prelude.{◌&&◌, not, get_or, is_none}
 use Rattle.z_regs.specs.Cpu.{Cpu}
 use Rattle.tx_meaning.specs.Idle.{idle, is_finished, has_ended}
-use Rattle.tx_keeping.specs.Kept.{kept_finished}
-use Rattle.tx_keeping.specs.Turn.{k_idle}
-use Rattle.tx_keeping.proofs.Turning.{idle_is}
+use Rattle.tx_home.specs.Kept.{kept_finished}
+use Rattle.tx_home.specs.Turn.{k_idle}
+use Rattle.tx_home.proofs.Turning.{idle_is}
 use Rattle.tx_serial.specs.Flat.{FlatState}
-use Rattle.tx_cpu.specs.Parts.{local_of}
+use Rattle.tx_home.specs.Parts.{local_of}
 use Rattle.tx_home.specs.Owned.{storage_in}
 use Rattle.tx_meaning.specs.Limits.{Setting}
 use Rattle.tx_meaning.specs.Meaning.{meaning}
@@ -15,14 +15,14 @@ use Rattle.tx_meaning.specs.State.{State, flat_of, cpu_of}
 use Rattle.std.proofs.Common.{List, length}
 use Rattle.std.specs.Prelude.{if◌then◌else◌}
 use Rattle.tx_control.specs.declared.begins.Begin.{Begin}
-use Rattle.tx_cpu.specs.Plans.{levels_of}
+use Rattle.tx_home.specs.Plans.{levels_of}
 use Rattle.tx_meaning.specs.State.{is_live}
 use Rattle.tx_meaning.specs.Shown.{levels_at}
-use Rattle.tx_keeping.proofs.Truth.{flat_is, cpu_is, nest_is, attempt_is}
-use Rattle.tx_keeping.specs.Kept.{kept_flat, text_of}
-use Rattle.tx_progress.proofs.Parts.{followed_fate}
-use Rattle.tx_progress.specs.Progress.{Progress}
-use Rattle.tx_progress.specs.Reached.{progress_of}
+use Rattle.tx_home.proofs.Truth.{flat_is, cpu_is, nest_is, attempt_is}
+use Rattle.tx_home.specs.Kept.{kept_flat, text_of}
+use Rattle.tx_home.proofs.Parts.{followed_fate}
+use Rattle.tx_home.specs.Progress.{Progress}
+use Rattle.tx_home.specs.Reached.{progress_of}
 use Rattle.tx_serial.specs.Attempt.{Run}
 use Rattle.tx_serial.specs.Fate.{Fate, fate}
 use Rattle.tx_serial.specs.Run.{run}

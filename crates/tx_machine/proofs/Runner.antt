@@ -8,20 +8,20 @@ use Rattle.z_regs.specs.declared.image.RunState.{RunState}
 use Rattle.z_regs.specs.declared.image.RunState.TheVariants.{Running, Halted, Interrupted}
 use Rattle.tx_serial.specs.Apply.{is_running}
 use Rattle.tx_serial.specs.Flat.{Pending}
-use Rattle.tx_cpu.specs.Parts.{local_of}
-use Rattle.tx_progress.specs.Progress.{Progress}
-use Rattle.tx_progress.specs.Reached.{progress_of}
-use Rattle.tx_progress.proofs.Parts.{rests}
+use Rattle.tx_home.specs.Parts.{local_of}
+use Rattle.tx_home.specs.Progress.{Progress}
+use Rattle.tx_home.specs.Reached.{progress_of}
+use Rattle.tx_home.proofs.Parts.{rests}
 use Rattle.tx_meaning.specs.Idle.{has_ended, is_spent, kept_back}
 use Rattle.tx_meaning.specs.Limits.{Setting}
 use Rattle.tx_meaning.specs.Meaning.{IsSetting}
 use Rattle.tx_meaning.specs.State.{cpus_of, is_live}
 use Rattle.tx_meaning.specs.declared.outcome.Outcome.{Outcome}
 use Rattle.tx_meaning.specs.declared.outcome.Outcome.TheVariants as outcome
-use Rattle.tx_keeping.specs.Kept.{Kept, kept_flat, kept_finished}
-use Rattle.tx_keeping.specs.Turn.{k_idle}
-use Rattle.tx_keeping.proofs.Needed.{is_awaited}
-use Rattle.tx_keeping.proofs.Truth.{Truth, live_is}
+use Rattle.tx_home.specs.Kept.{Kept, kept_flat, kept_finished}
+use Rattle.tx_home.specs.Turn.{k_idle}
+use Rattle.tx_home.proofs.Needed.{is_awaited}
+use Rattle.tx_home.proofs.Truth.{Truth, live_is}
 use Rattle.tx_opacity.proofs.Running.{run_runs}
 use Rattle.tx_home.specs.Works.{Works, Seat, kept_by, seats_of}
 use Rattle.tx_home.specs.Lending.{refusal_of}

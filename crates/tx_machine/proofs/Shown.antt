@@ -12,14 +12,14 @@ use Rattle.tx_meaning.specs.Meaning.{IsSetting, meaning}
 use Rattle.tx_meaning.specs.State.{State, cpus_of}
 use Rattle.tx_meaning.specs.Turn.{Turned, happen}
 use Rattle.tx_meaning.proofs.Books.{turn_booked, external_booked, idle_or_not}
-use Rattle.tx_keeping.specs.Kept.{Kept, kept_beginning}
-use Rattle.tx_keeping.specs.Keeping.{keeping, keeping_from}
-use Rattle.tx_keeping.specs.Turn.{k_happen, k_idle, k_turn, k_turn_where}
+use Rattle.tx_home.specs.Kept.{Kept, kept_beginning}
+use Rattle.tx_home.specs.Keeping.{keeping, keeping_from}
+use Rattle.tx_home.specs.Turn.{k_happen, k_idle, k_turn, k_turn_where}
 use Rattle.tx_meaning.specs.Views.{AreKnown}
-use Rattle.tx_keeping.proofs.Events.{keeping_is, keeping_good, happens_alike, held_so}
-use Rattle.tx_keeping.proofs.Moves.{IsGood}
-use Rattle.tx_keeping.proofs.Room.{AllWithin}
-use Rattle.tx_keeping.proofs.Turning.{idle_is}
+use Rattle.tx_home.proofs.Events.{keeping_is, keeping_good, happens_alike, held_so}
+use Rattle.tx_home.proofs.Moves.{IsGood}
+use Rattle.tx_home.proofs.Room.{AllWithin}
+use Rattle.tx_home.proofs.Turning.{idle_is}
 use Rattle.tx_opacity.proofs.Stopped.{Between, between, some_stop}
 use Rattle.tx_home.specs.Works.{Works, kept_by}
 use Rattle.tx_machine.specs.Machine.{Stands, nobody}

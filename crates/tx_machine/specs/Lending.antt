@@ -3,8 +3,8 @@ use Rattle.std.specs.Prelude.{ℕ, true, false, Bool, nat_eq, if◌then◌else�
 use Rattle.std.specs.Prelude.{Option, Some, None}
 use Rattle.std.specs.Option.{option_or}
 use Rattle.tx_journal.specs.declared.events.Event.TheVariants.{Turn}
-use Rattle.tx_keeping.specs.Keeping.{keeping}
-use Rattle.tx_keeping.specs.Kept.{Kept}
+use Rattle.tx_home.specs.Keeping.{keeping}
+use Rattle.tx_home.specs.Kept.{Kept}
 use Rattle.tx_home.specs.Lending.{refusal_of}
 use Rattle.tx_home.specs.declared.lending.Refusal.{Refusal}
 use Rattle.tx_home.specs.declared.lending.Refusal.TheVariants.{Away}

@@ -7,3 +7,4 @@ pub mod Lending
 pub use Rattle.tx_home.specs.Wanted
 pub use Rattle.tx_home.specs.Lending as HomeLending
 pub use Rattle.tx_home.specs.Places
+pub use Rattle.tx_opacity.specs.Opacity

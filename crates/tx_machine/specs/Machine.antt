@@ -19,7 +19,7 @@ use Rattle.tx_serial.specs.Apply.{interruption_code}
 use Rattle.tx_meaning.specs.State.{State, cpus_of}
 use Rattle.tx_meaning.specs.Shown.{commits_of, aborts_of}
 use Rattle.tx_meaning.specs.Turn.{Turned, happen}
-use Rattle.tx_keeping.specs.Keeping.{keeping}
+use Rattle.tx_home.specs.Keeping.{keeping}
 use Rattle.tx_meaning.specs.declared.counts.Counts.{Counts}
 use Rattle.tx_home.specs.DeclaredSlot.Tally.{Tally}
 use Rattle.tx_home.specs.Works.{Seat, Works, kept_by}

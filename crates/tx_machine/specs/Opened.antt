@@ -3,8 +3,8 @@ use Rattle.std.specs.Prelude.{◌≡◌, List, All, map}
 use Rattle.z_regs.specs.Cpu.{Cpu}
 use Rattle.tx_ladder.specs.Parameters.{Parameters}
 use Rattle.tx_ladder.specs.Rungs.{fresh}
-use Rattle.tx_progress.specs.Local.{Local, settled}
-use Rattle.tx_cpu.specs.Parts.{local_of}
+use Rattle.tx_home.specs.Local.{Local, settled}
+use Rattle.tx_home.specs.Parts.{local_of}
 use Rattle.tx_home.specs.DeclaredSlot.Tally.{Tally}
 use Rattle.tx_home.specs.Works.{Seat}
 

@@ -14,7 +14,7 @@ ghost use Rattle.tx_meaning.specs.Stretches.{counted, is_counted_turn};
 ghost use Rattle.tx_meaning.specs.Turn.{happen, turned};
 ghost use Rattle.tx_meaning.specs.Views.{GoesOnWith, KeepsViews, HoldsTouched};
 ghost use Rattle.tx_meaning.specs.declared.outcome.Outcome.TheVariants.{Executed};
-ghost use Rattle.tx_keeping.specs.Keeping.{keeping};
+ghost use Rattle.tx_home.specs.Keeping.{keeping};
 ghost use Rattle.tx_ladder.specs.Waiting.{waits_in};
 ghost use Rattle.tx_headline.specs.Queue.{QueueChanges, others_before};
 ghost use Rattle.tx_opacity.specs.Opacity.{SeesOneRun};
@@ -25,8 +25,7 @@ ghost use Rattle.tx_machine.specs.declared.lending.Home.TheVariants.{Taken};
 
 use crate::lending::Home;
 use crate::machine::Machine;
-use tx_cpu::Program;
-use tx_home::{Run, Unlike, Works, home};
+use tx_home::{Program, Run, Unlike, Works, home};
 use tx_meaning::{Limits, Reject};
 
 /// A run comes home to all that a machine keeps, behind which so many external events may still come.

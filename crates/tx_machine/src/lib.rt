@@ -10,6 +10,6 @@ mod runs;
 
 pub use lending::{Home, Lend};
 pub use machine::Machine;
-pub use tx_home::{Place, Refusal, Tally};
+pub use tx_home::{Place, Reason, Refusal, Run, RunStep, Tally};
 pub use tx_meaning::Counts;
 pub use z_regs::NoMemory;

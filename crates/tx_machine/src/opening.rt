@@ -4,15 +4,14 @@ ghost use Rattle.std.specs.Arc.{arc_value};
 ghost use Rattle.z_regs.specs.Cpu.{cpu_of};
 ghost use Rattle.tx_journal.specs.Content.{Content};
 ghost use Rattle.line_table.specs.Holders.{nobody};
-ghost use Rattle.tx_progress.specs.Local.{settled};
-ghost use Rattle.tx_cpu.specs.Parts.{local_of};
+ghost use Rattle.tx_home.specs.Local.{settled};
+ghost use Rattle.tx_home.specs.Parts.{local_of};
 ghost use Rattle.tx_home.specs.Owned.{holders_in};
 ghost use Rattle.tx_machine.specs.Opened.{AreUnused, IsUnused};
 
 use std::alloc::Global;
 use std::sync::Arc;
-use tx_cpu::{Cpu, Program};
-use tx_home::{Lines, Slot, Tally, Works};
+use tx_home::{Cpu, Lines, Program, Slot, Tally, Works};
 use tx_journal::Image;
 use tx_ladder::{Ladder, Parms, StopQueue};
 use z_regs::{CpuImage, NoMemory};

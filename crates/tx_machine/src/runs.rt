@@ -7,8 +7,7 @@ use std::alloc::Global;
 use std::marker::Model;
 use std::mem;
 use std::sync::Arc;
-use tx_cpu::Program;
-use tx_home::{Room, Run};
+use tx_home::{Program, Room, Run};
 use z_regs::NoMemory;
 
 /// Where the run of a CPU is.

@@ -3,8 +3,8 @@ use Rattle.std.proofs.Common.{◌≡◌, ℕ, ◌+◌, ◌<◌, ◌≤◌, true,
 use Rattle.std.proofs.Common.{get_or, Option, Some, None, refl, sym, ap, ◌∙◌}
 use Rattle.std.proofs.lemmas.List.{take_more, drop_more, drop_all, map-append}
 use Rattle.line_table.specs.declared.table.Mode.{Mode}
-use Rattle.tx_meaning.specs.declared.asking.Need.{Need}
-use Rattle.tx_meaning.specs.Asking.{is_there}
+use Rattle.tx_lending.specs.Need.{Need}
+use Rattle.tx_lending.specs.Asking.{is_there}
 use Rattle.tx_marks.specs.Marks.{with_need, with_needs, first_missing}
 use Rattle.tx_marks.proofs.MarksNeeded.{one_needed, there_first, missing_first}
 

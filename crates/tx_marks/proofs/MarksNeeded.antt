@@ -6,8 +6,8 @@ use Rattle.std.proofs.lemmas.Bool.{eq-eqb}
 use Rattle.std.proofs.lemmas.List.Elements.{All-nil, All-cons}
 use Rattle.line_table.specs.declared.table.Mode.{Mode}
 use Rattle.line_table.specs.declared.table.Mode.TheVariants.{Shared, Exclusive}
-use Rattle.tx_meaning.specs.declared.asking.Need.{Need}
-use Rattle.tx_meaning.specs.Asking.{is_there}
+use Rattle.tx_lending.specs.Need.{Need}
+use Rattle.tx_lending.specs.Asking.{is_there}
 use Rattle.tx_marks.specs.Marks.{with_mode, with_need, with_needs, first_missing}
 
 -- ---- one need more

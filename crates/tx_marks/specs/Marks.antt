@@ -5,8 +5,8 @@ use Rattle.std.specs.List.{slice_index_or}
 use Rattle.line_table.specs.declared.table.Mode.{Mode}
 use Rattle.line_table.specs.declared.table.Mode.TheVariants.{Shared, Exclusive}
 use Rattle.line_table.specs.Sizes.{storage_lines}
-use Rattle.tx_meaning.specs.Asking.{is_there}
-use Rattle.tx_meaning.specs.declared.asking.Need.{Need}
+use Rattle.tx_lending.specs.Asking.{is_there}
+use Rattle.tx_lending.specs.Need.{Need}
 
 -- the lines of some mode, and those among them that are exclusive
 pub record Marks : Type 0 where

@@ -1,7 +1,7 @@
 -- The bytes of a run: storage as it has made it, and of each byte that it has touched the one before.
 use Rattle.std.specs.Prelude.{ℕ, ◌%◌, Bool, false, List, get_or}
 use Rattle.std.specs.List.{slice_index_or}
-use Rattle.tx_serial.specs.Flat.{Storage}
+use Rattle.tx_lending.specs.Flat.{Storage}
 use Rattle.tx_lending.specs.Places.{over}
 
 pub record Own : Type 0 where

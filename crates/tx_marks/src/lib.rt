@@ -11,3 +11,5 @@ mod traces;
 pub use bytes::{OwnBytes, OwnRoom};
 pub use marks::LineMarks;
 pub use traces::Traces;
+pub use tx_lending::Need;
+pub use tx_lending::laws::lent_turns_are_turns;

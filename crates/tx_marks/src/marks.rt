@@ -2,8 +2,8 @@
 ghost use Rattle.std.specs.Prelude.{◌≡◌, ℕ, ◌+◌, ◌<◌, ◌≤◌, [], ◌∷◌, All, IfOk, IfSome, Some, None};
 ghost use Rattle.z_regs.specs.Prefix.{storage_size};
 ghost use Rattle.line_table.specs.Sizes.{storage_lines};
-ghost use Rattle.tx_meaning.specs.Asking.{is_there};
-ghost use Rattle.tx_meaning.specs.Needs.{needs_of};
+ghost use Rattle.tx_lending.specs.Asking.{is_there};
+ghost use Rattle.tx_lending.specs.Needs.{needs_of};
 ghost use Rattle.tx_marks.specs.Marks.{mode_in, with_need, with_needs, first_missing};
 
 use crate::paged::{clear_set, open_set};
@@ -11,7 +11,7 @@ use bit_set::BitSet;
 use line_table::{LINES, Mode};
 use std::alloc::Global;
 use std::marker::Model;
-use tx_meaning::Need;
+use tx_lending::Need;
 use tx_needs::{lines_needed, need_for};
 use z_regs::{NoMemory, Touches};
 

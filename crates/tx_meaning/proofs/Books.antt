@@ -9,9 +9,9 @@ use borrow.Enum.Arm.{by_way}
 use Rattle.tx_control.specs.declared.causes.Why.{Why}
 use Rattle.tx_control.specs.declared.causes.Why.TheVariants.{Starved, External}
 use Rattle.tx_ladder.specs.Rungs.{Standing, rejecting}
-use Rattle.tx_journal.specs.Image.{cpu_of_event}
-use Rattle.tx_journal.specs.declared.events.Event.{Event}
-use Rattle.tx_journal.specs.declared.events.Event.TheVariants as event
+use Rattle.tx_serial.specs.Image.{cpu_of_event}
+use Rattle.tx_serial.specs.Event.{Event}
+use Rattle.tx_serial.specs.Event.TheVariants as event
 use Rattle.tx_meaning.specs.declared.outcome.Outcome.{Outcome}
 use Rattle.tx_meaning.specs.declared.outcome.Outcome.TheVariants as outcome
 use Rattle.tx_meaning.specs.Limits.{RunLimits, Setting}

@@ -15,14 +15,14 @@ use Rattle.tx_control.specs.declared.causes.Why.TheVariants.{Program, FetchOverf
 use Rattle.tx_control.specs.declared.exceptions.Exception.{Exception}
 use Rattle.tx_ladder.specs.Parameters.{Parameters, usual, parameters}
 use Rattle.tx_ladder.specs.Rungs.{Standing, fresh}
-use Rattle.tx_journal.specs.declared.entries.Entry.{Entry}
-use Rattle.tx_journal.specs.declared.entries.Entry.TheVariants.{Abort, Commit}
+use Rattle.tx_serial.specs.Entry.{Entry}
+use Rattle.tx_serial.specs.Entry.TheVariants.{Abort, Commit}
 use Rattle.tx_serial.specs.Flat.{at_put}
 use Rattle.tx_meaning.specs.declared.outcome.Outcome.{Outcome}
 use Rattle.tx_meaning.specs.declared.outcome.Outcome.TheVariants as outcome
 use Rattle.tx_meaning.specs.Limits.{RunLimits, Setting}
 use Rattle.tx_meaning.specs.State.{State, beginning, zeros}
-use Rattle.tx_footprint.specs.Touched.{untouched}
+use Rattle.interrogate.specs.Touched.{untouched}
 use Rattle.tx_meaning.specs.Changes.{aborting, committing, rejecting_one, rejected_once, head_to_tail}
 use Rattle.tx_meaning.specs.Changes.{spare_line}
 use Rattle.tx_meaning.specs.Hits.{hits_by}

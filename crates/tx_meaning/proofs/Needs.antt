@@ -11,15 +11,15 @@ use Rattle.std.proofs.lemmas.List.Elements.{All-map}
 use borrow.Enum.Arm.{by_way}
 use Rattle.z_regs.specs.declared.ranges.Range.{Range}
 use Rattle.line_table.specs.declared.table.Mode.TheVariants.{Shared, Exclusive}
-use Rattle.tx_footprint.specs.Sizes.{line_size}
-use Rattle.tx_footprint.specs.Places.{has_place, lies_in, fetches, stores}
-use Rattle.tx_footprint.proofs.Spans.{span_is, no_bytes}
+use Rattle.interrogate.specs.Sizes.{line_size}
+use Rattle.interrogate.specs.Places.{has_place, lies_in, fetches, stores}
+use Rattle.interrogate.proofs.Spans.{span_is, no_bytes}
 use Rattle.tx_meaning.specs.declared.asking.Need.{Need}
 use Rattle.tx_meaning.specs.Needs.{first_line, last_line, has_line, lines_of, with_number, rising, mode_for}
 use Rattle.tx_meaning.specs.Needs.{needs_of}
 use Rattle.tx_meaning.specs.Changes.{is_needed}
 use Rattle.std.proofs.Math.Bool.{or-false}
-use Rattle.tx_footprint.proofs.Limits.{either_way}
+use Rattle.interrogate.proofs.Limits.{either_way}
 
 same_bool : (a b : Bool) → (a ≡ true → b ≡ true) → (b ≡ true → a ≡ true) → a ≡ b
 same_bool true b to from = sym (to refl)

@@ -8,11 +8,11 @@ use Rattle.bit_set.proofs.Counts.{count_agree, count_but_at, count_none, at_most
 use Rattle.tx_control.specs.declared.causes.Why.{Why}
 use Rattle.tx_control.specs.declared.causes.Why.TheVariants.{Starved, External}
 use Rattle.tx_ladder.specs.Rungs.{Standing, rejecting}
-use Rattle.tx_journal.specs.Image.{cpu_of_event}
-use Rattle.tx_journal.specs.declared.entries.Entry.{Entry}
-use Rattle.tx_journal.specs.declared.entries.Entry.TheVariants as entry
-use Rattle.tx_journal.specs.declared.events.Event.{Event}
-use Rattle.tx_journal.specs.declared.events.Event.TheVariants as event
+use Rattle.tx_serial.specs.Image.{cpu_of_event}
+use Rattle.tx_serial.specs.Entry.{Entry}
+use Rattle.tx_serial.specs.Entry.TheVariants as entry
+use Rattle.tx_serial.specs.Event.{Event}
+use Rattle.tx_serial.specs.Event.TheVariants as event
 use Rattle.tx_meaning.specs.Limits.{Setting}
 use Rattle.tx_meaning.specs.State.{Numbers, State, beginning, is_live, standing_of, cpus_of}
 use Rattle.tx_meaning.specs.Changes.{with_numbers, with_event, with_entry, counting_turn, rejecting_one}

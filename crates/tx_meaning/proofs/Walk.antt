@@ -19,8 +19,8 @@ use Rattle.tx_control.specs.declared.causes.Why.TheVariants.{Restricted, Filtere
 use Rattle.tx_ladder.specs.Rungs.{Standing, is_starved, next_rung, may_reject}
 use Rattle.tx_ladder.specs.declared.ladder.Next.{Next}
 use Rattle.tx_ladder.specs.declared.ladder.Next.TheVariants as rung
-use Rattle.tx_journal.specs.declared.entries.Entry.TheVariants as entry
-use Rattle.tx_journal.specs.declared.events.Event.TheVariants as event
+use Rattle.tx_serial.specs.Entry.TheVariants as entry
+use Rattle.tx_serial.specs.Event.TheVariants as event
 use Rattle.line_table.specs.declared.table.Mode.{Mode}
 use Rattle.line_table.specs.Holders.{Holders, is_against, against}
 use Rattle.interrogate.specs.declared.kinds.Answer.{Answer}
@@ -31,7 +31,7 @@ use Rattle.tx_serial.specs.Attempt.{Run, Mark, Open, Committed, Overflowed, Miss
 use Rattle.tx_serial.specs.Fate.{Fate, Goes, Ends, Stops, fate}
 use Rattle.tx_serial.specs.Run.{run}
 use Rattle.tx_serial.specs.Ending.{ending}
-use Rattle.z_effect.specs.TransactionEffect.{delay_given}
+use Rattle.tx_serial.specs.TransactionEffect.{delay_given}
 use Rattle.tx_meaning.specs.declared.outcome.Outcome.{Outcome}
 use Rattle.tx_meaning.specs.Limits.{Setting}
 use Rattle.tx_meaning.specs.Needs.{operand_needs, block_needs, interruption_needs}

@@ -1,6 +1,6 @@
 -- How many turns a CPU has had as the head of the stop queue.
 use Rattle.std.specs.Prelude.{ℕ, ◌+◌, Bool, ◌&&◌, not, if◌then◌else◌, List, [], ◌∷◌}
-use Rattle.tx_journal.specs.declared.events.Event.{Event}
+use Rattle.tx_serial.specs.Event.{Event}
 use Rattle.tx_meaning.specs.Limits.{Setting}
 use Rattle.tx_meaning.specs.State.{State, beginning, is_head}
 use Rattle.tx_meaning.specs.Stretches.{counted, is_counted_turn, is_interrupted_by}

@@ -16,3 +16,7 @@ pub mod Room
 pub mod Heads
 pub mod Views
 pub mod Shown
+-- what callers name of crates below
+pub use Rattle.tx_serial.specs.Flat
+pub use Rattle.tx_serial.specs.Apply
+pub use Rattle.tx_serial.specs.History

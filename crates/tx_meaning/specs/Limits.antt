@@ -1,6 +1,6 @@
 -- How long a machine runs, and what no event of it changes.
 use Rattle.std.specs.Prelude.{ℕ, ◌≤◌}
-use Rattle.tx_journal.specs.Content.{Content}
+use Rattle.tx_serial.specs.Content.{Content}
 
 -- the counted turns of each CPU, the turns from one tick to the next, which is 0 where there are none, and
 -- the

@@ -1,8 +1,8 @@
 -- What events mean.
 use Rattle.std.specs.Prelude.{◌<◌, ◌≤◌, Bool, true, false, List, [], ◌∷◌, All, count_by}
-use Rattle.tx_journal.specs.Image.{IsImage, cpu_of_event}
-use Rattle.tx_journal.specs.declared.events.Event.{Event}
-use Rattle.tx_journal.specs.declared.events.Event.TheVariants.{Turn, External}
+use Rattle.tx_serial.specs.Image.{IsImage, cpu_of_event}
+use Rattle.tx_serial.specs.Event.{Event}
+use Rattle.tx_serial.specs.Event.TheVariants.{Turn, External}
 use Rattle.tx_meaning.specs.Limits.{Setting, AreAllowed}
 use Rattle.tx_meaning.specs.State.{State, beginning, cpus_of}
 use Rattle.tx_meaning.specs.Turn.{happen}

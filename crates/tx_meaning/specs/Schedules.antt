@@ -2,8 +2,8 @@
 use Rattle.std.specs.Prelude.{◌≡◌, ℕ, zero, suc, ◌+◌, ◌*◌, ◌/◌, ◌%◌, ◌^◌, ◌<◌, true, false, nat_le}
 use Rattle.std.specs.Prelude.{if◌then◌else◌, length, List, [], ◌∷◌, Option, Some, None, get_or}
 use Rattle.std.specs.List.{filter, range_with_len}
-use Rattle.tx_journal.specs.declared.events.Event.{Event}
-use Rattle.tx_journal.specs.declared.events.Event.TheVariants.{Turn}
+use Rattle.tx_serial.specs.Event.{Event}
+use Rattle.tx_serial.specs.Event.TheVariants.{Turn}
 use Rattle.tx_meaning.specs.Limits.{Setting}
 use Rattle.tx_meaning.specs.State.{State, beginning, cpus_of}
 use Rattle.tx_meaning.specs.Idle.{is_ready}

@@ -1,7 +1,7 @@
 -- What is shown of a CPU beside its image.
 use Rattle.std.specs.Prelude.{ℕ, Bool, false, ◌==◌, length, Option, Some, None, if◌then◌else◌, count_by}
-use Rattle.tx_journal.specs.declared.entries.Entry.{Entry}
-use Rattle.tx_journal.specs.declared.entries.Entry.TheVariants.{Step, Commit, Abort, Tdb, Interrupt}
+use Rattle.tx_serial.specs.Entry.{Entry}
+use Rattle.tx_serial.specs.Entry.TheVariants.{Step, Commit, Abort, Tdb, Interrupt}
 use Rattle.tx_meaning.specs.Limits.{Setting}
 use Rattle.tx_meaning.specs.State.{State, is_live, attempt_of}
 use Rattle.tx_meaning.specs.declared.counts.Counts.{Counts}

@@ -2,10 +2,10 @@
 use Rattle.std.specs.Prelude.{ℕ, Bool, nat_lt, List, [], ◌∷◌, ◌==◌, false, length, Option, Some, None}
 use Rattle.z_regs.specs.Cpu.{Cpu}
 use Rattle.tx_control.specs.Nesting.{is_constrained}
-use Rattle.tx_footprint.specs.Touched.{Sets}
+use Rattle.interrogate.specs.Touched.{Sets}
 use Rattle.tx_ladder.specs.Rungs.{Standing}
-use Rattle.tx_journal.specs.declared.entries.Entry.{Entry}
-use Rattle.tx_journal.specs.declared.events.Event.{Event}
+use Rattle.tx_serial.specs.Entry.{Entry}
+use Rattle.tx_serial.specs.Event.{Event}
 use Rattle.line_table.specs.Holders.{Holders, nobody}
 use Rattle.tx_serial.specs.Flat.{FlatState}
 use Rattle.tx_serial.specs.Attempt.{Run, footprint}

@@ -6,10 +6,10 @@ use Rattle.tx_control.specs.declared.causes.Why.{Why}
 use Rattle.tx_control.specs.declared.causes.Why.TheVariants as why
 use Rattle.tx_ladder.specs.Parameters.{Parameters}
 use Rattle.tx_ladder.specs.Rungs.{delay_after}
-use Rattle.tx_journal.specs.declared.entries.Entry.{Entry}
-use Rattle.tx_journal.specs.declared.entries.Entry.TheVariants.{Step, Commit, Abort, Tdb, Interrupt}
-use Rattle.tx_journal.specs.declared.events.Event.{Event}
-use Rattle.tx_journal.specs.declared.events.Event.TheVariants.{Turn, External}
+use Rattle.tx_serial.specs.Entry.{Entry}
+use Rattle.tx_serial.specs.Entry.TheVariants.{Step, Commit, Abort, Tdb, Interrupt}
+use Rattle.tx_serial.specs.Event.{Event}
+use Rattle.tx_serial.specs.Event.TheVariants.{Turn, External}
 use Rattle.tx_meaning.specs.Limits.{Setting}
 use Rattle.tx_meaning.specs.State.{State, beginning, is_live, standing_of}
 use Rattle.tx_meaning.specs.Idle.{is_ready}

@@ -12,16 +12,16 @@ use Rattle.tx_control.specs.Nesting.{is_constrained}
 use Rattle.tx_control.specs.declared.causes.Why.{Why}
 use Rattle.tx_control.specs.declared.causes.Why.TheVariants as why
 use Rattle.tx_ladder.specs.Rungs.{is_starved}
-use Rattle.tx_journal.specs.declared.entries.Entry.TheVariants as entry
-use Rattle.tx_journal.specs.declared.events.Event.{Event}
-use Rattle.tx_journal.specs.declared.events.Event.TheVariants as event
+use Rattle.tx_serial.specs.Entry.TheVariants as entry
+use Rattle.tx_serial.specs.Event.{Event}
+use Rattle.tx_serial.specs.Event.TheVariants as event
 use Rattle.tx_serial.specs.Flat.{Pending}
 use Rattle.tx_serial.specs.Attempt.{Run, Mark, Open, Committed, Overflowed, Missing}
 use Rattle.tx_serial.specs.Fate.{Fate, Goes, Ends, Stops, fate}
 use Rattle.tx_serial.specs.Run.{run}
 use Rattle.tx_serial.specs.Ending.{ending}
 use Rattle.tx_serial.specs.Remains.{aborted_bit}
-use Rattle.z_effect.specs.TransactionEffect.{delay_given}
+use Rattle.tx_serial.specs.TransactionEffect.{delay_given}
 use Rattle.tx_meaning.specs.declared.outcome.Outcome.{Outcome}
 use Rattle.tx_meaning.specs.declared.outcome.Outcome.TheVariants as outcome
 use Rattle.tx_meaning.specs.Limits.{RunLimits, Setting}

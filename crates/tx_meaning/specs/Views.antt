@@ -2,10 +2,10 @@
 use Rattle.std.specs.Prelude.{◌≡◌, ℕ, ◌/◌, ◌<◌, true, ◌||◌, List, ◌++◌, All, Some, is_some}
 use Rattle.line_table.specs.declared.table.Mode.TheVariants.{Exclusive}
 use Rattle.line_table.specs.Holders.{IsSound}
-use Rattle.tx_footprint.specs.Sizes.{line_size}
-use Rattle.tx_journal.specs.Image.{cpu_of_event}
-use Rattle.tx_journal.specs.declared.entries.Entry.{Entry}
-use Rattle.tx_journal.specs.declared.events.Event.{Event}
+use Rattle.interrogate.specs.Sizes.{line_size}
+use Rattle.tx_serial.specs.Image.{cpu_of_event}
+use Rattle.tx_serial.specs.Entry.{Entry}
+use Rattle.tx_serial.specs.Event.{Event}
 use Rattle.tx_serial.specs.Alike.{track_of}
 use Rattle.tx_serial.specs.Attempt.{Run, footprint}
 use Rattle.tx_meaning.specs.Limits.{Setting}

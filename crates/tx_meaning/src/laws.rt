@@ -16,11 +16,11 @@ ghost use Rattle.std.specs.Prelude.{
   All,
 };
 ghost use Rattle.std.specs.Prelude.{AllPairs, length, count_by, None, not};
-ghost use Rattle.tx_journal.specs.Image.{cpu_of_event};
-ghost use Rattle.tx_journal.specs.declared.events.Event.{Event};
-ghost use Rattle.tx_journal.specs.declared.events.Event.TheVariants.{Turn};
+ghost use Rattle.tx_serial.specs.Image.{cpu_of_event};
+ghost use Rattle.tx_serial.specs.Event.{Event};
+ghost use Rattle.tx_serial.specs.Event.TheVariants.{Turn};
 ghost use Rattle.line_table.specs.declared.table.Mode.TheVariants.{Shared, Exclusive};
-ghost use Rattle.tx_footprint.specs.Places.{fetches, stores};
+ghost use Rattle.interrogate.specs.Places.{fetches, stores};
 ghost use Rattle.tx_ladder.specs.Parameters.{usual};
 ghost use Rattle.tx_meaning.specs.Changes.{is_needed};
 ghost use Rattle.tx_meaning.specs.Idle.{is_ready};

@@ -8,3 +8,4 @@ pub use Rattle.tx_bounds.proofs.Meant
 pub use Rattle.tx_bounds.proofs.Running
 pub use Rattle.tx_bounds.proofs.Stopped
 pub use Rattle.tx_bounds.proofs.Stretched
+pub use Rattle.tx_bounds.proofs.OtherTurns

@@ -20,15 +20,15 @@ use Rattle.tx_meaning.specs.Meaning.{IsSetting, meaning}
 use Rattle.tx_meaning.specs.State.{State, is_live, attempt_of, flat_of, cpus_of}
 use Rattle.tx_meaning.specs.Turn.{Turned, happen}
 use Rattle.tx_meaning.specs.Views.{AreKnown, IsSameView}
-use Rattle.tx_keeping.specs.Kept.{Kept, kept_flat}
-use Rattle.tx_keeping.specs.Keeping.{keeping}
-use Rattle.tx_keeping.specs.Turn.{k_happen}
-use Rattle.tx_keeping.specs.Told.{turned_of}
-use Rattle.tx_keeping.proofs.Truth.{Truth, attempt_is, footprint_is, flat_is}
-use Rattle.tx_keeping.proofs.Moves.{IsGood}
-use Rattle.tx_keeping.proofs.Asking.{Keeps}
-use Rattle.tx_keeping.proofs.Turning.{own_stays, happen_ok, TurnOk}
-use Rattle.tx_keeping.proofs.Events.{keeping_is, keeping_good}
+use Rattle.tx_bounds.specs.Kept.{Kept, kept_flat}
+use Rattle.tx_bounds.specs.Keeping.{keeping}
+use Rattle.tx_bounds.specs.Turn.{k_happen}
+use Rattle.tx_bounds.specs.Told.{turned_of}
+use Rattle.tx_bounds.proofs.Truth.{Truth, attempt_is, footprint_is, flat_is}
+use Rattle.tx_bounds.proofs.Moves.{IsGood}
+use Rattle.tx_bounds.proofs.Asking.{Keeps}
+use Rattle.tx_bounds.proofs.Turning.{own_stays, happen_ok, TurnOk}
+use Rattle.tx_bounds.proofs.Events.{keeping_is, keeping_good}
 use Rattle.tx_opacity.specs.Opacity.{SeesOneRun}
 use Rattle.tx_opacity.proofs.Others.{Left, others_turn, others_interruption}
 use Rattle.tx_opacity.proofs.Own.{Saw, Own, own_turn, own_interruption}

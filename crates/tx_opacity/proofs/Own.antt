@@ -12,11 +12,11 @@ use Rattle.tx_journal.specs.declared.events.Event.TheVariants as event
 use Rattle.tx_serial.specs.Fate.{Fate, Goes, Ends, Stops}
 use Rattle.tx_serial.specs.Flat.{Pending}
 use Rattle.z_regs.specs.declared.waiting.Waiting.{Waiting}
-use Rattle.tx_progress.specs.Local.{Beside}
-use Rattle.tx_progress.specs.Doing.{executed}
-use Rattle.tx_progress.specs.Trial.{fate_by_progress}
-use Rattle.tx_progress.specs.declared.done.Done.{Done}
-use Rattle.tx_progress.specs.declared.done.Done.TheVariants as done
+use Rattle.tx_bounds.specs.Local.{Beside}
+use Rattle.tx_bounds.specs.Doing.{executed}
+use Rattle.tx_bounds.specs.Trial.{fate_by_progress}
+use Rattle.tx_bounds.specs.Done.{Done}
+use Rattle.tx_bounds.specs.Done.TheVariants as done
 use Rattle.tx_meaning.specs.declared.asking.Reject.{Reject}
 use Rattle.tx_meaning.specs.declared.outcome.Outcome.{Outcome}
 use Rattle.tx_meaning.specs.Limits.{Setting}
@@ -25,19 +25,19 @@ use Rattle.tx_meaning.specs.Needs.{operand_needs}
 use Rattle.tx_meaning.specs.State.{Numbers, State, is_live, cpus_of}
 use Rattle.tx_meaning.specs.Changes.{with_event, counting_turn}
 use Rattle.tx_meaning.specs.Turn.{is_tick}
-use Rattle.tx_keeping.specs.Kept.{Kept, kept_flat, text_of, with_state, with_beside, beside}
-use Rattle.tx_keeping.specs.Asking.{k_get_lines}
-use Rattle.tx_keeping.specs.Turn.{KTurned, k_ends_by, k_once_given, k_refused_turn, k_inside, k_done, k_executing}
-use Rattle.tx_keeping.specs.Turn.{k_attempting, k_acting, k_external, k_interrupting, k_by_rules, k_counted_turn}
-use Rattle.tx_keeping.specs.Turn.{k_turn, k_turn_where, k_idle, k_happen, next_address}
-use Rattle.tx_keeping.proofs.Truth.{Truth, live_is}
-use Rattle.tx_keeping.proofs.Moves.{IsGood, restated, same_numbers, one_number}
-use Rattle.tx_keeping.proofs.Asking.{Keeps, keeps_then, keeps_restated}
-use Rattle.tx_keeping.proofs.Getting.{lines_got}
-use Rattle.tx_keeping.proofs.Turning.{pending_rests, waiting_rests}
+use Rattle.tx_bounds.specs.Kept.{Kept, kept_flat, text_of, with_state, with_beside, beside}
+use Rattle.tx_bounds.specs.Asking.{k_get_lines}
+use Rattle.tx_bounds.specs.Turn.{KTurned, k_ends_by, k_once_given, k_refused_turn, k_inside, k_done, k_executing}
+use Rattle.tx_bounds.specs.Turn.{k_attempting, k_acting, k_external, k_interrupting, k_by_rules, k_counted_turn}
+use Rattle.tx_bounds.specs.Turn.{k_turn, k_turn_where, k_idle, k_happen, next_address}
+use Rattle.tx_bounds.proofs.Truth.{Truth, live_is}
+use Rattle.tx_bounds.proofs.Moves.{IsGood, restated, same_numbers, one_number}
+use Rattle.tx_bounds.proofs.Asking.{Keeps, keeps_then, keeps_restated}
+use Rattle.tx_bounds.proofs.Getting.{lines_got}
+use Rattle.tx_bounds.proofs.Turning.{pending_rests, waiting_rests}
 use Rattle.tx_bounds.proofs.OtherTurns.{aborted_dead}
 use Rattle.tx_serial.proofs.Entries.{at_put_same}
-use Rattle.tx_progress.proofs.Quiet.{stops_quiet}
+use Rattle.tx_bounds.proofs.Quiet.{stops_quiet}
 
 -- there was a moment with the same history as behind, at which the attempt saw what it had seen before
 pub record Saw (m : Setting) (k q : Kept) (i : ℕ) : Type 0 where

@@ -1,15 +1,14 @@
 //! The drawing of a run.
 ghost use Rattle.std.specs.Prelude.{◌≡◌, ◌≤◌, ◌++◌, IfOk, OnOk, length, string_bytes};
 ghost use Rattle.std.specs.List.{flat_map};
-ghost use Rattle.tx_machine.specs.Machine.{setting_of, state_of};
+ghost use Rattle.tx_watch.specs.Machine.{setting_of, state_of};
 ghost use Rattle.tx_watch.specs.Window.{turns_in, entries_in};
 
 use crate::elements::{arrow_element, attempt_element, entry_element, turn_element};
 use crate::frame::{head, legend};
 use std::alloc::{AllocError, Global};
-use tx_machine::{Machine, NoMemory};
 use tx_watch::marks::{Arrow, Attempt, Mark, Picture, Placed};
-use tx_watch::{Window, observe};
+use tx_watch::{Machine, NoMemory, Window, observe};
 
 /// The elements of an SVG, each as text, in the order in which they stand.
 #[derive(Drop)]

@@ -1,7 +1,7 @@
 //! What is known of an instruction once it is read.
 ghost use Rattle.std.specs.Prelude.{◌≡◌, ◌<◌, true, None};
 ghost use Rattle.z_instr.specs.Facts.{is_begin};
-ghost use Rattle.z_instr.specs.Ranges.{is_within, bounds};
+ghost use Rattle.z_instr.specs.Ranges.{is_within, half};
 ghost use Rattle.std.specs.FinSet.{items};
 ghost use Rattle.z_instr.specs.Access.{accessible_pages, text_pages, unfetched};
 ghost use Rattle.z_instr.specs.Table.{entry_at};
@@ -107,7 +107,7 @@ fn item_of(operands: Operands) -> Size
 
 /// Whether a begin names no block, and a filtering of program interruptions that there is.
 fn is_bare_begin(instr: &Instr) -> bool
-    requires { is_within (bounds 0 65536) instr.now.imm ≡ true }
+    requires { is_within half instr.now.imm ≡ true }
     ensures { result ≡ begins_bare instr.now }
 {
     instr.b == 0 && instr.imm as u64 % 4 != 3
@@ -115,7 +115,7 @@ fn is_bare_begin(instr: &Instr) -> bool
 
 /// The shape of an instruction with this demand and such operands.
 fn shape_with(demand: Demand, operands: Operands, instr: &Instr) -> Shape
-    requires { is_begin demand ≡ true → is_within (bounds 0 65536) instr.now.imm ≡ true }
+    requires { is_begin demand ≡ true → is_within half instr.now.imm ≡ true }
     ensures { result ≡ shape_by demand operands instr.now }
 {
     match demand {

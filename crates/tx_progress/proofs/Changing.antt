@@ -15,7 +15,7 @@ use Rattle.z_effect.specs.Outcome as outcome
 use Rattle.tx_control.specs.declared.begins.Begin.{Begin}
 use Rattle.tx_footprint.specs.Places.{stores, fetches}
 use Rattle.tx_footprint.specs.Sizes.{line_size}
-use Rattle.store_cache.specs.Overlay.{nothing}
+use Rattle.tx_serial.specs.Overlay.{nothing}
 use Rattle.tx_serial.specs.Fate.{Goes, fate}
 use Rattle.tx_serial.specs.Flat.{Storage, FlatState, laid_over}
 use Rattle.tx_serial.specs.Run.{run, may_follow}

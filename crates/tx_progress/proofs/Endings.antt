@@ -19,8 +19,8 @@ use Rattle.tx_control.specs.declared.causes.Why.{Why}
 use Rattle.tx_control.specs.declared.causes.Why.TheVariants.{External, FetchConflict, StoreConflict, Starved}
 use Rattle.tx_control.specs.Codes.{fixed_point_overflow_code}
 use Rattle.tx_constraint.specs.Constraints.{Step}
-use Rattle.tx_journal.specs.declared.entries.Entry.TheVariants.{Abort}
-use Rattle.store_cache.specs.Overlay.{Store}
+use Rattle.tx_serial.specs.Entry.TheVariants.{Abort}
+use Rattle.tx_serial.specs.Overlay.{Store}
 use Rattle.tx_serial.specs.Apply.{apply, only_where}
 use Rattle.tx_serial.specs.Attempt.{Run, Open, Overflowed, Missing, last_step}
 use Rattle.tx_serial.specs.Ending.{ending, ending_of, fate_cause, fits, is_cause, is_open}

@@ -14,7 +14,7 @@ use Rattle.tx_constraint.specs.Constraints.{Step}
 use Rattle.tx_constraint.specs.Kept.{Kept, kept}
 use Rattle.tx_constraint.proofs.Attempts.{few_steps, few_octowords}
 use Rattle.tx_footprint.specs.Sizes.{line_size, block_size}
-use Rattle.store_cache.specs.Overlay.{Overlay, Store, nothing, with_one}
+use Rattle.tx_serial.specs.Overlay.{Overlay, Store, nothing, with_one}
 use Rattle.tx_serial.specs.Apply.{is_running}
 use Rattle.tx_serial.specs.Attempt.{Run, attempt_of}
 use Rattle.tx_serial.specs.Flat.{FlatState}

@@ -9,7 +9,7 @@ use Rattle.tx_control.specs.Nesting.{is_constrained}
 use Rattle.tx_constraint.specs.Constraints.{Step, Attempt, with_step, text_breach, operand_breach}
 use Rattle.tx_constraint.specs.Kept.{Kept, kept, next_text_breach, next_operand_breach}
 use Rattle.tx_constraint.proofs.Attempts.{text_step, operand_step}
-use Rattle.store_cache.specs.Overlay.{overlay_of}
+use Rattle.tx_serial.specs.Overlay.{overlay_of}
 use Rattle.tx_serial.specs.Flat.{Storage, FlatState}
 use Rattle.tx_serial.specs.Attempt.{Run, Open, attempt_of}
 use Rattle.tx_serial.specs.Fate.{fate, fate_by, tests, fetch_refusal}

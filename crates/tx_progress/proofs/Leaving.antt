@@ -15,7 +15,7 @@ use Rattle.tx_control.specs.declared.begins.Begin.{Begin}
 use Rattle.tx_control.specs.Nesting.{is_constrained, outermost_mask, outermost_block}
 use Rattle.tx_control.specs.declared.causes.Why.{Why}
 use Rattle.tx_control.specs.declared.exceptions.Exception.{Exception}
-use Rattle.tx_journal.specs.declared.entries.Entry.TheVariants.{Step, Abort, Tdb, Interrupt}
+use Rattle.tx_serial.specs.Entry.TheVariants.{Step, Abort, Tdb, Interrupt}
 use Rattle.tx_serial.specs.Apply.{apply, only_where, may_act, is_running, after_block, after_interruption}
 use Rattle.tx_serial.specs.Apply.{after_step}
 use Rattle.tx_serial.specs.Attempt.{Run, last_step}

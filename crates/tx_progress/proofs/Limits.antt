@@ -21,10 +21,10 @@ use Rattle.z_instr.specs.Table.{entry_at}
 use Rattle.z_instr.specs.declared.instr.Instr.{Instr}
 use Rattle.z_instr.specs.declared.operand.Demand.TheVariants.{Begin}
 use Rattle.z_instr.proofs.SmallOperands.{sizes}
-use Rattle.z_touch.specs.Refusals.{range_of}
-use Rattle.z_touch.proofs.SmallRanges.{inside_ends}
+use Rattle.tx_serial.specs.Refusals.{range_of}
+use Rattle.tx_serial.proofs.SmallRanges.{inside_ends}
 use Rattle.tx_control.specs.declared.begins.Begin as begins_of
-use Rattle.line_table.specs.Sizes.{storage_lines}
+use Rattle.tx_footprint.specs.LineTableSizes.{storage_lines}
 use Rattle.tx_constraint.specs.Constraints.{Step}
 use Rattle.tx_footprint.specs.Places.{has_place}
 use Rattle.tx_footprint.specs.Touched.{Sets, untouched, touching, line_count, block_count, fit_of}
@@ -51,7 +51,7 @@ use Rattle.std.proofs.lemmas.Bool.{or_right}
 use Rattle.tx_serial.proofs.FreeOperands.{not_excepted, begin_bare}
 use Rattle.std.proofs.Math.Bool.{or-false}
 use Rattle.tx_footprint.proofs.Marking.{touching_twice}
-use Rattle.z_touch.proofs.Reach.{accessible, tested_all}
+use Rattle.tx_serial.proofs.Reach.{accessible, tested_all}
 use Rattle.tx_progress.specs.Trial.{breach_refusal}
 
 -- ---- a begin has no operand

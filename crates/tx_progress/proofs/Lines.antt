@@ -17,8 +17,8 @@ use Rattle.z_instr.specs.Access.{lies_in, text_pages, absolute_page}
 use Rattle.z_instr.specs.Operands.{Span, IsSmall, from_up, spans}
 use Rattle.z_instr.specs.Table.{entry_at}
 use Rattle.z_instr.proofs.SmallOperands.{sizes}
-use Rattle.z_touch.specs.Refusals.{range_of}
-use Rattle.z_touch.proofs.SmallRanges.{any-text_pages}
+use Rattle.tx_serial.specs.Refusals.{range_of}
+use Rattle.tx_serial.proofs.SmallRanges.{any-text_pages}
 use Rattle.tx_constraint.specs.Constraints.{Step}
 use Rattle.tx_footprint.specs.Places.{has_place}
 use Rattle.tx_footprint.specs.Sizes.{line_size}

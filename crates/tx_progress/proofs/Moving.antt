@@ -12,7 +12,7 @@ use Rattle.z_effect.specs.Beginning.{begin_of}
 use Rattle.z_effect.specs.Outcome.{Outcome, Did, Divides, Aborts}
 use Rattle.z_effect.specs.Outcome as outcome
 use Rattle.tx_control.specs.declared.begins.Begin.{Begin}
-use Rattle.tx_journal.specs.declared.entries.Entry.TheVariants.{Step, Commit}
+use Rattle.tx_serial.specs.Entry.TheVariants.{Step, Commit}
 use Rattle.tx_serial.specs.Apply.{apply, only_where, may_act, after_step, after_commit, with_outcome}
 use Rattle.tx_serial.specs.Attempt.{Open, Committed}
 use Rattle.tx_serial.specs.Fate.{Goes, fate}

@@ -14,7 +14,7 @@ use Rattle.tx_constraint.specs.Constraints.{Step, with_step}
 use Rattle.tx_constraint.specs.Kept.{Kept, kept, added}
 use Rattle.tx_constraint.proofs.Attempts.{octowords_begun, kept_step}
 use Rattle.tx_footprint.specs.Touched.{untouched}
-use Rattle.store_cache.specs.Overlay.{Store}
+use Rattle.tx_serial.specs.Overlay.{Store}
 use Rattle.tx_serial.specs.Flat.{FlatState, operand_stores}
 use Rattle.tx_serial.specs.Attempt.{Run, Mark, Open, Committed, Overflowed, Missing, attempt_of}
 use Rattle.tx_serial.specs.Fate.{Fate, Goes, Ends, Stops, fate, step_of}

@@ -9,7 +9,7 @@ use Rattle.z_instr.specs.Access.{accessible_pages, text_pages}
 use Rattle.z_instr.specs.Operands.{unspecified, inaccessible}
 use Rattle.z_instr.specs.Roles.{begins}
 use Rattle.z_instr.specs.Table.{entry_at}
-use Rattle.z_touch.specs.Refusals.{at_fetch}
+use Rattle.tx_serial.specs.Refusals.{at_fetch}
 use Rattle.tx_control.specs.declared.begins.Begin.{Begin}
 use Rattle.tx_control.specs.declared.causes.Why.{Why}
 use Rattle.tx_control.specs.declared.causes.Why.TheVariants.{Depth}

@@ -3,7 +3,7 @@ use Rattle.std.proofs.Common.{◌≡◌, ℕ, Bool, true, false, List, [], ◌�
 use Rattle.std.proofs.Common.{◌∙◌}
 use Rattle.std.specs.Prelude.{if◌then◌else◌, ◌==◌, unwrap_or}
 use Rattle.std.proofs.lemmas.List.Sums.{fold-append}
-use Rattle.store_cache.specs.Overlay.{Overlay, Store, nothing, with_one, overlay_of}
+use Rattle.tx_serial.specs.Overlay.{Overlay, Store, nothing, with_one, overlay_of}
 use Rattle.tx_serial.specs.Flat.{Storage, FlatState, at_put, laid_over}
 use Rattle.tx_serial.specs.Run.{run}
 use Rattle.tx_serial.proofs.Copies.{run_copy}

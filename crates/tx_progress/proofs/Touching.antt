@@ -10,7 +10,7 @@ use Rattle.z_regs.specs.Prefix.{absolute_of, is_prefix, area_size}
 use Rattle.z_regs.specs.Absolute.{absolute_range, absolute_ranges, part_of, to_edge}
 use Rattle.z_regs.specs.declared.ranges.Range.{Range}
 use Rattle.z_instr.specs.Operands.{from_up}
-use Rattle.store_cache.specs.Overlay.{Overlay, Store, overlay_of, nothing}
+use Rattle.tx_serial.specs.Overlay.{Overlay, Store, overlay_of, nothing}
 use Rattle.tx_footprint.specs.Places.{has_place, stores}
 use Rattle.tx_footprint.specs.Sizes.{line_size}
 use Rattle.tx_progress.specs.Local.{Local, block_stored, storage_with}

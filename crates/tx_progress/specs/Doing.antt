@@ -18,7 +18,7 @@ use Rattle.tx_control.specs.declared.causes.Why.{Why}
 use Rattle.tx_control.specs.declared.causes.Why.TheVariants.{Tabort}
 use Rattle.tx_control.specs.Codes.{fixed_point_overflow_code, fixed_point_divide_code}
 use Rattle.tx_control.specs.declared.exceptions.Exception.{Exception}
-use Rattle.store_cache.specs.Overlay.{Store}
+use Rattle.tx_serial.specs.Overlay.{Store}
 use Rattle.tx_serial.specs.Flat.{operand_stores, laid_over}
 use Rattle.tx_serial.specs.Fate.{cause_in}
 use Rattle.tx_serial.specs.Remains.{waiting_with}

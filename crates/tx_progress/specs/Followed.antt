@@ -10,7 +10,7 @@ use Rattle.tx_footprint.specs.Places.{stores, fetches}
 use Rattle.tx_footprint.specs.Touched.{Sets, line_count, block_count}
 use Rattle.tx_footprint.specs.Sizes.{line_limit, block_limit}
 use Rattle.tx_footprint.specs.Sizes.{line_size}
-use Rattle.tx_journal.specs.declared.entries.Entry.{Entry}
+use Rattle.tx_serial.specs.Entry.{Entry}
 use Rattle.tx_serial.specs.Apply.{apply}
 use Rattle.tx_serial.specs.Flat.{FlatState, Storage, at_put}
 use Rattle.tx_serial.specs.Attempt.{Run, Mark, Open, Committed, Overflowed, Missing}

@@ -12,7 +12,7 @@ use Rattle.z_effect.specs.Beginning as beginning
 use Rattle.tx_control.specs.declared.begins.Begin.{Begin}
 use Rattle.tx_constraint.specs.Kept.{Kept, kept_at, added}
 use Rattle.tx_footprint.specs.Touched.{Sets, untouched, touching}
-use Rattle.store_cache.specs.Overlay.{Overlay, Store, nothing, with_one}
+use Rattle.tx_serial.specs.Overlay.{Overlay, Store, nothing, with_one}
 use Rattle.tx_serial.specs.Flat.{Storage}
 use Rattle.tx_serial.specs.Run.{nest_after, lasting_of}
 

@@ -3,7 +3,7 @@ use Rattle.std.specs.Prelude.{◌≡◌, ℕ, ◌+◌, true, if◌then◌else◌
 use Rattle.z_effect.specs.One.{length_of}
 use Rattle.tx_constraint.specs.Constraints.{Step}
 use Rattle.tx_constraint.specs.Kept.{Kept, kept}
-use Rattle.store_cache.specs.Overlay.{overlay_of}
+use Rattle.tx_serial.specs.Overlay.{overlay_of}
 use Rattle.tx_serial.specs.Flat.{FlatState}
 use Rattle.tx_serial.specs.Attempt.{Run, Open, attempt_of, footprint}
 use Rattle.tx_serial.specs.Run.{run}

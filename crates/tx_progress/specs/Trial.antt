@@ -7,7 +7,7 @@ use Rattle.z_effect.specs.Outcome.{Outcome}
 use Rattle.tx_control.specs.Codes.{transaction_constraint_code}
 use Rattle.tx_constraint.specs.Kept.{Kept, next_text_breach, next_operand_breach}
 use Rattle.tx_footprint.specs.Touched.{touching}
-use Rattle.z_touch.specs.Refusals.{refused, at_fetch}
+use Rattle.tx_serial.specs.Refusals.{refused, at_fetch}
 use Rattle.tx_serial.specs.Flat.{Storage}
 use Rattle.tx_serial.specs.Attempt.{Run, Open}
 use Rattle.tx_serial.specs.Fate.{Fate, Goes, Refusal, Excepts, fate_after, first_refusal, operands}

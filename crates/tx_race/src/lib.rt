@@ -9,4 +9,4 @@ mod workers;
 
 pub use gate::{Gate, OpenGate};
 pub use racing::race;
-pub use tx_board::{Blank, Board, Raced, Share};
+pub use tx_board::{Blank, Board, Machine, Raced, Share};

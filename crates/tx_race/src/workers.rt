@@ -6,10 +6,9 @@ use crate::locking::locked;
 use std::alloc::Global;
 use std::sync::ledger::Ledger;
 use std::sync::{Mutex, Wait};
-use tx_board::{Board, Home, Lend, NoMemory, Share, cpu_count};
+use tx_board::{Board, Home, Lend, NoMemory, Run, RunStep, Share, cpu_count};
 use tx_meaning::Outcome;
 use tx_pace::{Calls, Paces};
-use tx_run::{Run, RunStep};
 
 /// The most steps of a run.
 const MOST_STEPS: u32 = 64;

@@ -6,3 +6,4 @@ pub mod Told
 -- what callers name of crates below
 pub use Rattle.tx_machine.proofs.Laws
 pub use Rattle.tx_machine.proofs.Most
+pub use Rattle.tx_machine.proofs.Opaque

@@ -4,3 +4,4 @@ pub mod Shown
 pub mod Report
 -- what callers name of crates below
 pub use Rattle.tx_machine.specs.Machine
+pub use Rattle.tx_machine.specs.Opacity

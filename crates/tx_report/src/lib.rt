@@ -7,6 +7,6 @@ mod ends;
 mod processors;
 mod whole;
 
-pub use tx_machine::Machine;
+pub use tx_machine::{Home, Lend, Machine, Place, Reason, Refusal, Run, RunStep};
 pub use whole::{report, status, summary};
 pub use z_regs::NoMemory;

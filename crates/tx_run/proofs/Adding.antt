@@ -1,7 +1,7 @@
 -- A CPU with other stores that wait, and with those of steps over its own.
 use Rattle.store_cache.specs.Overlay.{Overlay}
 use Rattle.tx_progress.specs.Local.{Local}
-use Rattle.tx_lending.specs.Stranger.{upon, only_at}
+use Rattle.tx_marks.specs.Stranger.{upon, only_at}
 use Rattle.tx_marks.specs.Traces.{Traces, is_stored}
 
 abbrev pub with_waits : Overlay → Local → Local

@@ -2,7 +2,7 @@
 use Rattle.std.proofs.Common.{◌≡◌, ℕ, ◌<◌, List, sym, ap, subst, ◌∙◌}
 use Rattle.tx_cpu.specs.Parts.{local_of}
 use Rattle.tx_progress.specs.Local.{Beside}
-use Rattle.tx_lending.specs.Away.{ran, GoAway, GoesAway}
+use Rattle.tx_marks.specs.Away.{ran, GoAway, GoesAway}
 use Rattle.tx_marks.specs.Marks.{mode_in}
 use Rattle.tx_run.specs.Made.{Made, from, IsMade, MayBeMadeAgain, NextGoesAway, StartsAlike}
 

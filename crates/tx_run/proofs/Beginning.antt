@@ -6,7 +6,7 @@ use Rattle.tx_serial.specs.Text.{SameText}
 use Rattle.tx_progress.specs.Local.{Local, settled}
 use Rattle.std.specs.Prelude.{if◌then◌else◌}
 use Rattle.tx_cpu.specs.Parts.{local_of}
-use Rattle.tx_lending.specs.Away.{ran, touched}
+use Rattle.tx_marks.specs.Away.{ran, touched}
 use Rattle.tx_marks.specs.Own.{Own, given, is_touched, bytes_at}
 use Rattle.tx_marks.specs.Marks.{mode_in}
 use Rattle.tx_run.specs.Made.{Made, from, needs_by, laid, paged, IsMade}

@@ -36,13 +36,13 @@ use Rattle.tx_progress.specs.Progress.{Progress, seen_through, is_live, advanced
 use Rattle.tx_progress.specs.Trial.{at_hand, fate_by_progress, outcome_by, text_refusal_by}
 use Rattle.tx_progress.specs.declared.done.Done.TheVariants.{Stepped}
 use Rattle.tx_cpu.proofs.Goes.{found-so}
-use Rattle.tx_attempt.proofs.Reached.{accessible_spans}
-use Rattle.tx_lending.specs.Away.{is_plain}
-use Rattle.tx_lending.specs.Places.{operand_places, stored_places, is_among}
-use Rattle.tx_lending.proofs.Along.{no_begin}
-use Rattle.tx_lending.proofs.Leaving.{count_after, left_by}
+use Rattle.tx_cpu.proofs.Reached.{accessible_spans}
+use Rattle.tx_marks.specs.Away.{is_plain}
+use Rattle.tx_marks.specs.Places.{operand_places, stored_places, is_among}
+use Rattle.tx_marks.proofs.Along.{no_begin}
+use Rattle.tx_marks.proofs.Leaving.{count_after, left_by}
 use Rattle.tx_run.specs.Made.{IsWithin}
-use Rattle.tx_lending.proofs.Stores.{stored_among, stores_elsewhere}
+use Rattle.tx_marks.proofs.Stores.{stored_among, stores_elsewhere}
 use Rattle.tx_serial.proofs.Frame.{fetched_text, length_some}
 use Rattle.tx_progress.proofs.Standing.{none_first}
 

@@ -20,11 +20,11 @@ use Rattle.tx_progress.specs.Local.{Beside}
 use Rattle.tx_progress.specs.Progress.{Progress, is_live, advanced}
 use Rattle.tx_progress.specs.Trial.{fate_by_progress, outcome_by}
 use Rattle.tx_progress.specs.declared.done.Done.TheVariants.{Stepped}
-use Rattle.tx_lending.specs.Away.{lent_by, lent_turn, ran, GoesAway, GoAway, stored, fate_stores}
-use Rattle.tx_lending.specs.Places.{is_among}
-use Rattle.tx_lending.specs.Stranger.{waits_at, fate_waits_at}
-use Rattle.tx_lending.proofs.Along.{no_begin, fewer, last_one}
-use Rattle.tx_lending.proofs.Turning.{all_left}
+use Rattle.tx_marks.specs.Away.{lent_by, lent_turn, ran, GoesAway, GoAway, stored, fate_stores}
+use Rattle.tx_marks.specs.Places.{is_among}
+use Rattle.tx_marks.specs.Stranger.{waits_at, fate_waits_at}
+use Rattle.tx_marks.proofs.Along.{no_begin, fewer, last_one}
+use Rattle.tx_marks.proofs.Turning.{all_left}
 use Rattle.tx_run.specs.Made.{laid, fate_lays}
 
 -- ---- where stores go

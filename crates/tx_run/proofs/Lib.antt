@@ -12,3 +12,7 @@ pub mod Doublewords
 pub mod Adding
 pub mod Texts
 pub mod Taking
+-- what callers name of crates below
+pub use Rattle.tx_cpu.proofs.Agreeing
+pub use Rattle.tx_cpu.proofs.Plainly
+pub use Rattle.tx_cpu.proofs.Reached

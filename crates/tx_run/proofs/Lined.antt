@@ -7,7 +7,7 @@ use Rattle.std.proofs.lemmas.Bool.Decides.{nat_tests}
 use Rattle.z_instr.specs.Access.{lies_in}
 use Rattle.tx_progress.specs.Local.{Beside}
 use Rattle.tx_cpu.specs.Parts.{local_of}
-use Rattle.tx_lending.specs.Away.{ran, touched}
+use Rattle.tx_marks.specs.Away.{ran, touched}
 use Rattle.tx_marks.specs.Own.{is_touched, bytes_at}
 use Rattle.tx_marks.specs.Marks.{mode_in}
 use Rattle.tx_run.specs.Made.{Made, from, needs_by, laid, paged, IsMade}

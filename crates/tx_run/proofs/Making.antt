@@ -7,9 +7,9 @@ use Rattle.z_regs.specs.Prefix.{is_prefix}
 use Rattle.z_regs.specs.declared.ranges.Range.{Range}
 use Rattle.z_instr.specs.declared.instr.Instr.{Instr}
 use Rattle.line_table.specs.declared.table.Mode.{Mode}
-use Rattle.tx_meaning.specs.Asking.{is_there}
-use Rattle.tx_meaning.specs.Needs.{operand_needs}
-use Rattle.tx_meaning.specs.declared.asking.Need.{Need}
+use Rattle.tx_marks.specs.Asking.{is_there}
+use Rattle.tx_marks.specs.Needs.{operand_needs}
+use Rattle.tx_marks.specs.Need.{Need}
 use Rattle.tx_serial.specs.Fate.{Fate, Goes}
 use Rattle.tx_serial.specs.Text.{SameText}
 use Rattle.tx_progress.specs.Doing.{executed}
@@ -17,9 +17,9 @@ use Rattle.tx_progress.specs.Local.{Beside}
 use Rattle.tx_progress.specs.Progress.{is_live}
 use Rattle.tx_progress.specs.declared.done.Done.TheVariants.{Stepped}
 use Rattle.tx_cpu.specs.Parts.{local_of}
-use Rattle.tx_lending.specs.Away.{ran, GoAway, GoesAway, touched, lent_turn, lent_by, is_plain, turn_places, fate_places}
-use Rattle.tx_lending.specs.Places.{is_among, text_places, operand_places, stored_places}
-use Rattle.tx_lending.proofs.Along.{go_by}
+use Rattle.tx_marks.specs.Away.{ran, GoAway, GoesAway, touched, lent_turn, lent_by, is_plain, turn_places, fate_places}
+use Rattle.tx_marks.specs.Places.{is_among, text_places, operand_places, stored_places}
+use Rattle.tx_marks.proofs.Along.{go_by}
 use Rattle.tx_marks.specs.Own.{is_touched, bytes_at}
 use Rattle.tx_marks.specs.Traces.{is_stored, is_paged, has_page}
 use Rattle.tx_marks.specs.Marks.{mode_in, with_needs}

@@ -7,7 +7,7 @@ use Rattle.tx_progress.specs.Doing.{executed}
 use Rattle.std.proofs.lemmas.Bool.{true≢false}
 use Rattle.tx_progress.specs.declared.done.Done.{Done}
 use Rattle.tx_progress.specs.declared.done.Done.TheVariants.{Stepped, Began, Paused, Committed, Interrupted, Ended}
-use Rattle.tx_lending.specs.Away.{is_plain}
+use Rattle.tx_marks.specs.Away.{is_plain}
 use Rattle.tx_run.specs.Made.{Made, now, next_fate, NextGoesAway, is_stepped}
 
 instruction_in : Instr → Fate → Instr

@@ -8,8 +8,8 @@ use Rattle.tx_progress.specs.Doing.{Executed, executed}
 use Rattle.tx_progress.specs.Local.{Beside}
 use Rattle.tx_progress.specs.Progress.{is_live}
 use Rattle.tx_cpu.specs.Parts.{Parts, local_of, beside}
-use Rattle.tx_lending.specs.Away.{is_plain}
-use Rattle.tx_lending.specs.Places.{is_among, operand_places}
+use Rattle.tx_marks.specs.Away.{is_plain}
+use Rattle.tx_marks.specs.Places.{is_among, operand_places}
 use Rattle.tx_marks.specs.Own.{is_touched, bytes_at}
 use Rattle.tx_run.specs.Made.{Made, now, StartsAlike}
 use Rattle.tx_run.proofs.Frame.{executed-elsewhere}

@@ -9,14 +9,14 @@ use Rattle.tx_serial.specs.Flat.{Storage}
 use Rattle.tx_progress.specs.Local.{Local, Beside}
 use Rattle.tx_progress.specs.Progress.{Progress, is_live, resting, seen_through}
 use Rattle.tx_cpu.specs.Parts.{local_of, goes_on_as}
-use Rattle.tx_lending.specs.Away.{ran, touched, stored, IsClear, GoAway}
-use Rattle.tx_lending.specs.Places.{over, LookAlike}
-use Rattle.tx_lending.specs.Stranger.{GoesOnLike, SeeAlike, gone_on, left_as, upon, waiting, only_at}
-use Rattle.tx_lending.proofs.Along.{makes, go_too}
-use Rattle.tx_lending.proofs.Outside.{own_turns, own_go}
-use Rattle.tx_lending.proofs.Strangers.{stranger_makes, stranger_goes}
-use Rattle.tx_lending.proofs.Turning.{all_left}
-use Rattle.tx_lending.proofs.Waiting.{waits_so}
+use Rattle.tx_marks.specs.Away.{ran, touched, stored, IsClear, GoAway}
+use Rattle.tx_marks.specs.Places.{over, LookAlike}
+use Rattle.tx_marks.specs.Stranger.{GoesOnLike, SeeAlike, gone_on, left_as, upon, waiting, only_at}
+use Rattle.tx_marks.proofs.Along.{makes, go_too}
+use Rattle.tx_marks.proofs.Outside.{own_turns, own_go}
+use Rattle.tx_marks.proofs.Strangers.{stranger_makes, stranger_goes}
+use Rattle.tx_marks.proofs.Turning.{all_left}
+use Rattle.tx_marks.proofs.Waiting.{waits_so}
 use Rattle.tx_marks.specs.Marks.{mode_in}
 use Rattle.tx_marks.specs.Own.{given, is_touched, bytes_at}
 use Rattle.tx_marks.specs.Traces.{is_stored}

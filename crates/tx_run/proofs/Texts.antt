@@ -43,9 +43,9 @@ use Rattle.tx_progress.specs.Trial.{place_refusal_by, overflow_refusal_by}
 use Rattle.tx_progress.specs.declared.done.Done.TheVariants.{Stepped}
 use Rattle.tx_cpu.specs.Parts.{local_of}
 use Rattle.tx_cpu.proofs.Goes.{read-touches}
-use Rattle.tx_lending.specs.Away.{ran, GoAway, GoesAway, touched, lent_turn, lent_by, is_plain, turn_places, fate_places}
-use Rattle.tx_lending.specs.Places.{is_among, places_from, text_places, operand_places, stored_places}
-use Rattle.tx_lending.proofs.Along.{no_begin, fewer, last_one, go_by}
+use Rattle.tx_marks.specs.Away.{ran, GoAway, GoesAway, touched, lent_turn, lent_by, is_plain, turn_places, fate_places}
+use Rattle.tx_marks.specs.Places.{is_among, places_from, text_places, operand_places, stored_places}
+use Rattle.tx_marks.proofs.Along.{no_begin, fewer, last_one, go_by}
 use Rattle.tx_marks.specs.Marks.{mode_in}
 use Rattle.tx_marks.specs.Own.{is_touched}
 use Rattle.tx_marks.specs.Traces.{is_stored, is_paged, has_page}

@@ -2,7 +2,7 @@
 use Rattle.std.specs.Prelude.{◌≡◌, ℕ, ◌+◌, ◌<◌, ◌≤◌, ◌^◌, ◌/◌, Bool, true, false, ◌&&◌, not, nat_eq, nat_lt}
 use Rattle.std.specs.Prelude.{if◌then◌else◌, List, None}
 use Rattle.std.specs.List.{list_any}
-use Rattle.tx_meaning.specs.declared.asking.Need.{Need}
+use Rattle.tx_marks.specs.Need.{Need}
 use Rattle.tx_serial.specs.Apply.{is_running}
 use Rattle.tx_serial.specs.Flat.{Storage}
 use Rattle.tx_progress.specs.Local.{Local}

@@ -9,8 +9,8 @@ use Rattle.z_instr.specs.Layout.{length_by}
 use Rattle.z_regs.specs.declared.ranges.Range.{Range}
 use Rattle.z_instr.specs.declared.instr.Instr.{Instr}
 use Rattle.line_table.specs.declared.table.Mode.{Mode}
-use Rattle.tx_meaning.specs.Needs.{operand_needs}
-use Rattle.tx_meaning.specs.declared.asking.Need.{Need}
+use Rattle.tx_marks.specs.Needs.{operand_needs}
+use Rattle.tx_marks.specs.Need.{Need}
 use Rattle.tx_serial.specs.Fate.{Fate, Goes, Ends, Stops}
 use Rattle.tx_serial.specs.Flat.{Storage}
 use Rattle.tx_serial.specs.Text.{SameText}
@@ -21,8 +21,8 @@ use Rattle.tx_progress.specs.Trial.{fate_by_progress}
 use Rattle.tx_progress.specs.declared.done.Done.{Done}
 use Rattle.tx_progress.specs.declared.done.Done.TheVariants as done
 use Rattle.tx_cpu.specs.Parts.{Parts, local_of, beside}
-use Rattle.tx_lending.specs.Away.{ran, GoAway, GoesAway, touched, is_plain}
-use Rattle.tx_lending.specs.Places.{is_among, text_places, operand_places, stored_places}
+use Rattle.tx_marks.specs.Away.{ran, GoAway, GoesAway, touched, is_plain}
+use Rattle.tx_marks.specs.Places.{is_among, text_places, operand_places, stored_places}
 use Rattle.tx_marks.specs.Own.{Own, given, is_touched, bytes_at}
 use Rattle.tx_marks.specs.Traces.{Traces, is_stored, is_paged, has_page}
 use Rattle.tx_marks.specs.Marks.{Marks, mode_in, with_needs, first_missing}

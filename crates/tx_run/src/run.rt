@@ -6,8 +6,8 @@ ghost use Rattle.std.specs.FinSet.{items};
 ghost use Rattle.std.specs.Arc.{arc_value};
 ghost use Rattle.tx_serial.specs.Apply.{is_running};
 ghost use Rattle.tx_cpu.specs.Parts.{local_of, beside};
-ghost use Rattle.tx_lending.specs.Away.{GoAway, lent_turn, ran};
-ghost use Rattle.tx_lending.specs.Stranger.{GoesOnLike, SeeAlike};
+ghost use Rattle.tx_marks.specs.Away.{GoAway, lent_turn, ran};
+ghost use Rattle.tx_marks.specs.Stranger.{GoesOnLike, SeeAlike};
 ghost use Rattle.tx_run.specs.Made.{AgreeOnPages, now, StartsAlike};
 ghost use Rattle.byteorder.specs.Endian.{big_bytes};
 ghost use Rattle.z_regs.specs.Prefix.{storage_size};
@@ -29,8 +29,7 @@ use std::alloc::Global;
 use std::marker::Model;
 use std::sync::Arc;
 use tx_cpu::{Cpu, Program};
-use tx_marks::LineMarks;
-use tx_meaning::Need;
+use tx_marks::{LineMarks, Need};
 use z_regs::{Bytes, NoMemory, STORAGE_SIZE};
 
 /// A byte that two CPUs see otherwise.

@@ -7,3 +7,4 @@ pub use Rattle.tx_machine.specs.Lending
 pub use Rattle.tx_machine.specs.declared.lending as DeclaredLending
 pub use Rattle.tx_machine.specs.HomeLending
 pub use Rattle.tx_machine.specs.Places
+pub use Rattle.tx_machine.specs.Wanted

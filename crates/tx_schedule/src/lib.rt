@@ -8,4 +8,4 @@ mod running;
 
 pub use runnable::Runnable;
 pub use running::{run_drawn, run_given, run_planned, run_planned_on, run_round};
-pub use tx_machine::{Home, Lend, Machine, NoMemory};
+pub use tx_machine::{Home, Lend, Machine, NoMemory, Run, RunStep};

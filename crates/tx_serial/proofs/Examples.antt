@@ -4,7 +4,7 @@ use Rattle.std.proofs.Common.{◌≡◌, refl, ℕ, ◌+◌, ◌-◌, Bool, true
 use Rattle.std.proofs.Common.{length, get_or, Option, Some, None}
 use Rattle.std.specs.Prelude.{◌&&◌, nat_lt, nat_le, if◌then◌else◌, is_some, take, drop, map, slice_range}
 use Rattle.std.specs.List.{range_with_len}
-use Rattle.bit_set.specs.Counts.{count_below}
+use Rattle.store_cache.specs.Counts.{count_below}
 use Rattle.z_arith.specs.Sum.{add_of}
 use Rattle.z_arith.specs.Quotient.{divide_word_of}
 use Rattle.z_regs.specs.Cpu.{Cpu, started}

@@ -15,3 +15,6 @@ pub mod TextKept
 pub mod StoredBytes
 pub mod StoredPlaces
 pub mod Starting
+-- what callers name of crates below
+pub use Rattle.z_touch.proofs.Reach
+pub use Rattle.z_touch.proofs.SmallRanges

@@ -2,7 +2,7 @@
 -- is fetched and stored, and the greatest depth. The expected values are those of an independent model.
 use Rattle.std.proofs.Common.{◌≡◌, refl, ℕ, true, false, List, [], ◌∷◌, ◌++◌, None, Some}
 use Rattle.std.specs.Prelude.{replicate}
-use Rattle.bit_set.specs.Counts.{count_below}
+use Rattle.store_cache.specs.Counts.{count_below}
 use Rattle.z_arith.specs.Sum.{add_of}
 use Rattle.z_arith.specs.Quotient.{divide_word_of}
 use Rattle.z_regs.specs.Cpu.{Cpu}

@@ -11,3 +11,11 @@ pub mod Alike
 pub mod Changes
 pub mod Text
 pub mod Stored
+-- what callers name of crates below
+pub use Rattle.tx_journal.specs.declared.entries.Entry
+pub use Rattle.z_effect.specs.TransactionEffect
+pub use Rattle.z_touch.specs.Refusals
+pub use Rattle.tx_journal.specs.Content
+pub use Rattle.tx_journal.specs.Image
+pub use Rattle.tx_journal.specs.declared.events.Event
+pub use Rattle.store_cache.specs.Overlay

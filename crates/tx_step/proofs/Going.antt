@@ -17,8 +17,8 @@ use Rattle.tx_keeping.specs.Turn.{k_happen}
 use Rattle.tx_keeping.proofs.Truth.{Truth}
 use Rattle.tx_keeping.proofs.Moves.{IsGood}
 use Rattle.tx_keeping.proofs.Turning.{happen_ok}
-use Rattle.tx_opacity.proofs.Others.{Left, others_turn, others_interruption}
-use Rattle.tx_opacity.proofs.Own.{Own, own_turn, own_interruption}
+use Rattle.tx_machine.proofs.Others.{Left, others_turn, others_interruption}
+use Rattle.tx_machine.proofs.Own.{Own, own_turn, own_interruption}
 
 module _ (m : Setting) (s : IsSetting m) where
   -- the CPU of the event itself

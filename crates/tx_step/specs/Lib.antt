@@ -3,3 +3,5 @@ pub mod Sights
 pub mod Stored
 pub mod Traces
 pub mod Moves
+-- what callers name of crates below
+pub use Rattle.tx_machine.specs.Machine

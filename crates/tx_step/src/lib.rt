@@ -6,3 +6,4 @@ pub mod shown;
 pub mod trace;
 
 pub use trace::{NoMemory, Trace};
+pub use tx_machine::Machine;

@@ -6,7 +6,7 @@ use Rattle.std.proofs.lemmas.List.{take_all}
 use Rattle.std.proofs.lemmas.Option.{get_or_from_slice_get}
 use Rattle.tx_journal.specs.declared.events.Event.{Event}
 use Rattle.tx_meaning.specs.Meaning.{meaning, meaning_from, is_external}
-use Rattle.tx_machine.specs.Machine.{Seen, setting_of, state_of, event_of, after, opened}
+use Rattle.tx_step.specs.Machine.{Seen, setting_of, state_of, event_of, after, opened}
 use Rattle.tx_step.proofs.Followed.{Follows, begins_following, follows_on, may_come}
 use Rattle.tx_watch.specs.Replay.{Replays}
 use Rattle.tx_watch.specs.Window.{start_of, turns_in, entries_behind, entries_in}

@@ -1,7 +1,7 @@
 -- A run that is made once more.
 use Rattle.std.specs.Prelude.{◌≡◌, ℕ, take}
 use Rattle.tx_meaning.specs.Meaning.{meaning}
-use Rattle.tx_machine.specs.Machine.{Seen, setting_of, state_of}
+use Rattle.tx_step.specs.Machine.{Seen, setting_of, state_of}
 
 -- the first so many recorded events of a machine have happened to another one
 pub record Replays (machine : Seen) (k : ℕ) (replay : Seen) : Type 0 where

@@ -6,5 +6,6 @@ pub mod marks;
 mod watching;
 mod window;
 
+pub use tx_step::{Machine, NoMemory};
 pub use watching::observe;
 pub use window::Window;

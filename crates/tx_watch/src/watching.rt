@@ -3,7 +3,7 @@
 ghost use Rattle.std.specs.Prelude.{◌≡◌, ◌+◌, ◌<◌, ◌≤◌, IfOk, OnOk, Some, length, slice_get, true, count_by};
 ghost use Rattle.tx_journal.specs.Image.{cpu_of_event};
 ghost use Rattle.tx_meaning.specs.Meaning.{is_external};
-ghost use Rattle.tx_machine.specs.Machine.{setting_of, state_of, event_of, after};
+ghost use Rattle.tx_step.specs.Machine.{setting_of, state_of, event_of, after};
 ghost use Rattle.tx_watch.specs.Replay.{Replays};
 ghost use Rattle.tx_watch.specs.Window.{start_of, turns_in, entries_in};
 
@@ -12,8 +12,8 @@ use crate::window::Window;
 use std::alloc::{AllocError, Global};
 use tx_control::Why;
 use tx_journal::{Entry, Event, Image};
-use tx_machine::{Machine, NoMemory};
 use tx_meaning::{Outcome, Reject};
+use tx_step::{Machine, NoMemory};
 use z_decode::{decode, length_of};
 use z_instr::instr::Instr;
 use z_regs::STORAGE_SIZE;

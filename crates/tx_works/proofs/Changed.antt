@@ -9,7 +9,7 @@ use Rattle.interrogate.specs.declared.kinds.Answer.TheVariants.{Yields, Rejects,
 use Rattle.interrogate.specs.Replies.{after}
 use Rattle.tx_serial.specs.Flat.{at_put}
 use Rattle.tx_progress.specs.Progress as progress
-use Rattle.tx_cpu.specs.Parts.{local_of}
+use Rattle.tx_lines.specs.Parts.{local_of}
 use Rattle.tx_lines.specs.Owned.{Owned, storage_of, storage_in, holders_in}
 use Rattle.tx_keeping.specs.Kept.{Kept, with_state}
 use Rattle.tx_keeping.specs.Moves.{k_asking, k_rejected}

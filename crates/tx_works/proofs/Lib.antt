@@ -18,3 +18,10 @@ pub mod Turns
 pub mod Plainly
 -- what callers name of crates below
 pub use Rattle.tx_lines.proofs.Doublewords
+pub use Rattle.tx_keeping.proofs.Events
+pub use Rattle.tx_keeping.proofs.Moves
+pub use Rattle.tx_keeping.proofs.Needed
+pub use Rattle.tx_keeping.proofs.Room
+pub use Rattle.tx_keeping.proofs.Truth
+pub use Rattle.tx_keeping.proofs.Turning
+pub use Rattle.tx_progress.proofs.Parts

@@ -9,7 +9,7 @@ use Rattle.tx_program.specs.declared.ready.Shape.{Shape}
 use Rattle.tx_program.specs.declared.ready.Touch.{Touch}
 use Rattle.tx_program.specs.declared.ready.Touch.TheVariants as touch
 use Rattle.tx_program.specs.Shapes.{is_in_line, is_open, is_reached}
-use Rattle.tx_cpu.proofs.Plainly.{in-line}
+use Rattle.tx_lines.proofs.Plainly.{in-line}
 use Rattle.std.proofs.lemmas.Bool.{and_parts}
 use Rattle.tx_needs.proofs.OneLine.{one, mode_of, needs-one, needs-none}
 use Rattle.tx_meaning.specs.Asking.{is_there}

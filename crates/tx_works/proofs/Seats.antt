@@ -13,7 +13,7 @@ use Rattle.z_instr.specs.declared.instr.Instr.{Instr}
 use Rattle.tx_control.specs.declared.exceptions.Exception.{Exception}
 use Rattle.tx_progress.specs.Local.{Local, Beside, aborted, block_stored, interruption_taken}
 use Rattle.tx_progress.specs.Doing.{executed, stopped}
-use Rattle.tx_cpu.specs.Parts.{local_of}
+use Rattle.tx_lines.specs.Parts.{local_of}
 use Rattle.tx_lines.specs.Owned.{Owned, storage_in, holders_in, with_lines}
 use Rattle.tx_meaning.specs.State.{Numbers, is_live}
 use Rattle.tx_keeping.specs.Kept.{Kept, beside}

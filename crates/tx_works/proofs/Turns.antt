@@ -29,11 +29,11 @@ use Rattle.z_instr.specs.Operands.{spans}
 use Rattle.z_instr.specs.Table.{entry_at}
 use Rattle.z_instr.proofs.SmallOperands.{count, sizes}
 use Rattle.z_touch.specs.Refusals.{range_of}
-use Rattle.tx_attempt.proofs.Reached.{accessible_spans}
+use Rattle.tx_lines.proofs.Reached.{accessible_spans}
 use Rattle.z_regs.specs.Absolute.{IsAccessible}
 use Rattle.std.proofs.Math.ListN.{length-map}
 use Rattle.tx_progress.proofs.Lines.{text_there}
-use Rattle.tx_cpu.proofs.Agreeing.{fate_by_progress-alike}
+use Rattle.tx_lines.proofs.Agreeing.{fate_by_progress-alike}
 use Rattle.z_regs.specs.Prefix.{absolute_of}
 use Rattle.tx_meaning.specs.Limits.{Setting}
 use Rattle.tx_meaning.specs.Meaning.{IsSetting}

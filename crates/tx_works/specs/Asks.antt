@@ -10,7 +10,7 @@ use Rattle.interrogate.specs.declared.kinds.Answer.TheVariants.{Yields, Rejects,
 use Rattle.interrogate.specs.declared.kinds.Asker.{Asker}
 use Rattle.interrogate.specs.Replies.{reply}
 use Rattle.tx_progress.specs.Progress as progress
-use Rattle.tx_cpu.specs.Parts.{local_of}
+use Rattle.tx_lines.specs.Parts.{local_of}
 use Rattle.tx_meaning.specs.declared.asking.Need.{Need}
 use Rattle.tx_meaning.specs.declared.asking.Reject.{Reject}
 use Rattle.tx_meaning.specs.State.{Numbers, State, is_live}

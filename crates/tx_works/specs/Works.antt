@@ -3,7 +3,7 @@ use Rattle.std.specs.Prelude.{◌≡◌, ℕ, ◌≤◌, List, length, get_or}
 use Rattle.tx_ladder.specs.Rungs.{Standing}
 use Rattle.tx_journal.specs.declared.entries.Entry.{Entry}
 use Rattle.tx_journal.specs.declared.events.Event.{Event}
-use Rattle.tx_cpu.specs.Parts.{Parts, local_of}
+use Rattle.tx_lines.specs.Parts.{Parts, local_of}
 use Rattle.tx_lines.specs.Owned.{Owned, storage_in, holders_in}
 use Rattle.tx_meaning.specs.State.{Numbers}
 use Rattle.tx_keeping.specs.Kept.{Kept}

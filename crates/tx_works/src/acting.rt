@@ -1,6 +1,6 @@
 //! What a CPU does in its turn, once its lines are there.
 ghost use Rattle.std.specs.Prelude.{◌≡◌, ◌<◌, true, false, None, length};
-ghost use Rattle.tx_cpu.specs.Plans.{HasRoom};
+ghost use Rattle.tx_lines.specs.Plans.{HasRoom};
 ghost use Rattle.tx_progress.specs.Doing.{stopped};
 ghost use Rattle.tx_progress.specs.Local.{block_stored, interruption_taken};
 ghost use Rattle.tx_meaning.specs.State.{is_live};

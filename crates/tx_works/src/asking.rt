@@ -6,7 +6,7 @@ ghost use Rattle.line_table.specs.Holders.{is_against, against};
 ghost use Rattle.interrogate.specs.Replies.{after, reply};
 ghost use Rattle.tx_ladder.specs.Rungs.{is_starved};
 ghost use Rattle.tx_progress.specs.Progress.{is_live};
-ghost use Rattle.tx_cpu.specs.Parts.{local_of};
+ghost use Rattle.tx_lines.specs.Parts.{local_of};
 ghost use Rattle.tx_lines.specs.Owned.{holders_in};
 ghost use Rattle.tx_lines.specs.Next.{next_against};
 ghost use Rattle.tx_meaning.specs.State.{is_live as is_cpu_live, is_first, is_head};
@@ -20,7 +20,7 @@ ghost use Rattle.tx_works.specs.Asks.{MayCount, IsReady, AskLeaves, asked_by, re
 use crate::slot::Slot;
 use crate::works::Works;
 use interrogate::{Answer, Asker, answer};
-use tx_cpu::Cpu;
+use tx_lines::Cpu;
 use tx_meaning::{Need, Reject};
 
 /// A request that was rejected.

@@ -1,6 +1,6 @@
 //! The end of an attempt.
 ghost use Rattle.std.specs.Prelude.{◌≡◌, ◌+◌, ◌<◌, ◌++◌, ◌∷◌, [], true, false, length};
-ghost use Rattle.tx_cpu.specs.Plans.{HasRoom};
+ghost use Rattle.tx_lines.specs.Plans.{HasRoom};
 ghost use Rattle.tx_ladder.specs.Rungs.{next_rung};
 ghost use Rattle.tx_ladder.specs.Waiting.{waits_in};
 ghost use Rattle.tx_progress.specs.Local.{aborted};

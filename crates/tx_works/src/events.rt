@@ -11,8 +11,8 @@ ghost use Rattle.tx_works.specs.Works.{Seat, kept_by, IsSameSize};
 
 use crate::acting::{Turned, without_reject};
 use crate::works::Works;
-use tx_cpu::Program;
 use tx_journal::Event;
+use tx_lines::Program;
 use tx_meaning::{Limits, Outcome};
 
 /// Whether a tick comes with the turn of this number.

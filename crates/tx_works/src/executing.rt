@@ -1,7 +1,7 @@
 //! An instruction that goes, and whose lines are there.
 ghost use Rattle.std.specs.Prelude.{◌≡◌, ◌<◌, true, false, is_some, length};
 ghost use Rattle.tx_journal.specs.declared.entries.Entry.TheVariants as entry;
-ghost use Rattle.tx_cpu.specs.Plans.{HasDoneRoom, IsPrepared};
+ghost use Rattle.tx_lines.specs.Plans.{HasDoneRoom, IsPrepared};
 ghost use Rattle.tx_progress.specs.Doing.{executed};
 ghost use Rattle.tx_progress.specs.Progress.{resting};
 ghost use Rattle.tx_meaning.specs.State.{is_live};
@@ -13,8 +13,8 @@ ghost use Rattle.tx_works.specs.Works.{Seat, kept_by, IsSameSize, KeepsBooks};
 
 use crate::acting::{Turned, without_reject};
 use crate::works::Works;
-use tx_cpu::Done;
 use tx_journal::Entry;
+use tx_lines::Done;
 use tx_meaning::Outcome;
 use z_instr::instr::Instr;
 use z_regs::Touches;

@@ -16,5 +16,5 @@ pub mod works;
 
 pub use events::is_tick;
 pub use slot::{Slot, Tally};
-pub use tx_lines::{Lines, Room, Run};
+pub use tx_lines::{Cpu, Lines, Program, Reason, Room, Run, RunStep, lent_turns_are_turns};
 pub use works::Works;

@@ -6,7 +6,7 @@ ghost use Rattle.z_instr.specs.declared.instr.Instr.{Instr};
 ghost use Rattle.tx_serial.specs.Fate.{Goes};
 ghost use Rattle.tx_serial.specs.History.{start_of};
 ghost use Rattle.tx_progress.specs.Trial.{fate_by_progress};
-ghost use Rattle.tx_cpu.specs.Quiet.{IsQuiet};
+ghost use Rattle.tx_lines.specs.Quiet.{IsQuiet};
 ghost use Rattle.tx_program.specs.Shapes.{touched_by, is_reached};
 ghost use Rattle.tx_lines.specs.Owned.{holders_in};
 ghost use Rattle.tx_meaning.specs.Asking.{is_there};
@@ -18,7 +18,7 @@ ghost use Rattle.tx_works.specs.Works.{Seat, kept_by};
 
 use crate::works::Works;
 use line_table::Mode;
-use tx_cpu::{Plain, Program, Shape, Touch};
+use tx_lines::{Plain, Program, Shape, Touch};
 use tx_meaning::Need;
 use z_regs::STORAGE_SIZE;
 

@@ -2,8 +2,8 @@
 ghost use Rattle.std.specs.Prelude.{◌≡◌};
 
 use std::marker::Model;
-use tx_cpu::Cpu;
 use tx_ladder::Ladder;
+use tx_lines::Cpu;
 
 /// What is counted of one CPU.
 #[derive(Clone, Copy, Debug, PartialEq, Eq)]

@@ -4,7 +4,7 @@ ghost use Rattle.z_instr.specs.Table.{entry_at};
 ghost use Rattle.z_regs.specs.Cpu.{cpu_of};
 ghost use Rattle.z_effect.specs.After.{cpu_after};
 ghost use Rattle.z_instr.specs.Reading.{modulo};
-ghost use Rattle.z_instr.specs.Ranges.{is_within, bounds};
+ghost use Rattle.z_instr.specs.Ranges.{is_within, half};
 ghost use Rattle.z_instr.specs.Roles.{begins};
 ghost use Rattle.tx_control.specs.Begins.{asked_by};
 ghost use Rattle.z_effect.specs.Beginning.{is_constrained, begin_of};
@@ -74,7 +74,7 @@ fn begins_constrained(op: Op) -> bool
 
 /// The level that an immediate without a sign asks for.
 fn asked(instr: &Instr, block: Option<u64>, constrained: bool) -> Begin
-    requires { is_within (bounds 0 65536) instr.now.imm ≡ true }
+    requires { is_within half instr.now.imm ≡ true }
     ensures { result ≡ asked_by (modulo 16 instr.now.imm) block constrained }
 {
     Begin::of(instr.imm as u16, block, constrained)

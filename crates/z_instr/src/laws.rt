@@ -9,7 +9,7 @@ ghost use Rattle.z_instr.specs.Table.{table, row_count, entry_at, kind_at};
 ghost use Rattle.z_instr.specs.Layout.{length_by, format_length, place, room};
 ghost use Rattle.z_instr.specs.Facts.{has_fitting_name, is_refused_alike, has_two_lists, is_service, is_begin};
 ghost use Rattle.z_instr.specs.Layouts.{layout_of, is_whole, taken, spelled, width};
-ghost use Rattle.z_instr.specs.Ranges.{is_within, bounds, limits_of, limits_by};
+ghost use Rattle.z_instr.specs.Ranges.{is_within, byte, half, limits_of, limits_by};
 ghost use Rattle.z_instr.specs.Places.{HasOpcode, opcode_at};
 ghost use Rattle.z_instr.specs.Reading.{AreBytes, AreSame, Reads};
 ghost use Rattle.z_instr.specs.Computing.{reading_of};
@@ -66,11 +66,11 @@ pub fn pieces_hold_bytes()
 /// begin is from 0 to 65535.
 pub fn immediates_are_plain()
     ensures lists { (i : Instr) → has_two_lists (entry_at i.op.number).operands ≡ true →
-        is_within (bounds 0 256) i.imm ≡ true }
+        is_within byte i.imm ≡ true }
     ensures services { (i : Instr) → is_service (entry_at i.op.number).demand ≡ true →
-        is_within (bounds 0 256) i.imm ≡ true }
+        is_within byte i.imm ≡ true }
     ensures begins { (i : Instr) → is_begin (entry_at i.op.number).demand ≡ true →
-        is_within (bounds 0 65536) i.imm ≡ true }
+        is_within half i.imm ≡ true }
 {}
 
 /// An instruction has at most two operands in storage, each of 1 to 256 bytes.

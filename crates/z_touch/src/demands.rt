@@ -3,7 +3,7 @@ ghost use Rattle.std.specs.Prelude.{◌≡◌, ◌<◌, true};
 ghost use Rattle.std.specs.Prelude.{None};
 ghost use Rattle.z_instr.specs.Operands.{bytes_of, boundary, unspecified_in, unspecified, where_wrong, specification};
 ghost use Rattle.z_instr.specs.Facts.{is_begin};
-ghost use Rattle.z_instr.specs.Ranges.{is_within, bounds};
+ghost use Rattle.z_instr.specs.Ranges.{is_within, half};
 ghost use Rattle.z_touch.specs.Refusals.{answer, refused};
 
 use tx_control::Exception;
@@ -51,7 +51,7 @@ fn unmet(
     image: &CpuImage,
     depth: u32,
 ) -> Option<u16>
-    requires begins { is_begin demand ≡ true → is_within (bounds 0 65536) instr.now.imm ≡ true }
+    requires begins { is_begin demand ≡ true → is_within half instr.now.imm ≡ true }
     ensures { result ≡ unspecified_in demand operands instr.now image.now.general depth }
 {
     match demand {

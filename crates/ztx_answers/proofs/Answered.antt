@@ -10,7 +10,7 @@ use Rattle.z_assemble.specs.declared.fault.ListingFault.{ListingFault}
 use Rattle.z_assemble.proofs.Images.{stands_for_image}
 use Rattle.z_assemble.proofs.Says.{one_holds, both_fail, same_image, same_fault}
 use Rattle.z_list.specs.Listing.{list_of}
-use Rattle.listing_laws.proofs.Listings.{has_image}
+use Rattle.listing_answers.proofs.Listings.{has_image}
 use Rattle.listing_answers.specs.Due.{IsRefusal, IsDisassembly, IsGenerated, IsDueToList}
 use Rattle.run_answers.specs.Reports.{IsReport, IsSummary, IsDueToRun}
 use Rattle.ztx_answers.specs.One.{IsSome, IsOnly}

@@ -11,3 +11,4 @@ pub mod OneCheck
 pub mod Due
 -- what callers name of crates below
 pub use Rattle.run_answers.proofs.Plans
+pub use Rattle.run_answers.proofs.RaceReports

@@ -2,9 +2,9 @@
 use Rattle.std.proofs.Common.{◌≡◌, ◌≢◌, ℕ, List, Result, Ok, Err, sym, subst, ◌∙◌, inl, inr, arith}
 use Rattle.input_parts.specs.Parts.{Pieces}
 use Rattle.input_parts.proofs.One.{one_way}
-use Rattle.tx_check.specs.Answers.{IsDue}
-use Rattle.tx_check.specs.declared.checking.CheckFault.{CheckFault}
-use Rattle.tx_check.specs.declared.checking.CheckFault.TheVariants.{Memory, Form, Entry, State}
+use Rattle.run_answers.specs.Answers.{IsDue}
+use Rattle.run_answers.specs.CheckFault.{CheckFault}
+use Rattle.run_answers.specs.CheckFault.TheVariants.{Memory, Form, Entry, State}
 use Rattle.tx_journal.specs.Content.{Content}
 use Rattle.z_assemble.proofs.Says.{both_fail, same_image}
 use Rattle.run_answers.specs.Checks.{report_mark, Says, IsVerdict, IsDueToReport, IsDueToCheck}

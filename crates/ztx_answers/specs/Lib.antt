@@ -7,3 +7,5 @@ pub mod One
 pub use Rattle.run_answers.specs.Races
 pub use Rattle.run_answers.specs.Reports
 pub use Rattle.run_answers.specs.Runs
+pub use Rattle.run_answers.specs.Report
+pub use Rattle.run_answers.specs.Shown

@@ -28,5 +28,5 @@ pub fn one_answer_is_due()
     ensures one_summary { (number : ℕ) → IsOnly (IsSummary number) }
     ensures one_listing { (number : ℕ) → IsOnly (IsGenerated number) }
 {
-    tx_check::one_answer_is_due();
+    run_answers::one_answer_is_due();
 }

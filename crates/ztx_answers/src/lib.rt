@@ -8,3 +8,4 @@ mod requests;
 mod stepped;
 
 pub use requests::{Request, answer_to, most_bytes, refuse_long};
+pub use run_answers::{NoRace, prepare_race, refuse_long_race, report_race, summary};

@@ -2,10 +2,10 @@
 use Rattle.std.specs.Prelude.{◌≡◌, ℕ, Bool, true, false, List, Option, Some, None, codes}
 use Rattle.clap.specs.Words.{Text}
 use Rattle.listing_answers.specs.Due.{IsGenerated}
-use Rattle.run_answers.specs.Reports.{IsSummary}
-use Rattle.run_answers.specs.Races.{IsDueToRace}
+use Rattle.ztx_answers.specs.Reports.{IsSummary}
+use Rattle.ztx_answers.specs.Races.{IsDueToRace}
 use Rattle.ztx_answers.specs.Requests.{IsAllowed, IsDue}
-use Rattle.run_answers.specs.Runs.{AreLimits}
+use Rattle.ztx_answers.specs.Runs.{AreLimits}
 use Rattle.ztx_answers.specs.declared.requests.Request.TheVariants as request
 use Rattle.ztx_words.specs.Words.{command_of}
 use Rattle.ztx_words.specs.declared.Command.{Command}

@@ -2,20 +2,19 @@
 ghost use Rattle.std.specs.Prelude.{◌≡◌, ◌≢◌, ℕ, ◌≤◌, ◌⊎◌, [], List, Option, IfOk, length};
 ghost use Rattle.std.specs.Io.KnownBytes.{IsAtEnd, Keeps};
 ghost use Rattle.listing_answers.specs.Due.{IsRefusal, IsStatus};
-ghost use Rattle.run_answers.specs.Races.{IsDueToRace, IsNoRace, MayRace};
-ghost use Rattle.run_answers.specs.Runs.{AreLimits};
+ghost use Rattle.ztx_answers.specs.Races.{IsDueToRace, IsNoRace, MayRace};
+ghost use Rattle.ztx_answers.specs.Runs.{AreLimits};
 ghost use Rattle.ztx_io.specs.Faults.{Rose};
 ghost use Rattle.ztx_top.specs.Answers.{IsInput, IsLong, IsWhole, Wrote, WasCut};
 
 use crate::input::tell;
 use listing_answers::{Answer, NoMemory};
-use run_answers::{NoRace, prepare_race, refuse_long_race, report_race};
 use std::alloc::Global;
 use std::sync::Wait;
 use std::thread::Threads;
-use tx_machine::Machine;
-use tx_race::{Gate, race};
+use tx_race::{Gate, Machine, race};
 use z_assemble::MOST_BYTES;
+use ztx_answers::{NoRace, prepare_race, refuse_long_race, report_race};
 use ztx_io::{InFault, Sink, Source, read_all};
 
 /// Lets the CPUs of a machine race, and gives the report of what they did.

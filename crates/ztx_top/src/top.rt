@@ -2,7 +2,7 @@
 ghost use Rattle.std.specs.Prelude.{◌≡◌, ◌≢◌, ℕ, ◌≤◌, ◌⊎◌, IfSome, List, Option, map, string_bytes, true, false};
 ghost use Rattle.std.specs.Io.KnownBytes.{IsAtEnd, Keeps};
 ghost use Rattle.listing_answers.specs.Due.{IsGenerated};
-ghost use Rattle.run_answers.specs.Reports.{IsSummary};
+ghost use Rattle.ztx_answers.specs.Reports.{IsSummary};
 ghost use Rattle.ztx_io.specs.Faults.{Rose};
 ghost use Rattle.ztx_top.specs.Answers.{IsDone, IsWhole, Tells, Wrote, WasCut};
 ghost use Rattle.ztx_top.specs.Asked.{IsBadWords, IsReady, asked, due, is_settled, reads};
@@ -11,12 +11,12 @@ use crate::errand::{Errand, errand_of};
 use crate::input::{answer_input, tell};
 use crate::race::race_input;
 use listing_answers::generate;
-use run_answers::summary;
 use std::alloc::Global;
 use std::sync::Wait;
 use std::thread::Threads;
 use tx_race::Gate;
 use ztx_answers::laws::one_answer_is_due;
+use ztx_answers::summary;
 use ztx_io::{Sink, Source, SureSink, SureSource};
 use ztx_words::read_words;
 

@@ -1,5 +1,5 @@
 use Rattle.std.proofs.Common.{ℕ, ◌<◌}
-use Rattle.tx_machine.specs.Machine.{setting_of, state_of}
+use Rattle.tx_report.specs.Machine.{setting_of, state_of}
 use Rattle.check_laws.specs.Places.{HasPlace}
 use Rattle.check_laws.proofs.facts.cpus_have_places.Given as goal
 

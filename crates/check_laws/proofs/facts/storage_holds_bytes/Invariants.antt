@@ -1,5 +1,5 @@
 use Rattle.std.proofs.Common.{ℕ, ◌<◌}
-use Rattle.tx_machine.specs.Machine.{setting_of, state_of}
+use Rattle.tx_report.specs.Machine.{setting_of, state_of}
 use Rattle.tx_meaning.specs.State.{flat_of}
 use Rattle.check_laws.proofs.facts.storage_holds_bytes.Given as goal
 

@@ -1,6 +1,6 @@
 use Rattle.std.proofs.Common.{length}
 use Rattle.tx_check.specs.Sound.{IsSound}
-use Rattle.tx_machine.specs.Machine.{setting_of, state_of}
+use Rattle.tx_report.specs.Machine.{setting_of, state_of}
 use Rattle.tx_report.specs.Report.{report_of}
 use Rattle.form_laws.proofs.Accepted.{accepted}
 use Rattle.check_laws.proofs.Sound.{report_sound}

@@ -1,7 +1,7 @@
 use Rattle.std.proofs.Common.{◌∙◌, ◌++◌, ap, length, drop}
 use Rattle.tx_serial.specs.Flat.{bytes_of}
 use Rattle.tx_flat.specs.Machine.{state_of}
-use Rattle.tx_private.proofs.Laid.{length-bytes}
+use Rattle.tx_flat.proofs.Laid.{length-bytes}
 use Rattle.report_form.specs.Text.{lines_of}
 use Rattle.tx_check.specs.Sound.{joined}
 use Rattle.tx_check.proofs.CpuLines.{written_as}

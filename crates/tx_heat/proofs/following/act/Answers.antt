@@ -6,7 +6,7 @@ use Rattle.tx_journal.specs.Image.{cpu_of_event}
 use Rattle.tx_journal.specs.declared.entries.Entry.{Entry}
 use Rattle.tx_meaning.specs.State.{State, is_live}
 use Rattle.tx_schedule.specs.Machine.{Seen}
-use Rattle.tx_works.specs.Wanted.{wanted}
+use Rattle.tx_schedule.specs.Wanted.{wanted}
 use Rattle.tx_heat.specs.Conflicts.{reject_of}
 use Rattle.tx_schedule.specs.Machine.{setting_of, state_of}
 use Rattle.tx_heat.specs.Watched.{Tracked, AreTracks, HasRoom, SpeaksFor}

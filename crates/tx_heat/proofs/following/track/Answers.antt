@@ -3,7 +3,7 @@ use Rattle.std.proofs.Common.{◌≡◌, ◌<◌, ◌∙◌, sym, subst, arith, 
 use Rattle.z_regs.specs.declared.ranges.Range.{Range}
 use Rattle.tx_meaning.specs.State.{is_live}
 use Rattle.tx_schedule.specs.Machine.{setting_of, state_of}
-use Rattle.tx_works.specs.Wanted.{wanted}
+use Rattle.tx_schedule.specs.Wanted.{wanted}
 use Rattle.tx_heat.specs.Watched.{Tracked, IsTrack, Passes}
 use Rattle.tx_heat.proofs.Passing.{kept_at, own_track}
 use Rattle.tx_heat.proofs.following.track.Goals as goal

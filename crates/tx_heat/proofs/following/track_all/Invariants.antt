@@ -4,7 +4,7 @@ use Rattle.std.specs.Prelude.{slice_get}
 use Rattle.z_regs.specs.declared.ranges.Range.{Range}
 use Rattle.tx_meaning.specs.State.{State, is_live}
 use Rattle.tx_schedule.specs.Machine.{setting_of, state_of}
-use Rattle.tx_works.specs.Wanted.{wanted}
+use Rattle.tx_schedule.specs.Wanted.{wanted}
 use Rattle.tx_heat.specs.Watched.{Tracked, IsTrack, AreTracks, Passes}
 use Rattle.tx_heat.proofs.following.track_all.Given as goal
 

@@ -1,5 +1,5 @@
 -- Neither is live, so that both are at rest.
-use Rattle.tx_cpu.specs.Parts.{local_of}
+use Rattle.tx_works.specs.Parts.{local_of}
 use Rattle.tx_works.proofs.Doublewords.{rests-so}
 use Rattle.tx_home.proofs.Resting.{resting-same, resting-like}
 use Rattle.tx_home.proofs.comparing.both_rest.Goals as goal

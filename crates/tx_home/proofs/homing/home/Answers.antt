@@ -1,7 +1,7 @@
 -- The turns of the run are turns of the machine.
 use Rattle.std.proofs.Common.{sym, ◌∙◌}
 use Rattle.tx_works.specs.Marks.{mode_in}
-use Rattle.tx_keeping.specs.Kept.{text_of}
+use Rattle.tx_works.specs.Kept.{text_of}
 use Rattle.tx_meaning.specs.Limits.{Setting}
 use Rattle.tx_works.specs.Works.{kept_by}
 use Rattle.tx_works.proofs.Seats.{no_seat}

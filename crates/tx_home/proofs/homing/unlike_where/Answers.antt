@@ -1,9 +1,9 @@
 -- Where no place differs, the run may be taken.
 use Rattle.std.proofs.Common.{◌≡◌, ◌<◌, true, length, refl, sym, ap, subst, ◌∙◌}
-use Rattle.tx_serial.specs.Apply.{is_running}
+use Rattle.tx_meaning.specs.Apply.{is_running}
 use Rattle.z_regs.specs.Cpu.{Cpu, cpu_of}
-use Rattle.tx_cpu.specs.Parts.{Parts, local_of}
-use Rattle.tx_lending.specs.Stranger.{GoesOnLike, SeeAlike}
+use Rattle.tx_works.specs.Parts.{Parts, local_of}
+use Rattle.tx_works.specs.Stranger.{GoesOnLike, SeeAlike}
 use Rattle.tx_works.specs.Own.{given, is_touched}
 use Rattle.tx_meaning.specs.Limits.{Setting}
 use Rattle.tx_works.specs.Works.{Seat, Works, numbers_of, seats_of, kept_by}

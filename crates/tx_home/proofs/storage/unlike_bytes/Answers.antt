@@ -1,10 +1,10 @@
 use Rattle.std.proofs.Common.{◌≡◌, Some, sym, ◌∙◌}
 use Rattle.std.specs.Prelude.{◌&&◌}
 use Rattle.std.proofs.lemmas.Bool.{lt-ltb}
-use Rattle.tx_cpu.specs.Parts.{local_of}
+use Rattle.tx_works.specs.Parts.{local_of}
 use Rattle.tx_works.specs.Owned.{storage_in}
 use Rattle.tx_works.specs.Own.{given, is_touched}
-use Rattle.tx_progress.specs.Progress.{seen_through}
+use Rattle.tx_works.specs.Progress.{seen_through}
 use Rattle.tx_home.specs.Places.{at_byte}
 use Rattle.tx_home.specs.declared.place.Place.TheVariants.{Byte}
 use Rattle.tx_home.proofs.Firsts.{below-found, below-none, at-same, at-other, only-marked, where-marked}

@@ -1,7 +1,7 @@
 -- One CPU, and storage, have become what the turns make.
 use Rattle.std.proofs.Common.{◌≡◌, ◌<◌, length, refl, sym, ap, subst, ◌∙◌}
-use Rattle.tx_keeping.specs.Kept.{beside}
-use Rattle.tx_lending.specs.Away.{GoAway, ran}
+use Rattle.tx_works.specs.Kept.{beside}
+use Rattle.tx_works.specs.Away.{GoAway, ran}
 use Rattle.tx_works.specs.Marks.{mode_in}
 use Rattle.tx_works.specs.Works.{Seat, kept_by}
 use Rattle.tx_works.specs.contracts.slot.Slot.{the_view}

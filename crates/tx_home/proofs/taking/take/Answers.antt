@@ -1,6 +1,6 @@
 use Rattle.std.proofs.Common.{subst}
-use Rattle.tx_keeping.specs.Kept.{beside}
-use Rattle.tx_lending.specs.Away.{GoAway}
+use Rattle.tx_works.specs.Kept.{beside}
+use Rattle.tx_works.specs.Away.{GoAway}
 use Rattle.tx_works.specs.Marks.{mode_in}
 use Rattle.tx_works.specs.Works.{Works, kept_by}
 use Rattle.tx_home.proofs.taking.take.Goals as goal

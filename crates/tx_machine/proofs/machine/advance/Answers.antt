@@ -3,7 +3,7 @@ use Rattle.std.proofs.Common.{ap, ◌∙◌}
 use Rattle.tx_journal.specs.Image.{cpu_of_event}
 use Rattle.tx_meaning.specs.Limits.{Setting}
 use Rattle.tx_meaning.specs.Turn.{Turned}
-use Rattle.tx_keeping.specs.Turn.{KTurned}
+use Rattle.tx_home.specs.Turn.{KTurned}
 use Rattle.tx_machine.specs.Machine.{nobody}
 use Rattle.tx_machine.proofs.Going.{has_events_room, has_room_for, turns_may}
 use Rattle.tx_machine.proofs.Happened.{stands_after, tells}

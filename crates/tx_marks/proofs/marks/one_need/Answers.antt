@@ -5,8 +5,8 @@ use Rattle.std.specs.Prelude.{slice_get}
 use Rattle.std.proofs.lemmas.Option.{same_Some}
 use Rattle.z_regs.specs.declared.ranges.Range.{Range}
 use Rattle.line_table.specs.declared.table.Mode.{Mode}
-use Rattle.tx_meaning.specs.Needs.{needs_of}
-use Rattle.tx_meaning.specs.declared.asking.Need.{Need}
+use Rattle.tx_lending.specs.Needs.{needs_of}
+use Rattle.tx_lending.specs.Need.{Need}
 use Rattle.tx_needs.proofs.OneLine.{mode_of, needs-one}
 use Rattle.tx_marks.proofs.marks.one_need.Goals as goal
 use Rattle.tx_marks.proofs.marks.one_need.Goals.{then-range, else-range}

@@ -1,7 +1,7 @@
 -- The attempt has stored the bytes of marked places below the next one.
 use Rattle.std.proofs.Common.{◌≡◌, ◌-◌}
 use Rattle.tx_cpu.specs.Parts.{local_of}
-use Rattle.tx_lending.specs.Stranger.{upon, only_at}
+use Rattle.tx_marks.specs.Stranger.{upon, only_at}
 use Rattle.tx_marks.specs.Traces.{is_stored, below}
 use Rattle.tx_run.proofs.Adding.{with_waits}
 use Rattle.tx_run.proofs.giving.add_stores.Given as goal

@@ -5,10 +5,10 @@ use Rattle.std.specs.FinSet.{items}
 use Rattle.z_regs.specs.Prefix.{is_prefix}
 use Rattle.tx_progress.specs.Local.{Local}
 use Rattle.tx_progress.specs.Progress.{is_live, resting}
-use Rattle.tx_attempt.specs.Storages.{storage_of}
+use Rattle.tx_cpu.specs.Storages.{storage_of}
 use Rattle.tx_cpu.specs.Parts.{Parts, local_of, goes_on_as}
 use Rattle.tx_cpu.proofs.Ends.{cpu-rests}
-use Rattle.tx_lending.specs.Places.{over}
+use Rattle.tx_marks.specs.Places.{over}
 use Rattle.tx_marks.specs.Own.{bytes_at}
 use Rattle.tx_marks.specs.Traces.{is_stored}
 use Rattle.tx_run.specs.Made.{Made}

@@ -1,7 +1,7 @@
 -- The bytes of marked places below the next one are laid.
 use Rattle.std.proofs.Common.{◌≡◌, ℕ, ◌<◌, ◌≤◌, ◌-◌, length}
 use Rattle.z_regs.specs.Prefix.{storage_size}
-use Rattle.tx_lending.specs.Places.{over}
+use Rattle.tx_marks.specs.Places.{over}
 use Rattle.tx_marks.specs.Own.{bytes_at}
 use Rattle.tx_marks.specs.Traces.{is_stored}
 use Rattle.tx_run.proofs.giving.lay_stored.Given as goal

@@ -1,7 +1,7 @@
 -- Nothing has happened to it.
 use Rattle.std.proofs.Common.{◌∙◌, ap₂}
 use Rattle.std.proofs.lemmas.Result.{IfOk-weaker}
-use Rattle.tx_machine.specs.Machine.{Seen, opened}
+use Rattle.tx_step.specs.Machine.{Seen, opened}
 use Rattle.tx_watch.specs.Replay.{Replays}
 use Rattle.tx_watch.proofs.Replaying.{replays_first}
 use Rattle.tx_watch.proofs.watching.begun_again.Goals as goal

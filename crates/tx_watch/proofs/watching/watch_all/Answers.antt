@@ -2,7 +2,7 @@
 use Rattle.std.proofs.Common.{◌≡◌, ℕ, ◌+◌, ◌-◌, ◌<◌, ◌≤◌, Some, length, ap, ap₂, sym, ◌∙◌, subst, arith}
 use Rattle.std.specs.Prelude.{slice_get}
 use Rattle.tx_meaning.specs.State.{State}
-use Rattle.tx_machine.specs.Machine.{setting_of}
+use Rattle.tx_step.specs.Machine.{setting_of}
 use Rattle.tx_watch.specs.Replay.{Replays}
 use Rattle.tx_watch.specs.Window.{start_of, turns_in, entries_behind}
 use Rattle.tx_watch.proofs.Replaying.{replays_on, may_happen}

@@ -1,6 +1,6 @@
 -- So many events more have happened, each with its mark, and each entry that they made has its place.
 use Rattle.std.proofs.Common.{◌≡◌, ◌+◌, ◌≤◌, length}
-use Rattle.tx_machine.specs.Machine.{state_of}
+use Rattle.tx_step.specs.Machine.{state_of}
 use Rattle.tx_watch.specs.Replay.{Replays}
 use Rattle.tx_watch.proofs.watching.watch_all.Given as goal
 

@@ -1,5 +1,5 @@
 use Rattle.std.proofs.lemmas.Result.{IfOk-weaker}
-use Rattle.run_answers.proofs.RaceReports.{has_raced}
+use Rattle.ztx_answers.proofs.RaceReports.{has_raced}
 use Rattle.ztx_top.proofs.race.race_machine.Goals as goal
 
 pub returns-in-Ok-clause-due : goal.returns-in-Ok-clause-due

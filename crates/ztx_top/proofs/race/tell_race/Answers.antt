@@ -1,4 +1,4 @@
-use Rattle.run_answers.specs.Races.{IsDueToRace}
+use Rattle.ztx_answers.specs.Races.{IsDueToRace}
 use Rattle.ztx_top.proofs.Told.{wrote, cut}
 use Rattle.ztx_top.proofs.race.tell_race.Goals as goal
 

@@ -1,4 +1,4 @@
-use Rattle.run_answers.specs.Reports.{IsSummary}
+use Rattle.ztx_answers.specs.Reports.{IsSummary}
 use Rattle.ztx_top.proofs.Inputs.{given, given_is}
 use Rattle.ztx_top.proofs.Told.{wrote, cut}
 use Rattle.ztx_top.proofs.top.tell_summary.Goals as goal

@@ -3,7 +3,7 @@ use Rattle.std.proofs.Common.{◌<◌, sym, ap, ◌∙◌, subst, length}
 use Rattle.std.specs.Prelude.{get_or}
 use Rattle.std.proofs.lemmas.List.{get_or_default}
 use Rattle.tx_meaning.specs.Limits.{Setting}
-use Rattle.tx_cpu.specs.Parts.{local_of}
+use Rattle.tx_home.specs.Parts.{local_of}
 use Rattle.tx_meaning.specs.State.{cpu_of, flat_of}
 use Rattle.tx_machine.specs.Machine.{code_awaited}
 use Rattle.z_regs.specs.Cpu.{Cpu}

@@ -2,7 +2,7 @@
 use Rattle.std.proofs.Common.{◌≡◌, ◌<◌, true, length, sym, subst}
 use Rattle.std.specs.Arc.{arc_value}
 use Rattle.tx_serial.specs.Apply.{is_running}
-use Rattle.tx_keeping.specs.Kept.{Kept}
+use Rattle.tx_home.specs.Kept.{Kept}
 use Rattle.tx_meaning.specs.Limits.{Setting}
 use Rattle.tx_home.specs.Works.{kept_by}
 use Rattle.tx_home.specs.Lending.{IsLentBy}

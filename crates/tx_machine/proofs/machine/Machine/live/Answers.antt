@@ -4,8 +4,8 @@ use Rattle.std.specs.Prelude.{get_or}
 use Rattle.std.proofs.lemmas.List.{get_or_default}
 use Rattle.std.specs.Arc.{arc_value}
 use Rattle.tx_meaning.specs.Limits.{Setting}
-use Rattle.tx_cpu.specs.Parts.{local_of}
-use Rattle.tx_cpu.specs.Plans.{levels_of}
+use Rattle.tx_home.specs.Parts.{local_of}
+use Rattle.tx_home.specs.Plans.{levels_of}
 use Rattle.tx_meaning.specs.Shown.{levels_at}
 use Rattle.tx_home.specs.Works.{Seat}
 use Rattle.tx_machine.specs.Machine.{Seen, setting_of, state_of, nobody}

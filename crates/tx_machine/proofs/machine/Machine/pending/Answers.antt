@@ -4,7 +4,7 @@ use Rattle.std.specs.Prelude.{get_or}
 use Rattle.std.proofs.lemmas.List.{get_or_default}
 use Rattle.std.specs.Arc.{arc_value}
 use Rattle.tx_meaning.specs.Limits.{Setting}
-use Rattle.tx_cpu.specs.Parts.{local_of}
+use Rattle.tx_home.specs.Parts.{local_of}
 use Rattle.tx_serial.specs.Flat.{address_of}
 use Rattle.tx_meaning.specs.State.{flat_of}
 use Rattle.tx_home.specs.Works.{Seat}

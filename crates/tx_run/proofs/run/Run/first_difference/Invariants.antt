@@ -1,7 +1,7 @@
 -- All bytes below the next one are seen alike.
 use Rattle.std.proofs.Common.{◌-◌}
 use Rattle.tx_cpu.specs.Parts.{local_of}
-use Rattle.tx_lending.specs.Stranger.{SeeAlike}
+use Rattle.tx_marks.specs.Stranger.{SeeAlike}
 use Rattle.tx_marks.specs.Own.{bytes_at, is_touched, given}
 use Rattle.tx_marks.specs.Traces.{below}
 use Rattle.tx_run.proofs.run.Run.first_difference.Given as goal

@@ -4,7 +4,7 @@ use Rattle.std.specs.Prelude.{All}
 use Rattle.z_regs.specs.Absolute.{IsAccessible}
 use Rattle.z_regs.specs.Prefix.{storage_size}
 use Rattle.z_regs.specs.declared.ranges.Range.{Range}
-use Rattle.tx_needs.proofs.SmallPlaces.{ranges-small, ranges-inside, accessible-places}
+use Rattle.tx_marks.proofs.SmallPlaces.{ranges-small, ranges-inside, accessible-places}
 use Rattle.tx_run.proofs.steps.Steps.missing.Goals as goal
 
 pub missing-requires-clause-small : goal.missing-requires-clause-small

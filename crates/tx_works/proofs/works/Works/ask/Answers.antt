@@ -1,7 +1,7 @@
 -- The question is counted, then the holder answers, and each answer is that of the machine over events.
 use Rattle.std.proofs.Common.{length, sym, ap, subst, ◌∙◌, arith}
 use Rattle.line_table.specs.Holders.{Holders, is_against}
-use Rattle.tx_cpu.specs.Plans.{HasRoom}
+use Rattle.tx_lines.specs.Plans.{HasRoom}
 use Rattle.tx_lines.specs.Owned.{Owned, holders_in}
 use Rattle.tx_keeping.specs.Kept.{Kept, kept_footprint}
 use Rattle.tx_works.specs.Works.{kept_by}

@@ -1,8 +1,8 @@
 -- By its plan it goes, ends its transaction, or stops the program.
 use Rattle.std.proofs.Common.{◌≡◌, sym, ap, ◌∙◌}
 use Rattle.tx_serial.specs.Fate.{Fate}
-use Rattle.tx_cpu.specs.Plans.{fate_of}
-use Rattle.tx_cpu.specs.declared.plan.Plan.{Plan}
+use Rattle.tx_lines.specs.Plans.{fate_of}
+use Rattle.tx_lines.specs.Plan.{Plan}
 use Rattle.tx_meaning.specs.Limits.{Setting}
 use Rattle.tx_keeping.specs.Kept.{text_of}
 use Rattle.tx_keeping.specs.Turn.{k_attempting, k_ends_by}

@@ -7,10 +7,10 @@ use Rattle.tx_serial.specs.Fate.{Goes}
 use Rattle.tx_serial.specs.Flat.{Storage}
 use Rattle.tx_serial.specs.History.{start_of}
 use Rattle.tx_progress.specs.Trial.{fate_by_progress}
-use Rattle.tx_cpu.specs.Parts.{local_of}
-use Rattle.tx_attempt.specs.Storages.{storage_of}
+use Rattle.tx_lines.specs.Parts.{local_of}
+use Rattle.tx_lines.specs.Storages.{storage_of}
 use Rattle.tx_program.specs.Shapes.{touched_by}
-use Rattle.tx_cpu.specs.Quiet.{IsQuiet}
+use Rattle.tx_lines.specs.Quiet.{IsQuiet}
 use Rattle.tx_works.specs.Works.{Works, Seat}
 use Rattle.tx_works.proofs.works.Works.plain.Goals as goal
 

@@ -2,8 +2,8 @@
 use Rattle.std.proofs.Common.{◌<◌, ◌≤◌, refl, sym, ap, subst, ◌∙◌, arith}
 use Rattle.tx_progress.specs.Local.{Beside}
 use Rattle.tx_progress.specs.Doing.{Executed, executed}
-use Rattle.tx_cpu.specs.Parts.{local_of}
-use Rattle.tx_cpu.specs.Plans.{IsPrepared}
+use Rattle.tx_lines.specs.Parts.{local_of}
+use Rattle.tx_lines.specs.Plans.{IsPrepared}
 use Rattle.tx_works.specs.Works.{Seat}
 use Rattle.tx_works.specs.contracts.slot.Slot.{the_view}
 use Rattle.tx_works.specs.contracts.works.Works as works

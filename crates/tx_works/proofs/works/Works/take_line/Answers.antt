@@ -5,7 +5,7 @@ use Rattle.std.specs.List.{list_any}
 use Rattle.std.proofs.lemmas.List.{get_or_read}
 use Rattle.bit_set.specs.Counts.{count_below}
 use Rattle.line_table.specs.Sizes.{storage_lines, held_limit}
-use Rattle.tx_cpu.specs.Parts.{local_of}
+use Rattle.tx_lines.specs.Parts.{local_of}
 use Rattle.tx_footprint.specs.Touched.{Sets, sets_of}
 use Rattle.tx_keeping.specs.Kept.{kept_footprint}
 use Rattle.tx_keeping.specs.Asking.{k_granting}
