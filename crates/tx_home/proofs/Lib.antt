@@ -8,7 +8,7 @@ pub use Rattle.tx_works.proofs.Turns
 pub use Rattle.tx_works.proofs.Events
 pub use Rattle.tx_works.proofs.Moves
 pub use Rattle.tx_works.proofs.Needed
-pub use Rattle.tx_works.proofs.Room
+pub use Rattle.tx_works.proofs.KeepingRoom
 pub use Rattle.tx_works.proofs.Truth
 pub use Rattle.tx_works.proofs.Turning
 pub use Rattle.tx_works.proofs.Parts

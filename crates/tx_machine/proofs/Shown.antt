@@ -18,7 +18,7 @@ use Rattle.tx_home.specs.Turn.{k_happen, k_idle, k_turn, k_turn_where}
 use Rattle.tx_meaning.specs.Views.{AreKnown}
 use Rattle.tx_home.proofs.Events.{keeping_is, keeping_good, happens_alike, held_so}
 use Rattle.tx_home.proofs.Moves.{IsGood}
-use Rattle.tx_home.proofs.Room.{AllWithin}
+use Rattle.tx_home.proofs.KeepingRoom.{AllWithin}
 use Rattle.tx_home.proofs.Turning.{idle_is}
 use Rattle.tx_opacity.proofs.Stopped.{Between, between, some_stop}
 use Rattle.tx_home.specs.Works.{Works, kept_by}

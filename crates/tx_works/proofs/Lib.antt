@@ -21,7 +21,7 @@ pub use Rattle.tx_lines.proofs.Doublewords
 pub use Rattle.tx_keeping.proofs.Events
 pub use Rattle.tx_keeping.proofs.Moves
 pub use Rattle.tx_keeping.proofs.Needed
-pub use Rattle.tx_keeping.proofs.Room
+pub use Rattle.tx_keeping.proofs.Room as KeepingRoom
 pub use Rattle.tx_keeping.proofs.Truth
 pub use Rattle.tx_keeping.proofs.Turning
 pub use Rattle.tx_progress.proofs.Parts
