@@ -121,10 +121,10 @@ impl PagedSet {
             .insert_run(from / PAGE_SIZE, (end - 1) / PAGE_SIZE + 1);
     }
 
-    /// Whether it is seen at one look that no place from `from` on and below `end` is in the set.
-    pub(crate) fn has_none(&self, from: usize, end: usize) -> bool
+    /// Whether no place from `from` on and below `end` is in the set.
+    pub fn has_none(&self, from: usize, end: usize) -> bool
         requires { end ≤ length self.now }
-        ensures { result ≡ true → NoneMarked self.now from end }
+        ensures { IsTrue result ↔ NoneMarked self.now from end }
     {
         self.places.next(from, end).is_none()
     }

@@ -169,6 +169,9 @@ impl Traces {
         ensures few { result ≤ 8 }
         ensures within { at + result ≤ storage_size }
         ensures stored { (a : ℕ) → at ≤ a → a < at + result → is_stored self.now a ≡ true }
+        ensures eight { at + 8 ≤ storage_size → ((a : ℕ) → at ≤ a → a < at + 8 → is_stored self.now a ≡ true)
+            → result ≡ 8 }
+        ensures more { 1 < result → result ≡ 8 }
     {
         let first = at as usize;
         if at <= STORAGE_SIZE - 8 && self.stored.has_run(first, first + 8) {
