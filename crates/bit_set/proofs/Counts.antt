@@ -124,16 +124,12 @@ one_outside n f g more =
     (λ none. absurd
     (omega (arith, more, count_le n f g (λ k lt e. inside_from_not (f k) (g k) (none k lt) e))))
 
+pub at_most_one : (b : Bool) → one_if b ≤ 1
+at_most_one true = omega arith
+at_most_one false = omega arith
+
 -- no more numbers pass than there are
 pub count_at_most : (n : ℕ) (f : ℕ → Bool) → count_below n f ≤ n
 unfolding count_below
 count_at_most zero f = omega arith
-count_at_most (suc n) f = omega (arith, count_at_most n f, one_at_most (f n))
-  where
-    one_at_most : (b : Bool) → one_if b ≤ 1
-    one_at_most true = omega arith
-    one_at_most false = omega arith
-
-pub at_most_one : (b : Bool) → one_if b ≤ 1
-at_most_one true = omega arith
-at_most_one false = omega arith
+count_at_most (suc n) f = omega (arith, count_at_most n f, at_most_one (f n))

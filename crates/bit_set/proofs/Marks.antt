@@ -186,10 +186,9 @@ next_none words from w s b end lt below_it lowest =
     (λ k le under. none_up_to words from w s b lt (omega (arith, lowest.within)) below_it lowest.first k le
     (omega (arith, over, under))))
 
--- an empty set has no member
-pub clear_at : (n k : ℕ) → get_or (replicate n false) k false ≡ false
-clear_at n k =
+-- a list of one element again and again has that element, or none, at each place, as an empty set has no member
+pub blank_at : {X : Type 0} (n k : ℕ) (blank : X) → get_or (replicate n blank) k blank ≡ blank
+blank_at n k blank =
     by_way (cases_lt k n)
-    (λ low. get_or-replicate n k false false low)
-    (λ high. get_or_past (replicate n false) k false
-    (omega (arith, length-replicate {A = Bool} n false, high)))
+    (λ low. get_or-replicate n k blank blank low)
+    (λ high. get_or_past (replicate n blank) k blank (omega (arith, length-replicate n blank, high)))

@@ -1,10 +1,11 @@
 -- Runs of marks.
-use Rattle.std.proofs.Common.{◌≡◌, ◌≢◌, ℕ, ◌+◌, ◌-◌, ◌*◌, ◌/◌, ◌%◌, ◌^◌, ◌<◌, ◌≤◌, Bool, true, false, ltb, leb, List}
-use Rattle.std.proofs.Common.{length, get_or, set, refl, sym, ap, ◌∙◌, arith}
+use Rattle.std.proofs.Common.{◌≡◌, ◌≢◌, ℕ, ◌+◌, ◌-◌, ◌*◌, ◌/◌, ◌%◌, ◌^◌, ◌<◌, ◌≤◌, true, false, ltb, leb, List}
+use Rattle.std.proofs.Common.{length, get_or, set, sym, ap, ◌∙◌, arith}
 use Rattle.std.specs.Prelude.{◌||◌}
 use Rattle.std.proofs.lemmas.Bool.{cases_lt, cases_eq, lt-ltb, le-ltb, le-leb, lt-leb, and_from, and_left, and_right}
 use Rattle.std.proofs.lemmas.Bool.{or_left, or_right}
 use Rattle.std.proofs.lemmas.List.{length-set, get_or_past, get_or-set_same, get_or-set_other}
+use Rattle.std.proofs.Math.Bool.{or-false}
 use borrow.Enum.Arm.{by_way}
 use Rattle.bit_set.specs.Bits.{bit, bits_of, lies_in}
 use Rattle.bit_set.proofs.Marks.{length-bits_of, get_or-bits_of}
@@ -18,10 +19,6 @@ lies_before first end k lt = and_left (leb first k) (ltb k end) (lt-leb first k 
 
 pub lies_behind : (first end k : ℕ) → end ≤ k → lies_in first end k ≡ false
 lies_behind first end k le = and_right (leb first k) (ltb k end) (le-ltb k end le)
-
-or_nothing : (a : Bool) → a ≡ (a || false)
-or_nothing true = refl
-or_nothing false = refl
 
 -- one word is written, with a run in it set
 module _ (words : List ℕ) (word from end : ℕ) where
@@ -74,7 +71,7 @@ module _ (words : List ℕ) (word from end : ℕ) where
       elsewhere under ne =
           now under ∙ ap (λ w. bit w (k % 64)) (get_or-set_other words (from / 64) (k / 64) word 0 ne)
           ∙ sym (get_or-bits_of words k false under)
-          ∙ or_nothing (get_or (bits_of words) k false)
+          ∙ sym (or-false (get_or (bits_of words) k false))
           ∙ ap (λ b. get_or (bits_of words) k false || b)
           (sym (by_way (cases_lt k from) (λ low. lies_before from end k low)
           (λ ge. lies_behind from end k (omega (arith, ge, ne, near, some)))))
@@ -112,7 +109,7 @@ module _ (words : List ℕ) (word from end : ℕ) where
       nothing : (i : ℕ) → lies_in (from % 64) (end - from / 64 * 64) i ≡ false
           → (bit (get_or words (from / 64) 0) i || lies_in (from % 64) (end - from / 64 * 64) i)
           ≡ bit (get_or words (from / 64) 0) i
-      nothing i none = ap (λ b. bit (get_or words (from / 64) 0) i || b) none ∙ sym (or_nothing _)
+      nothing i none = ap (λ b. bit (get_or words (from / 64) 0) i || b) none ∙ or-false (bit (get_or words (from / 64) 0) i)
 
       here : (i : ℕ) → i < 64 → from % 64 ≤ i → i < end - from / 64 * 64
           → ((k : ℕ) → from ≤ k → k < end → get_or (bits_of words) k false ≡ true)

@@ -20,7 +20,8 @@ use Rattle.z_deck.specs.Writing.{section_card, text_card, end_card, is_zero, pie
 use Rattle.z_deck.specs.Writing.{cards_of_piece}
 use Rattle.z_deck.specs.Writing.{text_cards, first_entry, deck_of_image}
 use Rattle.z_deck.proofs.Again.{section_size, section_type, end_size, end_type, end_entry, text_type}
-use Rattle.z_deck.proofs.Again.{text_size}
+use Rattle.z_deck.proofs.Again.{text_size, no_cards}
+use Rattle.z_deck.proofs.Loaded.{over_none}
 use Rattle.z_deck.proofs.Again.{text_count, text_address, text_says, piece_few, piece_in}
 use Rattle.z_deck.proofs.Again.{piece_size as size_of_piece}
 use Rattle.z_deck.proofs.Written.{first_low}
@@ -101,14 +102,9 @@ module _ (storage : List ℕ) (size : length storage ≡ 1048576) where
       sym (append_assoc (text_cards i storage) (cards_of_piece storage i) (pieces_from k (suc i)))
       ∙ cards_joined k (suc i) ∙ ap (λ (n : ℕ). text_cards n storage) next
 
-  -- before the first piece there is no card
-  none_first : text_cards 0 storage ≡ []
-  unfolding text_cards
-  none_first = refl
-
   -- so the written texts are those of the pieces from the first on
   all_pieces : pieces_from 18579 0 ≡ text_cards 18579 storage
-  all_pieces = ap (λ (cs : List (List ℕ)). cs ++ pieces_from 18579 0) (sym none_first) ∙ cards_joined 18579 0
+  all_pieces = ap (λ (cs : List (List ℕ)). cs ++ pieces_from 18579 0) (sym (no_cards storage size)) ∙ cards_joined 18579 0
 
   -- ---- a text of a piece
 
@@ -235,10 +231,6 @@ module _ (storage : List ℕ) (size : length storage ≡ 1048576) where
       (none_there 0 c address t (ap₂ (λ (a b : Bool). a && b) (le-leb (address_of 0 c) address before)
       (le-ltb address (address_of 0 c + length (bytes_of c)) past)))
       ∙ ap (λ (o : Option ℕ). unwrap_or o 0) (over_none (byte_from 0 cs address))
-    where
-      over_none : (o : Option ℕ) → over o None ≡ o
-      over_none (Some x) = refl
-      over_none None = refl
 
   -- behind the last piece there is no text
   no_more : (cards : List (List ℕ)) → ArePieces 18579 cards → All (IsTextOfBytes 0) cards → AllAlike [] cards

@@ -6,17 +6,14 @@ use Rattle.std.specs.Fmt.{decimal}
 use Rattle.std.proofs.lemmas.List.{append_cancel_right}
 use Rattle.std.proofs.lemmas.Option.{slice_get_within, same_Some}
 use Rattle.tx_journal.specs.Content.{Content}
-use Rattle.tx_journal.specs.Numbers.{Lacks}
 use Rattle.tx_serial.specs.Flat.{FlatState}
-use Rattle.report_form.specs.declared.words.Name.{Name}
 use Rattle.report_form.specs.declared.words.Name.TheVariants as name
 use Rattle.report_form.specs.declared.words.Word.TheVariants.{Fixed, AtMost}
 use Rattle.report_form.specs.declared.rows.Row.TheVariants as row
-use Rattle.report_form.specs.Words.{name_text}
 use Rattle.report_form.specs.Spelling.{Spelled}
 use Rattle.report_form.specs.Rows.{IsRow, most, most_completed}
 use Rattle.report_form.specs.Sheet.{HasForm, count_line, history_at, schedule_at, last_of}
-use Rattle.report_form.proofs.WordLemmas.{word_lacks}
+use Rattle.report_form.proofs.Counted.{name_lacks}
 use Rattle.report_text.specs.Digits.{labelled, number_line}
 use Rattle.report_text.specs.Processor.{attempt_line, live_line, counts_line}
 use Rattle.report_text.specs.Shown.{Shown, ShownCpu}
@@ -36,9 +33,6 @@ use Rattle.tx_check.proofs.Due.{live_where}
 
 -- ---- numbers in lines of the form
 
-no_blank : (n : Name) → Lacks 32 (name_text n)
-no_blank n = word_lacks (Fixed n) 32 (name_text n) (omega arith) refl
-
 -- a line that claims an attempt says more than that there is none
 claims : (a : Attempt) → Spelled (Fixed name.Transaction ∷ Fixed name.Nothing
     ∷ []) (attempt_line (Some a)) → ⊥
@@ -57,14 +51,14 @@ small_attempt last (Some a) (inl none) = absurd (claims a none)
 small_attempt last (Some a) (inr h) =
     let tx = word_first (Fixed name.Transaction) (Fixed name.Depth)
     (AtMost most ∷ Fixed name.Completed ∷ AtMost most_completed ∷ []) (codes "TX") _ refl
-    (no_blank name.Transaction) h in
+    (name_lacks name.Transaction) h in
     let depth = word_first (Fixed name.Depth) (AtMost most) (Fixed name.Completed ∷ AtMost most_completed
     ∷ [])
-    (codes "DEPTH") _ refl (no_blank name.Depth) tx.goes_on in
+    (codes "DEPTH") _ refl (name_lacks name.Depth) tx.goes_on in
     let deep = number_first most (Fixed name.Completed) (AtMost most_completed
     ∷ []) a.depth _ depth.goes_on in
     let completed = word_first (Fixed name.Completed) (AtMost most_completed) [] (codes "COMPLETED")
-    (decimal a.completed ++ 10 ∷ []) refl (no_blank name.Completed) deep.goes_on in
+    (decimal a.completed ++ 10 ∷ []) refl (name_lacks name.Completed) deep.goes_on in
     let low = within most a.depth deep.is_word in
     let few = within most_completed a.completed
     (word_only (AtMost most_completed) (decimal a.completed) (decimal_lacks 10 a.completed (omega arith))
@@ -78,18 +72,18 @@ small_counts last c h =
     let counts = word_first (Fixed name.Counts) (Fixed name.Turns)
     (AtMost most ∷ Fixed name.Asked ∷ AtMost most ∷ Fixed name.Rejected ∷ AtMost most
     ∷ others) (codes "COUNTS") _
-    refl (no_blank name.Counts) h in
+    refl (name_lacks name.Counts) h in
     let turns = word_first (Fixed name.Turns) (AtMost most)
     (Fixed name.Asked ∷ AtMost most ∷ Fixed name.Rejected ∷ AtMost most ∷ others) (codes "TURNS") _ refl
-    (no_blank name.Turns) counts.goes_on in
+    (name_lacks name.Turns) counts.goes_on in
     let one = number_first most (Fixed name.Asked) (AtMost most ∷ Fixed name.Rejected ∷ AtMost most
     ∷ others) c.turns _
     turns.goes_on in
     let asked = word_first (Fixed name.Asked) (AtMost most) (Fixed name.Rejected ∷ AtMost most ∷ others)
-    (codes "ASKED") _ refl (no_blank name.Asked) one.goes_on in
+    (codes "ASKED") _ refl (name_lacks name.Asked) one.goes_on in
     let two = number_first most (Fixed name.Rejected) (AtMost most ∷ others) c.asked _ asked.goes_on in
     let rejected = word_first (Fixed name.Rejected) (AtMost most) others (codes "REJECTED") _ refl
-    (no_blank name.Rejected) two.goes_on in
+    (name_lacks name.Rejected) two.goes_on in
     let three = number_first most (Fixed name.Commits) (AtMost most ∷ Fixed name.Aborts ∷ AtMost most
     ∷ []) c.rejected
     _ rejected.goes_on in

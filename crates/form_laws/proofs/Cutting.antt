@@ -9,17 +9,11 @@ use Rattle.std.specs.Fmt.{decimal, digits, digits_onto, digit_glyph}
 use Rattle.std.proofs.lemmas.Bool.Decides.{nat_tests}
 use Rattle.hex.specs.Hex.{encode_with, encode_lower, lower_digits}
 use Rattle.tx_journal.specs.Numbers.{Lacks}
-use Rattle.tx_journal.proofs.Decimals.{lacks_rest}
-use Rattle.tx_check.specs.Lines.{lines_of, in_front}
-use Rattle.report_form.proofs.WordLemmas.{lacks_more}
-use Rattle.report_form.proofs.TextLines.{other_byte}
+use Rattle.tx_check.specs.Lines.{lines_of}
+use Rattle.tx_journal.proofs.OneSchedule.{lacks_both, lacks_front}
+use Rattle.report_form.proofs.TextLines.{ended_front}
 
 -- ---- bytes that a text lacks
-
-pub both_lack : (c : ℕ) (xs ys : List ℕ) → Lacks c xs → Lacks c ys → Lacks c (xs ++ ys)
-both_lack c [] ys one two = two
-both_lack c (x ∷ xs) ys one two =
-    lacks_more c x (xs ++ ys) (one 0 (omega arith)) (both_lack c xs ys (lacks_rest c x xs one) two)
 
 -- letters, digits and blanks
 pub plain_lack : (xs : List ℕ) → list_all (λ b. nat_lt 31 b) xs ≡ true → Lacks 10 xs
@@ -28,7 +22,7 @@ plain_lack (x ∷ xs) above =
     let head : nat_lt 31 x ≡ true = grind (arith, above) in
     let tail : list_all (λ b. nat_lt 31 b) xs ≡ true = grind (arith, above) in
     let other : x ≢ 10 = λ e. grind (arith, nat_tests) in
-    lacks_more 10 x xs other (plain_lack xs tail)
+    lacks_front 10 x xs other (plain_lack xs tail)
 
 -- ---- numbers of any size
 
@@ -38,13 +32,13 @@ glyph_other c d low false = λ e. omega (arith, e)
 
 -- a digit is above a blank
 pub digit_lacks : (c d : ℕ) → c < 48 → Lacks c (digit_glyph false d ∷ [])
-digit_lacks c d low = lacks_more c (digit_glyph false d) [] (glyph_other c d low (nat_lt d 10))
+digit_lacks c d low = lacks_front c (digit_glyph false d) [] (glyph_other c d low (nat_lt d 10))
     (λ i within. absurd (omega arith))
 
 onto_lacks : (c k n : ℕ) (acc : List ℕ) → c < 48 → Lacks c acc → Lacks c (digits_onto k 10 false n acc)
 onto_lacks c zero n acc low lacks = lacks
 onto_lacks c (suc k) n acc low lacks =
-    let more = lacks_more c (digit_glyph false (n % 10)) acc (glyph_other c (n % 10) low (nat_lt
+    let more = lacks_front c (digit_glyph false (n % 10)) acc (glyph_other c (n % 10) low (nat_lt
     (n % 10) 10)) lacks in
     by (n / 10 == 0) more (onto_lacks c k (n / 10) (digit_glyph false (n % 10) ∷ acc) low more)
   where
@@ -73,9 +67,9 @@ pub hex_lacks : (bytes : List ℕ) → Lacks 10 (encode_lower bytes)
 unfolding encode_with
 hex_lacks [] = λ i within. absurd (omega arith)
 hex_lacks (b ∷ bytes) =
-    lacks_more 10 (slice_index lower_digits (b / 16)) (slice_index lower_digits (b % 16) ∷ encode_lower bytes)
+    lacks_front 10 (slice_index lower_digits (b / 16)) (slice_index lower_digits (b % 16) ∷ encode_lower bytes)
     (other_at lower_digits refl (b / 16))
-    (lacks_more 10 (slice_index lower_digits (b % 16)) (encode_lower bytes) (other_at lower_digits refl
+    (lacks_front 10 (slice_index lower_digits (b % 16)) (encode_lower bytes) (other_at lower_digits refl
     (b % 16))
     (hex_lacks bytes))
 
@@ -96,7 +90,7 @@ pub line_with : (text line : List ℕ) → Lacks 10 text → IsLine line → IsL
 line_with text line lacks more = record {
   front = text ++ more.front;
   cut = ap (λ t. text ++ t) more.cut ∙ sym (append_assoc text more.front (10 ∷ []));
-  lacks = both_lack 10 text more.front lacks more.lacks;
+  lacks = lacks_both 10 text more.front lacks more.lacks;
 }
 
 -- ---- lines one behind the other
@@ -114,16 +108,6 @@ pub line_before : (l : List ℕ) (ls : List (List ℕ)) → IsLine l → AreLine
 unfolding AreLines
 line_before l ls one two = (one, two)
 
-first_line : (front rest : List ℕ) → Lacks 10 front
-    → lines_of (front ++ 10 ∷ rest) ≡ (front ++ 10 ∷ []) ∷ lines_of rest
-unfolding lines_of
-first_line [] rest lacks = refl
-first_line (b ∷ bs) rest lacks =
-    ap (λ (t : Bool). if t then (b ∷ []) ∷ lines_of (bs ++ 10 ∷ rest) else in_front b (lines_of (bs
-    ++ 10 ∷ rest)))
-    (other_byte b (lacks 0 (omega arith)))
-    ∙ ap (in_front b) (first_line bs rest (lacks_rest 10 b bs lacks))
-
 -- the lines of joined lines are these lines
 pub lines_joined : (lines : List (List ℕ)) → AreLines lines
     → lines_of (flat_map (λ (l : List ℕ). l) lines) ≡ lines
@@ -133,7 +117,7 @@ lines_joined (l ∷ lines) are =
     let rest = flat_map (λ (l : List ℕ). l) lines in
     let one = are.0 in
     ap (λ t. lines_of (t ++ rest)) one.cut ∙ ap lines_of (append_assoc one.front (10 ∷ []) rest)
-    ∙ first_line one.front rest one.lacks ∙ ap₂ (λ a b. a ∷ b) (sym one.cut) (lines_joined lines are.1)
+    ∙ ended_front one.front rest one.lacks ∙ ap₂ (λ a b. a ∷ b) (sym one.cut) (lines_joined lines are.1)
 
 pub no_lines : AreLines []
 unfolding AreLines

@@ -44,9 +44,9 @@ use Rattle.report_text.specs.declared.processors.Counts.{Counts}
 use Rattle.tx_check.specs.Lines.{lines_of}
 use Rattle.form_laws.proofs.Cutting.{IsLine, AreLines, no_lines, line_before, lines_behind, line_end}
 use Rattle.form_laws.proofs.Cutting.{line_with}
-use Rattle.form_laws.proofs.Cutting.{both_lack, plain_lack, digit_lacks, decimal_lacks, hex_lacks}
+use Rattle.form_laws.proofs.Cutting.{plain_lack, digit_lacks, decimal_lacks, hex_lacks}
 use Rattle.form_laws.proofs.Cutting.{lines_joined}
-use Rattle.report_form.proofs.WordLemmas.{lacks_more}
+use Rattle.tx_journal.proofs.OneSchedule.{lacks_both, lacks_front}
 
 -- the text of lines
 abbrev pub joined : List (List ℕ) → List ℕ
@@ -74,7 +74,7 @@ numbered : (label line : List ℕ) (n : ℕ) → list_all (λ b. nat_lt 31 b) la
 unfolding labelled
 numbered label line n plain more =
     line_with (label ++ decimal n) line
-    (both_lack 10 label (decimal n) (plain_lack label plain) (decimal_lacks 10 n (omega arith))) more
+    (lacks_both 10 label (decimal n) (plain_lack label plain) (decimal_lacks 10 n (omega arith))) more
 
 -- a label in front
 named : (label line : List ℕ) → list_all (λ b. nat_lt 31 b) label ≡ true → IsLine line
@@ -86,7 +86,7 @@ unfolding state_text interrupted_text
 state_lacks Running = plain_lack (codes "RUNNING") refl
 state_lacks Halted = plain_lack (codes "HALTED") refl
 state_lacks (Interrupted code) =
-    both_lack 10 (codes "INTERRUPTED ") (halfword_text code) (plain_lack (codes "INTERRUPTED ") refl)
+    lacks_both 10 (codes "INTERRUPTED ") (halfword_text code) (plain_lack (codes "INTERRUPTED ") refl)
     (hex_lacks (to_be_bytes w16 code))
 
 state_is : (i : ℕ) (s : RunState) → IsLine (state_line i s)
@@ -109,8 +109,8 @@ many_lack : (f : ℕ → List ℕ) → ((v : ℕ) → Lacks 10 (f v)) → (value
     → Lacks 10 (flat_map (λ v. 32 ∷ f v) values)
 many_lack f each [] = λ i within. absurd (omega arith)
 many_lack f each (v ∷ vs) =
-    both_lack 10 (32 ∷ f v) (flat_map (λ v. 32
-    ∷ f v) vs) (lacks_more 10 32 (f v) (λ e. omega (arith, e)) (each v))
+    lacks_both 10 (32 ∷ f v) (flat_map (λ v. 32
+    ∷ f v) vs) (lacks_front 10 32 (f v) (λ e. omega (arith, e)) (each v))
     (many_lack f each vs)
 
 general_is : (label values : List ℕ) → list_all (λ b. nat_lt 31 b) label ≡ true
@@ -237,13 +237,13 @@ head_lacks : (block : List ℕ) → Lacks 10 (block_head block)
 unfolding block_head labelled
 head_lacks block =
     let number = λ (n : ℕ). decimal_lacks 10 n (omega arith) in
-    both_lack 10 (codes " FORMAT " ++ decimal (slice_index block 0)) _
-    (both_lack 10 (codes " FORMAT ") _ (plain_lack (codes " FORMAT ") refl) (number (slice_index block 0)))
-    (both_lack 10 (codes " FLAGS ") _ (plain_lack (codes " FLAGS ") refl)
-    (both_lack 10 (encode_lower (bytes_at block 1 1)) _ (hex_lacks (bytes_at block 1 1))
-    (both_lack 10 (codes " DEPTH " ++ decimal (number_at block 6 2)) _
-    (both_lack 10 (codes " DEPTH ") _ (plain_lack (codes " DEPTH ") refl) (number (number_at block 6 2)))
-    (both_lack 10 (codes " CODE ") _ (plain_lack (codes " CODE ") refl) (number (number_at block 8 8))))))
+    lacks_both 10 (codes " FORMAT " ++ decimal (slice_index block 0)) _
+    (lacks_both 10 (codes " FORMAT ") _ (plain_lack (codes " FORMAT ") refl) (number (slice_index block 0)))
+    (lacks_both 10 (codes " FLAGS ") _ (plain_lack (codes " FLAGS ") refl)
+    (lacks_both 10 (encode_lower (bytes_at block 1 1)) _ (hex_lacks (bytes_at block 1 1))
+    (lacks_both 10 (codes " DEPTH " ++ decimal (number_at block 6 2)) _
+    (lacks_both 10 (codes " DEPTH ") _ (plain_lack (codes " DEPTH ") refl) (number (number_at block 6 2)))
+    (lacks_both 10 (codes " CODE ") _ (plain_lack (codes " CODE ") refl) (number (number_at block 8 8))))))
 
 tail_is : (block : List ℕ) → IsLine (block_tail block)
 unfolding block_tail
@@ -330,19 +330,19 @@ number_lacks n = decimal_lacks 10 n (omega arith)
 -- a text behind a label
 behind_label : (label text : List ℕ) → list_all (λ b. nat_lt 31 b) label ≡ true → Lacks 10 text
     → Lacks 10 (label ++ text)
-behind_label label text plain lacks = both_lack 10 label text (plain_lack label plain) lacks
+behind_label label text plain lacks = lacks_both 10 label text (plain_lack label plain) lacks
 
 entry_lacks : (e : Entry) → Lacks 10 (words_text (line_of e))
 entry_lacks (Step cpu) = behind_label (codes "S ") (decimal cpu) refl (number_lacks cpu)
 entry_lacks (Tdb cpu) = behind_label (codes "T ") (decimal cpu) refl (number_lacks cpu)
 entry_lacks (Interrupt cpu) = behind_label (codes "I ") (decimal cpu) refl (number_lacks cpu)
 entry_lacks (Commit cpu count) =
-    behind_label (codes "C ") _ refl (both_lack 10 (decimal cpu) _ (number_lacks cpu)
+    behind_label (codes "C ") _ refl (lacks_both 10 (decimal cpu) _ (number_lacks cpu)
     (behind_label (codes " ") (decimal count) refl (number_lacks count)))
 entry_lacks (Abort cpu count w) =
-    behind_label (codes "A ") _ refl (both_lack 10 (decimal cpu) _ (number_lacks cpu)
-    (behind_label (codes " ") _ refl (both_lack 10 (decimal count) _ (number_lacks count)
-    (behind_label (codes " ") _ refl (both_lack 10 (decimal (code_number w)) _ (number_lacks (code_number w))
+    behind_label (codes "A ") _ refl (lacks_both 10 (decimal cpu) _ (number_lacks cpu)
+    (behind_label (codes " ") _ refl (lacks_both 10 (decimal count) _ (number_lacks count)
+    (behind_label (codes " ") _ refl (lacks_both 10 (decimal (code_number w)) _ (number_lacks (code_number w))
     (behind_label (codes " ") _ refl (detail_lacks w)))))))
 
 entries_are : (history : List Entry) → AreLines (map entry_text history)
@@ -366,12 +366,12 @@ event_lacks (External cpu) = behind_label (codes "X") (decimal cpu) refl (number
 further_lacks : (events : List Event) → Lacks 10 (further_text events)
 further_lacks [] = λ i within. absurd (omega arith)
 further_lacks (e ∷ events) =
-    both_lack 10 (codes "," ++ event_text e) (further_text events)
+    lacks_both 10 (codes "," ++ event_text e) (further_text events)
     (behind_label (codes ",") (event_text e) refl (event_lacks e)) (further_lacks events)
 
 events_lack : (events : List Event) → Lacks 10 (events_text events)
 events_lack [] = λ i within. absurd (omega arith)
-events_lack (e ∷ events) = both_lack 10 (event_text e) (further_text events) (event_lacks e)
+events_lack (e ∷ events) = lacks_both 10 (event_text e) (further_text events) (event_lacks e)
     (further_lacks events)
 
 row_is : (events : List Event) → IsLine (row_text events)

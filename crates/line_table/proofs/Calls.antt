@@ -1,10 +1,10 @@
 -- What the calls of a table rest on, over its rows of marks.
 use Rattle.std.proofs.Common.{◌≡◌, ◌≢◌, ℕ, ◌+◌, ◌-◌, ◌*◌, ◌^◌, ◌<◌, ◌≤◌, Bool, true, false, List, [], length}
-use Rattle.std.proofs.Common.{get_or, replicate, Some, None, is_some, refl, sym, ap, ◌∙◌, arith}
+use Rattle.std.proofs.Common.{get_or, Some, None, is_some, refl, sym, ap, ◌∙◌, arith}
 use Rattle.std.specs.Prelude.{not}
 use Rattle.std.specs.Int.{from_bool}
 use Rattle.std.proofs.lemmas.Bool.{cases_lt, cases_Bool}
-use Rattle.std.proofs.lemmas.List.{get_or-replicate, get_or_past, length-replicate}
+use Rattle.std.proofs.lemmas.List.{get_or_past}
 use borrow.Enum.Arm.{by_way}
 use Rattle.bit_set.specs.Bits.{IsNext, NoneMarked}
 use Rattle.bit_set.specs.Counts.{one_if}
@@ -82,12 +82,6 @@ stays_shared Exclusive mark false e off = let n : true ≡ false = off in cc
 stays_shared Exclusive mark true e off = let n : true ≡ false = off in cc
 
 -- ---- an empty table
-
-pub zero_at : (n k : ℕ) → get_or {A = ℕ} (replicate n 0) k 0 ≡ 0
-zero_at n k =
-    by_way (cases_lt k n)
-    (λ low. get_or-replicate n k 0 0 low)
-    (λ high. get_or_past (replicate n 0) k 0 (omega (arith, length-replicate {A = ℕ} n 0, high)))
 
 pub opened : (width : ℕ) (held holders exclusive : List Bool) (counts : List ℕ) → length counts < 2 ^ 32
     → length counts ≤ width → width < length counts + 64 → length held ≡ length counts * storage_lines

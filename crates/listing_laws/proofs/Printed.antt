@@ -7,6 +7,7 @@ use Rattle.std.specs.Prelude.{ℤ, pos, ◌+ℤ◌, ◌-◌, Ok, Err, nat_lt, na
 use Rattle.std.specs.List.{list_all, list_any}
 use Rattle.std.specs.Char.{to_ascii_uppercase, is_ascii_uppercase}
 use Rattle.std.proofs.lemmas.Bool.{and_parts, leb-true, not-true}
+use Rattle.z_regs.proofs.Elements.{is_nothing}
 use Rattle.z_text.specs.Line.{is_name, keeps_operands_whole}
 use Rattle.z_instr.specs.declared.instr.Instr.{Instr}
 use Rattle.z_instr.specs.declared.table.TheConstants.{ROWS}
@@ -76,16 +77,12 @@ name_short n h =
     leb-true _ _ (and_parts (nat_le (length e.name) 8) (list_all (λ letter. nat_lt letter 128) e.name)
     some.1).0
 
-none_is : {A : Type 0} (o : Option A) → is_none o ≡ true → o ≡ None
-none_is None h = refl
-none_is (Some a) h = cc
-
 directives_apart : (k : ℕ) → k < ROWS → is_none (directive_named (entry_at k).name) ≡ true
 unfolding directive_named
 directives_apart = passes_row (λ (e : Entry). is_none (directive_named e.name)) refl
 
 no_directive : (n : ℕ) → n < ROWS → directive_named (entry_at n).name ≡ None
-no_directive n h = none_is (directive_named (entry_at n).name) (directives_apart n h)
+no_directive n h = is_nothing (directive_named (entry_at n).name) (directives_apart n h)
 
 pub operation_is : (n : ℕ) → n < ROWS → operation_named (entry_at n).name ≡ Some (Instruction n None)
 unfolding operation_named

@@ -1,13 +1,12 @@
 -- The first reading of a generated program.
-use Rattle.std.proofs.Common.{◌≡◌, ◌≢◌, ℕ, ◌+◌, ◌*◌, ◌<◌, ◌≤◌, ◌^◌, Bool, true, false}
+use Rattle.std.proofs.Common.{◌≡◌, ◌≢◌, ℕ, ◌+◌, ◌*◌, ◌<◌, ◌≤◌, ◌^◌, false}
 use Rattle.std.proofs.Common.{List, [], ◌∷◌}
 use Rattle.std.proofs.Common.{Some, None, is_some, refl, ap, ◌∙◌, arith, subst}
 use Rattle.std.proofs.Common.{lit<}
 use Rattle.std.specs.Prelude.{ℤ, pos, Ok, if◌then◌else◌}
 use Rattle.std.specs.Fmt.{decimal}
-use Rattle.std.specs.Str.{bytes_eq}
 use Rattle.std.proofs.lemmas.Fmt.{decimal_injective}
-use Rattle.std.proofs.lemmas.Slice.Eq.{bytes_eq-Decides}
+use Rattle.z_text.proofs.Keys.{bytes_of_itself, bytes_differ}
 use Rattle.z_operands.specs.Values.{Table, operands_on}
 use Rattle.z_fields.specs.declared.fault.Kind.{Kind}
 use Rattle.z_fields.specs.declared.fault.Kind.TheVariants.{WrongOperands}
@@ -30,16 +29,6 @@ use Rattle.listing_laws.proofs.Spelled.{near_fits}
 
 -- ---- names that are one or not
 
-same_bytes : (name : List ℕ) → bytes_eq name name ≡ true
-same_bytes name = (bytes_eq-Decides name name).1 refl
-
-other_bytes : (a b : List ℕ) → a ≢ b → bytes_eq a b ≡ false
-other_bytes a b h = by (bytes_eq a b) refl
-  where
-    by : (c : Bool) → bytes_eq a b ≡ c → bytes_eq a b ≡ false
-    by true e = absurd (h ((bytes_eq-Decides a b).0 e))
-    by false e = e
-
 pub other_letter : (b c m n : ℕ) → b ≢ c → label_name b m ≢ label_name c n
 other_letter b c m n h e = let same : b ≡ c = cc in h same
 
@@ -48,11 +37,11 @@ other_number b m n few also h e =
     let same : decimal m ≡ decimal n = cc in h (decimal_injective m n (omega arith) (omega arith) same)
 
 pub hit : (b n : ℕ) (x : ℤ) (labels : Table) → table_with (label_name b n) x labels (label_name b n) ≡ Some x
-hit b n x labels = ap (λ c. if c then Some x else labels (label_name b n)) (same_bytes (label_name b n))
+hit b n x labels = ap (λ c. if c then Some x else labels (label_name b n)) (bytes_of_itself (label_name b n))
 
 pub missed : (name : List ℕ) (b n : ℕ) (x : ℤ) (labels : Table) → name ≢ label_name b n
     → table_with (label_name b n) x labels name ≡ labels name
-missed name b n x labels h = ap (λ c. if c then Some x else labels name) (other_bytes name (label_name b n) h)
+missed name b n x labels h = ap (λ c. if c then Some x else labels name) (bytes_differ name (label_name b n) h)
 
 -- ---- operands
 

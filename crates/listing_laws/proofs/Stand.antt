@@ -46,7 +46,7 @@ free_from h n = none_behind h (copies n false) (none_placed n)
 
 -- ---- the second reading over lines
 
-second_on : (k : Known) (xs ys : List Task) (m r q : Machine) → Second k xs m r → Second k ys r q
+pub second_on : (k : Known) (xs ys : List Task) (m r q : Machine) → Second k xs m r → Second k ys r q
     → Second k (xs ++ ys) m q
 second_on k [] ys m r q h s = subst (λ (o : Machine). Second k ys o q) (sym h) s
 second_on k (x ∷ xs) ys m r q h s = (h.0, h.1, second_on k xs ys h.0 r q h.2 s)

@@ -1,5 +1,5 @@
 -- Operands that are numbers and labels, and what the assembler's second reading makes of them.
-use Rattle.std.proofs.Common.{◌≡◌, ℕ, suc, ◌+◌, ◌<◌, ◌^◌, Bool, true, false, not, ◌||◌}
+use Rattle.std.proofs.Common.{◌≡◌, ℕ, suc, ◌+◌, ◌<◌, ◌^◌, true, false, not, ◌||◌}
 use Rattle.std.proofs.Common.{List, [], ◌∷◌, ◌++◌}
 use Rattle.std.proofs.Common.{length, map, Option, Some, refl, ap, ap₂, ◌∙◌, arith}
 use Rattle.std.proofs.Common.{lt-ltb, le-ltb, le-leb, lit<}
@@ -10,6 +10,7 @@ use Rattle.std.specs.Fmt.{decimal}
 use Rattle.std.proofs.lemmas.Int.{ints}
 use Rattle.std.proofs.lemmas.Fmt.{length-decimal-le}
 use Rattle.std.proofs.lemmas.Bool.{and_from}
+use Rattle.std.proofs.Math.Bool.{or-true}
 use Rattle.z_text.specs.Line.{span, as_read, is_letter_or_digit, is_name}
 use Rattle.z_text.specs.Tokens.{kind_at}
 use Rattle.z_text.specs.Expressions.{add, signed, is_term}
@@ -101,11 +102,7 @@ module _ (line : List ℕ) (labels : Table) (here : ℕ) where
 -- ---- names that are cut as they stand
 
 letter_digit : (b : ℕ) → is_ascii_digit b ≡ true → is_letter_or_digit b ≡ true
-letter_digit b h = ap (λ c. is_ascii_uppercase b || c) h ∙ or_true (is_ascii_uppercase b)
-  where
-    or_true : (c : Bool) → (c || true) ≡ true
-    or_true true = refl
-    or_true false = refl
+letter_digit b h = ap (λ c. is_ascii_uppercase b || c) h ∙ or-true (is_ascii_uppercase b)
 
 digits_go_on : (n : ℕ) → n < 2 ^ 64 → list_all is_letter_or_digit (decimal n) ≡ true
 digits_go_on n small = all_by is_letter_or_digit (λ b h. letter_digit b (digit_byte b h).digit) (decimal n)

@@ -17,12 +17,9 @@ use Rattle.tx_meaning.specs.Turn.{turn, happen}
 use Rattle.tx_meaning.specs.Views.{AreKnown}
 use Rattle.tx_meaning.proofs.Books.{idle_stays, idle_or_not, turn_booked, external_booked, few_turns, all_externals}
 use Rattle.tx_meaning.proofs.Schedules.{drawn_leads, round_leads}
+use Rattle.tx_headline.proofs.Recorded.{turn_is}
 
 module _ (m : Setting) where
-  turn_is : (i : ℕ) (s : State) → (happen m (event.Turn i) s).state ≡ (turn m i s).state
-  unfolding happen
-  turn_is i s = refl
-
   abbrev known : List Event → Type 0
   known es = AreKnown m es
 
@@ -37,9 +34,9 @@ module _ (m : Setting) where
       more (event.External i) s within here (external_booked m i s).recorded
   known_behind (event.Turn i) s within here =
       idle_or_not (idle m s i) (λ o. known (happen m (event.Turn i) s).state.events)
-      (λ o e. subst (λ (t : State). known t.events) (sym (turn_is i s ∙ idle_stays m i s o e)) here)
+      (λ o e. subst (λ (t : State). known t.events) (sym (turn_is m i s ∙ idle_stays m i s o e)) here)
       (λ none. more (event.Turn i) s within here
-      (ap (λ (t : State). t.events) (turn_is i s) ∙ (turn_booked m i s none).recorded))
+      (ap (λ (t : State). t.events) (turn_is m i s) ∙ (turn_booked m i s none).recorded))
 
   all_known : (es : List Event) (s : State) → known es → known s.events → known (meaning_from m es s).events
   unfolding meaning_from

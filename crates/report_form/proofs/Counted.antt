@@ -6,6 +6,7 @@ use Rattle.std.specs.Str.{bytes_eq}
 use Rattle.std.proofs.lemmas.Bool.Decides.{Decides-eqb}
 use Rattle.std.proofs.lemmas.Slice.Eq.{bytes_eq-Decides}
 use Rattle.std.specs.Fmt.{decimal}
+use Rattle.std.proofs.lemmas.Bool.{not-false}
 use Rattle.tx_journal.specs.Numbers.{Lacks}
 use Rattle.tx_journal.proofs.Decimals.{SameCut, same_cut, lacks_not_there, lacks_number}
 use Rattle.report_form.specs.declared.words.Name.{Name}
@@ -72,11 +73,7 @@ none_counted n line word rest digits behind None cut lacks ends unended none = �
 -- texts that are not found to differ are equal
 pub equal_then : (a b : List ℕ) (r : Bool) → r ≡ not (bytes_eq a b) → r ≡ false → a ≡ b
 equal_then a b r is same =
-    let equal : bytes_eq a b ≡ true = by (bytes_eq a b) (sym is ∙ same) in (bytes_eq-Decides a b).0 equal
-  where
-    by : (t : Bool) → not t ≡ false → t ≡ true
-    by true h = refl
-    by false h = cc
+    let equal : bytes_eq a b ≡ true = not-false (bytes_eq a b) (sym is ∙ same) in (bytes_eq-Decides a b).0 equal
 
 pub empty_is : (xs : List ℕ) (b : Bool) → b ≡ nat_eq (length xs) 0 → b ≡ true → xs ≡ []
 empty_is [] b is t = refl

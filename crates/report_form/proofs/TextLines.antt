@@ -14,7 +14,7 @@ pub other_byte : (b : ℕ) → b ≢ 10 → (b == 10) ≡ false
 other_byte b other = grind (arith, other)
 
 -- a line with its line feed, and what stands behind it
-ended_front : (front rest : List ℕ) → Lacks 10 front
+pub ended_front : (front rest : List ℕ) → Lacks 10 front
     → lines_of (front ++ 10 ∷ rest) ≡ (front ++ 10 ∷ []) ∷ lines_of rest
 unfolding lines_of
 ended_front [] rest lacks = refl

@@ -85,17 +85,13 @@ one_more last row lines at k place is fit more =
     (fit_append last (replicate k row) (row ∷ []) (drop at lines) fit
     (subst (λ ls. Fit last (row ∷ []) ls) behind more))
 
-there_is : (last : ℕ) (row : Row) (lines : List (List ℕ)) (place : ℕ)
-    → Fit last (row ∷ []) (drop place lines) → place < length lines
-there_is last row [] zero fit = absurd fit
-there_is last row [] (suc place) fit = absurd fit
-there_is last row (l ∷ lines) zero fit = omega arith
-there_is last row (l ∷ lines) (suc place) fit =
-    let less = there_is last row lines place fit in omega arith
-
 pub there : (last : ℕ) (row : Row) (lines : List (List ℕ)) (place : ℕ)
     → Fit last (row ∷ []) (drop place lines) → place < length lines
-there last row lines place fit = there_is last row lines place fit
+there last row [] zero fit = absurd fit
+there last row [] (suc place) fit = absurd fit
+there last row (l ∷ lines) zero fit = omega arith
+there last row (l ∷ lines) (suc place) fit =
+    let less = there last row lines place fit in omega arith
 
 pub stopped : (last : ℕ) (row : Row) (lines : List (List ℕ)) (at k count place : ℕ) → place ≡ at + k
     → k < count → place ≤ length lines → Fit last (replicate k row) (drop at lines)

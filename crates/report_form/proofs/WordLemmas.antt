@@ -1,6 +1,6 @@
 -- What is no digit, no number and no event, and bytes that no word has.
-use Rattle.std.proofs.Common.{◌≡◌, ◌≢◌, ℕ, zero, suc, ◌<◌, ◌≤◌, ◌^◌, Bool, true, false, List, [], ◌∷◌, length}
-use Rattle.std.proofs.Common.{Decides, slice_index, nat_lt, refl, sym, ap, subst, inl, inr, ◌∙◌, arith}
+use Rattle.std.proofs.Common.{◌≡◌, ◌≢◌, ℕ, ◌<◌, ◌≤◌, ◌^◌, Bool, true, false, List, [], ◌∷◌, length}
+use Rattle.std.proofs.Common.{Decides, nat_lt, refl, sym, ap, subst, inl, inr, ◌∙◌, arith}
 use Rattle.std.specs.Prelude.{nat_le}
 use Rattle.std.specs.List.{list_all}
 use Rattle.std.specs.Fmt.{decimal}
@@ -9,6 +9,7 @@ use Rattle.std.proofs.lemmas.Bool.{leb-true, le-leb, false≢true}
 use Rattle.std.proofs.lemmas.Fmt.{decimal_injective}
 use Rattle.tx_journal.specs.Numbers.{Lacks}
 use Rattle.tx_journal.proofs.Decimals.{lacks_number, above_digits}
+use Rattle.tx_journal.proofs.OneSchedule.{lacks_front}
 use Rattle.report_form.specs.declared.words.Name.{Name}
 use Rattle.report_form.specs.declared.words.Name.TheVariants as name
 use Rattle.report_form.specs.declared.words.Word.{Word}
@@ -60,18 +61,13 @@ other_first text rest first byte is other more e = let same : first ≡ byte = c
 
 -- ---- bytes that no word has
 
-pub lacks_more : (c x : ℕ) (xs : List ℕ) → x ≢ c → Lacks c xs
-    → (i : ℕ) → i < length (x ∷ xs) → slice_index (x ∷ xs) i ≢ c
-lacks_more c x xs other lacks zero within = other
-lacks_more c x xs other lacks (suc i) within = lacks i (omega arith)
-
 all_above : (c : ℕ) (xs : List ℕ) → c ≤ 44 → list_all (λ b. nat_lt 44 b) xs ≡ true → Lacks c xs
 all_above c [] low above = λ i within. absurd (omega arith)
 all_above c (x ∷ xs) low above =
     let head : nat_lt 44 x ≡ true = grind (arith, above) in
     let tail : list_all (λ b. nat_lt 44 b) xs ≡ true = grind (arith, above) in
     let other : x ≢ c = λ e. grind (arith, nat_tests) in
-    lacks_more c x xs other (all_above c xs low tail)
+    lacks_front c x xs other (all_above c xs low tail)
 
 plain_name : (n : Name) → list_all (λ b. nat_lt 44 b) (name_text n) ≡ true
 plain_name name.Empty = refl
@@ -137,4 +133,4 @@ word_lacks (Digits count) c text low is = λ i within e.
 word_lacks (Event last) c text low (inl n) = number_lacks c last text low n
 word_lacks (Event last) c text low (inr x) =
     subst (Lacks c) (sym x.behind)
-    (lacks_more c 88 x.rest (λ e. omega arith) (number_lacks c last x.rest low x.cpu))
+    (lacks_front c 88 x.rest (λ e. omega arith) (number_lacks c last x.rest low x.cpu))

@@ -35,13 +35,6 @@ pub scheds_over : (ts us : List Task) → AreScheds ts → AreScheds us → AreS
 scheds_over [] us h i = i
 scheds_over (t ∷ ts) us h i = (h.0, scheds_over ts us h.1 i)
 
--- ---- one reading behind the other
-
-pub second_over : (k : Known) (ts us : List Task) (m n q : Machine) → Second k ts m n → Second k us n q
-    → Second k (ts ++ us) m q
-second_over k [] us m n q h i = subst (λ (x : Machine). Second k us x q) (sym h) i
-second_over k (t ∷ ts) us m n q h i = (h.0, h.1, second_over k ts us h.0 n q h.2 i)
-
 -- ---- a schedule stays given
 
 given_still : (op : Operation) (k : Known) (t : Task) (ts : List Token) (m r : Machine) → Effect op k t ts m r

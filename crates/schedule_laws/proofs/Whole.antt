@@ -27,9 +27,10 @@ use Rattle.schedule_laws.proofs.Marks.{AreBelow, all_below, fewer}
 use Rattle.schedule_laws.proofs.Row as rows
 use Rattle.schedule_laws.proofs.Row.{line_of, row, capital, line_kept, events_taken}
 use Rattle.schedule_laws.proofs.Moved.{later, moved, first_moves}
-use Rattle.schedule_laws.proofs.Again.{AreScheds, scheds_over, second_over, given, second_given}
+use Rattle.schedule_laws.proofs.Again.{AreScheds, scheds_over, given, second_given}
 use Rattle.statement_laws.proofs.Lines.{no_events_first}
 use Rattle.listing_laws.proofs.Texts.{one_piece}
+use Rattle.listing_laws.proofs.Stand.{second_on}
 
 -- ---- lists
 
@@ -272,7 +273,7 @@ module _ (text : List ℕ) (image : Content) (events : List Event) (may : MayTak
     rows_passed zero h = refl {a = m}
     rows_passed (suc n) h =
         let b = before n h in
-        second_over k (tasks_to n b) (task_at n b ∷ []) m (filled n m) (filled (suc n) m) (rows_passed n b) (
+        second_on k (tasks_to n b) (task_at n b ∷ []) m (filled n m) (filled (suc n) m) (rows_passed n b) (
           filled (suc n) m,
           events_taken (chunk n) (chunk_low n) (chunk_some n (now n h)) (chunk_few n) k (task_at n b) (filled n m)
               refl refl (known n) (room n),
@@ -295,7 +296,7 @@ module _ (text : List ℕ) (image : Content) (events : List Event) (may : MayTak
 
   second : Second (known_in after) after.tasks (ready after) (given size front events machine)
   second =
-      second_over (known_in after) front (map (later size front) plan.tasks) (ready plan)
+      second_on (known_in after) front (map (later size front) plan.tasks) (ready plan)
       (given size front events (ready plan)) (given size front events machine)
       (front_passed (known_in after) (ready plan) (no_events_first plan.storage plan.cpus)
       (all_there plan.storage plan.cpus))

@@ -39,19 +39,15 @@ pub record OneMore (n : ℕ) (e : Executed) : Type 0 where
   pub after : count_in e.after ≤ n + 1
   pub told : TellsAtMost (n + 1) e.told
 
+paused_any : (most delay : ℕ) (b : Bool) → TellsAtMost most (if b then done.Paused delay else done.Stepped)
+paused_any most delay true = tt
+paused_any most delay false = tt
+
 -- outside transactions no commit is told of
 told_any : (most : ℕ) (state : RunState) (delay : ℕ) → TellsAtMost most (told_of state delay)
 told_any most (Interrupted code) delay = tt
-told_any most Running delay = by (nat_lt 0 delay)
-  where
-    by : (b : Bool) → TellsAtMost most (if b then done.Paused delay else done.Stepped)
-    by true = tt
-    by false = tt
-told_any most Halted delay = by (nat_lt 0 delay)
-  where
-    by : (b : Bool) → TellsAtMost most (if b then done.Paused delay else done.Stepped)
-    by true = tt
-    by false = tt
+told_any most Running delay = paused_any most delay (nat_lt 0 delay)
+told_any most Halted delay = paused_any most delay (nat_lt 0 delay)
 
 -- a transaction that goes on, or is committed
 closed_one : (n : ℕ) (q : Progress) (nest : List Begin) (b : Beside) → q.count ≤ n + 1

@@ -2,7 +2,6 @@
 use Rattle.std.proofs.Common.{◌≡◌, ℕ, ◌+◌, ◌-◌, ◌<◌, ◌≤◌, Bool, true, false, List, [], ◌∷◌, ◌++◌, Option}
 use Rattle.std.proofs.Common.{Some, None, refl, sym, ap, subst, ◌∙◌, arith}
 use Rattle.std.specs.Prelude.{◌&&◌, nat_lt, if◌then◌else◌, All}
-use Rattle.std.proofs.lemmas.Bool.{leb-false}
 use Rattle.std.proofs.lemmas.List.Elements.{All-nil, All-push}
 use Rattle.z_regs.specs.declared.ranges.Range.{Range}
 use Rattle.z_regs.specs.declared.waiting.Waiting.{Waiting}
@@ -32,13 +31,12 @@ use Rattle.tx_meaning.specs.State.{Numbers, State, is_live}
 use Rattle.tx_meaning.specs.Changes.{with_numbers, with_event, counting_turn, waiting_turn, delaying}
 use Rattle.tx_meaning.specs.Changes.{committing, aborting, without_attempt}
 use Rattle.tx_meaning.specs.Changes.{rejecting_one}
-use Rattle.tx_meaning.specs.Idle.{is_spent, kept_back}
 use Rattle.tx_meaning.specs.Turn.{is_tick}
 use Rattle.tx_meaning.specs.Views.{AreKnown}
 use Rattle.tx_meaning.proofs.Walk.{at_put_case, at_put_kept, cause_case, leaving_case, conflict_on}
 use Rattle.tx_keeping.specs.Asking.{k_get_lines}
 use Rattle.tx_keeping.specs.Keeping.{keeping_from}
-use Rattle.tx_keeping.specs.Kept.{Kept, kept_beginning, kept_finished, text_of, with_state}
+use Rattle.tx_keeping.specs.Kept.{Kept, kept_beginning, text_of, with_state}
 use Rattle.tx_keeping.specs.Kept.{with_beside, beside}
 use Rattle.tx_keeping.specs.Moves.{k_asking, k_rejecting, k_rejected, k_aborting, k_starting, k_continuing}
 use Rattle.tx_keeping.specs.Moves.{k_committing, k_stepping, k_storing, k_taking}
@@ -48,6 +46,7 @@ use Rattle.tx_keeping.specs.Turn.{k_external}
 use Rattle.tx_keeping.specs.Turn.{k_interrupting, k_by_rules, k_counted_turn, k_idle, k_turn_where, k_turn}
 use Rattle.tx_keeping.specs.Turn.{k_happen, next_address}
 use Rattle.tx_keeping.proofs.Events.{keeping_is}
+use Rattle.tx_keeping.proofs.Turning.{turn_left}
 use Rattle.tx_bounds.proofs.News.{aborted_history}
 use Rattle.tx_bounds.proofs.Walk.{Asks, Behind, lines_got}
 use Rattle.sound_laws.specs.Parts.{HasAtMost}
@@ -422,22 +421,6 @@ turned_so m i None k left s =
     let n = t.state.numbers i in
     ruled_so m.limits.turns (is_tick m.limits n.turns) (nat_lt 0 n.delay) m i t
     (counted_acts m i k (left refl) s)
-
--- a turn that is neither finished nor spent
-spared : (finished spent : Bool) (o : Option Outcome)
-    → (if finished then Some outcome.Halted else (if spent then Some outcome.Spent else o)) ≡ None
-    → spent ≡ false
-spared true spent o h = absurd cc
-spared false true o h = absurd cc
-spared false false o h = refl
-
--- a CPU whose turn is not idle has one left
-turn_left : (m : Setting) (k : Kept) (i : ℕ) → k_idle m k i ≡ None
-    → (k.state.numbers i).turns < m.limits.turns
-unfolding k_idle
-turn_left m k i none =
-    leb-false m.limits.turns (k.state.numbers i).turns
-    (spared (kept_finished k i) (is_spent m.limits (k.state.numbers i)) (kept_back k.state.queue i) none)
 
 -- an event
 happened_so : (m : Setting) (e : Event) (k : Kept) → Spends m.limits.turns k

@@ -1,11 +1,11 @@
 -- What a store cache shows of its entries, and its invariant after each change.
 use Rattle.std.proofs.Common.{◌≡◌, ◌≢◌, ℕ, ◌+◌, ◌*◌, ◌/◌, ◌%◌, ◌<◌, ◌≤◌, Bool, true, false, cond, eqb}
 use Rattle.std.proofs.Common.{ltb, List, [], ◌∷◌, ◌++◌, length, get_or, set, take, Some, None}
-use Rattle.std.proofs.Common.{is_some, replicate, inl, inr, refl, sym, ap, subst, ◌∙◌, arith}
+use Rattle.std.proofs.Common.{is_some, refl, sym, ap, subst, ◌∙◌, arith}
 use Rattle.std.specs.Prelude.{◌||◌}
-use Rattle.std.proofs.lemmas.Bool.{cases_eq, cases_lt, cases_Bool, cond-true, cond-false, eq-eqb, ne_eqb}
+use Rattle.std.proofs.lemmas.Bool.{cases_eq, cases_Bool, cond-true, cond-false, eq-eqb, ne_eqb}
 use Rattle.std.proofs.lemmas.Bool.{ltb-true}
-use Rattle.std.proofs.lemmas.List.{length-set, get_or-set_other, get_or-replicate, get_or_past, length-replicate, length_push}
+use Rattle.std.proofs.lemmas.List.{length-set, get_or-set_other, length_push}
 use Rattle.bit_set.specs.Counts.{count_below}
 use Rattle.bit_set.proofs.Counts.{count_agree}
 use Rattle.slot_index.specs.Slots.{Slots, slot_in, is_key}
@@ -90,13 +90,6 @@ room_left overlay block new room =
     (sym (ap (λ b. b || ltb (block_count overlay) block_limit) new) ∙ room)
 
 -- ---- no entries
-
--- no number is in an empty set
-pub unmarked_at : (room cell : ℕ) → get_or (replicate room false) cell false ≡ false
-unmarked_at room cell = elim (cases_lt cell room) [
-  | inl lt ↦ get_or-replicate room cell false false lt
-  | inr ge ↦ get_or_past (replicate room false) cell false (let l = length-replicate room false in omega (arith, l, ge))
-]
 
 pub emptied : (index : Slots) (bytes : List ℕ) (marks : List Bool) (values : List ℕ)
     (value_marks : List Bool) → index.limit ≡ storage_blocks → index.most ≡ block_limit

@@ -1,5 +1,5 @@
 -- Fields written one after the other make the block that the table says.
-use Rattle.std.proofs.Common.{◌≡◌, ℕ, zero, suc, ◌+◌, ◌-◌, ◌<◌, ◌≤◌, Bool, true, false, ◌&&◌, ◌||◌, cond, leb, ltb, List, [], ◌∷◌, ◌++◌, length, get_or, take, drop, map, replicate, refl, sym, ap, ◌∙◌, arith}
+use Rattle.std.proofs.Common.{◌≡◌, ℕ, zero, suc, ◌+◌, ◌-◌, ◌<◌, ◌≤◌, Bool, true, false, ◌&&◌, ◌||◌, cond, leb, ltb, List, [], ◌∷◌, ◌++◌, length, get_or, take, drop, map, refl, sym, ap, ◌∙◌, arith}
 use Rattle.std.specs.List.{list_any, count_by, Contains, range_with_len}
 use Rattle.std.proofs.lemmas.List.{length-append, length-take-le, length-drop, get_or_append_left, get_or-append_right, get_or-take, get_or-drop, get_or_past}
 use Rattle.std.proofs.lemmas.List.FromFn.{fill_by_all, length-map-range_with_len, get_or-map-range_with_len}
@@ -197,7 +197,7 @@ block_order why nest general at = refl
 
 -- written into zeros, they make the block
 pub block_is : (why : Why) (nest : List Begin) (general : List ℕ) (at : ℕ) (zeros : List ℕ) →
-    length zeros ≡ 256 → ((k : ℕ) → get_or zeros k 0 ≡ 0) →
+    length zeros ≡ 256 → ((k : ℕ) → k < 256 → get_or zeros k 0 ≡ 0) →
     with_fields (fields why nest general at) zeros ≡ block why nest general at
 unfolding block
 block_is why nest general at zeros size empty =
@@ -207,7 +207,7 @@ block_is why nest general at zeros size empty =
     fill_by_all (byte_at fs) (with_fields fs zeros) 256 0 (length-with_fields 0 fs zeros order ∙ size)
     (λ k h. get_or-with_fields 0 fs zeros k order ∙ by_way (cases_Bool (have fs k))
     (λ some. ap (λ b. cond b (byte_at fs k) (get_or zeros k 0)) some)
-    (λ none. ap (λ b. cond b (byte_at fs k) (get_or zeros k 0)) none ∙ empty k
+    (λ none. ap (λ b. cond b (byte_at fs k) (get_or zeros k 0)) none ∙ empty k h
     ∙ sym (byte_at_none fs k none)))
 
 -- all sixteen registers
@@ -215,11 +215,6 @@ pub all_registers : (general : List ℕ) (count : ℕ) → count ≡ 16 →
     map (register_field general) (range_with_len 0 count) ≡ register_fields general
 unfolding register_fields
 all_registers general count e = ap (λ n. map (register_field general) (range_with_len 0 n)) e
-
-pub all_zero : (n k : ℕ) → get_or {A = ℕ} (replicate n 0) k 0 ≡ 0
-all_zero zero k = refl
-all_zero (suc n) zero = refl
-all_zero (suc n) (suc k) = all_zero n k
 
 -- ---- laws
 

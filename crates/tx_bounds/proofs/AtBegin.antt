@@ -77,15 +77,6 @@ module _ (m : Setting) (s : IsSetting m) (k : Kept) (t : Truth m k) (c : ℕ) wh
 
 -- ---- one fate
 
-instruction_in : Instr → Fate → Instr
-instruction_in d (Goes i ranges) = i
-instruction_in d (Ends why) = d
-instruction_in d (Stops e) = d
-
-pub same_instruction : (i j : Instr) (x y : List Range) → Goes i x ≡ Goes j y → i ≡ j
-unfolding instruction_in
-same_instruction i j x y h = ap (instruction_in i) h
-
 goes : Fate → Bool
 goes (Goes i ranges) = true
 goes (Ends why) = false

@@ -38,7 +38,7 @@ use Rattle.tx_keeping.specs.Turn.{k_external, k_interrupting, k_by_rules, k_to_t
 use Rattle.tx_keeping.specs.Asking.{k_get_each}
 use Rattle.tx_keeping.proofs.Truth.{Truth, live_is, kept_is}
 use Rattle.tx_bounds.proofs.AtBegin.{GoesNot, fate_at_rest, goes_now, goes_at_start, never_goes}
-use Rattle.tx_bounds.proofs.AtBegin.{same_instruction}
+use Rattle.tx_serial.proofs.Passing.{goes_alike}
 use Rattle.tx_bounds.proofs.News.{NoEnd, Calm, same_news}
 use Rattle.tx_bounds.proofs.OtherTurns.{aborted_completed}
 use Rattle.tx_bounds.proofs.OwnEnds.{goes_permitted, pifc_none, ends_the_transaction}
@@ -247,8 +247,8 @@ module _ (m : Setting) (s : IsSetting m) (c : ℕ) (busy : Bool) (before : State
       begins_it = λ quiet is.
           let a = own.holds.amid is in
           let same : a.begin ≡ i =
-          same_instruction a.begin i [] ranges
-          (sym (goes_now m s k t c a.begin a.is a.goes) ∙ fate_at_rest m s k t c (Goes i ranges) quiet h) in
+          (goes_alike a.begin i [] ranges
+          (sym (goes_now m s k t c a.begin a.is a.goes) ∙ fate_at_rest m s k t c (Goes i ranges) quiet h)).0 in
           subst (λ (x : Instr). (entry_at x.op.number).demand ≡ BeginConstrained) same a.is;
       inside = λ live. known_inside i ranges live h;
       at_start = λ quiet is. goes_at_start m s k t c i ranges is

@@ -24,10 +24,11 @@ use Rattle.z_instr.specs.Table.{entry_at}
 use Rattle.tx_control.specs.declared.begins.Begin.{Begin}
 use Rattle.line_table.specs.Sizes.{storage_lines}
 use Rattle.tx_constraint.specs.Bytes.{pieces}
-use Rattle.tx_constraint.specs.Constraints.{Step, first_of}
+use Rattle.tx_constraint.specs.Constraints.{Step}
 use Rattle.tx_constraint.specs.Kept.{Kept, kept, next_operand_breach}
 use Rattle.tx_constraint.specs.Octowords.{with_octoword, with_octowords}
 use Rattle.tx_constraint.proofs.Whole.{any_all}
+use Rattle.tx_constraint.proofs.Attempts.{unbroken}
 use Rattle.tx_footprint.specs.Places.{has_place, fetches, stores, stores_block}
 use Rattle.tx_footprint.specs.Touched.{Sets, touching, untouched, line_count, block_count, fit_of}
 use Rattle.tx_footprint.specs.declared.footprint.Overflow.TheVariants.{Fetch, Store}
@@ -46,7 +47,8 @@ use Rattle.tx_progress.specs.Reached.{progress_of, constraint_of, IsFollowed}
 use Rattle.tx_progress.specs.Trial.{constraint_refusal, place_refusal_by, overflow_refusal_by}
 use Rattle.tx_progress.proofs.Alike.{its_footprint}
 use Rattle.tx_progress.proofs.Facts.{keeps_prefix}
-use Rattle.tx_progress.proofs.Lines.{AreSmall, any_there, range_there, run_there, small_operands}
+use Rattle.tx_serial.proofs.StoredPlaces.{AreSmall, small_operands}
+use Rattle.tx_progress.proofs.Lines.{any_there, range_there, run_there}
 use Rattle.tx_progress.proofs.Lines.{either_way}
 use Rattle.tx_progress.proofs.OneMore.{went, open_is_there}
 use Rattle.tx_progress.proofs.Standing.{Stands, run_stands}
@@ -283,17 +285,13 @@ kept_of (s ∷ ss) k e = by (begins_constrained s.instruction) e
     by true h = cc
     by false h = absurd (cc)
 
-first_unbroken : (b : Bool) (n : ℕ) (rest : Option ℕ) → first_of b n rest ≡ None → b ≡ false
-first_unbroken true n rest h = absurd (cc)
-first_unbroken false n rest h = refl
-
 few_octowords : (q : Progress) (i : Instr) (k : Kept) → q.constraint ≡ Some k → place_refusal_by q i ≡ None
     → length (with_octowords k.octowords (operands i q.cpu)) ≤ 4
 unfolding next_operand_breach
 few_octowords q i k some h =
     let none = breach_none i (next_operand_breach k i (operands i q.cpu))
     (ap (constraint_refusal (λ x. next_operand_breach x i (operands i q.cpu)) i) (sym some) ∙ h) in
-    ltb-false 4 (length (with_octowords k.octowords (operands i q.cpu))) (first_unbroken _ 4 _ none)
+    ltb-false 4 (length (with_octowords k.octowords (operands i q.cpu))) (unbroken _ 4 _ none).0
 
 room_by : (f : FlatState) (i k : ℕ) → (run f i k).mark ≢ Missing → is_prefix (f.cpus i).prefix ≡ true
     → (rs : List Range) → AreSmall rs

@@ -19,9 +19,8 @@ use Rattle.tx_progress.specs.Followed.{KeepsTo}
 use Rattle.tx_progress.specs.Progress.{Progress}
 use Rattle.tx_progress.proofs.Facts.{keeps_constraints}
 use Rattle.z_regs.specs.Cpu.{Cpu}
-use Rattle.z_regs.specs.declared.image.RunState.{RunState}
-use Rattle.z_regs.specs.declared.image.RunState.TheVariants.{Running, Halted, Interrupted}
 use Rattle.tx_serial.specs.Apply.{is_running}
+use Rattle.tx_progress.proofs.Facts.{runs}
 use Rattle.tx_progress.proofs.Parts.{followed_fate, rests}
 use Rattle.tx_meaning.specs.declared.outcome.Outcome.{Outcome}
 use Rattle.tx_meaning.specs.Limits.{Setting}
@@ -40,6 +39,7 @@ use Rattle.tx_keeping.specs.Keeping.{keeping, keeping_from}
 use Rattle.tx_keeping.specs.Turn.{k_happen, k_turn, k_turn_where, k_idle, k_counted_turn, k_by_rules}
 use Rattle.tx_keeping.specs.Turn.{k_external}
 use Rattle.tx_meaning.specs.Views.{AreKnown}
+use Rattle.tx_meaning.proofs.Examples.{usual_bound}
 use Rattle.tx_keeping.proofs.Truth.{Truth, live_is, flat_is, attempt_is, nest_is, standing_is, cpu_is}
 use Rattle.tx_keeping.proofs.Moves.{IsGood, restated, one_number, same_numbers}
 use Rattle.tx_keeping.proofs.Turning.{happen_ok, idle_is}
@@ -452,11 +452,6 @@ module _ (m : Setting) (s : IsSetting m) (c : ℕ) (k : Kept) (t : Truth m k) (h
   refused_few live =
       subst (λ x. x < m.image.parms.starve) (t.each c).refused (h.fewer live (the_amid.kind live))
 
-  runs_so : (state : RunState) → is_running state ≡ true → state ≡ Running
-  runs_so Running e = refl
-  runs_so Halted e = absurd (true≢false (sym e))
-  runs_so (Interrupted code) e = absurd (true≢false (sym e))
-
   runs_by : (live : Bool) → is_live k.state c ≡ live → is_running (k.locals c).attempt.cpu.state ≡ true
   runs_by true e = (resumes (kept_flat m k) c (k.locals c) (t.each c).followed (kind_now e)).runs
   runs_by false e =
@@ -466,7 +461,7 @@ module _ (m : Setting) (s : IsSetting m) (c : ℕ) (k : Kept) (t : Truth m k) (h
 
   pub is_under_way : IsUnderWay m k.state c
   is_under_way = record {
-    running = runs_so (cpu_of m k.state c).state (ap (λ (x : Cpu). is_running x.state) (cpu_is m k t c)
+    running = runs (cpu_of m k.state c).state (ap (λ (x : Cpu). is_running x.state) (cpu_is m k t c)
         ∙ runs_by (is_live k.state c) refl);
     no_block = ap (λ (f : FlatState). f.pending c) (flat_is m k t) ∙ the_amid.pending;
     no_interruption = ap (λ (f : FlatState). f.waiting c) (flat_is m k t) ∙ the_amid.waiting;
@@ -529,10 +524,7 @@ pub ages_usual : (m : Setting) (events : List Event) (c : ℕ) → IsSetting m �
     → (stretch_of m events c).age < 1072
 ages_usual m events c s known numbers is none =
     subst (λ n. (stretch_of m events c).age < n) (ap bound numbers
-    ∙ usual_turns) (ages_below m events c s known is none)
-  where
-    usual_turns : bound usual ≡ 1072
-    usual_turns = refl
+    ∙ usual_bound) (ages_below m events c s known is none)
 
 closed_by_end : (busy ended : Bool) (now other : Stretch) → busy ≡ true
     → (if busy then (if ended then closed else record now { is_open = true }) else other).is_open ≡ false

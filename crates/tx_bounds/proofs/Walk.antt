@@ -95,7 +95,7 @@ RefusalOwn None = Unit {0}
 RefusalOwn (Some (Excepts e)) = Unit {0}
 RefusalOwn (Some (Because w)) = IsOwn w
 
-abbrev FateOwn : Fate → Type 0
+abbrev pub FateOwn : Fate → Type 0
 FateOwn (Goes i ranges) = Unit {0}
 FateOwn (Ends w) = IsOwn w
 FateOwn (Stops e) = Unit {0}
@@ -160,12 +160,12 @@ fetched_own text storage q (Some code) i = after_own q.nest (Excepts _) tt
 fetched_own text storage q None None = after_own q.nest (Excepts _) tt
 fetched_own text storage q None (Some i) = tried_own q i _ (tests_own text storage q i)
 
-fate_own : (text : List ℕ) (storage : Storage) (q : Progress) → FateOwn (fate_by_progress text storage q)
+pub fate_own : (text : List ℕ) (storage : Storage) (q : Progress) → FateOwn (fate_by_progress text storage q)
 unfolding fate_by_progress
 fate_own text storage q =
     fetched_own text storage q (fetch_refusal text (at_hand storage q)) (instruction_at (at_hand storage q))
 
-abbrev ToldOwn : Done → Type 0
+abbrev pub ToldOwn : Done → Type 0
 ToldOwn (done.Ended w) = IsOwn w
 ToldOwn done.Stepped = Unit {0}
 ToldOwn (done.Committed n) = Unit {0}
@@ -203,7 +203,7 @@ where_told_own false true i ranges b o = tt
 where_told_own false false i ranges b o = state_own (outside i ranges b o).local.cpu.state (delay_given i
     b.local.cpu)
 
-executed_own : (i : Instr) (ranges : List Range) (b : Beside) → ToldOwn (executed i ranges b).told
+pub executed_own : (i : Instr) (ranges : List Range) (b : Beside) → ToldOwn (executed i ranges b).told
 unfolding executed
 executed_own i ranges b = where_told_own _ _ i ranges b (outcome_by b.storage i ranges b.local.attempt)
 

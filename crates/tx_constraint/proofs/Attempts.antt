@@ -6,6 +6,7 @@ use Rattle.std.proofs.lemmas.List.Sums.{sum_by-append, sum_by-cons}
 use Rattle.std.proofs.lemmas.Grind.{flat_map-append}
 use Rattle.std.proofs.lemmas.List.Folds.{list_any-append}
 use Rattle.std.proofs.lemmas.Bool.{cases_lt, or_parts, ltb-false, lt-ltb, le-ltb, le-leb, lt-leb}
+use Rattle.std.proofs.Math.Bool.{and-false, or-false}
 use borrow.Enum.Arm.{by_way}
 use Rattle.tx_constraint.specs.Operations.{ends, is_permitted, unit_of}
 use Rattle.tx_constraint.specs.Bytes.{touches_own_page}
@@ -70,11 +71,7 @@ kept_step a s = kept_parts a.begin _ _ _ _ (length_push a.steps s) (octowords_st
 any_step : (p : Step → Bool) (steps : List Step) (s : Step) → list_any p steps ≡ false →
     list_any p (steps ++ s ∷ []) ≡ p s
 any_step p steps s none = list_any-append p steps (s ∷ []) ∙ ap (λ b. b || (p s || false)) none
-    ∙ or_false (p s)
-  where
-    or_false : (b : Bool) → (b || false) ≡ b
-    or_false true = refl
-    or_false false = refl
+    ∙ or-false (p s)
 
 abbrev no_end : Step → Bool
 no_end s = not (ends s.instruction)
@@ -96,6 +93,23 @@ count_step steps s =
     omega (arith, sum_by-cons (λ x. cond {A = ℕ} (no_end x) 1 0) s []) in
     omega (arith, one, sum_by-append (λ x. cond {A = ℕ} (no_end x) 1 0) steps (s ∷ []))
 
+-- ---- it goes on
+
+-- a new one does
+pub begun_goes : (at : ℕ) → GoesOn (begun at)
+unfolding text_breach operand_breach with_octowords
+begun_goes at = record { unended = refl; text = refl; operands = refl }
+
+-- and so does one that has gone on, with a step that is no end and breaks nothing
+pub goes_further : (a : Attempt) (s : Step) → GoesOn a → ends s.instruction ≡ false
+    → text_breach (with_step a s) ≡ None → operand_breach (with_step a s) ≡ None → GoesOn (with_step a s)
+goes_further a s g unended text places = record {
+  unended = list_any-append (λ t. ends t.instruction) a.steps (s ∷ [])
+      ∙ (λ k. g.unended k || (unended k || false));
+  text = text;
+  operands = places;
+}
+
 pub few_steps : (a : Attempt) → GoesOn a → length a.steps ≤ 32
 few_steps a g =
     let short : count_by no_end a.steps ≤ 32 = ltb-false _ _ (no_text_breach a g.text).long in
@@ -105,11 +119,7 @@ too_long : (n : ℕ) (counts : Bool) → n ≤ 32 → ltb 32 (n + cond {A = ℕ}
 too_long n true few = by_way (cases_lt n 32)
     (λ below. le-ltb 32 (n + 1) (omega arith) ∙ sym (ap (λ b. b && true) (lt-leb 32 n below)))
     (λ above. lt-ltb 32 (n + 1) (omega arith) ∙ sym (ap (λ b. b && true) (le-leb 32 n above)))
-too_long n false few = le-ltb 32 (n + 0) (omega arith) ∙ sym (and_false (leb 32 n))
-  where
-    and_false : (b : Bool) → (b && false) ≡ false
-    and_false true = refl
-    and_false false = refl
+too_long n false few = le-ltb 32 (n + 0) (omega arith) ∙ sym (and-false (leb 32 n))
 
 pub text_step : (a : Attempt) (s : Step) → GoesOn a →
     text_breach (with_step a s) ≡ next_text_breach (kept a) s.instruction s.at

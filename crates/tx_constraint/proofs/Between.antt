@@ -8,6 +8,7 @@ use Rattle.std.proofs.lemmas.List.Folds.{list_any-append}
 use Rattle.std.proofs.lemmas.Bool.{cases_eq, cases_lt, and_from, and_left, and_right, or_left, or_right, le-leb, lt-leb, lt-ltb, le-ltb, eq-eqb, ne_eqb}
 use borrow.Enum.Arm.{by_way}
 use Rattle.z_regs.specs.declared.ranges.Range.{Range}
+use Rattle.z_regs.proofs.Elements.{or_across}
 use Rattle.tx_constraint.specs.Bytes.{pieces, first_piece, end_piece, touches_own_page}
 
 -- ---- how the code computes the last piece
@@ -89,13 +90,7 @@ between f k (suc n) =
 any_of_two : (p q : ℕ → Bool) (xs : List ℕ) → list_any (λ x. p x || q x) xs ≡ (list_any p xs || list_any q xs)
 any_of_two p q [] = refl
 any_of_two p q (x ∷ xs) = ap (λ b. (p x || q x) || b) (any_of_two p q xs)
-    ∙ swap (p x) (q x) (list_any p xs) (list_any q xs)
-  where
-    swap : (a b c d : Bool) → ((a || b) || (c || d)) ≡ ((a || c) || (b || d))
-    swap true b c d = refl
-    swap false true true d = refl
-    swap false true false d = refl
-    swap false false c d = refl
+    ∙ or_across (p x) (q x) (list_any p xs) (list_any q xs)
 
 -- an operand touches one of two pages exactly where one of them is among its pages
 pub near_is : (begin : ℕ) (r : Range) →

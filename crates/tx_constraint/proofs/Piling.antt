@@ -12,7 +12,8 @@ use borrow.Enum.Arm.{by_way}
 use Rattle.z_regs.specs.declared.ranges.Range.{Range}
 use Rattle.tx_constraint.specs.Bytes.{pieces, first_piece, end_piece}
 use Rattle.tx_constraint.specs.Octowords.{with_octoword, with_octowords}
-use Rattle.tx_constraint.proofs.Lists.{range-split, inside, element_of}
+use Rattle.std.proofs.lemmas.Option.{get_or_from_slice_get, slice_get_within}
+use Rattle.tx_constraint.proofs.Lists.{range-split}
 
 -- ---- one octoword
 
@@ -152,8 +153,8 @@ pub octowords_more : (found : List ℕ) (ranges : List Range) (i : ℕ) (r : Ran
 unfolding with_octowords
 octowords_more found ranges i r e =
     let more : take (i + 1) ranges ≡ take i ranges ++ r ∷ [] =
-    take_more ranges i r (inside ranges i r e)
-    ∙ ap (λ x. take i ranges ++ x ∷ []) (element_of ranges i r e) in
+    take_more ranges i r (slice_get_within ranges i r e)
+    ∙ ap (λ x. take i ranges ++ x ∷ []) (get_or_from_slice_get ranges i r r e) in
     ap (λ rs. fold with_octoword found (flat_map (pieces 32) rs)) more
     ∙ ap (fold with_octoword found) (flat_map-append (pieces 32) (take i ranges) (r ∷ [])
     ∙ ap (λ xs. flat_map (pieces 32) (take i ranges) ++ xs) (append-nil (pieces 32 r)))

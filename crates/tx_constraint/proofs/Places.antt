@@ -1,12 +1,14 @@
 -- The place of an octoword among ascending ones.
-use Rattle.std.proofs.Common.{◌≡◌, ◌≢◌, ℕ, suc, ◌+◌, ◌<◌, ◌≤◌, Bool, true, false, List, [], ◌∷◌}
+use Rattle.std.proofs.Common.{◌≡◌, ◌≢◌, ℕ, suc, ◌+◌, ◌<◌, ◌≤◌, List, [], ◌∷◌}
 use Rattle.std.proofs.Common.{add-one, length, refl, sym, ap, subst, ◌∙◌, arith, get_or, Some}
-use Rattle.std.specs.Prelude.{nat_lt, drop, slice_get}
+use Rattle.std.specs.Prelude.{drop, slice_get}
 use Rattle.std.specs.List.{insert}
 use Rattle.std.proofs.Math.Seq.{drop-cons}
 use Rattle.std.proofs.lemmas.List.{drop_all}
 use Rattle.std.proofs.lemmas.List.Edits.{length-insert}
 use Rattle.std.proofs.lemmas.Bool.Decides.{nat_tests}
+use Rattle.z_regs.proofs.Elements.{Order, order}
+use Rattle.z_regs.proofs.Elements.Order.{Below, Same, Above}
 use Rattle.tx_constraint.specs.Octowords.{with_octoword, place_of}
 
 further : (x : ℕ) (rest : List ℕ) (o : ℕ) → x < o → place_of (x ∷ rest) o ≡ place_of rest o + 1
@@ -41,20 +43,6 @@ ends xs o i end within so =
     omega arith
 
 -- ---- an octoword that is there, and one that is not
-
--- a number is below another, is the same, or is above it
-pub data Order (x o : ℕ) : Type 0 where
-  Below : x < o → Order x o
-  Same : x ≡ o → Order x o
-  Above : o < x → Order x o
-
-order_by : (x o : ℕ) (less more : Bool) → nat_lt x o ≡ less → nat_lt o x ≡ more → Order x o
-order_by x o true more p q = Below (grind (arith, nat_tests))
-order_by x o false true p q = Above (grind (arith, nat_tests))
-order_by x o false false p q = Same (grind (arith, nat_tests))
-
-pub order : (x o : ℕ) → Order x o
-order x o = order_by x o (nat_lt x o) (nat_lt o x) refl refl
 
 pub below_is : (x : ℕ) (rest : List ℕ) (o : ℕ) → x < o → with_octoword (x ∷ rest) o ≡ x ∷ with_octoword rest o
 below_is x rest o h = grind (arith, nat_tests)

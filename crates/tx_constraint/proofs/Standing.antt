@@ -2,8 +2,9 @@
 use Rattle.std.proofs.Common.{◌≡◌, ℕ, ◌+◌, ◌<◌, ◌≤◌, Bool, true, false, cond, eqb, ltb, List, [], ◌∷◌, length, sym, ap, subst, ◌∙◌, arith}
 use Rattle.std.specs.List.{fold}
 use Rattle.tx_constraint.specs.Octowords.{with_octoword}
-use Rattle.tx_constraint.proofs.Places.{Order, order, below_is, same_is, above_is}
-use Rattle.tx_constraint.proofs.Places.Order.{Below, Same, Above}
+use Rattle.z_regs.proofs.Elements.{Order, order}
+use Rattle.z_regs.proofs.Elements.Order.{Below, Same, Above}
+use Rattle.tx_constraint.proofs.Places.{below_is, same_is, above_is}
 
 -- one octoword more is at most one longer
 pub one_longer_at_most : (found : List ℕ) (o : ℕ) → length (with_octoword found o) ≤ length found + 1

@@ -10,11 +10,12 @@ use borrow.Enum.Arm.{by_way}
 use Rattle.z_regs.specs.declared.ranges.Range.{Range}
 use Rattle.tx_constraint.specs.Bytes.{pieces, lies_in_one, is_own_page}
 use Rattle.tx_constraint.specs.Octowords.{with_octoword, with_octowords, IsAbove, Ascends}
-use Rattle.tx_constraint.proofs.Lists.{same_tests}
-use Rattle.std.proofs.Common.{Option, None, length}
+use Rattle.std.specs.Cmp.{both_ways}
+use Rattle.std.proofs.Common.{None, length}
+use Rattle.std.proofs.Math.Bool.{or-false, or_assoc}
 use Rattle.z_instr.specs.declared.instr.Instr.{Instr}
-use Rattle.tx_constraint.specs.Constraints.{first_of}
 use Rattle.tx_constraint.specs.Kept.{Kept, next_operand_breach}
+use Rattle.tx_constraint.proofs.Attempts.{unbroken}
 
 -- ---- octowords
 
@@ -31,39 +32,27 @@ or_turned false true c = refl
 or_turned false false true = refl
 or_turned false false false = refl
 
-or_moved : (a b c : Bool) → (a || (b || c)) ≡ ((a || b) || c)
-or_moved true b c = refl
-or_moved false b c = refl
-
 -- an octoword passes a test among them where one did before, or the one that is added
 any_one : (p : ℕ → Bool) (found : List ℕ) (o : ℕ) →
     list_any p (with_octoword found o) ≡ (list_any p found || p o)
-any_one p [] o = or_none (p o)
-  where
-    or_none : (b : Bool) → (b || false) ≡ b
-    or_none true = refl
-    or_none false = refl
+any_one p [] o = or-false (p o)
 any_one p (y ∷ rest) o = by_order (ltb y o) (eqb y o) refl (any_one p rest o)
   where
     by_order : (less same : Bool) → eqb y o ≡ same
         → list_any p (with_octoword rest o) ≡ (list_any p rest || p o)
         → list_any p (cond less (y ∷ with_octoword rest o) (cond same (y ∷ rest) (o ∷ y ∷ rest)))
         ≡ ((p y || list_any p rest) || p o)
-    by_order true same e more = ap (λ b. p y || b) more ∙ or_moved (p y) (list_any p rest) (p o)
+    by_order true same e more = ap (λ b. p y || b) more ∙ sym (or_assoc (p y) (list_any p rest) (p o))
     by_order false true e more =
         or_again (p y) (list_any p rest) ∙ ap (λ z. (p y || list_any p rest) || p z) (eqb-true y o e)
     by_order false false e more = or_turned (p o) (p y) (list_any p rest)
 
 pub any_all : (p : ℕ → Bool) (found os : List ℕ) →
     list_any p (fold with_octoword found os) ≡ (list_any p found || list_any p os)
-any_all p found [] = or_none (list_any p found)
-  where
-    or_none : (b : Bool) → b ≡ (b || false)
-    or_none true = refl
-    or_none false = refl
+any_all p found [] = sym (or-false (list_any p found))
 any_all p found (o ∷ os) =
     any_all p (with_octoword found o) os ∙ ap (λ b. b || list_any p os) (any_one p found o)
-    ∙ sym (or_moved (list_any p found) (p o) (list_any p os))
+    ∙ or_assoc (list_any p found) (p o) (list_any p os)
 
 pub members : (ranges : List Range) (x : ℕ) →
     list_any (eqb x) (with_octowords [] ranges) ≡ list_any (eqb x) (flat_map (pieces 32) ranges)
@@ -194,7 +183,7 @@ same_octowords ranges others same =
 
 pub own_pages : (begin page : ℕ) →
     is_own_page begin page ≡ list_any (λ a. eqb page (a / 4096)) (range_with_len begin 256)
-own_pages begin page = same_tests _ _
+own_pages begin page = both_ways _ _
     (λ own. by_way (cases_Bool (eqb page (begin / 4096)))
     (λ first.
     let e : get_or (range_with_len begin 256) 0 0 ≡ begin = get_or-range_with_len begin 256 0 0 (omega arith)
@@ -261,8 +250,4 @@ pub few_words : (k : Kept) (i : Instr) (ranges : List Range) → next_operand_br
 unfolding next_operand_breach
 few_words k i ranges h =
     ltb-false 4 (length (with_octowords k.octowords ranges))
-    (first_no (nat_lt 4 (length (with_octowords k.octowords ranges))) 4 _ h)
-  where
-    first_no : (b : Bool) (n : ℕ) (rest : Option ℕ) → first_of b n rest ≡ None → b ≡ false
-    first_no true n rest g = absurd (cc)
-    first_no false n rest g = refl
+    (unbroken (nat_lt 4 (length (with_octowords k.octowords ranges))) 4 _ h).0

@@ -4,7 +4,7 @@ use Rattle.std.proofs.Common.{Some, None, refl, sym, ap, subst, ◌∙◌, arith
 use Rattle.std.specs.Prelude.{◌&&◌, ◌||◌, not, nat_eq, nat_lt, nat_le}
 use Rattle.std.specs.Prelude.{if◌then◌else◌, is_some, All, map, Ok}
 use Rattle.std.specs.List.{list_any}
-use Rattle.std.proofs.lemmas.Bool.{true≢false, or_left, and_parts}
+use Rattle.std.proofs.lemmas.Bool.{true≢false, or_left, and_parts, not-false}
 use Rattle.std.proofs.lemmas.Bool.Decides.{nat_tests}
 use Rattle.z_regs.specs.Absolute.{IsAccessible, absolute_ranges}
 use Rattle.z_regs.specs.Cpu.{Cpu}
@@ -31,7 +31,7 @@ use Rattle.tx_constraint.specs.Kept.{Kept, next_text_breach, next_operand_breach
 use Rattle.tx_constraint.specs.Octowords.{with_octowords}
 use Rattle.tx_constraint.specs.Operations.{is_permitted, ends}
 use Rattle.tx_footprint.specs.Touched.{Sets, sets_of, touching, fit_of}
-use Rattle.tx_serial.specs.Fate.{Fate, Goes, Ends, Stops}
+use Rattle.tx_serial.specs.Fate.{Goes}
 use Rattle.tx_serial.specs.Fate.{Refusal, Excepts, Because, fate_after, first_refusal}
 use Rattle.tx_serial.specs.Fate.{operands, fetch_refusal, instruction_at, unreadable, aborts_where}
 use Rattle.tx_serial.specs.Fate.{restricted_refusal, specified_refusal, depth_refusal, operand_refusal}
@@ -46,25 +46,15 @@ use Rattle.tx_progress.proofs.Rows.{any_row, begins_are_barred}
 use Rattle.tx_attempt.specs.Gathered.{IsStoredDoubleword}
 use Rattle.tx_cpu.specs.Going.{MayGo}
 use Rattle.tx_attempt.specs.Tracked.{Tracked, IsSound, progress}
-use Rattle.tx_attempt.proofs.Reached.{accessible_spans}
+use Rattle.tx_serial.proofs.Reached.{accessible_spans}
 use Rattle.tx_serial.proofs.Frame.{fetched_text, length_some}
-use Rattle.tx_serial.proofs.Passing.{no_fate, fit_by}
+use Rattle.tx_serial.proofs.Passing.{goes_alike, no_fate, fit_by}
 use Rattle.tx_progress.proofs.Standing.{none_first}
 use Rattle.tx_constraint.proofs.Whole.{few_words}
 use Rattle.tx_progress.proofs.Limits.{breach_none}
 use Rattle.z_instr.proofs.PlainImmediates.{implied}
 
 -- ---- no test has found anything
-
-instruction_in : Instr → Fate → Instr
-instruction_in d (Goes i ranges) = i
-instruction_in d (Ends why) = d
-instruction_in d (Stops e) = d
-
-ranges_in : Fate → List Range
-ranges_in (Goes i ranges) = ranges
-ranges_in (Ends why) = []
-ranges_in (Stops e) = []
 
 -- it is fetched, no test refuses it, and the operands are its own
 pub record Found (text : List ℕ) (s : Storage) (q : Progress) (i : Instr) (need : List Range) : Type 0 where
@@ -75,13 +65,13 @@ pub record Found (text : List ℕ) (s : Storage) (q : Progress) (i : Instr) (nee
 by_tests : (text : List ℕ) (s : Storage) (q : Progress) (i : Instr) (need : List Range) (j : Instr)
     (o : Option Refusal) → first_refusal (tests_by text s q j) ≡ o → fetch_refusal text (at_hand s q) ≡ None
     → tried q j o ≡ Goes i need → Found text s q i need
-unfolding instruction_in ranges_in
 by_tests text s q i need j None t f h =
-    let same : j ≡ i = ap (instruction_in j) h in
+    let alike = goes_alike j i (operands j q.cpu) need h in
+    let same : j ≡ i = alike.0 in
     record {
       fetched = f;
       passed = subst (λ k. first_refusal (tests_by text s q k) ≡ None) same t;
-      touches = sym (ap ranges_in h) ∙ ap (λ k. operands k q.cpu) same;
+      touches = sym alike.1 ∙ ap (λ k. operands k q.cpu) same;
     }
 by_tests text s q i need j (Some refusal) t f h = no_fate q.nest refusal i need h
 
@@ -103,8 +93,7 @@ found-so text s q i need h =
 
 tried-touches : (q : Progress) (j i : Instr) (need : List Range) (o : Option Refusal) → tried q j o ≡ Goes i need
     → need ≡ operands j q.cpu
-unfolding ranges_in
-tried-touches q j i need None h = sym (ap ranges_in h)
+tried-touches q j i need None h = sym (goes_alike j i (operands j q.cpu) need h).1
 tried-touches q j i need (Some refusal) h = no_fate q.nest refusal i need h
 
 fetched-touches : (text : List ℕ) (s : Storage) (q : Progress) (j i : Instr) (need : List Range) (u : Option ℕ)
@@ -171,10 +160,6 @@ permits-no-begin k i at h =
     let permitted = (and_parts (entry_at i.op.number).permitted _ (not-false (is_permitted i) refused)).0 in
     barred (begins (entry_at i.op.number)) (entry_at i.op.number).permitted (begins_are_barred i.op.number)
     permitted
-  where
-    not-false : (b : Bool) → not b ≡ false → b ≡ true
-    not-false true g = refl
-    not-false false g = sym g
 
 -- ---- the address
 

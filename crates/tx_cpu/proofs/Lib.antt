@@ -12,5 +12,3 @@ pub mod Preparing
 pub mod Programs
 pub mod Plainly
 mod Room
--- what callers name of crates below
-pub use Rattle.tx_attempt.proofs.Reached

@@ -1,10 +1,8 @@
 -- Instructions that were read before they are executed: they are the ones that are seen.
-use Rattle.std.proofs.Common.{◌≡◌, ℕ, Bool, ◌+◌, ◌%◌, ◌<◌, ◌≤◌, true, false, List}
-use Rattle.std.proofs.Common.{length, get_or, take, drop, Option, Some, None, refl, sym, ap, ◌∙◌, arith}
+use Rattle.std.proofs.Common.{◌≡◌, ℕ, Bool, ◌+◌, ◌<◌, ◌≤◌, true, false, List}
+use Rattle.std.proofs.Common.{length, get_or, take, drop, Option, sym, ap, ◌∙◌, arith}
 use Rattle.std.specs.Prelude.{if◌then◌else◌, nat_lt, unwrap_or}
-use Rattle.z_regs.specs.Prefix.{storage_size, is_prefix, absolute_of}
-use Rattle.z_regs.proofs.Exchange.{area}
-use Rattle.z_regs.proofs.MovedBytes.{along}
+use Rattle.z_regs.specs.Prefix.{storage_size, absolute_of}
 use Rattle.z_instr.specs.Layout.{length_by}
 use Rattle.z_instr.specs.Computing.{reading_of}
 use Rattle.store_cache.specs.Overlay.{Overlay}
@@ -16,13 +14,6 @@ use Rattle.tx_attempt.specs.Storages.{storage_of}
 use Rattle.tx_attempt.specs.Plain.{IsPlain}
 use Rattle.tx_program.specs.Programs.{read_at}
 use Rattle.tx_attempt.proofs.Fetching.{taken-moved}
-
--- ---- within one area absolute addresses go on as real ones do
-
-pub goes_along : (prefix : Option ℕ) (a k : ℕ) → is_prefix prefix ≡ true → a % 8192 + k < 8192
-    → absolute_of prefix (a + k) ≡ absolute_of prefix a + k
-goes_along None a k h within = refl
-goes_along (Some p) a k h within = along p a k (area p h) within
 
 -- ---- plain bytes are seen as they are in storage
 

@@ -3,6 +3,7 @@ use Rattle.std.proofs.Common.{◌≡◌, ℕ, ◌+◌, ◌/◌, ◌%◌, ◌≤�
 use Rattle.std.proofs.Common.{refl, sym, ap, ◌∙◌, arith, inl, inr}
 use Rattle.std.specs.Prelude.{◌&&◌, ◌||◌, not}
 use Rattle.std.specs.List.{list_any}
+use Rattle.std.proofs.Math.Bool.{or-true}
 use Rattle.std.proofs.lemmas.Bool.{true≢false, cases_eq, eq-eqb, and_parts}
 use Rattle.bit_set.proofs.Counts.{count_le, count_or, count_listed}
 use Rattle.z_regs.specs.declared.ranges.Range.{Range}
@@ -23,10 +24,6 @@ abbrev listed : List ℕ → ℕ → Bool
 listed xs k = list_any (λ x. eqb x k) xs
 
 -- what is true whatever stands before it
-or-true : (b : Bool) → (b || true) ≡ true
-or-true true = refl
-or-true false = refl
-
 -- the first of a list is in it
 first-listed : (x k : ℕ) (xs : List ℕ) → k ≡ x → listed (x ∷ xs) k ≡ true
 first-listed x k xs e = ap (λ b. b || listed xs k) (eq-eqb x k (sym e))

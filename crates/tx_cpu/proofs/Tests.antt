@@ -22,7 +22,7 @@ use Rattle.tx_progress.specs.Progress.{Progress}
 use Rattle.tx_progress.specs.Trial.{at_hand, tried, fetched, fate_by_progress, tests_by, text_refusal_by}
 use Rattle.tx_progress.specs.Trial.{place_refusal_by, overflow_refusal_by}
 use Rattle.tx_serial.proofs.FreeOperands.{inside_operands}
-use Rattle.tx_attempt.proofs.Reached.{accessible_spans}
+use Rattle.tx_serial.proofs.Reached.{accessible_spans}
 
 pub first-found : (xs ys : List (Option Refusal)) (r : Refusal) → Some r ≡ first_refusal xs
     → first_refusal (xs ++ ys) ≡ Some r

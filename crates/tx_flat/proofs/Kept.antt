@@ -183,18 +183,18 @@ not_not false true e = absurd (let x : true ≡ false = e in cc)
 abbrev pub outside : (ℕ → Bool) → ℕ → ℕ → ℕ → Bool
 outside test first line l = test l && not (lies_in first line l)
 
+no_line : (t b : Bool) → b ≡ false → (t && not b) ≡ false → t ≡ false
+no_line true false e off = absurd (let x : true ≡ false = off in cc)
+no_line true true e off = absurd (let x : true ≡ false = e in cc)
+no_line false b e off = refl
+
 -- none yet, and one more
 pub outside_none : (test : ℕ → Bool) (first l : ℕ) → outside test first first l ≡ false → test l ≡ false
-outside_none test first l off = by (test l) (lies_in first first l) (nothing first l (cases_lt l first)) off
+outside_none test first l off = no_line (test l) (lies_in first first l) (nothing first l (cases_lt l first)) off
   where
     nothing : (first l : ℕ) → (l < first) ⊎ (first ≤ l) → lies_in first first l ≡ false
     nothing first l (inl low) = grind (arith, low)
     nothing first l (inr high) = grind (arith, high)
-
-    by : (t b : Bool) → b ≡ false → (t && not b) ≡ false → t ≡ false
-    by true false e off = absurd (let x : true ≡ false = off in cc)
-    by true true e off = absurd (let x : true ≡ false = e in cc)
-    by false b e off = refl
 
 pub outside_more : (test : ℕ → Bool) (first line l : ℕ) → first ≤ line → outside test first (line + 1) l ≡ false
     → but_at (outside test first line) line false l ≡ false
@@ -218,11 +218,6 @@ outside_more test first line l order off = by (l == line) refl
 -- the lines of a range are those of its span
 abbrev pub without : (ℕ → Bool) → Range → ℕ → Bool
 without test r l = test l && not (r.store && has_place line_size r l)
-
-no_line : (t b : Bool) → b ≡ false → (t && not b) ≡ false → t ≡ false
-no_line true false e off = absurd (let x : true ≡ false = off in cc)
-no_line true true e off = absurd (let x : true ≡ false = e in cc)
-no_line false b e off = refl
 
 pub no_store : (test : ℕ → Bool) (r : Range) (l : ℕ) → r.store ≡ false → without test r l ≡ false → test l ≡ false
 no_store test r l none off =

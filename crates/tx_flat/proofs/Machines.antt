@@ -1,15 +1,16 @@
 -- The flat state of what is kept of all CPUs, an entry of one of them, and the start.
-use Rattle.std.proofs.Common.{◌≡◌, ◌≢◌, ℕ, zero, suc, ◌+◌, ◌<◌, ◌≤◌, Bool, true, false, List, [], ◌∷◌, Option}
+use Rattle.std.proofs.Common.{◌≡◌, ◌≢◌, ℕ, zero, suc, ◌+◌, ◌<◌, ◌≤◌, Bool, true, false, List, [], ◌∷◌}
 use Rattle.std.proofs.Common.{Some, None, refl, sym, ap, subst, ◌∙◌, arith, lit<, length, set, get_or, inl, inr}
-use Rattle.std.specs.Prelude.{map, nat_lt, nat_le, is_none, ◌&&◌, ◌||◌, ◌==◌, if◌then◌else◌, Result, Ok, Err}
+use Rattle.std.specs.Prelude.{map, is_none, ◌&&◌, ◌||◌, ◌==◌, if◌then◌else◌, Result, Ok, Err}
 use Rattle.std.specs.FinSet.{FinSet, items, contains, empty, insert, contains-empty, contains-insert}
 use Rattle.std.specs.Cmp.{nat_cmp_total, unsigned_tied}
 use Rattle.std.specs.Ordering.{nat_cmp}
 use Rattle.std.proofs.lemmas.List.{length-map, length-set, get_or-map, map-set, get_or-set_same, get_or-set_other, set-get_or}
-use Rattle.std.proofs.lemmas.Bool.{ltb-true, cases_lt, and_parts}
+use Rattle.std.proofs.lemmas.Bool.{cases_lt}
 use Rattle.std.proofs.Math.ListN.{get_or-eq_default}
 use Rattle.z_regs.specs.Cpu.{Cpu}
-use Rattle.z_regs.specs.Prefix.{storage_size, area_size, is_accessible}
+use Rattle.z_regs.specs.Prefix.{storage_size}
+use Rattle.z_regs.proofs.OneArea.{accessible_within}
 use Rattle.tx_journal.specs.Content.{Content}
 use Rattle.tx_journal.proofs.Pictures.{agreeing}
 use Rattle.tx_journal.specs.Image.{IsImage}
@@ -166,10 +167,6 @@ holding_there s t g xs i y within = λ k. record {
 }
 
 -- a block that is pending lies in storage
-within : (prefix : Option ℕ) (a : ℕ) → is_accessible prefix a ≡ true → a < storage_size
-within None a h = ltb-true a storage_size (and_parts (nat_le area_size a) (nat_lt a storage_size) h).1
-within (Some p) a h = ltb-true a storage_size h
-
 pub placed_there : (s : List ℕ) (g : FinSet nat_cmp) (xs : List Slot) (i : ℕ) (x : Slot) → i < length xs
     → x ≡ get_or xs i x → IsSound (parts_of s g xs) → (b : Block) → x.pending ≡ Some b
     → b.address + 256 ≤ storage_size
@@ -178,7 +175,7 @@ placed_there s g xs i x inside is sound b there =
     let block : Pending = record { address = b.address; bytes = b.bytes } in
     let placed = sound.kept.blocks i block (holds.pending ∙ ap pending_of there) in
     let last = (placed.free 255 (lit< tt)).accessible in
-    let end = within ((state_of (parts_of s g xs)).cpus i).prefix (b.address + 255) last in
+    let end = accessible_within ((state_of (parts_of s g xs)).cpus i).prefix (b.address + 255) last in
     omega (arith, end)
 
 -- ---- an entry

@@ -160,7 +160,7 @@ module _ (text s seen_after : List ℕ) (c after : Cpu) (a : Attempt) (i : Instr
       → has_store_in line_size (operand_stores c.prefix (operands i c) bytes) line ≡ false
   unfolding has_place
   unstored_by bytes enough line off =
-      operands_there (λ x. x / line_size == line) c.prefix (operands i c) fine (small_operands i resting) bytes enough
+      operands_there (λ x. x / line_size == line) c.prefix (operands i c) fine (small_operands i c) bytes enough
       ∙ ranges_there line off
 
   stored_so : (bytes : List ℕ) → stored_size (operands i c) ≤ length bytes

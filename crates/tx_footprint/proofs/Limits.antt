@@ -8,8 +8,9 @@ use Rattle.std.proofs.lemmas.List.{ext_get_or, length-replicate}
 use borrow.Enum.Arm.{by_way}
 use Rattle.bit_set.specs.Counts.{count_below}
 use Rattle.bit_set.proofs.Counts.{count_agree, count_none, count_or}
-use Rattle.bit_set.proofs.Marks.{clear_at}
+use Rattle.bit_set.proofs.Marks.{blank_at}
 use Rattle.z_regs.specs.declared.ranges.Range.{Range}
+use Rattle.z_regs.proofs.Elements.{or_across}
 use Rattle.line_table.specs.Sizes.{storage_lines}
 use Rattle.tx_footprint.specs.declared.footprint.Overflow.{Overflow}
 use Rattle.tx_footprint.specs.declared.footprint.Overflow.TheVariants.{Fetch, Store}
@@ -38,17 +39,11 @@ touched_line (r ∷ rs) line =
     ap (λ b. has_place line_size r line || b) (touched_line rs line)
     ∙ either_way r.store (has_place line_size r line) (fetches rs line) (stores rs line)
 
-pub regroup : (f s a b : Bool) → ((f || s) || (a || b)) ≡ ((f || a) || (s || b))
-regroup true s a b = refl
-regroup false true true b = refl
-regroup false true false b = refl
-regroup false false a b = refl
-
 union_after : (f s t : Bool) (ranges : List Range) (line : ℕ) → t ≡ (f || s)
     → (t || touched_by Line ranges line) ≡ ((f || fetches ranges line) || (s || stores ranges line))
 union_after f s t ranges line e =
     ap (λ b. b || touched_by Line ranges line) e ∙ ap (λ b. (f || s) || b) (touched_line ranges line)
-    ∙ regroup f s (fetches ranges line) (stores ranges line)
+    ∙ or_across f s (fetches ranges line) (stores ranges line)
 
 -- ---- whether sets fit
 
@@ -102,7 +97,7 @@ pub record AreClear (size : ℕ) (marks : List Bool) : Type 0 where
 pub are_clear : {marks : List Bool} (n size : ℕ) → marks ≡ replicate n false → n ≡ size → AreClear size marks
 are_clear n size is same = record {
   size_is = ap length is ∙ length-replicate n false ∙ same;
-  none = λ k. ap (λ l. get_or l k false) is ∙ clear_at n k;
+  none = λ k. ap (λ l. get_or l k false) is ∙ blank_at n k false;
 }
 
 pub nothing_kept : {touched fetched stored blocks : List Bool} → AreClear storage_lines touched

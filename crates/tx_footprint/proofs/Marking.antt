@@ -3,6 +3,7 @@ use Rattle.std.proofs.Common.{◌≡◌, ◌≢◌, ℕ, ◌+◌, ◌<◌, ◌�
 use Rattle.std.proofs.Common.{set, take, Some, refl, sym, ap, subst, ◌∙◌, arith}
 use Rattle.std.specs.Prelude.{◌||◌, ◌&&◌, not, All, slice_get}
 use Rattle.std.specs.Int.{from_bool}
+use Rattle.std.proofs.Math.Bool.{or-true}
 use Rattle.std.proofs.lemmas.Bool.{cases_eq, cases_lt, and_right, and_from, or_from, le-leb, lt-ltb, le-ltb}
 use Rattle.std.proofs.lemmas.List.{get_or-take, length-take, get_or-set_same, get_or-set_other}
 use Rattle.std.proofs.lemmas.List.Folds.{list_any_more, list_any_at, list_any-append}
@@ -49,10 +50,6 @@ pub still_untouched : (kind : Kind) (ranges : List Range) (i : ℕ) (r : Range) 
 still_untouched kind ranges i r place e before off =
     touched_more kind ranges i r place e
     ∙ or_from (touched_by kind (take i ranges) place) (covers kind r place) before off
-
-or_true : (a : Bool) → (a || true) ≡ true
-or_true true = refl
-or_true false = refl
 
 -- one range more: what it touches is added to what was marked or touched
 pub marked_more : (marks : List Bool) (kind : Kind) (ranges : List Range) (i : ℕ) (r : Range) (place : ℕ)
@@ -106,7 +103,7 @@ count_next n there first at le lt =
         by_way (cases_eq k at)
         (λ e.
         ap (λ j. there j || lies_in first (at + 1) j) e ∙ ap (λ b. there at || b) (lies_last first at le)
-        ∙ or_true (there at)
+        ∙ or-true (there at)
         ∙ sym (ap (but_at (λ j. there j || lies_in first at j) at true) e
         ∙ but_at-same (λ j. there j || lies_in first at j) at true))
         (λ ne. ap (λ b. there k || b) (lies_next first at k ne)

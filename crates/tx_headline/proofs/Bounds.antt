@@ -25,6 +25,7 @@ use Rattle.tx_bounds.proofs.Stretched.{under_way, ages_within}
 use Rattle.tx_headline.specs.Since.{is_conflict, Opens, IsUninterrupted, CommitsAfter, entries_since}
 use Rattle.tx_headline.specs.Since.{turns_after, is_program_abort_of}
 use Rattle.tx_headline.proofs.Commits.{commits}
+use Rattle.tx_meaning.proofs.Examples.{usual_bound}
 
 -- while a stretch is open, a turn is left to it
 pub turns_left : (m : Setting) (events : List Event) (i : ℕ) → IsSetting m → AreKnown m events
@@ -99,9 +100,6 @@ program_codes (Tabort code) large =
     sym (ne_eqb code 4 (omega (arith, more)))
 
 -- ---- the usual numbers
-
-usual_bound : bound usual ≡ 1072
-usual_bound = refl
 
 -- with the usual numbers, 1,072 turns and eight conflict aborts
 pub commits_usually : (m : Setting) (before since : List Event) (e : Event) (i : ℕ) → IsSetting m

@@ -1,29 +1,25 @@
 -- Small lemmas on entries, flags and lists.
 use Rattle.std.proofs.Common.{◌≡◌, ◌≢◌, ℕ, zero, suc, ◌≤◌, Bool, true, false, List, [], ◌∷◌, ◌++◌}
 use Rattle.std.proofs.Common.{length, drop, refl, ◌∙◌, arith, length-append}
-use Rattle.std.specs.Prelude.{◌==◌, ◌||◌, All}
+use Rattle.std.specs.Prelude.{◌==◌, All}
 use Rattle.std.specs.List.{list_any}
 use Rattle.std.proofs.lemmas.Bool.{ne_eqb, or_right}
 use Rattle.std.proofs.lemmas.List.Elements.{All-nil, All-cons, All-head, All-tail}
 use Rattle.std.proofs.lemmas.List.Folds.{list_any-append}
 use Rattle.tx_ladder.specs.Waiting.{waits_in}
-
-pub or_last : (a b : Bool) → b ≡ false → (a || (b || false)) ≡ a
-or_last true b off = refl
-or_last false true off = off
-or_last false false off = refl
+use Rattle.tx_ladder.proofs.Kept.{drop_false}
 
 -- another CPU has joined
 pub other_joined : (joined : List ℕ) (j i : ℕ) → j ≢ i → waits_in joined i ≡ false
     → waits_in (joined ++ j ∷ []) i ≡ false
 other_joined joined j i ne off =
-    list_any-append (λ k. k == i) joined (j ∷ []) ∙ or_last (waits_in joined i) (j == i) (ne_eqb j i ne) ∙ off
+    list_any-append (λ k. k == i) joined (j ∷ []) ∙ drop_false (waits_in joined i) (j == i) (ne_eqb j i ne) ∙ off
 
 module _ {X : Type 0} where
   -- one more that fails a test
   pub none_more : (p : X → Bool) (xs : List X) (x : X) → p x ≡ false
       → list_any p (xs ++ x ∷ []) ≡ list_any p xs
-  none_more p xs x off = list_any-append p xs (x ∷ []) ∙ or_last (list_any p xs) (p x) off
+  none_more p xs x off = list_any-append p xs (x ∷ []) ∙ drop_false (list_any p xs) (p x) off
 
   pub longer_by_one : (xs : List X) (n : ℕ) (x : X) → n ≤ length xs → n ≤ length (xs ++ x ∷ [])
   longer_by_one xs n x le = let sum = length-append xs (x ∷ []) in omega (arith, le, sum)

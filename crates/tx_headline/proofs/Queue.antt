@@ -1,6 +1,6 @@
 -- Why the stop queue changes in an event that comes after others.
 use Rattle.std.proofs.Common.{◌≡◌, ◌≢◌, ℕ, ◌-◌, ◌<◌, ◌≤◌, true, false, List, [], ◌∷◌, ◌++◌}
-use Rattle.std.proofs.Common.{refl, sym, ap, ◌∙◌, subst, arith, append-nil}
+use Rattle.std.proofs.Common.{drop, refl, sym, ap, ◌∙◌, subst, arith, append-nil}
 use Rattle.std.specs.Prelude.{◌==◌, ◌||◌, ◌&&◌, if◌then◌else◌}
 use Rattle.std.proofs.lemmas.Bool.{true≢false, cases_Bool, eq-eqb, ne_eqb, or_left}
 use borrow.Enum.Arm.{by_way}
@@ -14,7 +14,7 @@ use Rattle.tx_meaning.specs.Meaning.{IsSetting, meaning}
 use Rattle.tx_meaning.specs.State.{State, is_first, is_live, cpus_of}
 use Rattle.tx_meaning.specs.Idle.{is_ready}
 use Rattle.tx_meaning.specs.Stretches.{ends_transaction, is_interrupted_by, is_counted_turn, counted}
-use Rattle.tx_meaning.specs.Stretches.{stretch_of, attempt_turns}
+use Rattle.tx_meaning.specs.Stretches.{attempt_turns}
 use Rattle.tx_meaning.specs.Turn.{turn, happen}
 use Rattle.tx_meaning.proofs.Books.{unready_stays}
 use Rattle.tx_bounds.specs.Kept.{Kept}
@@ -23,13 +23,12 @@ use Rattle.tx_bounds.specs.Turn.{k_happen}
 use Rattle.tx_meaning.specs.Views.{AreKnown}
 use Rattle.tx_bounds.proofs.Events.{keeping_is}
 use Rattle.tx_bounds.proofs.Meant.{StopsAt, stops}
-use Rattle.tx_bounds.proofs.OwnTurns.{After}
 use Rattle.tx_bounds.proofs.OwnEvents.{extra}
 use Rattle.tx_bounds.proofs.Paid.{left_of}
 use Rattle.tx_bounds.proofs.Potential.{left_at}
 use Rattle.tx_bounds.proofs.Stopped.{between, some_stop}
 use Rattle.tx_bounds.proofs.Stopping.{Once}
-use Rattle.tx_bounds.proofs.Stretched.{cost_of, most_of}
+use Rattle.tx_bounds.proofs.Stretched.{cost_of}
 use Rattle.tx_bounds.proofs.Heads.{queue_is_open, first_waits}
 use Rattle.tx_headline.specs.Queue.{Joins, HeadGoes, Stays, Leaves, GoesLast, QueueChanges, others_before}
 use Rattle.tx_headline.proofs.After.{known_first, kept_before, kept_behind, left_behind}
@@ -42,9 +41,6 @@ use Rattle.tx_journal.proofs.Readings.{same_head}
 
 -- ---- lists
 
-pub same_rest : (x y : ℕ) (xs ys : List ℕ) → x ∷ xs ≡ y ∷ ys → xs ≡ ys
-same_rest x y xs ys e = cc
-
 -- a CPU that is not among those that joined is the head of those before, if it is the head of all
 head_before : (q joined : List ℕ) (i : ℕ) (rest : List ℕ) → q ++ joined ≡ i ∷ rest → waits_in joined i ≡ false
     → (before : List ℕ) × ((q ≡ i ∷ before) × (before ++ joined ≡ rest))
@@ -56,7 +52,7 @@ head_before (x ∷ before) joined i rest e off = (
   before,
   (
     ap (λ y. y ∷ before) (same_head x i (before ++ joined) rest e),
-    same_rest x i (before ++ joined) rest e,
+    ap (drop 1) e,
   ),
 )
 
@@ -105,9 +101,6 @@ module _ (m : Setting) (s : IsSetting m) (events : List Event) (e : Event)
       subst (λ (x : State). (y : ℕ) → waits_in x.queue y ≡ true → y < cpus_of m) (meant_more m events e)
       (members_known m (events ++ e ∷ []) known)
 
-  after : (c : ℕ) → After m c (stretch_of m events c).is_open (cost_of m k e c) (most_of m k e c) k.state u
-  after c = left_behind m s events e known c
-
   full_then : (c : ℕ) → waits_in t.queue c ≡ true → (u.standings c).aborts ≡ m.image.parms.stop
   full_then c waits =
       let b = between m (events ++ e ∷ []) (some_stop m s) in
@@ -128,7 +121,7 @@ module _ (m : Setting) (s : IsSetting m) (events : List Event) (e : Event)
       (λ ended.
       let same : ends_transaction a t c ≡ ends_transaction k.state u.state c =
       λ x. ends_transaction (here x) (there x) c in
-      let none = ((after c).settles.ended (sym same ∙ ended)).none in
+      let none = ((left_behind m s events e known c).settles.ended (sym same ∙ ended)).none in
       let full = full_then c waits in
       let some = some_stop m s in
       absurd (omega (arith, none, full, some)))
@@ -151,7 +144,7 @@ module _ (m : Setting) (s : IsSetting m) (events : List Event) (e : Event)
       → is_counted_turn m a e c ≡ true → is_interrupted_by m a e c ≡ false
       → (a.numbers c).completed < (t.numbers c).completed
   advances c waits later turn apart =
-      by_way ((after c).ends (queue_is_open m s c events first_known waits))
+      by_way ((left_behind m s events e known c).ends (queue_is_open m s c events first_known waits))
       (λ ended.
       let same : ends_transaction a t c ≡ ends_transaction k.state u.state c =
       λ x. ends_transaction (here x) (there x) c in

@@ -8,25 +8,21 @@ use Rattle.tx_meaning.specs.State.{State, beginning}
 use Rattle.tx_meaning.specs.Idle.{idle}
 use Rattle.tx_meaning.specs.Turn.{turn, happen}
 use Rattle.tx_meaning.proofs.Books.{idle_stays, idle_or_not, turn_booked, external_booked}
-use Rattle.tx_headline.proofs.Runs.{meant_from}
+use Rattle.tx_headline.proofs.Runs.{meant_from, one_meant}
 
 module _ (m : Setting) where
   -- the events that a state has recorded lead to it
   abbrev IsRecorded : State → Type 0
   IsRecorded s = meaning m s.events ≡ s
 
-  one_event : (e : Event) (s : State) → meaning_from m (e ∷ []) s ≡ (happen m e s).state
-  unfolding meaning_from
-  one_event e s = refl
-
   -- an event that is recorded
   recorded_more : (e : Event) (s : State) → (happen m e s).state.events ≡ s.events ++ e ∷ [] → IsRecorded s
       → IsRecorded (happen m e s).state
   recorded_more e s more is =
       ap (meaning m) more ∙ meant_from m s.events (e ∷ []) beginning ∙ ap (meaning_from m (e ∷ [])) is
-      ∙ one_event e s
+      ∙ one_meant m e s
 
-  turn_is : (i : ℕ) (s : State) → (happen m (event.Turn i) s).state ≡ (turn m i s).state
+  pub turn_is : (i : ℕ) (s : State) → (happen m (event.Turn i) s).state ≡ (turn m i s).state
   unfolding happen
   turn_is i s = refl
 

@@ -22,7 +22,7 @@ module _ (m : Setting) where
       → meaning m (events ++ more) ≡ meaning_from m more (meaning m events)
   meant_on events more = meant_from events more beginning
 
-  one_meant : (e : Event) (s : State) → meaning_from m (e ∷ []) s ≡ (happen m e s).state
+  pub one_meant : (e : Event) (s : State) → meaning_from m (e ∷ []) s ≡ (happen m e s).state
   unfolding meaning_from
   one_meant e s = refl
 

@@ -33,7 +33,7 @@ use Rattle.tx_headline.proofs.Lists.{dropped}
 use Rattle.tx_headline.proofs.After.{known_first, known_later, known_moved}
 use Rattle.tx_headline.proofs.Members.{waits_first, rest_waits}
 use Rattle.tx_headline.proofs.Outside.{later_uninterrupted, not_interrupted}
-use Rattle.tx_headline.proofs.Queue.{advances, queue_changes, same_rest}
+use Rattle.tx_headline.proofs.Queue.{advances, queue_changes}
 use Rattle.tx_headline.proofs.Runs.{meant_more}
 use Rattle.tx_journal.proofs.Readings.{same_head}
 
@@ -214,7 +214,7 @@ module _ (m : Setting) (s : IsSetting m) (i : ℕ) where
           by_way (cases_eq j i)
           (λ own. inr (ap (ends_transaction a t) (sym own ∙ first) ∙ ended))
           (λ other.
-          inl (leaves_nearer joined (now ∙ sym (same_rest j head (rest ++ joined) later whole)) other))
+          inl (leaves_nearer joined (now ∙ sym (ap (drop 1) whole)) other))
       head_result joined (GoesLast head later queue now off interrupted) =
           let whole : j ∷ (rest ++ joined) ≡ head ∷ later = ap (λ q. q ++ joined) (sym is) ∙ queue in
           let first = same_head j head (rest ++ joined) later whole in

@@ -9,13 +9,14 @@ use Rattle.std.proofs.lemmas.Grind.{flat_map-append}
 use Rattle.tx_journal.specs.declared.entries.Entry.{Entry}
 use Rattle.std.specs.Prelude.{◌&&◌, not, count_by, slice_get}
 use Rattle.std.proofs.lemmas.Bool.{cases_eq, eq-eqb, ne_eqb}
-use Rattle.std.proofs.lemmas.List.{get_or-set_same, get_or-set_other, length-set, length-map}
+use Rattle.std.proofs.lemmas.List.{get_or-set_other, length-set, length-map}
 use Rattle.std.proofs.lemmas.List.{same_lists}
 use Rattle.std.proofs.lemmas.List.FromFn.{length-range_with_len, get_or-map-range_with_len}
 use Rattle.std.proofs.lemmas.List.Sums.{sum_by_push, count_by-le-length}
 use Rattle.std.proofs.lemmas.Option.{slice_get-get_or, get_or_from_slice_get, slice_get_within}
 use borrow.Enum.Arm.{by_way}
 use Rattle.bit_set.specs.Counts.{one_if}
+use Rattle.z_regs.proofs.Elements.{put_is_there}
 use Rattle.line_table.specs.Sizes.{storage_lines}
 use Rattle.tx_heat.specs.Conflicts.{Conflict}
 use Rattle.tx_heat.specs.Heats.{line_heat, heats, is_reject_at, is_abort_at, is_apart_at}
@@ -73,11 +74,6 @@ heat_here found c line is = heat_more found c line true (eq-eqb c.line line is)
 
 -- ---- all lines
 
-pub set_same : {X : Type 0} (lines : List X) (k : ℕ) (v : X) → k < length lines → slice_get (set lines k v) k ≡ Some v
-set_same lines k v lt =
-    slice_get-get_or (set lines k v) k v (omega (arith, lt, length-set lines k v))
-    ∙ ap (λ x. Some x) (get_or-set_same lines k v v lt)
-
 pub set_other : {X : Type 0} (lines : List X) (k j : ℕ) (v : X) → j < length lines → j ≢ k
     → slice_get (set lines k v) j ≡ slice_get lines j
 set_other lines k j v lt ne =
@@ -98,7 +94,7 @@ counted_here lines found c v d lt is before = record {
       let same : get_or lines c.line d ≡ line_heat found c.line =
       get_or_from_slice_get lines c.line (line_heat found c.line) d (before.at c.line low_here) in
       subst (λ l. slice_get (set lines c.line v) l ≡ Some (line_heat (found ++ c ∷ []) l)) (sym e)
-      (set_same lines c.line v lt
+      (put_is_there lines c.line v lt
       ∙ ap (λ x. Some x) (is
       ∙ ap (λ h. plus h (one_if c.rejected) (one_if (not c.rejected)) (one_if c.apart)) same
       ∙ sym (heat_here found c c.line refl))))
@@ -126,7 +122,7 @@ room_here lines k v d n r a f lt is room = record {
   each = λ j h e. by_way (cases_eq j k)
       (λ same.
       let there : Some v ≡ Some h =
-      sym (set_same lines k v lt) ∙ ap (slice_get (set lines k v)) (sym same) ∙ e in
+      sym (put_is_there lines k v lt) ∙ ap (slice_get (set lines k v)) (sym same) ∙ e in
       let it : v ≡ h = cc in
       let before = room.each k (get_or lines k d) (slice_get-get_or lines k d lt) in
       subst (λ x. IsBelow x n) (sym is ∙ it) record {

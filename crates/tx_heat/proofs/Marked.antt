@@ -1,12 +1,13 @@
 -- Marks of what was touched, and whether octowords of a line are shared.
 use Rattle.std.proofs.Common.{◌≡◌, ℕ, zero, suc, ◌+◌, ◌*◌, ◌<◌, Bool, true, false, List, [], ◌++◌}
-use Rattle.std.proofs.Common.{refl, sym, ap, ap₂, ◌∙◌, subst, arith, replicate, ◌-◌, max, min, Option, Some, None}
+use Rattle.std.proofs.Common.{refl, sym, ap, ◌∙◌, subst, arith, replicate, ◌-◌, max, min, Option, Some, None}
 use Rattle.std.specs.Prelude.{◌||◌, ◌&&◌, not, nat_le, nat_lt, is_some, IfSome}
 use Rattle.std.specs.List.{list_any, range_with_len}
 use Rattle.std.proofs.lemmas.Bool.{cases_lt, or_from, and_from, le-leb, lt-ltb}
 use Rattle.std.proofs.lemmas.List.{get_or-replicate, get_or_past, length-replicate}
 use Rattle.std.proofs.lemmas.List.Folds.{list_any-append, list_any_at}
 use Rattle.std.proofs.lemmas.List.FromFn.{length-range_with_len, get_or-range_with_len}
+use Rattle.std.proofs.Math.Bool.{and-false}
 use borrow.Enum.Arm.{by_way}
 use Rattle.z_regs.specs.declared.ranges.Range.{Range}
 use Rattle.line_table.specs.Sizes.{storage_lines}
@@ -122,16 +123,13 @@ module _ (asked past : List Range) (line : ℕ) (low : line < storage_lines) (ex
       ap not (none_in (λ o. asks asked o && meets (stores asked line) past o) (8 * line) 8
       (λ k lt. shared_at (8 * line + k) (omega arith) ∙ none k lt))
 
-  both : (a b : Bool) → a ≡ true → b ≡ true → (a && b) ≡ true
-  both a b one other = ap₂ (λ x y. x && y) one other
-
   -- one octoword is shared
   pub together : (k : ℕ) → k < 8 → asks asked (8 * line + k) ≡ true → is_marked set (8 * line + k) ≡ true
       → are_apart asked past line ≡ false
   unfolding are_apart
   together k lt one other =
       ap not (some_in (λ o. asks asked o && meets (stores asked line) past o) (8 * line) 8 k lt
-      (shared_at (8 * line + k) (omega arith) ∙ both _ _ one other))
+      (shared_at (8 * line + k) (omega arith) ∙ and_from _ _ one other))
 
   -- either
   pub decided : (shared : Bool)
@@ -147,8 +145,4 @@ pub apart_from_nothing : (asked : List Range) (line : ℕ) → are_apart asked [
 unfolding are_apart meets
 apart_from_nothing asked line =
     ap not (none_in (λ o. asks asked o && meets (stores asked line) [] o) (8 * line) 8
-    (λ k lt. off (asks asked (8 * line + k))))
-  where
-    off : (b : Bool) → (b && false) ≡ false
-    off true = refl
-    off false = refl
+    (λ k lt. and-false (asks asked (8 * line + k))))

@@ -14,7 +14,8 @@ use Rattle.tx_schedule.specs.Wanted.{wanted}
 use Rattle.tx_heat.specs.Marks.{AreMarksOf}
 use Rattle.tx_heat.specs.Octowords.{are_apart}
 use Rattle.tx_heat.specs.Watched.{Tracked, IsUnused, IsTrack, AreTracks, SpeaksFor, Passes, StaysBeside}
-use Rattle.tx_heat.proofs.Counted.{set_same, set_other}
+use Rattle.z_regs.proofs.Elements.{put_is_there}
+use Rattle.tx_heat.proofs.Counted.{set_other}
 use Rattle.tx_heat.proofs.Marked.{apart_from_nothing}
 use Rattle.tx_heat.proofs.Tracked.{touches_nothing}
 
@@ -141,7 +142,7 @@ module _ (m : Setting) (s : State) (tracks : List Tracked) (k : ℕ) (new : Trac
       by_way (cases_eq j k)
       (λ same.
       let there : Some new ≡ Some t =
-      sym (set_same tracks k new lt) ∙ ap (slice_get (set tracks k new)) (sym same) ∙ e in
+      sym (put_is_there tracks k new lt) ∙ ap (slice_get (set tracks k new)) (sym same) ∙ e in
       let it : new ≡ t = cc in
       subst (λ x. P x t) (sym same) (subst (P k) it here))
       (λ ne.

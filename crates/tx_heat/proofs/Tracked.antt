@@ -1,5 +1,5 @@
 -- What the attempts have touched behind an event, by what they had touched before it.
-use Rattle.std.proofs.Common.{◌≡◌, ◌≢◌, ℕ, suc, ◌+◌, ◌<◌, Bool, true, false, List, [], ◌++◌, Option, Some}
+use Rattle.std.proofs.Common.{◌≡◌, ◌≢◌, ℕ, suc, ◌+◌, ◌<◌, Bool, true, false, List, [], ◌++◌, Option}
 use Rattle.std.proofs.Common.{None}
 use Rattle.std.proofs.Common.{refl, sym, ap, ap₂, ◌∙◌, subst, add-one}
 use Rattle.std.specs.Prelude.{nat_lt}
@@ -18,7 +18,6 @@ use Rattle.tx_serial.specs.Alike.{Track, track_of}
 use Rattle.tx_serial.specs.Attempt.{Run, Mark, Open, Committed, Overflowed, Missing}
 use Rattle.tx_serial.specs.Fate.{Fate, Goes, Ends, Stops, fate}
 use Rattle.tx_serial.specs.Flat.{FlatState, Pending}
-use Rattle.tx_serial.specs.History.{replay}
 use Rattle.tx_serial.specs.Run.{run, more, more_of, after, after_fate, after_where, may_follow, outcome_of}
 use Rattle.tx_progress.specs.Local.{Local}
 use Rattle.tx_progress.specs.Progress.{Progress}
@@ -35,7 +34,7 @@ use Rattle.tx_keeping.specs.Keeping.{keeping}
 use Rattle.tx_keeping.specs.Turn.{k_happen}
 use Rattle.tx_keeping.proofs.Asking.{Keeps}
 use Rattle.tx_keeping.proofs.Events.{keeping_is, keeping_good, views_kept}
-use Rattle.tx_keeping.proofs.Truth.{Truth, flat_is, attempt_is}
+use Rattle.tx_keeping.proofs.Truth.{Truth, same_flat, flat_is, attempt_is}
 use Rattle.tx_keeping.proofs.Turning.{own_stays, own_fate, happen_ok}
 use Rattle.tx_schedule.proofs.Others.{Left, others_turn, others_interruption}
 use Rattle.tx_schedule.specs.Wanted.{wanted, wanted_by, real_ranges, operands_of}
@@ -90,13 +89,6 @@ one_run_more f i n opens =
     ap (λ k. (run f i k).touched) same ∙ more_adds f.text (run f i n) (ap (λ k. (run f i k).mark) (sym same) ∙ opens)
 
 module _ (m : Setting) (s : IsSetting m) where
-  -- one history leaves one flat state
-  same_flat : (q mid : Kept) → Truth m q → Truth m mid → q.state.history ≡ mid.state.history
-      → kept_flat m q ≡ kept_flat m mid
-  same_flat q mid t u is =
-      let e : Some (kept_flat m q) ≡ Some (kept_flat m mid) =
-      sym t.replayed ∙ ap (replay m.image) is ∙ u.replayed in cc
-
   module _ (k q : Kept) (i : ℕ) (t : Truth m k) (u : Truth m q) (x : More m k q i) where
     abbrev before : FlatState
     before = kept_flat m k
@@ -111,7 +103,7 @@ module _ (m : Setting) (s : IsSetting m) where
     same_run =
         attempt_is m q u i
         ∙ ap (λ n. run (kept_flat m q) i n) (sym (u.each i).count ∙ x.count ∙ ap (λ n. n + 1) (t.each i).count)
-        ∙ ap (λ f. run f i (count + 1)) (same_flat q x.saw.mid u x.saw.truth x.saw.history)
+        ∙ ap (λ f. run f i (count + 1)) (same_flat m q x.saw.mid u x.saw.truth x.saw.history)
 
     is_open : (run between i (count + 1)).mark ≡ Open
     is_open =

@@ -13,7 +13,8 @@ use Rattle.z_regs.specs.declared.ranges.Range.{Range}
 use Rattle.tx_meaning.specs.Limits.{Setting}
 use Rattle.tx_meaning.specs.State.{State, is_live}
 use Rattle.tx_heat.specs.Watched.{Tracked, Passes}
-use Rattle.tx_heat.proofs.Counted.{set_same, set_other}
+use Rattle.z_regs.proofs.Elements.{put_is_there}
+use Rattle.tx_heat.proofs.Counted.{set_other}
 
 module _ (tracks start : List Tracked) (k : ℕ) (old new : Tracked) (lt : k < length tracks)
     (at : get_or tracks k old ≡ old) (ahead : (j : ℕ) → k ≤ j → slice_get tracks j ≡ slice_get start j) where
@@ -34,7 +35,7 @@ module _ (tracks start : List Tracked) (k : ℕ) (old new : Tracked) (lt : k < l
       by_way (cases_eq j k)
       (λ same.
       let there : Some new ≡ Some marks =
-      sym (set_same tracks k new lt) ∙ ap (slice_get (set tracks k new)) (sym same) ∙ e in
+      sym (put_is_there tracks k new lt) ∙ ap (slice_get (set tracks k new)) (sym same) ∙ e in
       let it : new ≡ marks = cc in
       subst (λ x. P x marks) (sym same) (subst (P k) it here))
       (λ ne. before j marks (omega (arith, low, ne))

@@ -1,11 +1,12 @@
 -- A run and a machine that agree in all places: the run may be taken.
-use Rattle.std.proofs.Common.{◌≡◌, ℕ, ◌+◌, ◌*◌, ◌%◌, ◌/◌, ◌<◌, Bool, true, false, Option, Some, None}
+use Rattle.std.proofs.Common.{◌≡◌, ℕ, ◌+◌, ◌*◌, ◌%◌, ◌/◌, ◌<◌, Bool, true, false}
 use Rattle.std.proofs.Common.{refl, sym, ap, ◌∙◌, arith}
 use Rattle.std.specs.Prelude.{◌&&◌, ◌||◌, nat_eq, nat_lt, nat_le, is_none}
 use Rattle.std.specs.FinSet.{items}
-use Rattle.std.proofs.lemmas.Bool.{and_parts, eqb-true, leb-true, ltb-true, false≢true, and_right}
+use Rattle.std.proofs.lemmas.Bool.{and_parts, eqb-true, leb-true, ltb-true, and_right}
 use Rattle.std.proofs.lemmas.Bool.Decides.{nat_tests}
 use Rattle.std.proofs.lemmas.Nat.{div-add-mod', mod-mul-add}
+use Rattle.z_regs.proofs.Elements.{is_nothing}
 use Rattle.line_table.specs.declared.table.Mode.{Mode}
 use Rattle.tx_journal.specs.Content.{Content}
 use Rattle.tx_meaning.specs.Apply.{is_running}
@@ -23,10 +24,6 @@ use Rattle.tx_works.specs.RunLent.{Lent}
 use Rattle.tx_works.specs.RunMade.{AgreeOnPages}
 use Rattle.tx_home.specs.Places.{fits}
 use Rattle.tx_home.specs.Taken.{AreAlikeInNumbers, MayTake}
-
-none-so : {A : Type 0} (o : Option A) → is_none o ≡ true → o ≡ None
-none-so None is = refl
-none-so (Some a) is = absurd (false≢true is)
 
 -- ---- ticks
 
@@ -89,8 +86,8 @@ module _ (image : Content) (limits : RunLimits) (r : Lent) (t : Kept) (same : Bo
         alike = alike;
         pages = pages;
         may = record {
-          pending = none-so (t.locals r.cpu).pending pending.0;
-          waiting = none-so (t.locals r.cpu).waiting waiting.0;
+          pending = is_nothing (t.locals r.cpu).pending pending.0;
+          waiting = is_nothing (t.locals r.cpu).waiting waiting.0;
           runs = runs.0;
           completed = counted;
           delay = eqb-true (t.state.numbers r.cpu).delay 0 delay.0;

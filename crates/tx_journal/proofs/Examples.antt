@@ -175,9 +175,6 @@ not_a_short_block s block short shown = omega (arith, shown.block block)
 first_and_last : (IsTrue (is_prefix (Some 8192))) × (IsTrue (is_prefix (Some 1040384)))
 first_and_last = (refl, refl)
 
-not_zero : is_prefix (Some 0) ≡ false
-not_zero = refl
-
 not_between_areas : is_prefix (Some 40961) ≡ false
 not_between_areas = refl
 

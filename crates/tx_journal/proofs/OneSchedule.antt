@@ -18,7 +18,7 @@ pub lacks_front : (c d : ℕ) (xs : List ℕ) → d ≢ c → Lacks c xs → Lac
 lacks_front c d xs other lacks zero below = other
 lacks_front c d xs other lacks (suc i) below = lacks i (omega arith)
 
-lacks_both : (c : ℕ) (xs ys : List ℕ) → Lacks c xs → Lacks c ys → Lacks c (xs ++ ys)
+pub lacks_both : (c : ℕ) (xs ys : List ℕ) → Lacks c xs → Lacks c ys → Lacks c (xs ++ ys)
 lacks_both c [] ys lacks also = also
 lacks_both c (x ∷ xs) ys lacks also =
     lacks_front c x (xs ++ ys) (lacks 0 (omega arith)) (lacks_both c xs ys (lacks_rest c x xs lacks) also)

@@ -224,3 +224,10 @@ module _ (m : Setting) (s : IsSetting m) where
   touched_held events known =
       subst (HoldsTouched m) (sym (keeping_is events known))
       (holds_by (keeping m events) (keeping_good events known).truth (held_so events known))
+
+-- events in two parts
+pub in_parts : (m : Setting) (events more : List Event) (k : Kept)
+    → keeping_from m (events ++ more) k ≡ keeping_from m more (keeping_from m events k)
+unfolding keeping_from
+in_parts m [] more k = refl
+in_parts m (e ∷ rest) more k = in_parts m rest more (k_happen m e k).kept

@@ -12,6 +12,7 @@ use Rattle.bit_set.proofs.Counts.{count_agree, count_le, count_or, count_none, c
 use Rattle.z_regs.specs.Absolute.{absolute_range, absolute_ranges, part_of, to_edge}
 use Rattle.z_regs.specs.Prefix.{absolute_of}
 use Rattle.z_regs.specs.declared.ranges.Range.{Range}
+use Rattle.z_regs.proofs.Elements.{or_across}
 use Rattle.z_instr.specs.declared.instr.Instr.{Instr}
 use Rattle.z_instr.specs.declared.operand.Operands.{Operands}
 use Rattle.z_instr.specs.Operands.{Span, IsSmall, spans, spans_in, selects}
@@ -20,7 +21,7 @@ use Rattle.line_table.specs.Sizes.{storage_lines}
 use Rattle.tx_footprint.specs.Sizes.{line_size}
 use Rattle.tx_footprint.specs.Places.{has_place, fetches, stores}
 use Rattle.tx_footprint.specs.Touched.{Sets, untouched, touching, fit_of}
-use Rattle.tx_footprint.proofs.Limits.{fits_from, regroup}
+use Rattle.tx_footprint.proofs.Limits.{fits_from}
 use Rattle.tx_meaning.specs.Needs.{needs_of, operand_needs, interruption_ranges}
 use Rattle.tx_meaning.specs.Changes.{is_needed}
 use Rattle.tx_meaning.proofs.Needs.{needed_lines}
@@ -190,7 +191,7 @@ fitting_room sets prefix ranges fits =
     (λ line. (sets.fetched line || sets.stored line) || is_needed (needs_of abs) line)
     (λ line. (sets.fetched line || fetches abs line) || (sets.stored line || stores abs line))
     (λ line lt. ap (λ b. (sets.fetched line || sets.stored line) || b) (needed_lines abs line)
-    ∙ regroup (sets.fetched line) (sets.stored line) (fetches abs line) (stores abs line)) in
+    ∙ or_across (sets.fetched line) (sets.stored line) (fetches abs line) (stores abs line)) in
     record { few = omega (arith, same, most) }
 
 -- ---- what a turn needs

@@ -593,7 +593,7 @@ operated f i local instr ranges h goes =
     let filled : Fills (stored_size ranges) (outcome_of instr ranges p) =
     subst (λ rs. Fills (stored_size rs) (outcome_of instr rs p)) (sym pass.touches) (filled instr p) in
     record {
-      small = subst AreSmall (sym pass.touches) (small_operands instr p);
+      small = subst AreSmall (sym pass.touches) (small_operands instr p.cpu);
       filled = subst (Fills (stored_size ranges)) (followed_outcome f i local instr ranges h) filled;
     }
 

@@ -52,6 +52,13 @@ pub flat_is : (m : Setting) (k : Kept) → Truth m k → flat_of m k.state ≡ k
 unfolding flat_of
 flat_is m k t = ap (flat_where m) t.replayed
 
+-- one history leaves one flat state
+pub same_flat : (m : Setting) (q mid : Kept) → Truth m q → Truth m mid → q.state.history ≡ mid.state.history
+    → kept_flat m q ≡ kept_flat m mid
+same_flat m q mid t u is =
+    let e : Some (kept_flat m q) ≡ Some (kept_flat m mid) =
+    sym t.replayed ∙ ap (replay m.image) is ∙ u.replayed in cc
+
 pub attempt_is : (m : Setting) (k : Kept) → Truth m k → (x : ℕ)
     → attempt_of m k.state x ≡ run (kept_flat m k) x (k.locals x).attempt.count
 attempt_is m k t x =

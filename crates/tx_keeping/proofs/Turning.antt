@@ -1,8 +1,8 @@
 -- One turn, and an external interruption: as the meaning has them, and all that is kept stays true.
 use Rattle.std.proofs.Common.{◌≡◌, ℕ, ◌+◌, ◌<◌, Bool, true, false, List, [], ◌∷◌}
 use Rattle.std.proofs.Common.{Option, Some, None, is_some, refl, sym, ap, subst, ◌∙◌}
-use Rattle.std.specs.Prelude.{◌||◌, ◌&&◌, nat_lt, is_none}
-use Rattle.std.proofs.lemmas.Bool.{cases_eq, and_from, and_parts, and_left, and_right, false_from_ne_true}
+use Rattle.std.specs.Prelude.{◌||◌, ◌&&◌, nat_lt, is_none, if◌then◌else◌}
+use Rattle.std.proofs.lemmas.Bool.{cases_eq, and_from, and_parts, and_left, and_right, false_from_ne_true, leb-false}
 use borrow.Enum.Arm.{by_way}
 use Rattle.z_regs.specs.Cpu.{Cpu}
 use Rattle.z_regs.specs.Absolute.{absolute_ranges}
@@ -47,7 +47,7 @@ use Rattle.tx_meaning.specs.Needs.{needs_of, operand_needs, stored, interruption
 use Rattle.tx_meaning.specs.State.{State, is_live, cpus_of, flat_of, attempt_of, cpu_of, standing_of}
 use Rattle.tx_meaning.specs.Changes.{with_entry, with_event, counting_turn, waiting_turn}
 use Rattle.tx_meaning.specs.Asking.{Asked}
-use Rattle.tx_meaning.specs.Idle.{idle, idle_by, has_ended}
+use Rattle.tx_meaning.specs.Idle.{idle, idle_by, has_ended, is_spent, kept_back}
 use Rattle.tx_meaning.specs.Turn.{Turned, turned, ends_by, refused_turn, once_given, with_lines, executing}
 use Rattle.tx_meaning.specs.Turn.{attempting}
 use Rattle.tx_meaning.specs.Turn.{stepping, storing_block, taking_interruption, acting, external}
@@ -594,3 +594,21 @@ module _ (m : Setting) (s : IsSetting m) where
             (k.state.numbers x));
         holds = g.holds;
       }))
+
+-- ---- turns that are left
+
+-- a turn that is neither finished nor spent
+spared : (finished spent : Bool) (o : Option Outcome)
+    → (if finished then Some outcome.Halted else (if spent then Some outcome.Spent else o)) ≡ None
+    → spent ≡ false
+spared true spent o h = absurd cc
+spared false true o h = absurd cc
+spared false false o h = refl
+
+-- a CPU whose turn is not idle has one left
+pub turn_left : (m : Setting) (k : Kept) (i : ℕ) → k_idle m k i ≡ None
+    → (k.state.numbers i).turns < m.limits.turns
+unfolding k_idle
+turn_left m k i none =
+    leb-false m.limits.turns (k.state.numbers i).turns
+    (spared (kept_finished k i) (is_spent m.limits (k.state.numbers i)) (kept_back k.state.queue i) none)

@@ -15,7 +15,7 @@ abbrev mark_count : List Bool → ℕ
 mark_count marks = count_by (λ mark. mark) marks
 
 -- what `or` makes of a side that is false, and of its sides in the other order
-drop_false : (a b : Bool) → b ≡ false → (a || (b || false)) ≡ a
+pub drop_false : (a b : Bool) → b ≡ false → (a || (b || false)) ≡ a
 drop_false a true e = let n : true ≡ false = e in cc
 drop_false true false e = refl
 drop_false false false e = refl

@@ -1,5 +1,5 @@
 -- Turns that were made away from a machine are turns of it, where it has the same bytes where they have looked.
-use Rattle.std.proofs.Common.{◌≡◌, ℕ, suc, ◌<◌, List, [], ◌∷◌, ◌++◌, refl, sym, ap, ◌∙◌}
+use Rattle.std.proofs.Common.{◌≡◌, ℕ, suc, ◌<◌, List, ◌++◌, sym, ap, ◌∙◌}
 use Rattle.std.proofs.Common.{replicate}
 use Rattle.std.proofs.lemmas.List.Elements.{All-append, All-replicate}
 use Rattle.tx_journal.specs.Image.{cpu_of_event}
@@ -20,7 +20,7 @@ use Rattle.tx_keeping.specs.Keeping.{keeping, keeping_from}
 use Rattle.tx_keeping.specs.Kept.{Kept, kept_beginning, kept_flat, text_of, beside}
 use Rattle.tx_keeping.specs.Told.{turned_of}
 use Rattle.tx_keeping.specs.Turn.{k_happen}
-use Rattle.tx_keeping.proofs.Events.{keeping_is, happens_alike, keeping_good}
+use Rattle.tx_keeping.proofs.Events.{keeping_is, happens_alike, keeping_good, in_parts}
 use Rattle.tx_keeping.proofs.Truth.{true_to}
 use Rattle.tx_lending.specs.Away.{IsClear, GoAway, ran}
 use Rattle.tx_lending.specs.Home.{MayComeHome, brought_home}
@@ -30,13 +30,6 @@ use Rattle.tx_lending.proofs.Strangers.{stranger_makes, stranger_goes}
 use Rattle.tx_lending.proofs.Turning.{turns_kept, turns_each}
 use Rattle.tx_lending.specs.Home.{brought, MayBeTaken, taken, with_taken, IsNow}
 use Rattle.std.proofs.Common.{Option}
-
--- events in two parts
-more_events : (m : Setting) (events more : List Event) (t : Kept)
-    → keeping_from m (events ++ more) t ≡ keeping_from m more (keeping_from m events t)
-unfolding keeping_from
-more_events m [] more t = refl
-more_events m (e ∷ rest) more t = more_events m rest more (k_happen m e t).kept
 
 -- Turns of the machine behind all events, which leave this of their CPU and of storage.
 module _ (m : Setting) (setting : IsSetting m) (events : List Event) (known : AreKnown m events) (i k : ℕ)
@@ -48,7 +41,7 @@ module _ (m : Setting) (setting : IsSetting m) (events : List Event) (known : Ar
     t = keeping m events
 
     more : (j : ℕ) → keeping m (events ++ replicate j (Turn i)) ≡ keeping_from m (replicate j (Turn i)) t
-    more j = more_events m events (replicate j (Turn i)) (kept_beginning m)
+    more j = in_parts m events (replicate j (Turn i)) (kept_beginning m)
 
     now_kept : keeping m (events ++ replicate k (Turn i)) ≡ with_turns i k left t
     now_kept = more k ∙ turns_kept m i k needed t may there ∙ ap (λ b. with_turns i k b t) made

@@ -7,6 +7,7 @@ use Rattle.std.proofs.lemmas.Bool.{true≢false}
 use Rattle.std.proofs.lemmas.List.{length-drop}
 use Rattle.std.proofs.lemmas.List.Folds.{list_any-append}
 use Rattle.std.proofs.lemmas.List.Sums.{fold-append}
+use Rattle.std.proofs.Math.Bool.{or-false}
 use Rattle.z_regs.specs.Prefix.{absolute_of}
 use Rattle.z_regs.specs.declared.ranges.Range.{Range}
 use Rattle.z_instr.specs.declared.instr.Instr.{Instr}
@@ -121,13 +122,9 @@ bytes_there prefix (suc n) first (byte ∷ bytes) o other a enough h =
         ≡ laying (with_one other p byte) (stores_at prefix (suc first) (take n bytes)) a
     by p true e k there elsewhere = there e
     by p false e k there elsewhere =
-        let here : nat_eq a p ≡ true = only (nat_eq a p) k in
+        let here : nat_eq a p ≡ true = sym (or-false (nat_eq a p)) ∙ k in
         elsewhere (with_one o p byte) e ∙ one_here o p byte a here
         ∙ sym (one_here other p byte a here) ∙ sym (elsewhere (with_one other p byte) e)
-      where
-        only : (b : Bool) → (b || false) ≡ true → b ≡ true
-        only true h = refl
-        only false h = h
 
 -- ---- the stores of operands
 
@@ -186,10 +183,6 @@ there_by true r rs q a there elsewhere bytes o other enough h =
     rest : List Store
     rest = operand_stores q.cpu.prefix rs (drop r.length bytes)
 
-    only : (b : Bool) → (b || false) ≡ true → b ≡ true
-    only true h = refl
-    only false h = h
-
     either : (b : Bool) → is_among (stored_places rs q) a ≡ b
         → laying (laying o here) rest a ≡ laying (laying other here) rest a
     either true e =
@@ -198,8 +191,8 @@ there_by true r rs q a there elsewhere bytes o other enough h =
     either false e =
         elsewhere (drop r.length bytes) (laying o here) e
         ∙ bytes_there q.cpu.prefix r.length r.first bytes o other a (omega (arith, enough))
-        (only (is_among first a) (ap (λ b. is_among first a || b) (sym e)
-        ∙ sym (list_any-append (nat_eq a) first (stored_places rs q)) ∙ h))
+        (sym (or-false (is_among first a)) ∙ ap (λ b. is_among first a || b) (sym e)
+        ∙ sym (list_any-append (nat_eq a) first (stored_places rs q)) ∙ h)
         ∙ sym (elsewhere (drop r.length bytes) (laying other here) e)
 there_by false r rs q a there elsewhere bytes o other enough h = there bytes o other (omega (arith, enough)) h
 

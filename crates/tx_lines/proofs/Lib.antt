@@ -7,4 +7,3 @@ pub mod Lent
 pub use Rattle.tx_run.proofs.Doublewords
 pub use Rattle.tx_run.proofs.Agreeing
 pub use Rattle.tx_run.proofs.Plainly
-pub use Rattle.tx_run.proofs.Reached

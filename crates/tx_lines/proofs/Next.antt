@@ -1,9 +1,10 @@
 -- The numbers from a place on that pass a test.
 use Rattle.std.proofs.Common.{◌≡◌, ℕ, zero, suc, ◌+◌, ◌-◌, ◌<◌, ◌≤◌, Bool, true, false, List, [], ◌∷◌, cond}
-use Rattle.std.proofs.Common.{refl, sym, ap, ◌∙◌, arith, Some, None, is_some}
+use Rattle.std.proofs.Common.{sym, ap, ◌∙◌, arith, Some, None, is_some}
 use Rattle.std.specs.Prelude.{◌&&◌, not, ◌==◌}
 use Rattle.std.specs.List.{filter, range_with_len}
 use Rattle.std.proofs.lemmas.Bool.{cond-true, cond-false}
+use Rattle.std.proofs.Math.Bool.{and-false}
 use Rattle.line_table.specs.declared.table.Mode.{Mode}
 use Rattle.line_table.specs.Holders.{Holders, is_against, against}
 use Rattle.tx_footprint.specs.Touched.{Sets}
@@ -87,11 +88,7 @@ from_first test end = ap (λ n. filter test (range_with_len 0 n)) (omega arith)
 pub not_held : (held : Holders) (cpu line : ℕ) (wanted : Mode) (other : ℕ) → held other line ≡ None
     → stands_against held cpu line wanted other ≡ false
 not_held held cpu line wanted other none =
-    ap (λ h. not (other == cpu) && is_against wanted h) none ∙ and_false (not (other == cpu))
-  where
-    and_false : (b : Bool) → (b && false) ≡ false
-    and_false true = refl
-    and_false false = refl
+    ap (λ h. not (other == cpu) && is_against wanted h) none ∙ and-false (not (other == cpu))
 
 -- ---- a line that is not held is not given up; one that is, where it is unused
 

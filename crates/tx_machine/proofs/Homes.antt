@@ -1,5 +1,5 @@
 -- A run that comes home as so many turns.
-use Rattle.std.proofs.Common.{◌≡◌, ◌≢◌, ℕ, zero, suc, ◌+◌, ◌<◌, ◌≤◌, List, ◌∷◌, [], ◌++◌, Option, Some, None}
+use Rattle.std.proofs.Common.{◌≡◌, ◌≢◌, ℕ, zero, suc, ◌+◌, ◌<◌, ◌≤◌, List, [], ◌++◌, Option, Some, None}
 use Rattle.std.proofs.Common.{refl, sym, ap, ◌∙◌, subst, arith, length, replicate}
 use Rattle.std.specs.Prelude.{All, count_by, cond, is_none}
 use Rattle.std.proofs.lemmas.Bool.{false≢true, cases_eq}
@@ -24,7 +24,7 @@ use Rattle.tx_home.specs.Kept.{Kept, kept_beginning}
 use Rattle.tx_home.specs.Keeping.{keeping, keeping_from}
 use Rattle.tx_home.specs.Told.{turned_of}
 use Rattle.tx_home.specs.Turn.{k_happen, k_turned}
-use Rattle.tx_home.proofs.Events.{happens_alike, keeping_is, grows_only, views_kept}
+use Rattle.tx_home.proofs.Events.{happens_alike, keeping_is, grows_only, views_kept, in_parts}
 use Rattle.tx_meaning.proofs.Walk.{at_put_case}
 use Rattle.tx_opacity.proofs.Heads.{heads_in_all}
 use Rattle.tx_opacity.specs.Opacity.{SeesOneRun}
@@ -109,13 +109,6 @@ module _ (m : Setting) (w : Works) (remaining : ℕ) (s : Stands m w remaining) 
 
 -- ---- the machine behind them
 
--- events in two parts
-parts_from : (m : Setting) (events more : List Event) (t : Kept)
-    → keeping_from m (events ++ more) t ≡ keeping_from m more (keeping_from m events t)
-unfolding keeping_from
-parts_from m [] more t = refl
-parts_from m (e ∷ rest) more t = parts_from m rest more (k_happen m e t).kept
-
 none_external : (i k : ℕ) → count_by is_external (replicate k (Turn i)) ≡ 0
 none_external i zero = refl
 none_external i (suc k) = none_external i k
@@ -133,7 +126,7 @@ module _ (m : Setting) (w : Works) (remaining : ℕ) (s : Stands m w remaining) 
       (All-replicate (λ e. cpu_of_event e < cpus_of m) j (Turn i) within)
 
   more : (j : ℕ) → keeping m (w.events ++ turns j) ≡ keeping_from m (turns j) (kept_by (nobody m) w)
-  more j = parts_from m w.events (turns j) (kept_beginning m) ∙ ap (keeping_from m (turns j)) (sym s.kept)
+  more j = in_parts m w.events (turns j) (kept_beginning m) ∙ ap (keeping_from m (turns j)) (sym s.kept)
 
   pub stands_home : (later : Works) → IsSameSize w later → later.events ≡ w.events ++ turns k
       → kept_by (nobody m) later ≡ keeping_from m (turns k) (kept_by (nobody m) w) → Stands m later remaining

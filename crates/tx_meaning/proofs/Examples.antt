@@ -35,7 +35,7 @@ use Rattle.tx_meaning.specs.Stretches.{bound}
 
 -- ---- the bound of a constrained transaction's turns
 
-usual_bound : bound usual ≡ 1072
+pub usual_bound : bound usual ≡ 1072
 usual_bound = refl
 
 -- rejects up to 1000, starved by three, the second conflict abort joins the queue, one turn of delay

@@ -8,4 +8,4 @@ pub mod IdleTurns
 pub mod Room
 pub mod Needs
 pub mod Schedules
-mod Examples
+pub mod Examples

@@ -4,6 +4,7 @@ use Rattle.std.proofs.Common.{◌∷◌, length, get_or, refl, sym, ap, ◌∙�
 use Rattle.std.specs.Prelude.{◌||◌, ◌&&◌, ◌==◌, nat_eq, nat_lt, nat_le, if◌then◌else◌, map, fold, All}
 use Rattle.std.specs.Prelude.{AllPairs}
 use Rattle.std.specs.List.{list_any, flat_map, range_with_len}
+use Rattle.std.specs.Cmp.{both_ways}
 use Rattle.std.proofs.lemmas.Bool.{cases_eq, or_cases, or_left, or_right, and_parts, and_from}
 use Rattle.std.proofs.lemmas.Bool.{eq-eqb, eqb-true, leb-true, ltb-true, ltb-false, eqb-false, le-leb, lt-ltb}
 use Rattle.std.proofs.lemmas.List.Folds.{list_any-append}
@@ -18,13 +19,8 @@ use Rattle.tx_meaning.specs.declared.asking.Need.{Need}
 use Rattle.tx_meaning.specs.Needs.{first_line, last_line, has_line, lines_of, with_number, rising, mode_for}
 use Rattle.tx_meaning.specs.Needs.{needs_of}
 use Rattle.tx_meaning.specs.Changes.{is_needed}
-use Rattle.std.proofs.Math.Bool.{or-false}
+use Rattle.std.proofs.Math.Bool.{or-false, or_assoc}
 use Rattle.interrogate.proofs.Limits.{either_way}
-
-same_bool : (a b : Bool) → (a ≡ true → b ≡ true) → (b ≡ true → a ≡ true) → a ≡ b
-same_bool true b to from = sym (to refl)
-same_bool false true to from = from refl
-same_bool false false to from = refl
 
 abbrev has : ℕ → List ℕ → Bool
 has x numbers = list_any (λ k. k == x) numbers
@@ -57,7 +53,7 @@ range_has a (suc n) x low high =
 lines_between : (first last x : ℕ)
     → has x (range_with_len first (last + 1 - first)) ≡ lies_in first (last + 1) x
 lines_between first last x =
-    same_bool (has x (range_with_len first (last + 1 - first))) (lies_in first (last + 1) x)
+    both_ways (has x (range_with_len first (last + 1 - first))) (lies_in first (last + 1) x)
     (λ h.
     let w = in_range first (last + 1 - first) x h in
     let low : first ≤ x = w.low in
@@ -86,7 +82,7 @@ lines_are r x = lines_by r x (nat_eq r.length 0) refl
 
 up_to : (x last : ℕ) → nat_le x last ≡ nat_lt x (last + 1)
 up_to x last =
-    same_bool (nat_le x last) (nat_lt x (last + 1))
+    both_ways (nat_le x last) (nat_lt x (last + 1))
     (λ h. let le : x ≤ last = leb-true x last h in lt-ltb x (last + 1) (omega arith))
     (λ h. let lt : x < last + 1 = ltb-true x (last + 1) h in le-leb x last (omega arith))
 
@@ -162,11 +158,7 @@ sorted_has sorted (n ∷ rest) x =
     sorted_has (with_number n sorted) rest x
     ∙ ap (λ b. has x rest || b) (put_is n x sorted)
     ∙ or_swap (has x rest) (n == x) (has x sorted)
-    ∙ or_group (n == x) (has x rest) (has x sorted)
-  where
-    or_group : (a b c : Bool) → (a || (b || c)) ≡ ((a || b) || c)
-    or_group true b c = refl
-    or_group false b c = refl
+    ∙ sym (or_assoc (n == x) (has x rest) (has x sorted))
 
 rising_has : (numbers : List ℕ) (x : ℕ) → has x (rising numbers) ≡ has x numbers
 rising_has numbers x = sorted_has [] numbers x ∙ or-false (has x numbers)

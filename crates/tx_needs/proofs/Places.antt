@@ -1,11 +1,13 @@
 -- The place of a number among rising ones.
-use Rattle.std.proofs.Common.{◌≡◌, ◌≢◌, ℕ, suc, ◌+◌, ◌<◌, ◌≤◌, Bool, true, false, List, [], ◌∷◌}
+use Rattle.std.proofs.Common.{◌≡◌, ◌≢◌, ℕ, suc, ◌+◌, ◌<◌, ◌≤◌, List, [], ◌∷◌}
 use Rattle.std.proofs.Common.{add-one, length, refl, sym, ap, subst, ◌∙◌, arith, get_or, Some}
-use Rattle.std.specs.Prelude.{nat_lt, drop, slice_get}
+use Rattle.std.specs.Prelude.{drop, slice_get}
 use Rattle.std.specs.List.{insert}
 use Rattle.std.proofs.Math.Seq.{drop-cons}
 use Rattle.std.proofs.lemmas.List.{drop_all}
 use Rattle.std.proofs.lemmas.Bool.Decides.{nat_tests}
+use Rattle.z_regs.proofs.Elements.{Order, order}
+use Rattle.z_regs.proofs.Elements.Order.{Below, Same, Above}
 use Rattle.tx_meaning.specs.Needs.{with_number}
 use Rattle.tx_needs.specs.Needs.{below}
 
@@ -40,20 +42,6 @@ all_below n i xs end within so =
 
 -- ---- a number that is there, and one that is not
 
--- a number stands before another, is the same, or stands behind it
-pub data Order (n k : ℕ) : Type 0 where
-  Before : n < k → Order n k
-  Same : n ≡ k → Order n k
-  Behind : k < n → Order n k
-
-order_by : (n k : ℕ) (less more : Bool) → nat_lt n k ≡ less → nat_lt k n ≡ more → Order n k
-order_by n k true more p q = Before (grind (arith, nat_tests))
-order_by n k false true p q = Behind (grind (arith, nat_tests))
-order_by n k false false p q = Same (grind (arith, nat_tests))
-
-pub order : (n k : ℕ) → Order n k
-order n k = order_by n k (nat_lt n k) (nat_lt k n) refl refl
-
 before_is : (n k : ℕ) (rest : List ℕ) → n < k → with_number n (k ∷ rest) ≡ n ∷ k ∷ rest
 unfolding with_number
 before_is n k rest h = grind (arith, nat_tests)
@@ -72,13 +60,13 @@ behind_place n k rest h = below_more n k rest h ∙ add-one (below n rest)
 kept_by : (n k : ℕ) (rest : List ℕ) → Order n k
     → (slice_get rest (below n rest) ≡ Some n → rest ≡ with_number n rest)
     → slice_get (k ∷ rest) (below n (k ∷ rest)) ≡ Some n → k ∷ rest ≡ with_number n (k ∷ rest)
-kept_by n k rest (Before less) more h =
+kept_by n k rest (Below less) more h =
     let there : slice_get (k ∷ rest) 0 ≡ Some n =
     sym (ap (slice_get (k ∷ rest)) (below_none n k rest (omega arith))) ∙ h in
     let same : k ≡ n = (cc) in
     absurd (omega arith)
 kept_by n k rest (Same e) more h = sym (subst (λ x. with_number n (x ∷ rest) ≡ x ∷ rest) e (same_is n rest))
-kept_by n k rest (Behind less) more h =
+kept_by n k rest (Above less) more h =
     ap (λ r. k ∷ r) (more (sym (ap (slice_get (k ∷ rest)) (behind_place n k rest less)) ∙ h))
     ∙ sym (behind_is n k rest less)
 
@@ -90,11 +78,11 @@ put_by : (n k : ℕ) (rest : List ℕ) → Order n k
     → (slice_get rest (below n rest) ≢ Some n → insert rest (below n rest) n ≡ with_number n rest)
     → slice_get (k ∷ rest) (below n (k ∷ rest)) ≢ Some n
     → insert (k ∷ rest) (below n (k ∷ rest)) n ≡ with_number n (k ∷ rest)
-put_by n k rest (Before less) more h =
+put_by n k rest (Below less) more h =
     ap (λ i. insert (k ∷ rest) i n) (below_none n k rest (omega arith)) ∙ sym (before_is n k rest less)
 put_by n k rest (Same e) more h =
     absurd (h (ap (slice_get (k ∷ rest)) (below_none n k rest (omega arith)) ∙ ap Some (sym e)))
-put_by n k rest (Behind less) more h =
+put_by n k rest (Above less) more h =
     let place = behind_place n k rest less in
     ap (λ i. insert (k ∷ rest) i n) place
     ∙ ap (λ r. k ∷ r) (more (λ e. h (ap (slice_get (k ∷ rest)) place ∙ e)))

@@ -1,5 +1,5 @@
 -- Attempts that go on see one private run.
-use Rattle.std.proofs.Common.{◌≡◌, ◌≢◌, ℕ, ◌<◌, ◌/◌, Bool, true, false, List, Some, refl, sym, ap, ◌∙◌, subst}
+use Rattle.std.proofs.Common.{◌≡◌, ℕ, ◌<◌, ◌/◌, Bool, true, false, List, refl, sym, ap, ◌∙◌, subst}
 use Rattle.std.proofs.Common.{inl, inr}
 use Rattle.std.specs.Prelude.{◌⊎◌, ◌||◌, nat_lt}
 use Rattle.std.proofs.lemmas.Bool.{cases_eq}
@@ -12,26 +12,25 @@ use Rattle.tx_journal.specs.declared.events.Event.TheVariants as event
 use Rattle.tx_serial.specs.Alike.{Track, track_of}
 use Rattle.tx_serial.specs.Attempt.{footprint}
 use Rattle.tx_serial.specs.Flat.{FlatState, Storage, laid_over}
-use Rattle.tx_serial.specs.History.{replay}
 use Rattle.tx_serial.specs.Run.{run}
 use Rattle.tx_serial.proofs.Copies.{run_copy, laid_alike}
 use Rattle.tx_meaning.specs.Limits.{Setting}
 use Rattle.tx_meaning.specs.Meaning.{IsSetting, meaning}
-use Rattle.tx_meaning.specs.State.{State, is_live, attempt_of, flat_of, cpus_of}
+use Rattle.tx_meaning.specs.State.{is_live, attempt_of, flat_of, cpus_of}
 use Rattle.tx_meaning.specs.Turn.{Turned, happen}
 use Rattle.tx_meaning.specs.Views.{AreKnown, IsSameView}
 use Rattle.tx_bounds.specs.Kept.{Kept, kept_flat}
 use Rattle.tx_bounds.specs.Keeping.{keeping}
 use Rattle.tx_bounds.specs.Turn.{k_happen}
 use Rattle.tx_bounds.specs.Told.{turned_of}
-use Rattle.tx_bounds.proofs.Truth.{Truth, attempt_is, footprint_is, flat_is}
+use Rattle.tx_bounds.proofs.Truth.{Truth, attempt_is, footprint_is, flat_is, same_flat}
 use Rattle.tx_bounds.proofs.Moves.{IsGood}
 use Rattle.tx_bounds.proofs.Asking.{Keeps}
 use Rattle.tx_bounds.proofs.Turning.{own_stays, happen_ok, TurnOk}
 use Rattle.tx_bounds.proofs.Events.{keeping_is, keeping_good}
 use Rattle.tx_opacity.specs.Opacity.{SeesOneRun}
-use Rattle.tx_opacity.proofs.Others.{Left, others_turn, others_interruption}
-use Rattle.tx_opacity.proofs.Own.{Saw, Own, own_turn, own_interruption}
+use Rattle.tx_opacity.proofs.Others.{Left, others_event}
+use Rattle.tx_opacity.proofs.Own.{Saw, Own, own_event}
 
 module _ (m : Setting) (s : IsSetting m) where
   -- the same stores over storage that is the same there
@@ -60,34 +59,17 @@ module _ (m : Setting) (s : IsSetting m) where
       subst (λ p. IsSameView p (run g i (k.state.numbers i).completed)) (sym (attempt_is m k t i))
       (subst (λ c. IsSameView (run f i n) (run g i c)) (sym (t.each i).count) seen)
 
-  -- one history leaves one flat state
-  same_flat : (q mid : Kept) → Truth m q → Truth m mid → q.state.history ≡ mid.state.history
-      → kept_flat m q ≡ kept_flat m mid
-  same_flat q mid t u is =
-      let e : Some (kept_flat m q) ≡ Some (kept_flat m mid) =
-      sym t.replayed ∙ ap (replay m.image) is ∙ u.replayed in cc
-
   seen_by : (k q : Kept) (i : ℕ) → Truth m k → Truth m q → Saw m k q i
       → IsSameView (attempt_of m k.state i) (run (flat_of m q.state) i (k.state.numbers i).completed)
   seen_by k q i t u saw =
       subst (λ f. IsSameView (attempt_of m k.state i) (run f i (k.state.numbers i).completed))
-      (sym (flat_is m q u ∙ same_flat q saw.mid u saw.truth saw.history))
+      (sym (flat_is m q u ∙ same_flat m q saw.mid u saw.truth saw.history))
       (view k saw.mid i t saw.truth saw.keeps)
 
   -- ---- whose event it is
 
   over_not : {P : Type 0} (q : Kept) (i : ℕ) → is_live q.state i ≡ true → is_live q.state i ≡ false → P
   over_not q i live over = absurd (let x : true ≡ false = sym live ∙ over in cc)
-
-  own : (e : Event) (k : Kept) → IsGood m k → cpu_of_event e < cpus_of m
-      → is_live k.state (cpu_of_event e) ≡ true → Own m k (k_happen m e k).kept (cpu_of_event e)
-  own (event.Turn i) k g within live = own_turn m s i k g within live
-  own (event.External i) k g within live = own_interruption m s i k g
-
-  others : (e : Event) (x : ℕ) (t : State) → x ≢ cpu_of_event e
-      → Left x (t.numbers x).completed (happen m e t).state
-  others (event.Turn i) x t ne = others_turn x (t.numbers x).completed m i ne t refl
-  others (event.External i) x t ne = others_interruption x (t.numbers x).completed m i ne t refl
 
   saw_by_left : (e : Event) (k : Kept) (x : ℕ) → IsGood m k → TurnOk m k (happen m e k.state) (k_happen m e k)
       → is_live k.state x ≡ true → is_live (k_happen m e k).kept.state x ≡ true
@@ -112,9 +94,9 @@ module _ (m : Setting) (s : IsSetting m) where
       by_way (cases_eq x (cpu_of_event e))
       (λ is. saw_by_own k (k_happen m e k).kept x lives
       (subst (Own m k (k_happen m e k).kept) (sym is)
-      (own e k g within (ap (is_live k.state) (sym is) ∙ live))))
+      (own_event m s e k g within (ap (is_live k.state) (sym is) ∙ live))))
       (λ ne. saw_by_left e k x g ok live lives
-      (subst (λ (t : Turned). Left x (k.state.numbers x).completed t.state) ok.is (others e x k.state ne)))
+      (subst (λ (t : Turned). Left x (k.state.numbers x).completed t.state) ok.is (others_event m e x k.state ne)))
 
   -- ---- over all events
 

@@ -5,6 +5,8 @@ use Rattle.std.specs.Prelude.{◌+◌, ◌⊎◌, if◌then◌else◌}
 use Rattle.tx_control.specs.declared.causes.Why.{Why}
 use Rattle.tx_control.specs.declared.causes.Why.TheVariants.{External, Starved}
 use Rattle.tx_ladder.specs.Rungs.{Standing, rejecting, rejected}
+use Rattle.tx_journal.specs.Image.{cpu_of_event}
+use Rattle.tx_journal.specs.declared.events.Event.{Event}
 use Rattle.tx_journal.specs.declared.events.Event.TheVariants as event
 use Rattle.line_table.specs.Holders.{Holders}
 use Rattle.tx_serial.specs.Flat.{at_put}
@@ -88,3 +90,9 @@ module _ (x n : ℕ) where
     unfolding happen
     others_interruption s is =
         externally m i (Left x n) (Left x n) (λ r t. Left x n t) walk (with_event (event.External i) s) (inl is)
+
+-- and so in any event of another CPU
+pub others_event : (m : Setting) (e : Event) (x : ℕ) (t : State) → x ≢ cpu_of_event e
+    → Left x (t.numbers x).completed (happen m e t).state
+others_event m (event.Turn i) x t ne = others_turn x (t.numbers x).completed m i ne t refl
+others_event m (event.External i) x t ne = others_interruption x (t.numbers x).completed m i ne t refl

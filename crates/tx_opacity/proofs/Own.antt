@@ -8,6 +8,8 @@ use Rattle.z_instr.specs.declared.instr.Instr.{Instr}
 use Rattle.tx_control.specs.declared.causes.Why.{Why}
 use Rattle.tx_control.specs.declared.causes.Why.TheVariants as why
 use Rattle.tx_ladder.specs.Rungs.{is_starved}
+use Rattle.tx_journal.specs.Image.{cpu_of_event}
+use Rattle.tx_journal.specs.declared.events.Event.{Event}
 use Rattle.tx_journal.specs.declared.events.Event.TheVariants as event
 use Rattle.tx_serial.specs.Fate.{Fate, Goes, Ends, Stops}
 use Rattle.tx_serial.specs.Flat.{Pending}
@@ -179,3 +181,9 @@ module _ (m : Setting) (s : IsSetting m) (i : ℕ) where
       let t = with_event (event.External i) k.state in
       behind k t _ refl
       (interrupted (with_state t k) (restated m k t g.truth refl (λ x. same_numbers (k.state.numbers x))))
+
+-- and so in any event of this CPU
+pub own_event : (m : Setting) (s : IsSetting m) (e : Event) (k : Kept) → IsGood m k → cpu_of_event e < cpus_of m
+    → is_live k.state (cpu_of_event e) ≡ true → Own m k (k_happen m e k).kept (cpu_of_event e)
+own_event m s (event.Turn i) k g within live = own_turn m s i k g within live
+own_event m s (event.External i) k g within live = own_interruption m s i k g

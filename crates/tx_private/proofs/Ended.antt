@@ -41,7 +41,7 @@ use Rattle.tx_private.specs.Shows.{Shows}
 use Rattle.tx_private.proofs.Fetched.{copy_size}
 use Rattle.tx_private.proofs.Inside.{inside}
 use Rattle.tx_private.proofs.Moving.{none_refuses}
-use Rattle.tx_private.proofs.OwnCauses.{cause_by_kind}
+use Rattle.tx_serial.proofs.FreeCauses.{cause_by_kind}
 use Rattle.tx_private.proofs.Settled.{same_outcome}
 
 -- ---- by the outcome of the next instruction

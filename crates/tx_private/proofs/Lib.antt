@@ -10,6 +10,5 @@ pub mod Moving
 pub mod Going
 pub mod Ready
 pub mod Resting
-pub mod OwnCauses
 pub mod Ended
 pub mod Turned

@@ -25,9 +25,8 @@ use Rattle.z_effect.specs.After.{touched, ranges_of, with_stored, AreInside}
 use Rattle.z_instr.specs.declared.table.TheConstants.{ROWS}
 use Rattle.z_instr.proofs.TableFacts.{passes_row}
 use Rattle.tx_control.specs.declared.begins.Begin.{Begin}
-use Rattle.tx_constraint.specs.Octowords.{with_octowords}
 use Rattle.tx_constraint.specs.Operations.{ends, is_permitted}
-use Rattle.tx_constraint.specs.Constraints.{Step, Attempt, begun, with_step, text_breach, operand_breach}
+use Rattle.tx_constraint.specs.Constraints.{Step, Attempt, with_step, text_breach, operand_breach}
 use Rattle.tx_constraint.specs.Constraints.{GoesOn}
 use Rattle.tx_constraint.specs.Constraints.{has_barred, is_too_long, leaves_its_bytes}
 use Rattle.tx_footprint.specs.Touched.{Sets, untouched, touching}
@@ -41,7 +40,7 @@ use Rattle.tx_private.specs.Done.{outcome_at, is_lasting_kind}
 use Rattle.tx_private.specs.Reading.{IsCopy}
 use Rattle.tx_private.specs.Shows.{EndsInTime, begin_at, begin_length, is_empty, IsLimited}
 use Rattle.tx_constraint.specs.Kept.{Kept, kept, kept_at, added}
-use Rattle.tx_constraint.proofs.Attempts.{octowords_begun, kept_step, unbroken}
+use Rattle.tx_constraint.proofs.Attempts.{octowords_begun, kept_step, unbroken, begun_goes, goes_further}
 use Rattle.tx_private.proofs.Laid.{laid_beyond, operands_within, AreIn}
 use Rattle.tx_serial.proofs.SameCauses.{agreeing}
 use Rattle.z_touch.proofs.Reach.{spans_back}
@@ -128,20 +127,6 @@ begin_stays [] s some = absurd (some refl)
 begin_stays (x ∷ rest) s some = (refl, refl)
 
 -- ---- constraints
-
--- a new attempt goes on
-pub begun_goes : (at : ℕ) → GoesOn (begun at)
-unfolding text_breach operand_breach with_octowords
-begun_goes at = record { unended = refl; text = refl; operands = refl }
-
-goes_further : (a : Attempt) (s : Step) → GoesOn a → ends s.instruction ≡ false
-    → text_breach (with_step a s) ≡ None → operand_breach (with_step a s) ≡ None → GoesOn (with_step a s)
-goes_further a s g unended text places = record {
-  unended = list_any-append (λ t. ends t.instruction) a.steps (s ∷ [])
-      ∙ (λ k. g.unended k || (unended k || false));
-  text = text;
-  operands = places;
-}
 
 -- what is permitted in a constrained transaction begins none
 abbrev begins_outside : Entry → Bool

@@ -32,7 +32,7 @@ use Rattle.tx_progress.specs.Trial.{fate_by_progress, outcome_by}
 use Rattle.tx_progress.proofs.Parts.{followed_fate, live_follows, quiet_run}
 use Rattle.tx_progress.proofs.Moving.{one_more, executed_is, begin_follows, next_of}
 use Rattle.tx_progress.proofs.Endings.{longer_progress}
-use Rattle.tx_progress.proofs.Lines.{AreSmall, small_operands}
+use Rattle.tx_serial.proofs.StoredPlaces.{AreSmall, small_operands}
 use Rattle.tx_progress.proofs.Facts.{has_store, keeps_prefix}
 use Rattle.tx_progress.proofs.Touching.{stores_in_lines, seen_in, laid_in}
 

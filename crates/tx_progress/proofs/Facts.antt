@@ -24,11 +24,10 @@ use Rattle.tx_serial.proofs.Copies.{run_prefix, run_lasting}
 use Rattle.tx_serial.proofs.StoredPlaces.{stored_places}
 use Rattle.tx_progress.specs.Followed.{KeepsTo}
 use Rattle.tx_progress.specs.Local.{Local}
-use Rattle.tx_progress.specs.Progress.{Progress, resting, is_live, begins_constrained, laying}
+use Rattle.tx_progress.specs.Progress.{Progress, is_live, begins_constrained, laying}
 use Rattle.tx_progress.specs.Reached.{progress_of, constraint_of, resumption_of, IsFollowed}
 use Rattle.tx_progress.proofs.OneMore.{counts, open_is_there}
 use Rattle.tx_progress.proofs.Standing.{Stands, RunStands, run_stands, is_begun_so}
-use Rattle.tx_progress.proofs.Parts.{rests}
 use Rattle.tx_progress.proofs.Alike.{its_footprint}
 
 -- ---- the nest
@@ -60,10 +59,6 @@ live_nest f i local is live none =
     some_begins (f.cpus i) p.cpu p.steps p.nest local.attempt.count (stands_now f i local is)
     (counts_now f i local is) live (ap (λ (q : Progress). q.nest) is.attempt ∙ none)
 
-pub quiet_nest : (f : FlatState) (i : ℕ) (local : Local) → IsFollowed f i local
-    → is_live local.attempt ≡ false → local.attempt ≡ resting local.cpu
-quiet_nest f i local is quiet = rests f i local is quiet
-
 -- ---- the CPU
 
 pub keeps_prefix : (f : FlatState) (i : ℕ) (local : Local) → IsFollowed f i local
@@ -73,7 +68,7 @@ keeps_prefix f i local is =
     sym (ap (λ (q : Progress). q.cpu.prefix) is.attempt) ∙ run_prefix f i local.attempt.count
     ∙ ap (λ (c : Cpu). c.prefix) is.cpu
 
-runs : (s : RunState) → is_running s ≡ true → s ≡ Running
+pub runs : (s : RunState) → is_running s ≡ true → s ≡ Running
 runs Running h = refl
 runs Halted h = absurd (true≢false (sym h))
 runs (Interrupted code) h = absurd (true≢false (sym h))

@@ -2,36 +2,32 @@
 use Rattle.std.proofs.Common.{◌≡◌, ◌≢◌, ℕ, zero, suc, ◌+◌, ◌*◌, ◌/◌, ◌≤◌, Bool, true, false, List, [], ◌∷◌}
 use Rattle.std.proofs.Common.{◌++◌, Option, refl, sym, ap, subst, ◌∙◌, arith, map, ltb}
 use Rattle.std.specs.Prelude.{◌||◌, ◌&&◌, not, nat_eq, ◌==◌}
-use Rattle.std.specs.List.{list_any, flat_map, All}
+use Rattle.std.specs.List.{list_any, flat_map}
 use Rattle.std.proofs.lemmas.Bool.{or_left, or_right, true≢false, and_parts}
-use Rattle.std.proofs.lemmas.List.Elements.{All-head, All-tail}
 use Rattle.std.proofs.lemmas.List.Folds.{list_any-append}
 use Rattle.std.proofs.lemmas.List.Concat.{flat_map-append}
-use Rattle.z_regs.specs.Cpu.{Cpu}
+use Rattle.std.proofs.Math.Bool.{or-false}
 use Rattle.z_regs.specs.Prefix.{absolute_of, is_prefix, area_size}
 use Rattle.z_regs.specs.Absolute.{absolute_range, absolute_ranges, addresses_of}
 use Rattle.z_regs.specs.declared.ranges.Range.{Range}
 use Rattle.z_regs.proofs.MovedBytes.{same_bytes, same_pages}
-use Rattle.z_instr.specs.declared.instr.Instr.{Instr}
 use Rattle.z_instr.specs.Access.{lies_in, text_pages, absolute_page}
-use Rattle.z_instr.specs.Operands.{Span, IsSmall, from_up, spans}
-use Rattle.z_instr.specs.Table.{entry_at}
-use Rattle.z_instr.proofs.SmallOperands.{sizes}
-use Rattle.tx_serial.specs.Refusals.{range_of}
+use Rattle.z_instr.specs.Operands.{from_up}
 use Rattle.tx_serial.proofs.SmallRanges.{any-text_pages}
 use Rattle.tx_constraint.specs.Constraints.{Step}
 use Rattle.tx_footprint.specs.Places.{has_place}
 use Rattle.tx_footprint.specs.Sizes.{line_size}
+use Rattle.tx_footprint.proofs.Limits as sets
 use Rattle.tx_serial.specs.Flat.{FlatState}
 use Rattle.tx_serial.specs.Attempt.{Run, Missing, footprint}
 use Rattle.tx_serial.specs.Alike as alike
 use Rattle.tx_serial.specs.Alike.{addresses_in, touched_addresses}
-use Rattle.tx_serial.specs.Fate.{operands, step_of}
+use Rattle.tx_serial.specs.Fate.{step_of}
 use Rattle.tx_serial.specs.Run.{run}
 use Rattle.tx_serial.proofs.Copies.{run_prefix}
 use Rattle.tx_serial.proofs.Passing.{passes}
 use Rattle.tx_progress.proofs.OneMore.{went, open_is_there}
-use Rattle.tx_serial.proofs.StoredPlaces.{up_is_range}
+use Rattle.tx_serial.proofs.StoredPlaces.{AreSmall, small_operands, up_is_range}
 
 -- ---- one range
 
@@ -64,22 +60,6 @@ range_there test prefix r ok small =
 
 -- ---- all operands of an instruction
 
-abbrev pub AreSmall : List Range → Type 0
-AreSmall [] = Unit {0}
-AreSmall (r ∷ rs) = (r.length ≤ area_size) × AreSmall rs
-
-all_small : (ss : List Span) → All IsSmall ss → AreSmall (map range_of ss)
-all_small [] h = tt
-all_small (s ∷ ss) h =
-    let first = All-head IsSmall s ss h in
-    let most = first.most in
-    let small : s.length ≤ area_size = omega (arith, most) in
-    (small, all_small ss (All-tail IsSmall s ss h))
-
-pub small_operands : (i : Instr) (c : Cpu) → AreSmall (operands i c)
-small_operands i c =
-    all_small (spans i c.general c.condition) (sizes (entry_at i.op.number).operands i c.general c.condition)
-
 ranges_there : (test : ℕ → Bool) (prefix : Option ℕ) (rs : List Range) → is_prefix prefix ≡ true → AreSmall rs
     → list_any (seen_test prefix test) (addresses_in rs) ≡ any_there test (absolute_ranges prefix rs)
 ranges_there test prefix [] ok small = refl
@@ -106,13 +86,9 @@ there_more test prefix steps touched s ok small old =
     ∙ ap (λ b. b || list_any (seen_test prefix test) (addresses_in s.ranges ++ [])) old
     ∙ ap (λ b. any_there test touched || b)
     (list_any-append (seen_test prefix test) (addresses_in s.ranges) []
-    ∙ or_false (list_any (seen_test prefix test) (addresses_in s.ranges))
+    ∙ or-false (list_any (seen_test prefix test) (addresses_in s.ranges))
     ∙ ranges_there test prefix s.ranges ok small)
     ∙ sym (list_any-append (λ q. list_any test (addresses_of q)) touched (absolute_ranges prefix s.ranges))
-  where
-    or_false : (b : Bool) → (b || false) ≡ b
-    or_false true = refl
-    or_false false = refl
 
 pub run_there : (test : ℕ → Bool) (f : FlatState) (i k : ℕ) → is_prefix (f.cpus i).prefix ≡ true
     → (run f i k).mark ≢ Missing
@@ -151,17 +127,7 @@ pub either_way : (test : Range → Bool) (rs : List Range)
 either_way test [] = refl
 either_way test (r ∷ rs) =
     ap (λ b. test r || b) (either_way test rs)
-    ∙ by r.store (test r) (list_any (λ r. not r.store && test r) rs) (list_any (λ r. r.store && test r) rs)
-  where
-    by : (s t x y : Bool) → (t || (x || y)) ≡ (((not s && t) || x) || ((s && t) || y))
-    by true true true y = refl
-    by true true false y = refl
-    by true false x y = refl
-    by false t x y = assoc t x y
-      where
-        assoc : (t x y : Bool) → (t || (x || y)) ≡ ((t || x) || y)
-        assoc true x y = refl
-        assoc false x y = refl
+    ∙ sets.either_way r.store (test r) (list_any (λ r. not r.store && test r) rs) (list_any (λ r. r.store && test r) rs)
 
 pub touched_lines : (f : FlatState) (i k a : ℕ) → is_prefix (f.cpus i).prefix ≡ true
     → (run f i k).mark ≢ Missing → list_any (nat_eq a) (touched_addresses (run f i k)) ≡ true

@@ -2,9 +2,8 @@
 -- a constrained one goes on.
 use Rattle.std.proofs.Common.{◌≡◌, ℕ, zero, suc, ◌-◌, Bool, true, false, List, [], ◌∷◌, ◌++◌}
 use Rattle.std.proofs.Common.{⊎_elim, Option, Some, None, refl, sym, ap, subst, ◌∙◌, arith, length, take}
-use Rattle.std.specs.Prelude.{if◌then◌else◌, ◌||◌, ◌&&◌, not}
+use Rattle.std.specs.Prelude.{if◌then◌else◌, ◌&&◌, not}
 use Rattle.std.proofs.lemmas.Bool.{true≢false}
-use Rattle.std.proofs.lemmas.List.Folds.{list_any-append}
 use Rattle.z_regs.specs.Cpu.{Cpu}
 use Rattle.z_regs.specs.declared.ranges.Range.{Range}
 use Rattle.z_instr.specs.declared.instr.Instr.{Instr}
@@ -14,11 +13,10 @@ use Rattle.z_effect.specs.Beginning.{begin_of}
 use Rattle.tx_control.specs.declared.begins.Begin.{Begin}
 use Rattle.tx_control.specs.Nesting.{is_constrained}
 use Rattle.tx_constraint.specs.Operations.{ends, is_permitted}
-use Rattle.tx_constraint.specs.Octowords.{with_octowords}
-use Rattle.tx_constraint.specs.Constraints.{Step, Attempt, begun, with_step, text_breach, operand_breach}
+use Rattle.tx_constraint.specs.Constraints.{Step, Attempt, with_step, text_breach, operand_breach}
 use Rattle.tx_constraint.specs.Constraints.{first_of, GoesOn}
 use Rattle.tx_constraint.specs.Kept.{next_text_breach}
-use Rattle.tx_constraint.proofs.Attempts.{text_step}
+use Rattle.tx_constraint.proofs.Attempts.{text_step, begun_goes, goes_further}
 use Rattle.tx_serial.specs.Flat.{FlatState}
 use Rattle.tx_serial.specs.Attempt.{Run, Mark, Open, Overflowed, attempt_of}
 use Rattle.tx_serial.specs.Fate.{Refusal, Goes, fate, step_of, operands, tests, first_refusal}
@@ -75,12 +73,6 @@ begins_not a s goes h =
     (begins_are_barred s.instruction.op.number)
     (no_text_breach _ _ (is_permitted s.instruction) (sym (text_step a s goes) ∙ h))
 
--- ---- the start of an attempt
-
-begun_goes_on : (begin : ℕ) → GoesOn (begun begin)
-unfolding text_breach operand_breach with_octowords
-begun_goes_on begin = record { unended = refl; text = refl; operands = refl }
-
 -- ---- one instruction more
 
 -- what the tests have said of a constrained attempt
@@ -96,19 +88,7 @@ begin_only c i ranges now e b = record {
   at = ap (λ (x : Cpu). x.address) e;
   opened = ap (λ (x : Cpu). begin_of i x.general) e;
   single = λ h. refl;
-  goes_on = λ h. begun_goes_on now.address;
-}
-
--- no end, where the tests have said so
-still_unended : (a : Attempt) (s : Step) → GoesOn a → ends s.instruction ≡ false
-    → text_breach (with_step a s) ≡ None → operand_breach (with_step a s) ≡ None → GoesOn (with_step a s)
-still_unended a s goes e t o = record {
-  unended =
-      list_any-append (λ x. ends x.instruction) a.steps (s ∷ [])
-      ∙ ap (λ b. b || (ends s.instruction || false)) goes.unended
-      ∙ ap (λ b. b || false) e;
-  text = t;
-  operands = o;
+  goes_on = λ h. begun_goes now.address;
 }
 
 none_left : {A : Type 0} (b : Begin) (bs : List Begin) → b ∷ bs ≡ [] → A
@@ -150,7 +130,7 @@ open_by c s ss b bs t new now false false h ex ey clear m = record {
   at = h.at;
   opened = h.opened;
   single = h.single;
-  goes_on = λ k. still_unended (attempt_of (s ∷ ss)) t (h.goes_on k) ey (clear.text k) (clear.operands k);
+  goes_on = λ k. goes_further (attempt_of (s ∷ ss)) t (h.goes_on k) ey (clear.text k) (clear.operands k);
 }
 
 stands_more : (c now : Cpu) (steps : List Step) (nest : List Begin) (i : Instr) (ranges : List Range) (next :

@@ -19,7 +19,8 @@ use Rattle.tx_serial.specs.Stored.{has_store_in}
 use Rattle.tx_progress.specs.Followed.{ChangesIn, beside_in}
 use Rattle.tx_progress.specs.Progress.{seen_through}
 use Rattle.tx_progress.proofs.SeenStores.{laid_is_seen}
-use Rattle.tx_progress.proofs.Lines.{AreSmall, seen_test, range_there}
+use Rattle.tx_serial.proofs.StoredPlaces.{AreSmall}
+use Rattle.tx_progress.proofs.Lines.{seen_test, range_there}
 use Rattle.tx_progress.proofs.Facts.{has_store}
 
 -- ---- stores of operands lie in their lines

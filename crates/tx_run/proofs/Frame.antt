@@ -36,7 +36,7 @@ use Rattle.tx_progress.specs.Progress.{Progress, seen_through, is_live, advanced
 use Rattle.tx_progress.specs.Trial.{at_hand, fate_by_progress, outcome_by, text_refusal_by}
 use Rattle.tx_progress.specs.declared.done.Done.TheVariants.{Stepped}
 use Rattle.tx_cpu.proofs.Goes.{found-so}
-use Rattle.tx_cpu.proofs.Reached.{accessible_spans}
+use Rattle.tx_serial.proofs.Reached.{accessible_spans}
 use Rattle.tx_marks.specs.Away.{is_plain}
 use Rattle.tx_marks.specs.Places.{operand_places, stored_places, is_among}
 use Rattle.tx_marks.proofs.Along.{no_begin}

@@ -15,4 +15,3 @@ pub mod Taking
 -- what callers name of crates below
 pub use Rattle.tx_cpu.proofs.Agreeing
 pub use Rattle.tx_cpu.proofs.Plainly
-pub use Rattle.tx_cpu.proofs.Reached

@@ -1,24 +1,15 @@
 -- The next instruction, where it is known to go away.
-use Rattle.std.proofs.Common.{◌≡◌, ℕ, true, List, refl, sym, ap, subst, ◌∙◌}
+use Rattle.std.proofs.Common.{◌≡◌, ℕ, true, List, refl, sym, subst, ◌∙◌}
 use Rattle.z_regs.specs.declared.ranges.Range.{Range}
 use Rattle.z_instr.specs.declared.instr.Instr.{Instr}
-use Rattle.tx_serial.specs.Fate.{Fate, Goes, Ends, Stops}
+use Rattle.tx_serial.specs.Fate.{Goes}
+use Rattle.tx_serial.proofs.Passing.{goes_alike}
 use Rattle.tx_progress.specs.Doing.{executed}
 use Rattle.std.proofs.lemmas.Bool.{true≢false}
 use Rattle.tx_progress.specs.declared.done.Done.{Done}
 use Rattle.tx_progress.specs.declared.done.Done.TheVariants.{Stepped, Began, Paused, Committed, Interrupted, Ended}
 use Rattle.tx_marks.specs.Away.{is_plain}
 use Rattle.tx_run.specs.Made.{Made, now, next_fate, NextGoesAway, is_stepped}
-
-instruction_in : Instr → Fate → Instr
-instruction_in d (Goes i ranges) = i
-instruction_in d (Ends why) = d
-instruction_in d (Stops e) = d
-
-ranges_in : List Range → Fate → List Range
-ranges_in d (Goes i ranges) = ranges
-ranges_in d (Ends why) = d
-ranges_in d (Stops e) = d
 
 -- it may be made away, and completes
 pub record IsAway (i : Instr) (ranges : List Range) (m : Made) : Type 0 where
@@ -27,12 +18,11 @@ pub record IsAway (i : Instr) (ranges : List Range) (m : Made) : Type 0 where
 
 pub away-is : (text : List ℕ) (m : Made) (i : Instr) (ranges : List Range) → NextGoesAway text m
     → next_fate text m ≡ Goes i ranges → IsAway i ranges m
-unfolding instruction_in ranges_in
 away-is text m i ranges next goes =
     let away = next.away in
-    let both : Goes away.instr away.ranges ≡ Goes i ranges = sym away.goes ∙ goes in
-    let same : away.instr ≡ i = ap (instruction_in i) both in
-    let rest : away.ranges ≡ ranges = ap (ranges_in ranges) both in
+    let both = goes_alike away.instr i away.ranges ranges (sym away.goes ∙ goes) in
+    let same : away.instr ≡ i = both.0 in
+    let rest : away.ranges ≡ ranges = both.1 in
     record {
       plain = subst (λ x. is_plain x ≡ true) same away.plain;
       told = subst (λ rs. (executed i rs (now m)).told ≡ Stepped) rest

@@ -27,6 +27,7 @@ use Rattle.z_instr.specs.Operands.{first_address}
 use Rattle.z_instr.specs.Access.{accessible_pages, text_pages, lies_in}
 use Rattle.z_instr.proofs.TableFacts.{passes_row}
 use Rattle.z_instr.proofs.SmallOperands.{sizes}
+use Rattle.z_instr.proofs.PlainImmediates.{implied}
 use Rattle.z_touch.specs.Refusals.{range_of}
 use Rattle.z_touch.proofs.SmallRanges.{inside_ends, inside_without}
 use Rattle.z_touch.proofs.StoredText.{stored_text}
@@ -200,12 +201,8 @@ begin_bare i c h =
     let e = entry_at i.op.number in
     ap (map range_of)
     (no_spans e.operands i c.general c.condition
-    (absent e.operands (right_of (is_begin e.demand) (is_absent e.operands) (all_begin_bare i.op.number
+    (absent e.operands (implied (is_begin e.demand) (is_absent e.operands) (all_begin_bare i.op.number
     i.op.known) h)))
-  where
-    right_of : (a b : Bool) → (not a || b) ≡ true → a ≡ true → b ≡ true
-    right_of true b g h = g
-    right_of false b g h = absurd (cc)
 
 pub free_operands : (text : List ℕ) (p : Run) (i : Instr) → is_prefix p.cpu.prefix ≡ true
     → first_refusal (tests text p i) ≡ None → AreFree p.cpu.prefix text (operands i p.cpu)

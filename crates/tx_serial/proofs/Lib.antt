@@ -3,13 +3,14 @@ pub mod Examples
 mod Neighbours
 pub mod Lasting
 pub mod Copies
-mod FreeCauses
+pub mod FreeCauses
 pub mod Frame
 pub mod Entries
 pub mod SameCauses
 pub mod Listed
 pub mod Passing
 pub mod FreeOperands
+pub mod Reached
 pub mod TextStays
 pub mod TextKept
 pub mod StoredBytes

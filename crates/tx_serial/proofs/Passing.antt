@@ -31,6 +31,11 @@ ranges_in (Goes i ranges) = ranges
 ranges_in (Ends why) = []
 ranges_in (Stops e) = []
 
+-- what goes on is one instruction, with its ranges
+pub goes_alike : (i j : Instr) (x y : List Range) → Goes i x ≡ Goes j y → (i ≡ j) × (x ≡ y)
+unfolding instruction_in ranges_in
+goes_alike i j x y h = (ap (instruction_in i) h, ap ranges_in h)
+
 stays : (nest : List Begin) (refusal : Refusal) → goes (fate_after nest refusal) ≡ false
 unfolding goes
 stays [] (Excepts e) = refl
@@ -46,14 +51,14 @@ no_fate nest refusal i ranges h = absurd (true≢false (sym (ap goes h) ∙ stay
 by_tests : (text : List ℕ) (p : Run) (i : Instr) (ranges : List Range) (j : Instr) (o : Option Refusal)
     → first_refusal (tests text p j) ≡ o → fetch_refusal text p ≡ None → instruction_at p ≡ Some j
     → fate_by_tests p j o ≡ Goes i ranges → Passes text p i ranges
-unfolding instruction_in ranges_in
 by_tests text p i ranges j None t f r h =
-    let same : j ≡ i = ap (instruction_in j) h in
+    let alike = goes_alike j i (operands j p.cpu) ranges h in
+    let same : j ≡ i = alike.0 in
     record {
       fetched = f;
       reads = r ∙ ap (λ k. Some k) same;
       passed = subst (λ k. first_refusal (tests text p k) ≡ None) same t;
-      touches = sym (ap ranges_in h) ∙ ap (λ k. operands k p.cpu) same;
+      touches = sym alike.1 ∙ ap (λ k. operands k p.cpu) same;
     }
 by_tests text p i ranges j (Some refusal) t f r h = no_fate p.nest refusal i ranges h
 

@@ -8,6 +8,7 @@ use Rattle.std.specs.List.{list_any, range_with_len, flat_map, All}
 use Rattle.std.proofs.lemmas.List.{length-take-le}
 use Rattle.std.proofs.lemmas.List.Elements.{All-head, All-tail}
 use Rattle.std.proofs.lemmas.List.Folds.{list_any-append}
+use Rattle.z_regs.specs.Cpu.{Cpu}
 use Rattle.z_regs.specs.Prefix.{absolute_of, is_prefix, area_size}
 use Rattle.z_regs.specs.Absolute.{absolute_range, absolute_ranges, addresses_of, part_of, to_edge}
 use Rattle.z_regs.specs.declared.ranges.Range.{Range}
@@ -186,10 +187,9 @@ same_after test p i ranges Divides ok small enough old = old
 same_after test p i ranges (Aborts code) ok small enough old = old
 
 -- an instruction that goes has small operands, and a byte for each place of the stored ones
-pub small_operands : (i : Instr) (p : Run) → AreSmall (operands i p.cpu)
-small_operands i p =
-    all_small (spans i p.cpu.general p.cpu.condition)
-    (sizes (entry_at i.op.number).operands i p.cpu.general p.cpu.condition)
+pub small_operands : (i : Instr) (c : Cpu) → AreSmall (operands i c)
+small_operands i c =
+    all_small (spans i c.general c.condition) (sizes (entry_at i.op.number).operands i c.general c.condition)
 
 pub filled : (i : Instr) (p : Run) → Fills (stored_size (operands i p.cpu)) (outcome_of i (operands i p.cpu)
     p)
@@ -199,7 +199,7 @@ same_where : (test : ℕ → Bool) (p : Run) (b : Bool) (i : Instr) → is_prefi
     → AreSame test p
     → AreSame test (after_where b i (operands i p.cpu) p)
 same_where test p true i ok old =
-    same_after test p i (operands i p.cpu) (outcome_of i (operands i p.cpu) p) ok (small_operands i p)
+    same_after test p i (operands i p.cpu) (outcome_of i (operands i p.cpu) p) ok (small_operands i p.cpu)
     (filled i p) old
 same_where test p false i ok old = old
 

@@ -1,9 +1,10 @@
 -- Events that happen one after the other.
-use Rattle.std.proofs.Common.{◌≡◌, ℕ, ◌+◌, ◌<◌, ◌≤◌, Bool, true, false, List, [], ◌∷◌, ◌++◌, Some, None, length}
+use Rattle.std.proofs.Common.{◌≡◌, ℕ, ◌+◌, ◌<◌, ◌≤◌, Bool, true, false, List, [], ◌∷◌, ◌++◌, length}
 use Rattle.std.proofs.Common.{take, get_or, cond, refl, sym, ap, ap₂, subst, ◌∙◌, arith}
-use Rattle.std.specs.Prelude.{count_by, is_none, Option}
+use Rattle.std.specs.Prelude.{count_by}
 use Rattle.std.proofs.lemmas.List.{take_more, take_all}
 use Rattle.std.proofs.lemmas.List.Sums.{sum_by_more_le}
+use Rattle.z_regs.proofs.Elements.{is_nothing}
 use Rattle.tx_journal.specs.Content.{Content}
 use Rattle.tx_journal.specs.declared.events.Event.{Event}
 use Rattle.tx_journal.specs.declared.events.Event.TheVariants.{Turn, External}
@@ -16,10 +17,6 @@ use Rattle.tx_meaning.proofs.Books.{turn_booked, external_booked, unready_stays,
 use Rattle.tx_machine.specs.Machine.{Seen, setting_of, state_of, event_of, after, opened}
 use Rattle.tx_machine.proofs.Most.{meaning_more}
 
-none_by : {A : Type 0} (o : Option A) → is_none o ≡ true → o ≡ None
-none_by None e = refl
-none_by (Some x) e = let n : false ≡ true = e in cc
-
 -- a turn of a CPU that is ready is recorded, that of another is not, and what comes from outside is
 module _ (machine : Seen) (told : (state_of machine).events ≡ machine.events) where
   pub ready_recorded : (i : ℕ) → is_ready (setting_of machine) (state_of machine) i ≡ true
@@ -27,7 +24,7 @@ module _ (machine : Seen) (told : (state_of machine).events ≡ machine.events) 
   unfolding happen
   ready_recorded i ready =
       (turn_booked (setting_of machine) i (state_of machine)
-      (none_by (idle (setting_of machine) (state_of machine) i) ready)).recorded
+      (is_nothing (idle (setting_of machine) (state_of machine) i) ready)).recorded
       ∙ ap (λ l. l ++ Turn i ∷ []) told
 
   pub idle_unrecorded : (i : ℕ) → is_ready (setting_of machine) (state_of machine) i ≡ false

@@ -75,7 +75,7 @@ what i k instr need = executed instr need (beside k i)
 
 -- ---- inside a transaction
 
-inside_so : (i : ℕ) (k : Kept) (instr : Instr) (need : List Range) (d : Done) → IsBefore i k true
+pub inside_so : (i : ℕ) (k : Kept) (instr : Instr) (need : List Range) (d : Done) → IsBefore i k true
     → d ≡ (what i k instr need).told
     → IsCountedInside (k.locals i).attempt.count (what i k instr need).after.local.attempt.count d
 inside_so i k instr need d b told =
@@ -133,25 +133,15 @@ pub ended-may : (i : ℕ) (why : Why) (k left : Kept) (instr : Instr) (need : Li
 ended-may i why k left instr need b told =
     may-end-own why left i (told-own instr need (beside k i) why (rests_or_not i k true b) (sym told))
 
-pub not-inside : (i : ℕ) (k : Kept) (instr : Instr) (need : List Range) (d : Done) → IsBefore i k true
-    → d ≡ (what i k instr need).told
-    → IsCountedInside (k.locals i).attempt.count (what i k instr need).after.local.attempt.count d
-not-inside i k instr need d b told = inside_so i k instr need d b told
-
 -- ---- outside transactions
 
-outside_so : (i : ℕ) (k : Kept) (instr : Instr) (need : List Range) (d : Done) → IsBefore i k false
+pub outside_so : (i : ℕ) (k : Kept) (instr : Instr) (need : List Range) (d : Done) → IsBefore i k false
     → d ≡ (what i k instr need).told
     → IsCountedOutside (what i k instr need).after.local.attempt.count d
 outside_so i k instr need d b told =
     let e = what i k instr need in
     subst (IsCountedOutside e.after.local.attempt.count) (sym told)
     (told-outside instr need (beside k i) (rests_or_not i k false b))
-
-pub not-outside : (i : ℕ) (k : Kept) (instr : Instr) (need : List Range) (d : Done) → IsBefore i k false
-    → d ≡ (what i k instr need).told
-    → IsCountedOutside (what i k instr need).after.local.attempt.count d
-not-outside i k instr need d b told = outside_so i k instr need d b told
 
 step_so : (i : ℕ) (k left next : Kept) (after : Beside) → IsBefore i k false → after.local.attempt.count ≡ 0
     → left ≡ k_left i after k → next ≡ k_written (entry.Step i) left → next ≡ k_stepping i after k

@@ -14,7 +14,7 @@ use Rattle.tx_keeping.specs.Kept.{Kept, with_state, with_standing}
 use Rattle.tx_works.specs.declared.ending.Rung.TheVariants.{Climbs}
 use Rattle.tx_works.specs.Ready.{MayClimb, MayEndBy}
 use Rattle.tx_works.specs.Steps.{k_left, k_climbed, k_lowered, k_descended, rung_after}
-use Rattle.tx_works.proofs.Own.{IsOwn}
+use Rattle.tx_bounds.proofs.Walk.{IsOwn}
 
 -- ---- a conflict
 

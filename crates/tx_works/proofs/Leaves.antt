@@ -4,6 +4,7 @@ use Rattle.std.proofs.Common.{None, is_some, refl, sym, ap, subst, ◌∙◌, ar
 use Rattle.std.specs.Prelude.{◌||◌, ◌==◌, not, nat_lt, if◌then◌else◌}
 use Rattle.std.proofs.lemmas.Bool.{cases_eq, ne_eqb}
 use Rattle.std.proofs.lemmas.List.Folds.{list_any-append}
+use Rattle.std.proofs.Math.Bool.{or-false}
 use borrow.Enum.Arm.{by_way}
 use Rattle.bit_set.specs.Counts.{one_if, count_below, but_at}
 use Rattle.bit_set.proofs.Counts.{count_agree, count_but_at, but_at-same, but_at-other}
@@ -188,14 +189,10 @@ same_rung j s = record {
   held = refl;
 }
 
-or_nothing : (b : Bool) → (b || (false || false)) ≡ b
-or_nothing true = refl
-or_nothing false = refl
-
 joined_waits : (q : List ℕ) (j x : ℕ) → x ≢ j → waits_in (q ++ j ∷ []) x ≡ waits_in q x
 joined_waits q j x ne =
     list_any-append (λ k. k == x) q (j ∷ [])
-    ∙ ap (λ b. waits_in q x || (b || false)) (ne_eqb j x (λ e. ne (sym e))) ∙ or_nothing (waits_in q x)
+    ∙ ap (λ b. waits_in q x || (b || false)) (ne_eqb j x (λ e. ne (sym e))) ∙ or-false (waits_in q x)
 
 joined_head : (q : List ℕ) (j x : ℕ) → x ≢ j → is_first x (q ++ j ∷ []) ≡ is_first x q
 joined_head [] j x ne = ne_eqb j x (λ e. ne (sym e))

@@ -51,12 +51,9 @@ use Rattle.tx_works.specs.declared.acting.Turned.{Turned}
 use Rattle.tx_works.specs.Asks.{is_cpu_starved}
 use Rattle.tx_works.specs.Ready.{owed, MayAsk, MayHold, MayTurn, HasTurn, IsCounted}
 use Rattle.tx_journal.specs.Content.{Content}
-use Rattle.std.specs.Prelude.{if◌then◌else◌, nat_le}
 use Rattle.std.proofs.lemmas.Bool.Decides.{nat_tests}
-use Rattle.tx_meaning.specs.Idle.{idle_by, kept_back}
 use Rattle.tx_meaning.specs.declared.outcome.Outcome.{Outcome}
-use Rattle.tx_meaning.specs.declared.outcome.Outcome.TheVariants.{Spent, Delayed}
-use Rattle.tx_keeping.specs.Kept.{kept_finished}
+use Rattle.tx_meaning.specs.declared.outcome.Outcome.TheVariants.{Delayed}
 use Rattle.tx_keeping.specs.Turn.{k_idle, k_turn, k_turn_where, k_counted_turn, k_by_rules, k_external}
 use Rattle.tx_journal.specs.declared.events.Event.TheVariants.{Turn}
 use Rattle.tx_meaning.specs.Changes.{with_event, counting_turn}
@@ -204,25 +201,6 @@ same-text image limits other i k t = record {
   stops = t.stops;
   text = t.text;
 }
-
-by_spent : (b : Bool) (turns now : ℕ) (back : Option Outcome) → nat_le turns now ≡ b
-    → (if b then Some Spent else back) ≡ None → now < turns
-by_spent true turns now back e none = absurd (cc)
-by_spent false turns now back e none = grind (arith, nat_tests, e)
-
-by_finished : (f : Bool) (m : Setting) (k : Kept) (i : ℕ)
-    → idle_by m.limits f k.state.queue (k.state.numbers i) i ≡ None
-    → (k.state.numbers i).turns < m.limits.turns
-by_finished true m k i none = absurd (cc)
-by_finished false m k i none =
-    by_spent (nat_le m.limits.turns (k.state.numbers i).turns) m.limits.turns (k.state.numbers i).turns
-    (kept_back k.state.queue i) refl none
-
--- a turn that is not idle is one of those that the CPU may have
-pub turns-left : (m : Setting) (k : Kept) (i : ℕ) → k_idle m k i ≡ None
-    → (k.state.numbers i).turns < m.limits.turns
-unfolding k_idle
-turns-left m k i none = by_finished (kept_finished k i) m k i none
 
 pub ticked-is : (m : Setting) (k : Kept) (i : ℕ) (t : KTurned)
     → is_tick m.limits (k.state.numbers i).turns ≡ true → t ≡ k_external i k → t ≡ k_counted_turn m i k

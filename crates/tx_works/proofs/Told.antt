@@ -2,7 +2,7 @@
 use Rattle.std.proofs.Common.{◌≡◌, ℕ, ◌+◌, Bool, true, false, List, [], ◌∷◌, Option, Some, None, is_some}
 use Rattle.std.proofs.Common.{refl, sym, ap, subst, ◌∙◌, arith, take}
 use Rattle.std.specs.Prelude.{if◌then◌else◌, nat_lt, ◌++◌, ◌-◌}
-use Rattle.std.proofs.lemmas.Bool.{or_left}
+use Rattle.std.proofs.lemmas.Bool.{or_left, lt-ltb}
 use Rattle.z_regs.specs.Cpu.{Cpu}
 use Rattle.z_regs.specs.declared.image.RunState.{RunState}
 use Rattle.z_regs.specs.declared.image.RunState.TheVariants.{Running, Halted, Interrupted}
@@ -28,9 +28,6 @@ use Rattle.tx_progress.specs.declared.done.Done.TheVariants as done
 use Rattle.tx_progress.proofs.Rows.{IsDone, role_done}
 use Rattle.tx_progress.proofs.Parts.{not_live}
 
-one_more : (n : ℕ) → nat_lt 0 (n + 1) ≡ true
-one_more n = grind (arith)
-
 -- ---- inside a transaction
 
 abbrev pub IsCountedInside : ℕ → ℕ → Done → Type 0
@@ -53,7 +50,7 @@ inside_counted i ranges b (Did c bytes) live =
     let q = b.local.attempt in
     let next = advanced i ranges c (stores_of ranges bytes q) q in
     closed_counted q.count next next.nest b refl
-inside_counted i ranges b (outcome.Overflowed c bytes) live = one_more b.local.attempt.count
+inside_counted i ranges b (outcome.Overflowed c bytes) live = lt-ltb 0 (b.local.attempt.count + 1) (omega arith)
 inside_counted i ranges b Divides live = live
 inside_counted i ranges b (Aborts code) live = live
 

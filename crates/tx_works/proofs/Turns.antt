@@ -1,10 +1,11 @@
 -- What is kept between events is all that a turn asks of it.
-use Rattle.std.proofs.Common.{◌≡◌, ◌≢◌, ℕ, ◌+◌, ◌<◌, true, false, List, [], Some, None, refl, sym, ap}
+use Rattle.std.proofs.Common.{◌≡◌, ◌≢◌, ℕ, ◌+◌, ◌<◌, true, false, List, [], None, refl, sym, ap}
 use Rattle.std.proofs.Common.{◌∙◌, subst, arith}
-use Rattle.std.specs.Prelude.{◌⊎◌, ◌≤◌, nat_lt, nat_le, ◌∷◌, Option, length, map, All}
-use Rattle.std.proofs.lemmas.Bool.{cases_Bool, ltb-true, and_parts}
+use Rattle.std.specs.Prelude.{◌⊎◌, ◌≤◌, nat_lt, ◌∷◌, Option, length, map, All}
+use Rattle.std.proofs.lemmas.Bool.{cases_Bool}
 use borrow.Enum.Arm.{by_way}
-use Rattle.z_regs.specs.Prefix.{is_prefix, is_accessible, area_size, storage_size}
+use Rattle.z_regs.specs.Prefix.{is_prefix, storage_size}
+use Rattle.z_regs.proofs.OneArea.{accessible_within}
 use Rattle.z_instr.specs.declared.instr.Instr.{Instr}
 use Rattle.z_regs.specs.declared.ranges.Range.{Range}
 use Rattle.tx_ladder.specs.Waiting.{waits_in}
@@ -14,7 +15,8 @@ use Rattle.tx_serial.specs.Fate.{Goes}
 use Rattle.tx_serial.specs.History.{start_of, replay_from}
 use Rattle.tx_progress.specs.Local.{Local}
 use Rattle.tx_progress.specs.Trial.{fate_by_progress}
-use Rattle.tx_progress.proofs.Facts.{keeps_prefix, quiet_nest}
+use Rattle.tx_progress.proofs.Facts.{keeps_prefix}
+use Rattle.tx_progress.proofs.Parts.{rests}
 use Rattle.tx_progress.proofs.Parts.{followed_fate}
 use Rattle.tx_progress.proofs.Standing.{tests_find_nothing}
 use Rattle.tx_progress.specs.Progress.{Progress}
@@ -29,7 +31,7 @@ use Rattle.z_instr.specs.Operands.{spans}
 use Rattle.z_instr.specs.Table.{entry_at}
 use Rattle.z_instr.proofs.SmallOperands.{count, sizes}
 use Rattle.z_touch.specs.Refusals.{range_of}
-use Rattle.tx_lines.proofs.Reached.{accessible_spans}
+use Rattle.tx_serial.proofs.Reached.{accessible_spans}
 use Rattle.z_regs.specs.Absolute.{IsAccessible}
 use Rattle.std.proofs.Math.ListN.{length-map}
 use Rattle.tx_progress.proofs.Lines.{text_there}
@@ -113,14 +115,10 @@ in_reach f i local instr ranges h goes =
 
 -- ---- a block that is pending
 
-last_inside : (prefix : Option ℕ) (a : ℕ) → is_accessible prefix a ≡ true → a < storage_size
-last_inside None a h = ltb-true a storage_size (and_parts (nat_le area_size a) (nat_lt a storage_size) h).1
-last_inside (Some p) a h = ltb-true a storage_size h
-
 block_inside : (prefix : Option ℕ) (text : List ℕ) (b : Pending) → IsPlaced prefix text b
     → b.address + 256 ≤ storage_size
 block_inside prefix text b placed =
-    let last = last_inside prefix (b.address + 255) (placed.free 255 (omega arith)).accessible in
+    let last = accessible_within prefix (b.address + 255) (placed.free 255 (omega arith)).accessible in
     omega (arith, last)
 
 -- ---- the turn
@@ -168,7 +166,7 @@ module _ (m : Setting) (s : IsSetting m) where
           (waiting_rests m s i k w g.truth is) (small_interruption w.block) (few_interruption w.block)).few;
     };
     rests = λ w is. waiting_rests m s i k w g.truth is;
-    rested = λ off. quiet_nest (kept_flat m k) i (k.locals i) (g.truth.each i).followed
+    rested = λ off. rests (kept_flat m k) i (k.locals i) (g.truth.each i).followed
         (sym (live_is m k g.truth i) ∙ off);
     inside = (may_want i k g.truth).inside;
     reach = (may_want i k g.truth).reach;

@@ -1,8 +1,9 @@
 -- The bits that a mask selects, and the first one of a number.
-use Rattle.std.proofs.Common.{◌≡◌, ◌≢◌, ℕ, zero, suc, ◌<◌, ◌≤◌, ◌+◌, ◌*◌, ◌/◌, ◌%◌, ◌^◌, inl, inr, Bool, true}
+use Rattle.std.proofs.Common.{◌≡◌, ◌≢◌, ℕ, zero, suc, ◌<◌, ◌≤◌, ◌+◌, ◌*◌, ◌/◌, ◌%◌, ◌^◌, inl, inr, true}
 use Rattle.std.proofs.Common.{false, nat_eq, min, refl, sym, ap, ◌∙◌, arith}
 use Rattle.std.specs.Prelude.{bit_and, if◌then◌else◌}
 use Rattle.std.specs.Int.{bit_at}
+use Rattle.std.specs.Cmp.{both_ways}
 use Rattle.std.specs.List.{list_all}
 use Rattle.std.proofs.lemmas.Nat.{pow_pos, and_le_r}
 use Rattle.std.proofs.lemmas.Nat.Bits.{bit_at_and, bit_at-lt, bit_at-zero, bit_at_above, same_from_bits_below}
@@ -47,12 +48,6 @@ all_from v (suc k) a m f =
       | inr h ↦ (let e : nat_eq (bit_at m k) 1 ≡ false = h.0 in rw e rest)
     ]
 
--- two tests that say the same
-same_test : (s t : Bool) → (s ≡ true → t ≡ true) → (t ≡ true → s ≡ true) → s ≡ t
-same_test true t f g = sym (f refl)
-same_test false true f g = g refl
-same_test false false f g = refl
-
 -- the lesser of two bits, where the first is known if the second is one
 least_zero : (x y : ℕ) → y < 2 → (y ≡ 1 → x ≡ 0) → min x y ≡ 0
 least_zero x y h f =
@@ -65,7 +60,7 @@ least_second x y h f =
 -- all selected bits are zero exactly where the two have no one in common
 pub all_zeros : (k a m : ℕ) → m < 2 ^ k → list_all (λ b. nat_eq b 0) (selected k a m) ≡ nat_eq (bit_and a m) 0
 all_zeros k a m h =
-    same_test _ _
+    both_ways _ _
     (λ t. eq-eqb (bit_and a m) 0 (same_from_bits_below k (bit_and a m) 0 (omega (arith, and_le_r a m))
     (pow_pos k) (λ i l.
     bit_at_and a m i ∙ least_zero (bit_at a i) (bit_at m i) (bit_at-lt m i) (all_at 0 k a m t i l) ∙
@@ -79,7 +74,7 @@ all_zeros k a m h =
 -- all selected bits are ones exactly where they are all that the mask has
 pub all_ones : (k a m : ℕ) → m < 2 ^ k → list_all (λ b. nat_eq b 1) (selected k a m) ≡ nat_eq (bit_and a m) m
 all_ones k a m h =
-    same_test _ _
+    both_ways _ _
     (λ t. eq-eqb (bit_and a m) m (same_from_bits_below k (bit_and a m) m (omega (arith, and_le_r a m)) h
     (λ i l.
     bit_at_and a m i ∙ least_second (bit_at a i) (bit_at m i) (bit_at-lt m i) (all_at 1 k a m t i l))))

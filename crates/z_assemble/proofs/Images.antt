@@ -12,7 +12,7 @@ use Rattle.z_regs.specs.Prefix.{is_prefix}
 use Rattle.tx_journal.specs.Content.{Content}
 use Rattle.tx_journal.specs.Image.{IsImage, IsStarting, AreApart, IsShown, HasReading, HoldsText, HasFreeArea}
 use Rattle.tx_journal.specs.Image.{length_at, cpu_of_event}
-use Rattle.tx_ladder.specs.Parameters.{IsAllowed, usual}
+use Rattle.tx_journal.proofs.Examples.{usual_allowed}
 use Rattle.z_reading.specs.Listing.{Plan, Task}
 use Rattle.z_setup.specs.Machine.{Machine}
 use Rattle.z_reading.specs.Text.{lines_of}
@@ -43,16 +43,6 @@ no_prefix some other n p e f = absurd (cc)
 
 no_area : (tasks : List Task) (c : Cpu) → c.prefix ≡ None → IsClear tasks c
 no_area tasks c n p e = absurd (cc)
-
-usual_allowed : IsAllowed usual
-usual_allowed = record {
-  reject = (lit≤ tt, lit≤ tt);
-  firm = (lit≤ tt, lit≤ tt);
-  late = (lit≤ tt, lit≤ tt);
-  starve = (lit≤ tt, lit≤ tt);
-  stop = (lit≤ tt, lit≤ tt);
-  delay = (lit≤ tt, lit≤ tt);
-}
 
 ready_holds : (tasks : List Task) (storage : List ℕ) (n : ℕ) → IsMachine tasks n (ready_for storage n)
 unfolding ready_for

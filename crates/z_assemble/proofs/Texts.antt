@@ -12,6 +12,7 @@ use Rattle.std.proofs.lemmas.Grind.{same_number_lists}
 use Rattle.std.proofs.lemmas.List.{length-take-le, length-drop, get_or-take, get_or-drop}
 use Rattle.std.proofs.lemmas.List.Elements.{All-contains}
 use Rattle.std.proofs.lemmas.List.Folds.{list_any_at}
+use Rattle.std.proofs.Math.Bool.{or-true}
 use Rattle.z_instr.proofs.Spelled.{read_size}
 use Rattle.z_instr.specs.Layout.{length_by}
 use Rattle.z_instr.specs.Operands.{HoldsByteOf}
@@ -168,11 +169,7 @@ one_more false p q pages h = inr h
 kept_page : (b : Bool) (p q : ℕ) (pages : Pages) → contains pages q ≡ true →
     contains (if b then insert pages p else pages) q ≡ true
 kept_page true p q pages h = contains-insert nat_cmp_total pages p q
-    ∙ (ap (λ c. eq_by_cmp nat_cmp q p || c) h ∙ or_true (eq_by_cmp nat_cmp q p))
-  where
-    or_true : (b : Bool) → (b || true) ≡ true
-    or_true true = refl
-    or_true false = refl
+    ∙ (ap (λ c. eq_by_cmp nat_cmp q p || c) h ∙ or-true (eq_by_cmp nat_cmp q p))
 kept_page false p q pages h = h
 
 new_page : (p : ℕ) (pages : Pages) → p < 256 → contains (with_page p pages) p ≡ true

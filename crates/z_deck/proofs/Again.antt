@@ -23,7 +23,7 @@ use Rattle.z_deck.specs.Reading.{address_of, count_of, bytes_of, entry_of, IsAcc
 use Rattle.z_deck.specs.Writing.{section_card, text_card, end_card, text_head, is_zero, piece_address, piece_at}
 use Rattle.z_deck.specs.Writing.{cards_of_piece, text_cards, deck_of, deck_of_image, first_entry}
 use Rattle.z_deck.specs.declared.card.CardType.TheVariants.{Section, Text, End}
-use Rattle.z_deck.proofs.Loaded.{more_bytes, no_byte, text_bytes}
+use Rattle.z_deck.proofs.Loaded.{more_bytes, no_byte, text_bytes, over_none}
 use Rattle.z_deck.proofs.Written.{text_parts, first_low}
 
 -- ---- the section, and the end
@@ -295,7 +295,7 @@ module _ (storage : List ℕ) (size : length storage ≡ 1048576) where
   abbrev added : ℕ → Bool → List (List ℕ)
   added n b = if b then [] else text_card (piece_address n) (piece_at storage n) ∷ []
 
-  no_cards : text_cards 0 storage ≡ []
+  pub no_cards : text_cards 0 storage ≡ []
   unfolding text_cards
   no_cards = refl
 
@@ -371,11 +371,7 @@ module _ (storage : List ℕ) (size : length storage ≡ 1048576) where
           ≡ unwrap_or (from_pieces 18579 address) 0
       first_none address =
           ap (λ o. unwrap_or (over (from_pieces 18579 address) o) 0) (no_byte 0 section_card Section section_type refl
-          address) ∙ ap (λ o. unwrap_or o 0) (over_nothing (from_pieces 18579 address))
-        where
-          over_nothing : (o : Option ℕ) → over o None ≡ o
-          over_nothing (Some x) = refl
-          over_nothing None = refl
+          address) ∙ ap (λ o. unwrap_or o 0) (over_none (from_pieces 18579 address))
 
       by : (address : ℕ) → address < 1048576 → IsWritten 18579 → (b : Bool) → nat_lt address 8192 ≡ b
           → unwrap_or (from_pieces 18579 address) 0 ≡ slice_index storage address

@@ -5,6 +5,7 @@ use Rattle.std.proofs.Common.{arith, lt-ltb, le-ltb, le-leb, eq-eqb}
 use Rattle.std.proofs.lemmas.Bool.{lt-leb}
 use Rattle.std.specs.Prelude.{nat_lt, nat_le, ◌==◌}
 use Rattle.std.proofs.lemmas.Bool.{and_parts, leb-true}
+use Rattle.std.proofs.Math.Bool.{and-false, or-true}
 use Rattle.z_deck.specs.Columns.{type_of}
 use Rattle.z_deck.specs.Reading.{fault_of, first_kind, test, is_type, is_text, is_end, is_accessible, is_above}
 use Rattle.z_deck.specs.Reading.{count_of, address_of, entry_of, IsAccessible}
@@ -103,11 +104,7 @@ empty_within first size none =
 pub range_within : (first size : ℕ) → 8192 ≤ first → first + size ≤ 1048576 → is_accessible first size ≡ true
 range_within first size low high =
     ap₂ (λ b c. not (nat_lt 0 size) || (b && c)) (le-leb 8192 first low)
-    (le-leb (first + size) 1048576 high) ∙ or_true (not (nat_lt 0 size))
-  where
-    or_true : (b : Bool) → (b || true) ≡ true
-    or_true true = refl
-    or_true false = refl
+    (le-leb (first + size) 1048576 high) ∙ or-true (not (nat_lt 0 size))
 
 pub low_outside : (first size : ℕ) → 0 < size → first < 8192 → is_accessible first size ≡ false
 low_outside first size some low =
@@ -116,11 +113,7 @@ low_outside first size some low =
 pub high_outside : (first size : ℕ) → 0 < size → 1048576 < first + size → is_accessible first size ≡ false
 high_outside first size some high =
     ap₂ (λ b c. not b || (nat_le 8192 first && c)) (lt-ltb 0 size some) (lt-leb (first + size) 1048576 high)
-    ∙ and_false (nat_le 8192 first)
-  where
-    and_false : (b : Bool) → (b && false) ≡ false
-    and_false true = refl
-    and_false false = refl
+    ∙ and-false (nat_le 8192 first)
 
 pub accessible : (first size : ℕ) → is_accessible first size ≡ true → IsAccessible first size
 accessible first size within some =

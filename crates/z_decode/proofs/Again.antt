@@ -11,7 +11,7 @@ use Rattle.z_instr.specs.declared.layout.Field.{Field}
 use Rattle.z_instr.specs.declared.layout.Field.TheVariants.{Opcode, R1, R2, R3, X, B, D, B2, D2, Imm, Mask, Spare}
 use Rattle.z_instr.specs.Layouts.{rank, is_of, width, digit, paired, spelled, digits_from, number_in, taken, has, is_once, is_whole}
 use Rattle.z_instr.specs.Reading.{AreBytes}
-use Rattle.z_instr.proofs.Digits.{power_above, digit_at, AreDigits, are_digits, unpaired, digits_of_bytes, one_later}
+use Rattle.z_instr.proofs.Digits.{power_above, digit_at, not_there, AreDigits, are_digits, unpaired, digits_of_bytes, one_later}
 use Rattle.z_instr.proofs.Passing.{and_left, and_right}
 use Rattle.z_instr.proofs.Wholes.{rank_own, taken_whole}
 
@@ -71,27 +71,15 @@ other h j k n a e f = elim (cases_lt j k) [
 
 -- ---- the digits of a field's number
 
-empty : (ds : List Digit) (hs : List ℕ) (r k : ℕ) → has ds r k ≡ false → digit_at ds hs r k ≡ 0
-empty [] hs r k e = refl
-empty (d ∷ ds) [] r k e = refl
-empty (d ∷ ds) (h ∷ hs) r k e = at_first (is_of r d && nat_eq d.index k) (empty ds hs r k) e
-  where
-    at_first : (b : Bool) → (has ds r k ≡ false → digit_at ds hs r k ≡ 0)
-        → (if b then true else has ds r k) ≡ false → (if b then h else digit_at ds hs r k) ≡ 0
-    at_first true later f = absurd (cc)
-    at_first false later f = later f
+-- no number has no digits
+no_digit : (m : ℕ) → 0 / m % 16 ≡ 0
+no_digit m = ap (λ x. x % 16) (zero-div m)
 
 -- each digit of the number of a field is what stands in its place
 digit_of_number : (ds : List Digit) (hs : List ℕ) (r k : ℕ) → AreDigits hs → is_once ds ≡ true →
     number_in ds hs r / 16 ^ k % 16 ≡ digit_at ds hs r k
-digit_of_number [] hs r k a o = none (16 ^ k)
-  where
-    none : (m : ℕ) → 0 / m % 16 ≡ 0
-    none m = ap (λ x. x % 16) (zero-div m)
-digit_of_number (d ∷ ds) [] r k a o = none (16 ^ k)
-  where
-    none : (m : ℕ) → 0 / m % 16 ≡ 0
-    none m = ap (λ x. x % 16) (zero-div m)
+digit_of_number [] hs r k a o = no_digit (16 ^ k)
+digit_of_number (d ∷ ds) [] r k a o = no_digit (16 ^ k)
 digit_of_number (d ∷ ds) (h ∷ hs) r k a o =
     by_field (is_of r d) refl (and_left (not (has ds (rank d.field) d.index)) (is_once ds) o)
     (digit_of_number ds hs r k a.1 (and_right _ _ o)) (digit_of_number ds hs r d.index a.1 (and_right _ _ o))
@@ -114,7 +102,7 @@ digit_of_number (d ∷ ds) (h ∷ hs) r k a o =
         ≡ (if b && nat_eq d.index k then h else digit_at ds hs r k)
     by_field true e n rest there =
         by_index (nat_eq d.index k) refl
-        (there ∙ empty ds hs r d.index (absent (rank d.field) (eqb-true _ _ e) n)) rest
+        (there ∙ not_there ds hs r d.index (absent (rank d.field) (eqb-true _ _ e) n)) rest
     by_field false e n rest there = ap (λ m. m / 16 ^ k % 16) (none (number_in ds hs r)) ∙ rest
       where
         none : (n : ℕ) → 0 + n ≡ n
@@ -167,7 +155,7 @@ same_digits (d ∷ ds) (h ∷ hs) (g ∷ gs) o l m e =
 
     later : (r k : ℕ) (b : Bool) → (is_of r d && nat_eq d.index k) ≡ b
         → (if b then h else digit_at ds hs r k) ≡ (if b then g else digit_at ds gs r k) → digit_at ds hs r k ≡ digit_at ds gs r k
-    later r k true f s = empty ds hs r k (absent r k f) ∙ sym (empty ds gs r k (absent r k f))
+    later r k true f s = not_there ds hs r k (absent r k f) ∙ sym (not_there ds gs r k (absent r k f))
     later r k false f s = s
 
 -- ---- bytes

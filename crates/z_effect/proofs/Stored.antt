@@ -1,9 +1,19 @@
 -- Only the stored ranges change.
 use Rattle.std.proofs.Common.{◌≡◌, ℕ, ◌<◌, ◌≤◌, ◌+◌, List, [], ◌∷◌, length, get_or, take, drop, true, false, refl, ◌∙◌, arith, inl, inr, ◌⊎◌, cond}
+use Rattle.std.specs.Prelude.{All}
 use Rattle.std.proofs.lemmas.List.{length-take}
+use Rattle.std.proofs.lemmas.List.Elements.{All-head, All-tail}
 use Rattle.z_instr.specs.Operands.{Span}
 pub use Rattle.z_regs.proofs.Writes.{length-written, below, above}
 use Rattle.z_effect.specs.After.{written, with_stored, AreInside, IsBeside}
+
+-- ranges that end in storage lie in it
+pub are_inside : (ss : List Span) (s : List ℕ) → All (λ r. r.first + r.length ≤ length s) ss → AreInside ss s
+are_inside [] s ends = tt
+are_inside (r ∷ rs) s ends = (
+  All-head (λ x. x.first + x.length ≤ length s) r rs ends,
+  are_inside rs s (All-tail (λ x. x.first + x.length ≤ length s) r rs ends),
+)
 
 short : (n : ℕ) (xs : List ℕ) → length (take n xs) ≤ n
 short n xs = omega (arith, length-take n xs)

@@ -93,7 +93,7 @@ digit_at [] hs r k = 0
 digit_at (d ∷ ds) [] r k = 0
 digit_at (d ∷ ds) (h ∷ hs) r k = if is_of r d && nat_eq d.index k then h else digit_at ds hs r k
 
-not_there : (ds : List Digit) (hs : List ℕ) (r k : ℕ) → has ds r k ≡ false → digit_at ds hs r k ≡ 0
+pub not_there : (ds : List Digit) (hs : List ℕ) (r k : ℕ) → has ds r k ≡ false → digit_at ds hs r k ≡ 0
 not_there [] hs r k e = refl
 not_there (d ∷ ds) [] r k e = refl
 not_there (d ∷ ds) (h ∷ hs) r k e = at_first (is_of r d && nat_eq d.index k) (not_there ds hs r k) e

@@ -1,5 +1,5 @@
 -- No two instructions have one text.
-use Rattle.std.proofs.Common.{◌≡◌, ◌≢◌, ℕ, ◌+◌, ◌<◌, ◌^◌, zero, suc, not, nat_eq, true, List, [], ◌∷◌, ◌++◌, append_assoc, arith, refl, sym, ap, ap₂, ◌∙◌, subst}
+use Rattle.std.proofs.Common.{◌≡◌, ◌≢◌, ℕ, ◌+◌, ◌<◌, ◌^◌, zero, suc, not, nat_eq, true, List, [], ◌∷◌, ◌++◌, append_assoc, drop, arith, refl, sym, ap, ap₂, ◌∙◌, subst}
 use Rattle.std.specs.Prelude.{ℤ, pos, negsuc, ◌+ℤ◌}
 use Rattle.std.specs.Fmt.{decimal, signed_decimal}
 use Rattle.std.specs.List.{list_all}
@@ -196,16 +196,13 @@ same_operand _ _ os ps few also alike is = absurd alike
 
 -- ---- all operands
 
-behind_one : (a b : ℕ) (xs ys : List ℕ) → a ∷ xs ≡ b ∷ ys → xs ≡ ys
-behind_one a b xs ys is = cc
-
 same_further : (os ps : List Operand) → AreSmall os → AreSmall ps → AreAlike os ps
     → further_text os ≡ further_text ps → os ≡ ps
 same_further [] [] few also alike is = refl
 same_further [] (p ∷ ps) few also alike is = absurd alike
 same_further (o ∷ os) [] few also alike is = absurd alike
 same_further (o ∷ os) (p ∷ ps) few also alike is =
-    let s = same_operand o p os ps few.0 also.0 alike.0 (behind_one _ _ _ _ is) in
+    let s = same_operand o p os ps few.0 also.0 alike.0 (ap (drop 1) is) in
     ap₂ (λ (x : Operand) (xs : List Operand). x ∷ xs) s.operand
     (same_further os ps few.1 also.1 alike.1 s.behind)
 
@@ -215,7 +212,7 @@ same_field [] [] few also alike is = refl
 same_field [] (p ∷ ps) few also alike is = absurd alike
 same_field (o ∷ os) [] few also alike is = absurd alike
 same_field (o ∷ os) (p ∷ ps) few also alike is =
-    let s = same_operand o p os ps few.0 also.0 alike.0 (behind_one _ _ _ _ is) in
+    let s = same_operand o p os ps few.0 also.0 alike.0 (ap (drop 1) is) in
     ap₂ (λ (x : Operand) (xs : List Operand). x ∷ xs) s.operand
     (same_further os ps few.1 also.1 alike.1 s.behind)
 

@@ -1,10 +1,11 @@
 -- The steps over the operands of an instruction.
-use Rattle.std.proofs.Common.{◌≡◌, ℕ, ◌+◌, ◌<◌, ◌≤◌, Bool, true, false, ◌&&◌, List, [], ◌∷◌, length, drop}
+use Rattle.std.proofs.Common.{◌≡◌, ℕ, ◌+◌, ◌<◌, ◌≤◌, true, false, ◌&&◌, List, [], ◌∷◌, length, drop}
 use Rattle.std.proofs.Common.{get_or, Some, None, refl, ap, ◌∙◌, arith}
 use Rattle.std.proofs.lemmas.Grind.{common_steps}
 use Rattle.std.proofs.lemmas.List.{drop_all}
 use Rattle.z_instr.specs.declared.form.Slot.{Slot}
 use Rattle.z_instr.specs.declared.instr.Fields.{Fields}
+use Rattle.z_instr.proofs.Passing.{and_right}
 use Rattle.z_operands.specs.Operands.{takes, has_form, with_slot, fields_from, ◌>>=◌}
 use Rattle.z_operands.specs.declared.operand.Operand.{Operand}
 use Rattle.z_fields.proofs.Loops.{drop_here}
@@ -47,11 +48,7 @@ form_length [] [] e = refl
 form_length [] (o ∷ os) e = cc
 form_length (s ∷ ss) [] e = cc
 form_length (s ∷ ss) (o ∷ os) e =
-    let rest = form_length ss os (second_of (takes s o) (has_form ss os) e) in omega arith
-  where
-    second_of : (a b : Bool) → (a && b) ≡ true → b ≡ true
-    second_of true b e = e
-    second_of false b e = cc
+    let rest = form_length ss os (and_right (takes s o) (has_form ss os) e) in omega arith
 
 pub ruleset form_steps = (form_goes, form_fails, form_ends, form_differs, common_steps)
 

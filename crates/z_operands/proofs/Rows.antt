@@ -1,8 +1,8 @@
 -- The first row of a name is the one that is found.
-use Rattle.std.proofs.Common.{◌≡◌, ℕ, zero, suc, ◌+◌, ◌<◌, Bool, true, false, List, [], ◌∷◌, length, get_or}
+use Rattle.std.proofs.Common.{◌≡◌, ℕ, zero, suc, ◌+◌, ◌<◌, Bool, false, List, [], ◌∷◌, length, get_or}
 use Rattle.std.proofs.Common.{Option, Some, None, refl, sym, ap, ◌∙◌, subst, arith, if◌then◌else◌}
 use Rattle.std.proofs.lemmas.Slice.Eq.{bytes_eq-Decides}
-use Rattle.std.specs.Str.{bytes_eq}
+use Rattle.z_text.proofs.Keys.{bytes_differ}
 use Rattle.z_instr.proofs.Distinct.{one_name}
 use Rattle.z_instr.proofs.TableFacts.{same_table}
 use Rattle.z_instr.specs.Table.{Entry, table, entry_at, no_entry}
@@ -13,18 +13,11 @@ by_name : (n : ℕ) (name : List ℕ) (rest : Option ℕ) (b : Bool) → b ≡ f
     (if b then Some n else rest) ≡ rest
 by_name n name rest b e = ap (λ c. if c then Some n else rest) e
 
-other_name : (a b : List ℕ) → (a ≡ b → ⊥) → bytes_eq a b ≡ false
-other_name a b h = by_cases (bytes_eq a b) refl
-  where
-    by_cases : (c : Bool) → bytes_eq a b ≡ c → bytes_eq a b ≡ false
-    by_cases true e = absurd (h ((bytes_eq-Decides a b).0 e))
-    by_cases false e = e
-
 no_row : (n : ℕ) (es : List Entry) (name : List ℕ) →
     ((i : ℕ) → i < length es → (get_or es i no_entry).name ≡ name → ⊥) → row_from n es name ≡ None
 no_row n [] name h = refl
 no_row n (e ∷ es) name h =
-    ap (λ c. if c then Some n else row_from (suc n) es name) (other_name e.name name (h 0 (omega arith)))
+    ap (λ c. if c then Some n else row_from (suc n) es name) (bytes_differ e.name name (h 0 (omega arith)))
     ∙ no_row (suc n) es name (λ i l. h (suc i) (omega arith))
 
 a_row : (n : ℕ) (es : List Entry) (name : List ℕ) (i : ℕ) → i < length es →
@@ -37,7 +30,7 @@ a_row n (x ∷ es) name zero l e h =
     ∙ ap Some same
 a_row n (x ∷ es) name (suc i) l e h =
     let same : suc n + i ≡ n + suc i = omega arith in
-    ap (λ c. if c then Some n else row_from (suc n) es name) (other_name x.name name (h 0 (omega arith)))
+    ap (λ c. if c then Some n else row_from (suc n) es name) (bytes_differ x.name name (h 0 (omega arith)))
     ∙ (a_row (suc n) es name i (omega arith) e (λ j k. h (suc j) (omega arith)) ∙ ap Some same)
 
 rows_in_table : length table ≡ ROWS

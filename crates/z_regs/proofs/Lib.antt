@@ -1,4 +1,4 @@
--- Sets of pages, the exchange of two areas of storage, program status words, and worked values.
+-- Sets of pages, the exchange of two areas of storage, program status words, elements of lists, and worked values.
 pub mod Marks
 pub mod Exchange
 pub mod MovedBytes
@@ -6,5 +6,6 @@ pub mod Words
 pub mod Writes
 pub mod Numbers
 pub mod OneArea
+pub mod Elements
 pub mod Items
 mod Examples

@@ -1,8 +1,9 @@
 -- Bytes that lie in one area, as they are seen.
 use Rattle.std.proofs.Common.{◌≡◌, ℕ, ◌+◌, ◌-◌, ◌%◌, ◌<◌, ◌≤◌, true, List, length, drop, get_or, Option, None, Some, ◌⊎◌, inl, inr, refl, sym, ap, ◌∙◌, arith}
-use Rattle.std.proofs.lemmas.Bool.{cases_lt}
+use Rattle.std.specs.Prelude.{nat_le, nat_lt}
+use Rattle.std.proofs.lemmas.Bool.{cases_lt, and_parts, ltb-true}
 use Rattle.std.proofs.lemmas.List.{ext_get_or, get_or-drop, get_or-take, length-take-le, length-drop}
-use Rattle.z_regs.specs.Prefix.{storage_size, is_prefix, absolute_of}
+use Rattle.z_regs.specs.Prefix.{storage_size, area_size, is_prefix, is_accessible, absolute_of}
 use Rattle.z_regs.specs.Seen.{seen_by}
 use Rattle.z_regs.specs.Written.{range_at, written}
 use Rattle.z_regs.proofs.Exchange.{area, absolute_twice, absolute_within, length-seen, seen_at, to_place}
@@ -17,10 +18,15 @@ pub length-range_at : (s : List ℕ) (a n : ℕ) → a + n ≤ length s → leng
 length-range_at s a n h = length-take-le n (drop a s) (omega (arith, length-drop a s))
 
 -- absolute addresses go on in an area as real ones do
-goes_on : (prefix : Option ℕ) (a k : ℕ) → is_prefix prefix ≡ true → a % 8192 + k < 8192 →
+pub goes_on : (prefix : Option ℕ) (a k : ℕ) → is_prefix prefix ≡ true → a % 8192 + k < 8192 →
     absolute_of prefix (a + k) ≡ absolute_of prefix a + k
 goes_on None a k h i = refl
 goes_on (Some p) a k h i = along p a k (area p h) i
+
+-- a byte that a CPU may reach lies in storage
+pub accessible_within : (prefix : Option ℕ) (a : ℕ) → is_accessible prefix a ≡ true → a < storage_size
+accessible_within None a h = ltb-true a storage_size (and_parts (nat_le area_size a) (nat_lt a storage_size) h).1
+accessible_within (Some p) a h = ltb-true a storage_size h
 
 -- the end of such bytes too lies in storage
 pub end_within : (prefix : Option ℕ) (a n : ℕ) → is_prefix prefix ≡ true → a + n ≤ storage_size → 1 ≤ n →

@@ -16,15 +16,7 @@ use Rattle.z_text.specs.declared.token.Token.{Token}
 use Rattle.z_text.specs.declared.token.TokenKind.{TokenKind}
 use Rattle.z_text.specs.declared.token.TokenKind.TheVariants.{Name, Number, Hex, Sign, Open, Close, Comma}
 use Rattle.z_text.specs.declared.token.TokenKind.TheVariants.{Star}
-use Rattle.std.proofs.lemmas.Bool.{or_right, and_parts}
-
-together : (a b : Bool) → a ≡ true → b ≡ true → (a && b) ≡ true
-together true b p q = q
-together false b p q = cc
-
-or_left : (a b : Bool) → a ≡ true → (a || b) ≡ true
-or_left true b e = refl
-or_left false b e = cc
+use Rattle.std.proofs.lemmas.Bool.{or_left, or_right, and_from, and_parts}
 
 all_drop : (p : Token → Bool) (n : ℕ) (ts : List Token) → list_all p ts ≡ true → list_all p (drop n ts) ≡ true
 all_drop p zero ts h = h
@@ -35,7 +27,7 @@ all_take : (p : Token → Bool) (n : ℕ) (ts : List Token) → list_all p ts �
 all_take p zero ts h = refl
 all_take p (suc n) [] h = refl
 all_take p (suc n) (t ∷ ts) h =
-    let parts = and_parts (p t) (list_all p ts) h in together (p t) _ parts.0 (all_take p n ts parts.1)
+    let parts = and_parts (p t) (list_all p ts) h in and_from (p t) _ parts.0 (all_take p n ts parts.1)
 
 abbrev serves : Token → Bool
 serves t = is_sign t.kind || is_term t.kind
@@ -46,12 +38,12 @@ signed_serve (s ∷ []) h = cc
 signed_serve (s ∷ t ∷ ts) h =
     let parts = and_parts (is_sign s.kind && is_term t.kind) (are_signed_terms ts) h in
     let pair = and_parts (is_sign s.kind) (is_term t.kind) parts.0 in
-    together (serves s) _ (or_left _ _ pair.0) (together (serves t) _ (or_right _ _ pair.1)
+    and_from (serves s) _ (or_left _ _ pair.0) (and_from (serves t) _ (or_right _ _ pair.1)
     (signed_serve ts parts.1))
 
 choice_serve : (b : Bool) (t : Token) (ts : List Token) → is_term t.kind ≡ b → (if b then are_signed_terms ts
     else are_signed_terms (t ∷ ts)) ≡ true → list_all serves (t ∷ ts) ≡ true
-choice_serve true t ts e h = together (serves t) _ (or_right _ _ e) (signed_serve ts h)
+choice_serve true t ts e h = and_from (serves t) _ (or_right _ _ e) (signed_serve ts h)
 choice_serve false t ts e h = signed_serve (t ∷ ts) h
 
 whole_serve : (ts : List Token) → is_expression ts ≡ true → list_all serves ts ≡ true

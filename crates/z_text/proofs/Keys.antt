@@ -1,5 +1,5 @@
 -- Names with the same key are the same.
-use Rattle.std.proofs.Common.{◌≡◌, ℕ, zero, suc, ◌+◌, ◌<◌, ◌≤◌, ◌&&◌, Bool, true, false, List, [], ◌∷◌}
+use Rattle.std.proofs.Common.{◌≡◌, ◌≢◌, ℕ, zero, suc, ◌+◌, ◌<◌, ◌≤◌, ◌&&◌, Bool, true, false, List, [], ◌∷◌}
 use Rattle.std.proofs.Common.{length, get_or, refl, sym, ap, ◌∙◌, arith, not, nat_lt, nat_le, ◌-◌}
 use borrow.Author.Tests.{ltb-true, ltb-false, leb-true}
 use Rattle.std.specs.Str.{bytes_eq}
@@ -17,7 +17,7 @@ use Rattle.std.proofs.lemmas.Grind.{common_steps}
 use Rattle.std.proofs.lemmas.Nat.{be_bytes_8}
 use Rattle.z_text.specs.Labels.{word_at, key_of}
 use Rattle.z_text.specs.Line.{is_name, is_letter_or_digit}
-use Rattle.std.proofs.lemmas.Bool.{and_parts}
+use Rattle.std.proofs.lemmas.Bool.{and_parts, false_from_ne_true}
 
 letter_bounds : (b : ℕ) → is_letter_or_digit b ≡ true → (0 < b) × (b < 256)
 letter_bounds b h = (grind (arith, common_steps), grind (arith, common_steps))
@@ -161,5 +161,8 @@ pub bytes_same : (a b : List ℕ) → bytes_eq a b ≡ true → a ≡ b
 bytes_same a b h = exact_bytes a b (is_equal _ (is_eq-slice_cmp a b ∙ h))
 
 -- A text is found to be the same as itself.
+pub bytes_differ : (a b : List ℕ) → a ≢ b → bytes_eq a b ≡ false
+bytes_differ a b differ = false_from_ne_true (bytes_eq a b) (λ e. differ ((bytes_eq-Decides a b).0 e))
+
 pub bytes_of_itself : (a : List ℕ) → bytes_eq a a ≡ true
 bytes_of_itself a = (bytes_eq-Decides a a).1 refl

@@ -6,16 +6,16 @@ use Rattle.std.specs.Str.{bytes_eq}
 use borrow.Author.Tests.{eqb-true, eqb-false}
 use Rattle.std.proofs.lemmas.List.Sums.{prefix_len_is}
 use Rattle.std.proofs.Common.{zero, suc, set, replicate, [], ◌∷◌}
-use Rattle.std.proofs.lemmas.List.{get_or-set_same, get_or-set_other, length-set}
-use Rattle.std.proofs.lemmas.Option.{slice_get-get_or}
+use Rattle.std.proofs.lemmas.List.{get_or-set_same, get_or-set_other}
 use Rattle.std.specs.List.{prefix_len, slice_get}
+use Rattle.z_regs.proofs.Elements.{put_is_there}
 use Rattle.z_text.specs.declared.value.LabelValue.{LabelValue}
 use Rattle.z_text.specs.Expected.{place_in as first_place, place_for, place_of, value_at}
 use Rattle.z_text.specs.Labels.{key_of, place_in}
 use Rattle.z_text.specs.Line.{is_name}
 use Rattle.z_text.specs.declared.expected.Expected.{Expected}
 use Rattle.z_text.specs.declared.labels.Labels.{Labels}
-use Rattle.z_text.proofs.Keys.{same_name, bytes_same, bytes_of_itself}
+use Rattle.z_text.proofs.Keys.{same_name, bytes_same, bytes_of_itself, bytes_differ}
 use Rattle.std.proofs.lemmas.Bool.{and_parts}
 
 -- A partition point is the length of the prefix that passes.
@@ -27,11 +27,6 @@ prefix_from_point p xs r d bound point =
 
 same_number : (a b : ℕ) → (a == b) ≡ true → a ≡ b
 same_number a b h = eqb-true a b h
-
-get_set_same : {X : Type 0} (xs : List X) (i : ℕ) (y : X) → i < length xs → slice_get (set xs i y) i ≡ Some y
-get_set_same xs i y h =
-    let n : length (set xs i y) ≡ length xs = length-set xs i y in
-    slice_get-get_or (set xs i y) i y (omega arith) ∙ ap Some (get_or-set_same xs i y y h)
 
 get_set_other : {X : Type 0} (xs : List X) (i j : ℕ) (y : X) → (j ≡ i → ⊥) →
     slice_get (set xs i y) j ≡ slice_get xs j
@@ -59,7 +54,7 @@ put_values e n place v h size given values q = by_place (q == place) refl
         ∙ get_or-set_same e.given.items place true false inside) in
         let there : slice_get n.values.items q ≡ Some v =
         ap (λ l. slice_get l q) values ∙ (ap (slice_get (set e.values.items place v)) same
-        ∙ get_set_same e.values.items place v h) in rw (marked, there, t) refl
+        ∙ put_is_there e.values.items place v h) in rw (marked, there, t) refl
     by_place false t =
         let differ : q ≡ place → ⊥ = eqb-false q place t in
         let marks : get_or n.given.items q false ≡ get_or e.given.items q false =
@@ -114,11 +109,7 @@ expected_is l q i e = by_name (is_name q) refl
 
 -- Two texts are the same only where their places are.
 pub apart : (l : Labels) (a b : List ℕ) → (place_in l a ≡ place_in l b → ⊥) → bytes_eq a b ≡ false
-apart l a b differ = by_bytes (bytes_eq a b) refl
-  where
-    by_bytes : (c : Bool) → bytes_eq a b ≡ c → bytes_eq a b ≡ false
-    by_bytes true e = absurd (differ (ap (place_in l) (bytes_same a b e)))
-    by_bytes false e = e
+apart l a b differ = bytes_differ a b (λ same. differ (ap (place_in l) same))
 
 -- Two names that are expected have one place exactly where they are the same.
 pub places_decide : (l : Labels) (a b : List ℕ) (i j : ℕ) → place_in l a ≡ Some i → place_in l b ≡ Some j →

@@ -1,14 +1,13 @@
 -- Pages of small ranges, and sets of pages as lists.
-use Rattle.std.proofs.Common.{◌≡◌, ℕ, zero, suc, ◌+◌, ◌-◌, ◌/◌, ◌<◌, ◌≤◌, Bool, true, false, cond, ◌&&◌, ◌||◌, nat_eq, leb, ltb, List, ◌∷◌, take, Option, None, Some, ◌⊎◌, ◌↔◌, inl, inr, refl, ap, sym, ◌∙◌, arith}
+use Rattle.std.proofs.Common.{◌≡◌, ℕ, zero, suc, ◌+◌, ◌-◌, ◌/◌, ◌<◌, ◌≤◌, Bool, true, false, cond, ◌&&◌, ◌||◌, nat_eq, leb, ltb, List, [], ◌∷◌, Option, None, Some, ◌⊎◌, ◌↔◌, inl, inr, refl, ap, sym, ◌∙◌, arith}
 use Rattle.std.specs.List.{list_any, list_all, filter}
 use Rattle.std.specs.Ordering.{nat_cmp}
 use Rattle.std.specs.Cmp.{unsigned_tied}
 use Rattle.std.specs.FinSet.{FinSet, contains, items, contains-items}
-use Rattle.std.specs.List.{slice_get}
 use Rattle.std.proofs.lemmas.Bool.Decides.{nat_tests}
-use Rattle.std.proofs.lemmas.Bool.{cases_lt}
-use Rattle.std.proofs.lemmas.Option.{get_or_from_slice_get, slice_get_within}
-use Rattle.std.proofs.lemmas.List.Folds.{list_all_at, list_all_more, list_any_at, list_any_more}
+use Rattle.std.proofs.lemmas.Bool.{cases_lt, and_parts}
+use Rattle.std.specs.Prelude.{All}
+use Rattle.std.proofs.lemmas.List.Elements.{All-nil, All-cons, All-head, All-tail}
 use Rattle.z_instr.specs.Operands.{Span, from_up, pieces, IsSmall, is_inside}
 use Rattle.z_instr.specs.Access.{accessible_pages, text_pages, absolute_page}
 use Rattle.std.proofs.Math.Bool.{or-false}
@@ -115,31 +114,6 @@ pub all-pieces : (t : ℕ → Bool) (s : Span) → IsSmall s →
     list_all t (pieces 4096 s) ≡ (t (s.first / 4096) && t ((s.first + s.length - 1) / 4096))
 all-pieces t s small = all_of_two t _ _ _ refl (page_after s.first s.length small.some small.most)
 
--- ---- one range after the other
-
-module _ {X : Type 0} (p : X → Bool) where
-  pub list_all_failed : (xs : List X) (i : ℕ) (x : X) → slice_get xs i ≡ Some x → p x ≡ false →
-      list_all p xs ≡ false
-  list_all_failed xs i x at fails =
-      list_all_at p xs i x (slice_get_within xs i x at) (ap p (get_or_from_slice_get xs i x x at) ∙ fails)
-
-  pub list_all_longer : (xs : List X) (i : ℕ) (x : X) → slice_get xs i ≡ Some x →
-      list_all p (take i xs) ≡ true → p x ≡ true → list_all p (take (i + 1) xs) ≡ true
-  list_all_longer xs i x at before passes =
-      list_all_more p xs i x (slice_get_within xs i x at)
-      ∙ (λ k. before k && (ap p (get_or_from_slice_get xs i x x at) ∙ passes) k)
-
-  pub list_any_passed : (xs : List X) (i : ℕ) (x : X) → slice_get xs i ≡ Some x → p x ≡ true →
-      list_any p xs ≡ true
-  list_any_passed xs i x at passes =
-      list_any_at p xs i x (slice_get_within xs i x at) (ap p (get_or_from_slice_get xs i x x at) ∙ passes)
-
-  pub list_any_longer : (xs : List X) (i : ℕ) (x : X) → slice_get xs i ≡ Some x →
-      list_any p (take i xs) ≡ false → p x ≡ false → list_any p (take (i + 1) xs) ≡ false
-  list_any_longer xs i x at before fails =
-      list_any_more p xs i x (slice_get_within xs i x at)
-      ∙ (λ k. before k || (ap p (get_or_from_slice_get xs i x x at) ∙ fails) k)
-
 -- ---- a range is inside exactly where its first and its last byte are
 
 from_pages : (first n : ℕ) → 0 < n →
@@ -204,3 +178,13 @@ pub inside_ends : (prefix : Option ℕ) (s : Span) → IsSmall s → is_inside (
     s.first + s.length ≤ 1048576
 inside_ends None s small h = ((inside_without s small).0 h).1
 inside_ends (Some p) s small h = (inside_with p s small).0 h
+
+-- and so the ends of all such ranges lie in storage
+pub all_end_inside : (prefix : Option ℕ) (ss : List Span) → All IsSmall ss →
+    list_all (is_inside (accessible_pages prefix)) ss ≡ true → All (λ s. s.first + s.length ≤ 1048576) ss
+all_end_inside prefix [] small h = All-nil (λ s. s.first + s.length ≤ 1048576)
+all_end_inside prefix (s ∷ ss) small h =
+    let both = and_parts (is_inside (accessible_pages prefix) s)
+    (list_all (is_inside (accessible_pages prefix)) ss) h in
+    All-cons (λ s. s.first + s.length ≤ 1048576) s ss (inside_ends prefix s (All-head IsSmall s ss small) both.0)
+    (all_end_inside prefix ss (All-tail IsSmall s ss small) both.1)

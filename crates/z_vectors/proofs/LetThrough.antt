@@ -1,15 +1,14 @@
 -- The operands in storage of an instruction that passes the operand tests lie in storage.
-use Rattle.std.proofs.Common.{◌≡◌, ℕ, ◌<◌, Bool, true, false, ◌&&◌, not, List, [], ◌∷◌, length}
-use Rattle.std.proofs.Common.{Option, None, Some, Ok, refl, sym, ap, ◌∙◌, arith}
+use Rattle.std.proofs.Common.{◌≡◌, ℕ, ◌+◌, ◌<◌, ◌≤◌, Bool, true, false, ◌&&◌, not, List, length}
+use Rattle.std.proofs.Common.{Option, None, Some, Ok, refl, sym, ap, subst, ◌∙◌}
 use Rattle.std.specs.List.{All, list_all}
-use Rattle.std.proofs.lemmas.List.Elements.{All-head, All-tail}
 use Rattle.z_instr.specs.declared.table.TheConstants.{ROWS}
 use Rattle.z_instr.specs.declared.instr.Instr.{Instr}
 use Rattle.z_instr.specs.Table.{Entry, table, entry_at, no_entry}
 use Rattle.z_instr.specs.Facts.{is_begin}
-use Rattle.z_instr.specs.Operands.{Span, IsSmall, is_inside, unspecified}
+use Rattle.z_instr.specs.Operands.{is_inside, unspecified}
 use Rattle.z_instr.specs.Operands.{inaccessible, inaccessible_in}
-use Rattle.z_instr.proofs.Passing.{passes, and_left, and_right}
+use Rattle.z_instr.proofs.Passing.{passes}
 use Rattle.z_instr.proofs.SmallOperands.{sizes}
 use Rattle.z_regs.specs.declared.ranges.Range.{Range}
 use Rattle.z_regs.specs.Cpu.{Cpu}
@@ -17,9 +16,10 @@ use Rattle.z_regs.specs.Prefix.{storage_size}
 use Rattle.z_instr.specs.Table.{kind_at}
 use Rattle.z_effect.specs.Facts.{is_storage}
 use Rattle.z_effect.specs.After.{AreInside, ranges_of}
+use Rattle.z_effect.proofs.Stored.{are_inside}
 use Rattle.z_instr.specs.Access.{accessible_pages, text_pages}
 use Rattle.z_touch.specs.Refusals.{answer, first_of, refusal}
-use Rattle.z_touch.proofs.SmallRanges.{inside_ends}
+use Rattle.z_touch.proofs.SmallRanges.{all_end_inside}
 use Rattle.z_touch.proofs.Reach.{accessible, tested_all}
 use Rattle.z_instr.proofs.ComputedReading.{rows}
 use Rattle.z_instr.proofs.PlainImmediates.{not_second}
@@ -49,16 +49,6 @@ pages_accessible i c depth pages text plain e =
     (sym (tested_all (entry_at i.op.number).demand (ranges_of i c) i c.general depth plain))
     ∙ accessible _ _ _ e
 
-bytes_in_storage : (prefix : Option ℕ) (rs : List Span) (s : List ℕ) → length s ≡ storage_size → All IsSmall rs →
-    list_all (is_inside (accessible_pages prefix)) rs ≡ true → AreInside rs s
-bytes_in_storage prefix [] s size small e = tt
-bytes_in_storage prefix (r ∷ rs) s size small e =
-    let inside = is_inside (accessible_pages prefix) in
-    let here = inside_ends prefix r (All-head IsSmall r rs small) (and_left (inside r) (list_all inside rs) e) in (
-      omega (arith, here),
-      bytes_in_storage prefix rs s size (All-tail IsSmall r rs small) (and_right (inside r) (list_all inside rs) e),
-    )
-
 -- ---- what is answered with ranges passes
 
 second_none : (a b : Option ℕ) → first_of a b ≡ None → b ≡ None
@@ -77,5 +67,7 @@ let_through i c depth text x y known e s size mine =
     not_second (is_storage (kind_at i.op.number)) _ (begins_not i.op.number known) mine in
     let tested = inaccessible i c.general c.condition depth (accessible_pages c.prefix) (text_pages c.prefix text) in
     let passes : tested ≡ None = second_none (unspecified i c.general depth) tested (answered _ i x y e) in
-    bytes_in_storage c.prefix (ranges_of i c) s size (sizes (entry_at i.op.number).operands i c.general c.condition)
-    (pages_accessible i c depth (accessible_pages c.prefix) (text_pages c.prefix text) plain passes)
+    let small = sizes (entry_at i.op.number).operands i c.general c.condition in
+    are_inside (ranges_of i c) s (subst (λ n. All (λ r. r.first + r.length ≤ n) (ranges_of i c)) (sym size)
+    (all_end_inside c.prefix (ranges_of i c) small
+    (pages_accessible i c depth (accessible_pages c.prefix) (text_pages c.prefix text) plain passes)))

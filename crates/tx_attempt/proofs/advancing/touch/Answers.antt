@@ -8,7 +8,7 @@ use Rattle.tx_footprint.specs.Touched.{touching, sets_of, fit_of}
 use Rattle.tx_footprint.proofs.Limits.{nothing_more}
 use Rattle.tx_footprint.proofs.Ones.{only}
 use Rattle.tx_attempt.proofs.Bare.{none-so}
-use Rattle.tx_attempt.proofs.Reached.{ranges_in_storage}
+use Rattle.tx_serial.proofs.Reached.{ranges_in_storage}
 use Rattle.tx_attempt.proofs.advancing.touch.Goals as goal
 
 -- no ranges, and one without a prefix, by absolute addresses

@@ -1,7 +1,7 @@
 use Rattle.std.proofs.Common.{◌≡◌, ◌+◌, ◌%◌, true, false, not, sym, ap, arith}
 use Rattle.std.proofs.lemmas.Bool.{le-leb, lt-leb}
 use Rattle.tx_constraint.specs.Constraints.{is_split}
-use Rattle.tx_constraint.proofs.Lists.{passes_at, none_more}
+use Rattle.z_regs.proofs.Elements.{list_any_passed, list_any_longer}
 use Rattle.tx_constraint.proofs.pieces.is_one_split.Goals as goal
 
 pub returns-then-range-unit : goal.returns-then-range-unit
@@ -9,7 +9,7 @@ returns-then-range-unit c =
     let over : is_split c.args.unit c.at-range.result ≡ true =
     ap not (lt-leb (c.at-range.result.first % c.args.unit + c.at-range.result.length) c.args.unit
     (omega arith)) in
-    sym (passes_at
+    sym (list_any_passed
     (is_split c.args.unit) c.args.touches.now c.loop-i.i c.at-range.result c.at-range.ensures over)
 
 pub loop-i-preserved : goal.loop-i-preserved
@@ -17,4 +17,4 @@ loop-i-preserved c =
     let in_one : is_split c.args.unit c.at-range.result ≡ false =
     ap not (le-leb (c.at-range.result.first % c.args.unit + c.at-range.result.length) c.args.unit
     (omega arith)) in
-    none_more (is_split c.args.unit) c.args.touches.now c.loop-i.i c.at-range.result c.at-range.ensures c.loop-i.invariant in_one
+    list_any_longer (is_split c.args.unit) c.args.touches.now c.loop-i.i c.at-range.result c.at-range.ensures c.loop-i.invariant in_one

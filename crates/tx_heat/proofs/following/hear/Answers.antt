@@ -3,7 +3,7 @@ use Rattle.std.proofs.Common.{◌≡◌, ◌<◌, Some, true, sym, ap, ◌∙◌
 use Rattle.std.proofs.lemmas.Option.{get_or_from_slice_get}
 use Rattle.tx_schedule.specs.Machine.{setting_of, state_of}
 use Rattle.tx_heat.specs.Watched.{Tracked, IsTrack}
-use Rattle.tx_heat.proofs.Counted.{set_same}
+use Rattle.z_regs.proofs.Elements.{put_is_there}
 use Rattle.tx_heat.proofs.Passing.{kept_at, put_track, asked_track, all_rest, speaks_itself, speaks_for_nobody}
 use Rattle.tx_heat.proofs.following.hear.Goals as goal
 
@@ -43,7 +43,7 @@ returns-clause-speaks c = λ t at.
     let k = c.args.cpu in
     let new : Tracked = c.ask.new.self in
     let lt : k < length tracks = omega arith in
-    let there : Some new ≡ Some t = sym (set_same tracks k new lt) ∙ at in
+    let there : Some new ≡ Some t = sym (put_is_there tracks k new lt) ∙ at in
     let same : new ≡ t = cc in
     speaks_itself (setting_of c.args.machine.now) (state_of c.args.machine.now) k t.asked
     (ap (λ (x : Tracked). x.asked) (sym same ∙ c.ask.ensures))

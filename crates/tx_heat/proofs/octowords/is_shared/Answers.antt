@@ -7,7 +7,8 @@ use Rattle.z_regs.specs.declared.ranges.Range.{Range}
 use Rattle.tx_footprint.specs.Places.{has_place}
 use Rattle.tx_heat.specs.Marks.{is_marked}
 use Rattle.tx_heat.specs.Octowords.{asks}
-use Rattle.tx_heat.proofs.Ranges.{any_at, any_more}
+use Rattle.z_regs.proofs.Elements.{list_any_passed}
+use Rattle.tx_heat.proofs.Ranges.{any_more}
 use Rattle.tx_heat.proofs.Marked.{neither_shared}
 use Rattle.tx_heat.proofs.octowords.is_shared.Goals as goal
 
@@ -26,7 +27,7 @@ returns-then-shares-clause-found c = λ is.
     let f = c.shares.ensures.found c.if-shares.true in (
       f.0,
       f.1,
-      any_at (λ (r : Range). has_place 32 r (8 * c.args.line + f.0)) c.args.asked.now c.loop-i.i c.at.result
+      list_any_passed (λ (r : Range). has_place 32 r (8 * c.args.line + f.0)) c.args.asked.now c.loop-i.i c.at.result
           c.at.ensures f.2,
       f.3,
     )

@@ -1,5 +1,5 @@
 use Rattle.std.proofs.Common.{sym, ◌∙◌}
-use Rattle.z_touch.proofs.SmallRanges.{list_all_failed, list_all_longer}
+use Rattle.z_regs.proofs.Elements.{list_all_failed, list_all_longer}
 use Rattle.z_touch.proofs.pages.are_inside.Goals as goal
 
 pub returns-then-not-is_range_inside : goal.returns-then-not-is_range_inside

@@ -1,5 +1,5 @@
 use Rattle.std.proofs.Common.{sym, ◌∙◌}
-use Rattle.z_touch.proofs.SmallRanges.{list_any_passed, list_any_longer}
+use Rattle.z_regs.proofs.Elements.{list_any_passed, list_any_longer}
 use Rattle.z_touch.proofs.pages.is_one_protected.Goals as goal
 
 pub returns-then-is_range_protected : goal.returns-then-is_range_protected

@@ -2,7 +2,8 @@ use Rattle.std.proofs.Common.{List, Bool, false, length, get_or, ap, ◌∙◌}
 use Rattle.std.proofs.lemmas.List.{length-replicate}
 use Rattle.slot_index.specs.Slots.{Slots}
 use Rattle.store_cache.proofs.Kept.{shown, stores_of-is, shown-empty}
-use Rattle.store_cache.proofs.Kept.{emptied, unmarked_at}
+use Rattle.bit_set.proofs.Marks.{blank_at}
+use Rattle.store_cache.proofs.Kept.{emptied}
 use Rattle.store_cache.proofs.cache.StoreCache.empty.Goals as goal
 
 pub invariant_of-self : goal.invariant_of-self
@@ -17,9 +18,9 @@ invariant_of-self c =
     (ap length c.clear-2.ensures ∙ length-replicate (length c.self.inside.value_marks) false
     ∙ c.self.invariant.value_mark_room)
     (ap (λ (v : Slots). v.keys) c.clear-3.ensures)
-    (λ k. ap (λ (ms : List Bool). get_or ms k false) c.clear.ensures ∙ unmarked_at (length c.self.inside.marks) k)
+    (λ k. ap (λ (ms : List Bool). get_or ms k false) c.clear.ensures ∙ blank_at _ k false)
     (λ k. ap (λ (ms : List Bool). get_or ms k false) c.clear-2.ensures
-    ∙ unmarked_at (length c.self.inside.value_marks) k)
+    ∙ blank_at _ k false)
 
 pub returns : goal.returns
 returns c =

@@ -2,7 +2,7 @@ use Rattle.std.proofs.Common.{Bool, false}
 use Rattle.std.proofs.Common.{length, get_or}
 use Rattle.std.proofs.Common.{ap, ◌∙◌, arith}
 use Rattle.std.proofs.lemmas.List.{length-replicate}
-use Rattle.bit_set.proofs.Marks.{clear_at}
+use Rattle.bit_set.proofs.Marks.{blank_at}
 use Rattle.slot_index.specs.Slots.{Slots}
 use Rattle.store_cache.proofs.Kept.{shown, stores_of-is, shown-empty}
 use Rattle.store_cache.proofs.Kept.{emptied}
@@ -19,8 +19,8 @@ invariant_of-result c =
     (omega (arith, c.in_ok-values.ensures.len))
     (ap length c.in_ok-value_marks.ensures ∙ length-replicate {A = Bool} 1024 false)
     (ap (λ (v : Slots). v.keys) index)
-    (λ k. ap (λ l. get_or l k false) c.in_ok-marks.ensures ∙ clear_at 8192 k)
-    (λ k. ap (λ l. get_or l k false) c.in_ok-value_marks.ensures ∙ clear_at 1024 k)
+    (λ k. ap (λ l. get_or l k false) c.in_ok-marks.ensures ∙ blank_at 8192 k false)
+    (λ k. ap (λ l. get_or l k false) c.in_ok-value_marks.ensures ∙ blank_at 1024 k false)
 
 pub returns : goal.returns
 returns c =

@@ -2,7 +2,7 @@
 use Rattle.std.proofs.Common.{subst, sym}
 use Rattle.std.specs.Prelude.{All}
 use Rattle.tx_footprint.specs.Places.{IsInStorage}
-use Rattle.tx_attempt.proofs.Reached.{ranges_in_storage}
+use Rattle.tx_serial.proofs.Reached.{ranges_in_storage}
 use Rattle.tx_attempt.proofs.attempt.Attempt.admit_touches.Goals as goal
 
 pub fits-requires : goal.fits-requires

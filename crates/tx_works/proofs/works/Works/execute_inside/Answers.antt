@@ -12,7 +12,7 @@ use Rattle.tx_works.proofs.Acts.{
   ended-inside,
   ended-live,
   ended-may,
-  not-inside,
+  inside_so,
 }
 use Rattle.tx_works.proofs.works.Works.execute_inside.Goals as goal
 
@@ -56,18 +56,18 @@ returns-in-Ended-clause-value c rest =
 
 pub returns-in-Began-clause-value : goal.returns-in-Began-clause-value
 returns-in-Began-clause-value c rest =
-    absurd (not-inside c.args.cpu (kept_by rest c.args.self.now) c.args.instr.now c.args.need.now
+    absurd (inside_so c.args.cpu (kept_by rest c.args.self.now) c.args.instr.now c.args.need.now
     done.Began (record { counted = refl; live_is = c.requires.live rest })
     (sym c.in-Began.is ∙ c.run.ensures.told rest))
 
 pub returns-in-Paused-clause-value : goal.returns-in-Paused-clause-value
 returns-in-Paused-clause-value c rest =
-    absurd (not-inside c.args.cpu (kept_by rest c.args.self.now) c.args.instr.now c.args.need.now
+    absurd (inside_so c.args.cpu (kept_by rest c.args.self.now) c.args.instr.now c.args.need.now
     (done.Paused c.in-Paused.field-0) (record { counted = refl; live_is = c.requires.live rest })
     (sym c.in-Paused.is ∙ c.run.ensures.told rest))
 
 pub returns-in-Interrupted-clause-value : goal.returns-in-Interrupted-clause-value
 returns-in-Interrupted-clause-value c rest =
-    absurd (not-inside c.args.cpu (kept_by rest c.args.self.now) c.args.instr.now c.args.need.now
+    absurd (inside_so c.args.cpu (kept_by rest c.args.self.now) c.args.instr.now c.args.need.now
     (done.Interrupted c.in-Interrupted.field-0) (record { counted = refl; live_is = c.requires.live rest })
     (sym c.in-Interrupted.is ∙ c.run.ensures.told rest))

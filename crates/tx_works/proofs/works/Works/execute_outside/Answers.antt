@@ -5,7 +5,7 @@ use Rattle.tx_progress.specs.declared.done.Done.TheVariants as done
 use Rattle.tx_keeping.specs.Kept.{beside}
 use Rattle.tx_works.specs.Works.{Works, kept_by}
 use Rattle.tx_works.proofs.Acts.{stepped-outside, paused-outside, interrupted-outside, began-outside}
-use Rattle.tx_works.proofs.Acts.{not-outside, left-attempts}
+use Rattle.tx_works.proofs.Acts.{outside_so, left-attempts}
 use Rattle.tx_works.proofs.works.Works.execute_outside.Goals as goal
 
 pub count_begin-requires-clause-counts : goal.count_begin-requires-clause-counts
@@ -53,12 +53,12 @@ returns-in-Interrupted-clause-value c rest =
 
 pub returns-in-Committed-clause-value : goal.returns-in-Committed-clause-value
 returns-in-Committed-clause-value c rest =
-    absurd (not-outside c.args.cpu (kept_by rest c.args.self.now) c.args.instr.now c.args.need.now
+    absurd (outside_so c.args.cpu (kept_by rest c.args.self.now) c.args.instr.now c.args.need.now
     (done.Committed c.in-Committed.field-0) (record { counted = refl; live_is = c.requires.live rest })
     (sym c.in-Committed.is ∙ c.run.ensures.told rest))
 
 pub returns-in-Ended-clause-value : goal.returns-in-Ended-clause-value
 returns-in-Ended-clause-value c rest =
-    absurd (not-outside c.args.cpu (kept_by rest c.args.self.now) c.args.instr.now c.args.need.now
+    absurd (outside_so c.args.cpu (kept_by rest c.args.self.now) c.args.instr.now c.args.need.now
     (done.Ended c.in-Ended.field-0) (record { counted = refl; live_is = c.requires.live rest })
     (sym c.in-Ended.is ∙ c.run.ensures.told rest))

@@ -4,12 +4,13 @@ use Rattle.tx_journal.specs.declared.events.Event.TheVariants.{Turn}
 use Rattle.tx_meaning.specs.Limits.{Setting, RunLimits}
 use Rattle.tx_meaning.specs.Changes.{with_event}
 use Rattle.tx_keeping.specs.Kept.{Kept, with_state}
+use Rattle.tx_keeping.proofs.Turning.{turn_left}
 use Rattle.tx_works.specs.Ready.{MayAsk, MayTurn}
 use Rattle.tx_works.specs.Steps.{k_counted}
 use Rattle.tx_works.specs.Turned.{turned_as}
 use Rattle.tx_works.specs.Works.{Works, kept_by}
 use Rattle.tx_works.proofs.Turns.{counted_turn_may}
-use Rattle.tx_works.proofs.Lined.{same-text, turns-left, idled-is, turned-on, may-act}
+use Rattle.tx_works.proofs.Lined.{same-text, idled-is, turned-on, may-act}
 use Rattle.tx_works.proofs.works.Works.turn.Goals as goal
 
 pub returns-in-Some-clause-value : goal.returns-in-Some-clause-value
@@ -22,7 +23,7 @@ pub count_turn-requires-clause-few : goal.count_turn-requires-clause-few
 count_turn-requires-clause-few c rest =
     let m : Setting = record { image = c.args.program.now; limits = c.args.limits } in
     let k = kept_by rest c.args.self.now in
-    let left = turns-left m k c.args.cpu (sym (c.idle.ensures rest c.args.program.now) ∙ c.in_default.is) in
+    let left = turn_left m k c.args.cpu (sym (c.idle.ensures rest c.args.program.now) ∙ c.in_default.is) in
     let most = c.limits.invariant.few_turns in
     let same = ap (λ (l : RunLimits). l.turns) c.limits.view_is in
     subst (λ (w : Works). ((kept_by rest w).state.numbers c.args.cpu).turns < 200000) (sym c.note.ensures)
