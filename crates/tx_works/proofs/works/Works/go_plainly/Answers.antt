@@ -14,8 +14,8 @@ use Rattle.tx_works.proofs.Seats.{no_seat}
 use Rattle.tx_works.proofs.Lined.{no_limits, room-now}
 use Rattle.tx_works.proofs.works.Works.go_plainly.Goals as goal
 
-pub execute-requires-clause-prepared : goal.execute-requires-clause-prepared
-execute-requires-clause-prepared c rest =
+pub perform-requires-clause-prepared : goal.perform-requires-clause-prepared
+perform-requires-clause-prepared c rest =
     let m : Setting = record { image = c.args.program.now; limits = no_limits } in
     record {
       text = text_of m;
@@ -24,11 +24,11 @@ execute-requires-clause-prepared c rest =
           ∙ ap (Goes c.args.plain.now.ready.now.instr) (sym c.operands_at-need.ensures);
     }
 
-pub execute-requires-clause-rested : goal.execute-requires-clause-rested
-execute-requires-clause-rested c rest = (c.requires.turns rest no_limits).rested
+pub perform-requires-clause-rested : goal.perform-requires-clause-rested
+perform-requires-clause-rested c rest = (c.requires.turns rest no_limits).rested
 
-pub execute-requires-clause-room : goal.execute-requires-clause-room
-execute-requires-clause-room c = room-now c.args.self.now (c.requires.acts no_seat).room
+pub perform-requires-clause-room : goal.perform-requires-clause-room
+perform-requires-clause-room c = room-now c.args.self.now (c.requires.acts no_seat).room
 
 pub go-requires-clause-prepared : goal.go-requires-clause-prepared
 go-requires-clause-prepared c rest =
@@ -67,7 +67,7 @@ returns-then-holds_operand-clause-value c rest limits =
     c.requires.goes rest limits ∙ ap (Goes instr) (sym c.operands_at-need.ensures) in
     let there = c.holds_operand.ensures rest (items c.args.program.now.guard) (c.requires.quiet rest).prefix
     c.requires.reached c.if-holds_operand.true in
-    c.execute.ensures.value rest
+    c.perform.ensures.value rest
     ∙ there.goes_on m (k_executing i instr need)
     ∙ ap (λ (rs : List Range). k_with_lines m i (operand_needs prefix rs) k (k_executing i instr need))
     (sym c.operands_at-need.ensures)
