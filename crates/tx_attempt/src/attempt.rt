@@ -34,7 +34,7 @@ ghost use Rattle.tx_serial.specs.Fate.{overflow_in};
 ghost use Rattle.tx_progress.specs.Trial.{constraint_refusal};
 ghost use Rattle.tx_attempt.specs.Refused.{found};
 ghost use Rattle.tx_attempt.specs.Plain.{IsPlain};
-ghost use Rattle.std.specs.Prelude.{IfSome, None, false};
+ghost use Rattle.std.specs.Prelude.{IfSome, None, false, Bool, ◌∷◌};
 
 use crate::advancing::{Before, add_operands, change_nest, touch};
 use crate::gathering::gather_stores;
@@ -220,6 +220,9 @@ impl Attempt {
         requires { place + 6 ≤ storage_size }
         ensures { result ≡ false → (k : ℕ) → k < 6 → (stores_of self.now.stores).overlay (place + k) ≡ None }
     {
+        if self.stores.blocks() == 0 {
+            return false;
+        }
         let first = place / BLOCK_SIZE as u64;
         let last = (place + 5) / BLOCK_SIZE as u64;
         if self.stores.has_block(first as u32) {
@@ -318,6 +321,27 @@ impl Attempt {
             return false;
         }
         constraint.admit_operands(instr, need).is_ok()
+    }
+
+    /// Whether it is seen at once that constraints let the attempt have the instruction at an address next, with an
+    /// operand of so many bytes, or none.
+    #[inline(always)]
+    pub fn admits_at_once(&self, instr: &Instr, at: u64, first: u64, size: u32) -> bool
+        ensures text { result ≡ true →
+            constraint_refusal (λ kept. next_text_breach kept instr.now at) instr.now self.now.constraint ≡ None }
+        ensures one { (store : Bool) → result ≡ true →
+            constraint_refusal (λ kept. next_operand_breach kept instr.now
+            (record { first = first; length = size; store = store } ∷ [])) instr.now self.now.constraint ≡ None }
+        ensures none { result ≡ true →
+            constraint_refusal (λ kept. next_operand_breach kept instr.now []) instr.now self.now.constraint ≡ None }
+    {
+        let Some(constraint) = &self.constraint else {
+            return true;
+        };
+        if constraint.admit_text(instr, at).is_err() {
+            return false;
+        }
+        constraint.admits_operand(first, size)
     }
 
     /// Whether the attempt may touch these operands too, which are accessible.

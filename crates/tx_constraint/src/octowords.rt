@@ -1,5 +1,5 @@
 //! The octowords that operands lie in, each once, and at most four.
-ghost use Rattle.std.specs.Prelude.{◌≡◌, ◌+◌, ◌-◌, ◌≤◌, ◌↔◌, ℕ, List, nat_le, length, take, slice_get, IfSome, IsTrue, Some};
+ghost use Rattle.std.specs.Prelude.{◌≡◌, ◌+◌, ◌-◌, ◌≤◌, ◌↔◌, ℕ, List, [], ◌∷◌, nat_le, nat_eq, length, take, slice_get, IfSome, IsTrue, Some};
 ghost use Rattle.std.specs.Bool.{OnTrue};
 ghost use Rattle.std.specs.List.{fold, range_with_len};
 ghost use Rattle.arrayvec.specs.ArrayVec.{array_vec_len};
@@ -9,7 +9,7 @@ use crate::operations::OCTOWORD_SIZE;
 use crate::pieces::{Pieces, pieces_of};
 use arrayvec::ArrayVec;
 use std::marker::Model;
-use z_regs::Touches;
+use z_regs::{Range, Touches};
 
 /// The most octowords that the operands of an attempt may lie in.
 const MOST: usize = 4;
@@ -51,9 +51,29 @@ fn is_at(octowords: &[u64], at: usize, octoword: u64) -> bool
     }
 }
 
-impl Octowords {
-    ghost use Rattle.std.specs.Prelude.{[]};
+/// The octoword of a range, where one octoword has all its bytes, one at least.
+fn whole_octoword(range: Range) -> Option<u64>
+    ensures { IfSome result (λ octoword. (found : List ℕ)
+        → with_octowords found (range ∷ []) ≡ with_octoword found octoword) }
+{
+    if range.length == 0 || range.first % OCTOWORD_SIZE + u64::from(range.length) > OCTOWORD_SIZE {
+        return None;
+    }
+    Some(range.first / OCTOWORD_SIZE)
+}
 
+/// The octoword of the operands, where there is one operand and one octoword has all its bytes.
+fn only_octoword(touches: &Touches) -> Option<u64>
+    ensures { IfSome result (λ octoword. (found : List ℕ)
+        → with_octowords found touches.now ≡ with_octoword found octoword) }
+{
+    if touches.count() != 1 {
+        return None;
+    }
+    whole_octoword(touches.at(0))
+}
+
+impl Octowords {
     /// None.
     pub fn none() -> Octowords
         ensures { result ≡ [] }
@@ -105,6 +125,23 @@ impl Octowords {
         ensures added { OnTrue result (self.new ≡ with_octowords self.old touches.now) }
     {
         let _most = self.numbers.is_full();
+        if touches.count() == 0 {
+            return true;
+        }
+        match only_octoword(touches) {
+            Some(octoword) => self.add(octoword),
+            None => self.add_each(touches),
+        }
+    }
+
+    /// Adds the octowords of each operand in turn.
+    #[cold]
+    #[inline(never)]
+    fn add_each(&mut self, touches: &Touches) -> bool
+        ensures room { result ≡ nat_le (length (with_octowords self.old touches.now)) 4 }
+        ensures added { OnTrue result (self.new ≡ with_octowords self.old touches.now) }
+    {
+        let _most = self.numbers.is_full();
         for i in 0..touches.count() {
             if !self.add_pieces(pieces_of(touches.at(i), OCTOWORD_SIZE)) {
                 return false;
@@ -113,8 +150,16 @@ impl Octowords {
         true
     }
 
+    /// Whether there is no room for one more; there are never more than four.
+    pub fn is_full(&self) -> bool
+        ensures value { result ≡ nat_eq (length self.now) 4 }
+        ensures few { length self.now ≤ 4 }
+    {
+        self.numbers.is_full()
+    }
+
     /// Whether the octoword is there already.
-    fn has(&self, octoword: u64) -> bool
+    pub fn has(&self, octoword: u64) -> bool
         ensures { OnTrue result (with_octoword self.now octoword ≡ self.now) }
     {
         let at = place(self.numbers.as_slice(), octoword);
