@@ -8,7 +8,8 @@ use Rattle.z_instr.specs.declared.instr.Instr.{Instr}
 use Rattle.z_instr.specs.Table.{entry_at}
 use Rattle.tx_constraint.specs.Operations.{is_multiple, unit_of}
 use Rattle.tx_constraint.specs.Bytes.{first_piece, end_piece, is_own_page, touches_own_page}
-use Rattle.tx_constraint.specs.Octowords.{with_octoword, with_octowords}
+use Rattle.z_regs.specs.Rising.{with_number}
+use Rattle.tx_constraint.specs.Octowords.{with_octowords}
 use Rattle.tx_constraint.specs.Constraints.{first_of, is_split}
 use Rattle.tx_constraint.specs.Kept.{Kept, next_operand_breach}
 use Rattle.tx_constraint.proofs.Between.{near_is}
@@ -16,7 +17,7 @@ use Rattle.tx_constraint.proofs.Piling.{octowords_more, with_octowords-none}
 
 -- an operand in one octoword adds that one
 pub one-octoword : (found : List ℕ) (r : Range) → 0 < r.length → r.first % 32 + r.length ≤ 32
-    → with_octowords found (r ∷ []) ≡ with_octoword found (r.first / 32)
+    → with_octowords found (r ∷ []) ≡ with_number found (r.first / 32)
 one-octoword found r some inside =
     let last : (r.first + r.length - 1) / 32 ≡ r.first / 32 = omega (arith, some, inside) in
     let end : end_piece 32 r ≡ r.first / 32 + 1 =
@@ -24,7 +25,7 @@ one-octoword found r some inside =
     (ne_eqb r.length 0 (λ none. absurd (omega (arith, some, none)))) ∙ ap (λ n. n + 1) last in
     let one : end_piece 32 r - first_piece 32 r ≡ 1 = omega (arith, end) in
     octowords_more found (r ∷ []) 0 r refl
-    ∙ (λ i. fold with_octoword (with_octowords-none found i) (range_with_len (r.first / 32) (one i)))
+    ∙ (λ i. fold with_number (with_octowords-none found i) (range_with_len (r.first / 32) (one i)))
 
 -- ---- constraints 5 and 7
 
@@ -77,13 +78,13 @@ empty-breaks k i first store few =
 
 -- nor one in one doubleword, in no page of the 256 bytes, for whose octoword there is room
 pub one-breaks : (k : Kept) (i : Instr) (r : Range) → 0 < r.length → r.first % 8 + r.length ≤ 8
-    → is_own_page k.begin (r.first / 4096) ≡ false → length (with_octoword k.octowords (r.first / 32)) ≤ 4
+    → is_own_page k.begin (r.first / 4096) ≡ false → length (with_number k.octowords (r.first / 32)) ≤ 4
     → next_operand_breach k i (r ∷ []) ≡ None
 unfolding next_operand_breach
 one-breaks k i r some inside other few =
     let added = one-octoword k.octowords r some (omega (arith, inside)) in
     let room = ap (λ xs. ltb 4 (length xs)) added
-    ∙ le-ltb 4 (length (with_octoword k.octowords (r.first / 32))) few in
+    ∙ le-ltb 4 (length (with_number k.octowords (r.first / 32))) few in
     let away = apart k.begin r some inside other in
     let within = whole i r inside in
     λ j. first_of (room j) 4 (first_of (away j || false) 5 (first_of (within j || false) 7 None))

@@ -1,7 +1,8 @@
 -- The operand at the first place is the only one.
 use Rattle.std.proofs.Common.{◌≡◌, ℕ, List, [], ◌∷◌, length, ap, sym, ◌∙◌, arith}
 use Rattle.std.proofs.lemmas.Option.{IfSome_then}
-use Rattle.tx_constraint.specs.Octowords.{with_octoword, with_octowords}
+use Rattle.z_regs.specs.Rising.{with_number}
+use Rattle.tx_constraint.specs.Octowords.{with_octowords}
 use Rattle.tx_constraint.proofs.AtOnce.{one-element}
 use Rattle.tx_constraint.proofs.octowords.only_octoword.Goals as goal
 

@@ -3,7 +3,7 @@ use Rattle.std.proofs.Common.{◌≡◌, ℕ, ◌+◌, ◌%◌, ◌/◌, ◌<◌
 use Rattle.std.proofs.lemmas.Bool.{and_parts, not-true, leb-true, eqb-false, OnTrue_at}
 use Rattle.z_instr.specs.declared.instr.Instr.{Instr}
 use Rattle.tx_constraint.specs.Bytes.{is_own_page}
-use Rattle.tx_constraint.specs.Octowords.{with_octoword}
+use Rattle.z_regs.specs.Rising.{with_number}
 use Rattle.tx_constraint.specs.Kept.{Kept, next_operand_breach}
 use Rattle.tx_constraint.proofs.AtOnce.{none-breaks, empty-breaks, one-breaks}
 use Rattle.tx_constraint.proofs.Standing.{one_longer_at_most}
@@ -16,7 +16,7 @@ few-kept kept now same few = subst (λ (k : Kept). length k.octowords ≤ 4) sam
 -- an operand that lies apart, for whose octoword there is room, by what the tests answer
 apart-breaks : (kept now : Kept) (i : Instr) (first size : ℕ) (store : Bool) → kept ≡ now → 0 < size
     → (leb (first % 8 + size) 8 && not (is_own_page kept.begin (first / 4096))) ≡ true
-    → length (with_octoword kept.octowords (first / 32)) ≤ 4
+    → length (with_number kept.octowords (first / 32)) ≤ 4
     → next_operand_breach now i (record { first = first; length = size; store = store } ∷ []) ≡ None
 apart-breaks kept now i first size store same some tests few =
     let parts = and_parts (leb (first % 8 + size) 8) (not (is_own_page kept.begin (first / 4096))) tests in

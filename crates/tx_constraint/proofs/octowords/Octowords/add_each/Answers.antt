@@ -1,13 +1,13 @@
 use Rattle.std.proofs.Common.{◌≡◌, ℕ, ◌-◌, ◌≤◌, List, leb, length, subst, sym, ap, ◌∙◌, arith}
 use Rattle.std.specs.List.{fold, range_with_len}
 use Rattle.std.proofs.lemmas.Bool.{leb-true}
-use Rattle.tx_constraint.specs.Octowords.{with_octoword}
+use Rattle.z_regs.specs.Rising.{with_number}
 use Rattle.tx_constraint.proofs.Piling.{octowords_more, with_octowords-none, stays_full_after}
 use Rattle.tx_constraint.proofs.octowords.Octowords.add_each.Goals as goal
 
 -- octowords one after the other, beside some
 abbrev in_turn : List ℕ → ℕ → ℕ → List ℕ
-in_turn found first end = fold with_octoword found (range_with_len first (end - first))
+in_turn found first end = fold with_number found (range_with_len first (end - first))
 
 pub loop-i-init : goal.loop-i-init
 loop-i-init c =
