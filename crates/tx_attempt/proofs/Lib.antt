@@ -19,3 +19,5 @@ pub mod GatheredStores
 pub mod Advances
 pub mod StoredMore
 pub mod LastingStores
+pub mod Stepping
+pub mod Registers

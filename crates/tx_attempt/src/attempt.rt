@@ -3,14 +3,15 @@ ghost use Rattle.std.specs.Prelude.{◌≡◌, ◌<◌, ◌≤◌, ◌+◌, ℕ,
 ghost use Rattle.std.specs.Prelude.{slice_index};
 ghost use Rattle.std.specs.Prelude.{true, Some, []};
 ghost use Rattle.z_instr.specs.Roles.{begins as is_begun, block_named};
-ghost use Rattle.z_instr.specs.Table.{entry_at};
+ghost use Rattle.z_instr.specs.Table.{entry_at, kind_at};
 ghost use Rattle.tx_progress.specs.Progress.{advanced};
 ghost use Rattle.std.specs.Prelude.{take, get_or, ◌^◌};
 ghost use Rattle.tx_serial.specs.Flat.{operand_stores};
 ghost use Rattle.z_instr.specs.Roles.{stores_lastingly as lasts};
-ghost use Rattle.tx_attempt.specs.Advancing.{MayAdvance, IsBefore, WasBefore};
+ghost use Rattle.tx_attempt.specs.Advancing.{MayAdvance, IsBefore, WasBefore, MayStep};
 ghost use Rattle.tx_attempt.specs.Gathered.{IsDoubleword};
-ghost use Rattle.tx_attempt.specs.Performed.{first_size, no_range};
+ghost use Rattle.tx_attempt.specs.Performed.{first_size, no_range, is_transaction};
+ghost use Rattle.z_instr.specs.declared.instr.Instr.{Instr};
 ghost use Rattle.z_regs.specs.Cpu.{Cpu};
 ghost use Rattle.z_regs.specs.Prefix.{storage_size};
 ghost use Rattle.store_cache.specs.Entries.{stores_of};
@@ -37,7 +38,7 @@ ghost use Rattle.tx_attempt.specs.Plain.{IsPlain};
 ghost use Rattle.std.specs.Prelude.{IfSome, None, false, Bool, ◌∷◌};
 
 use crate::advancing::{Before, add_operands, change_nest, touch};
-use crate::gathering::gather_stores;
+use crate::gathering::{gather_first, gather_stores};
 use crate::refusal::{Refusal, breach};
 use std::alloc::Global;
 use std::marker::Model;
@@ -497,6 +498,27 @@ impl Attempt {
         );
         touch(&mut self.footprint, need, before.prefix);
         change_nest(&mut self.nest, instr, before.opens);
+        add_operands(&mut self.constraint, need);
+        self.count += 1;
+    }
+
+    /// One instruction more, which is not about transactions, is completed in a live attempt, and has stored these bytes;
+    /// the CPU had this prefix before it.
+    #[inline(always)]
+    pub fn advance_plainly(&mut self, need: &Touches, stored: &[u8], prefix: Option<u32>)
+        requires live { 0 < self.old.count }
+        requires count { self.old.count + 1 < 2 ^ 32 }
+        requires prefix_in { IsTrue (is_prefix prefix) }
+        requires size { (get_or need.now 0 no_range).length ≤ length stored.now }
+        requires accessible { All (IsAccessible prefix) need.now }
+        requires goes_on { MayStep self.old prefix need.now }
+        ensures value { (i : Instr) (x c : Cpu) → is_transaction (kind_at i.op.number) ≡ false → x.prefix ≡ prefix →
+            progress self.new c ≡ advanced i need.now c
+            (operand_stores prefix need.now (take (first_size need.now) stored.now)) (progress self.old x) }
+        ensures live { 0 < self.new.count }
+    {
+        gather_first(&mut self.stores, need, stored, prefix);
+        touch(&mut self.footprint, need, prefix);
         add_operands(&mut self.constraint, need);
         self.count += 1;
     }
