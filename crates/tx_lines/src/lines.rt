@@ -107,24 +107,26 @@ impl Lines {
         }
     }
 
-    /// Whether another CPU's hold stands against a CPU's request for a line.
-    fn stands_against(&self, other: u32, cpu: u32, need: Need) -> bool
-        requires cpu { other < self.now.cpus }
+    /// Whether a holder of a line stands against a CPU's request for it: any other one against an exclusive
+    /// request, only an exclusive one against a shared request.
+    fn stands_against(&self, holder: u32, cpu: u32, need: Need) -> bool
+        requires cpu { holder < self.now.cpus }
         requires line { need.line < storage_lines }
-        ensures { result ≡ stands_against (holders_in self.now) cpu need.line need.mode other }
+        requires held { is_some (holders_in self.now holder need.line) ≡ true }
+        ensures { result ≡ stands_against (holders_in self.now) cpu need.line need.mode holder }
     {
-        if other == cpu {
+        if holder == cpu {
             return false;
         }
-        match self.lines.mode_of(other, need.line) {
-            None => false,
-            Some(Mode::Exclusive) => true,
-            Some(Mode::Shared) => matches!(need.mode, Mode::Exclusive),
+        match need.mode {
+            Mode::Exclusive => true,
+            Mode::Shared => matches!(self.lines.mode_of(holder, need.line), Some(Mode::Exclusive)),
         }
     }
 
     /// The lowest CPU at or above `from` whose hold stands against a CPU's request for a line; None exactly
     /// where there is none.
+    #[inline(always)]
     pub fn next_against(&self, cpu: u32, need: Need, from: u32) -> Option<u32>
         requires line { need.line < storage_lines }
         requires from { from ≤ self.now.cpus }

@@ -1,9 +1,9 @@
 -- The lines of a turn, one after the other, by what each call says of what is kept.
-use Rattle.std.proofs.Common.{◌≡◌, ◌≢◌, ℕ, zero, suc, ◌+◌, ◌-◌, ◌*◌, ◌<◌, ◌≤◌, Bool, true, false, List}
+use Rattle.std.proofs.Common.{◌≡◌, ◌≢◌, ℕ, zero, suc, ◌+◌, ◌*◌, ◌<◌, ◌≤◌, Bool, true, false, List}
 use Rattle.std.proofs.Common.{[], ◌∷◌}
 use Rattle.std.proofs.Common.{length, map, drop, get_or, Option, Some, None, is_some, refl, sym, ap, subst}
 use Rattle.std.proofs.Common.{◌∙◌, arith}
-use Rattle.std.specs.Prelude.{◌||◌, ◌==◌, nat_lt, if◌then◌else◌}
+use Rattle.std.specs.Prelude.{◌||◌, ◌==◌, nat_lt}
 use Rattle.std.specs.List.{list_any}
 use Rattle.std.proofs.lemmas.Bool.{cases_Bool, or_parts, or_left, or_right, and_from, ltb-false}
 use Rattle.std.proofs.lemmas.Bool.{not_from_false}
@@ -34,7 +34,7 @@ use Rattle.tx_meaning.specs.Asking.{is_there}
 use Rattle.tx_keeping.specs.Kept.{Kept, kept_footprint, with_state}
 use Rattle.tx_keeping.specs.Asking.{KAsked, k_ask_each, k_granting, k_take_line, k_get_line, k_get_each}
 use Rattle.tx_keeping.specs.Asking.{k_get_lines}
-use Rattle.tx_keeping.specs.Asking.{k_all_given, k_get_unless, k_then_ask}
+use Rattle.tx_keeping.specs.Asking.{k_all_given, k_get_unless, k_then_ask, k_unless_rejected}
 use Rattle.tx_works.specs.Works.{Works, Seat, IsSameSize, kept_by}
 use Rattle.tx_works.specs.Ready.{MayAsk, MayHold}
 use Rattle.tx_works.specs.Asks.{AskLeaves, IsReady, IsFew, asked_by}
@@ -188,6 +188,24 @@ ready_for_fewer fewer most i w k le ready = record {
     asked = omega (arith, ready.counts.asked);
   };
 }
+
+-- ---- the only line
+
+all_asked : (a : KAsked) (r : Option Reject) → a.reject ≡ r → a ≡ k_then_ask a k_all_given
+all_asked a None e =
+    ap (λ (r : Option Reject). record { kept = a.kept; reject = r }) e
+    ∙ sym (ap (λ (r : Option Reject). k_unless_rejected r a.kept k_all_given) e)
+all_asked a (Some reject) e =
+    ap (λ (r : Option Reject). record { kept = a.kept; reject = r }) e
+    ∙ sym (ap (λ (r : Option Reject). k_unless_rejected r a.kept k_all_given) e)
+
+-- what asks for the only line asks for all that is needed
+pub one_got : (m : Setting) (i : ℕ) (need : Need) (k after : Kept) (r : Option Reject)
+    → ◌≡◌ {A = KAsked} (record { kept = after; reject = r }) (k_get_line m i (need ∷ []) need k)
+    → ◌≡◌ {A = KAsked} (record { kept = after; reject = r }) (k_get_lines m i (need ∷ []) k)
+unfolding k_get_each
+one_got m i need k after r asked =
+    all_asked (record { kept = after; reject = r }) r refl ∙ ap (λ (a : KAsked). k_then_ask a k_all_given) asked
 
 -- ---- one line after the other
 

@@ -18,14 +18,15 @@ use Rattle.std.proofs.Common.{
   ap,
 }
 use Rattle.std.proofs.Common.{subst, ◌∙◌, arith, length, is_some}
-use Rattle.std.specs.Prelude.{nat_lt, ◌∷◌}
+use Rattle.std.specs.Prelude.{nat_lt, ◌∷◌, All}
 use Rattle.std.proofs.lemmas.Bool.{and_parts}
 use Rattle.z_regs.specs.declared.ranges.Range.{Range}
 use Rattle.bit_set.specs.Counts.{count_below}
 use Rattle.tx_control.specs.declared.causes.Why.TheVariants as why
 use Rattle.tx_ladder.specs.Rungs.{is_starved}
 use Rattle.tx_meaning.specs.Limits.{Setting, RunLimits}
-use Rattle.z_regs.specs.Prefix.{storage_size}
+use Rattle.z_regs.specs.Absolute.{absolute_range, absolute_ranges}
+use Rattle.z_regs.specs.Prefix.{storage_size, is_prefix}
 use Rattle.z_regs.specs.declared.waiting.Waiting.{Waiting}
 use Rattle.tx_serial.specs.Flat.{Pending}
 use Rattle.tx_serial.specs.Flat.{address_of}
@@ -49,7 +50,8 @@ use Rattle.tx_keeping.specs.Turn.{
 }
 use Rattle.tx_works.specs.declared.acting.Turned.{Turned}
 use Rattle.tx_works.specs.Asks.{is_cpu_starved}
-use Rattle.tx_works.specs.Ready.{owed, MayAsk, MayHold, MayTurn, HasTurn, IsCounted}
+use Rattle.tx_needs.proofs.SmallPlaces.{ranges-small, ranges-inside, accessible-places}
+use Rattle.tx_works.specs.Ready.{owed, MayAsk, MayHold, MayTurn, HasTurn, IsCounted, IsInReach}
 use Rattle.tx_journal.specs.Content.{Content}
 use Rattle.std.proofs.lemmas.Bool.Decides.{nat_tests}
 use Rattle.tx_meaning.specs.declared.outcome.Outcome.{Outcome}
@@ -77,6 +79,39 @@ pub given-is : (m : Setting) (i : ℕ) (places ranges : List Range) (k new : Kep
 given-is m i places ranges k new r next t same asked told =
     told ∙ ap (λ (q : KAsked). k_once_given i q.reject q.kept next) asked
     ∙ ap (λ (p : List Range). k_with_lines m i (needs_of p) k next) same
+
+here : (ranges : List Range) → ranges ≡ absolute_ranges None ranges
+unfolding absolute_range
+here [] = refl
+here (r ∷ rs) = ap (λ (l : List Range). r ∷ l) (here rs)
+
+-- without a prefix ranges stand where their addresses say
+pub bare-ranges : (prefix : Option ℕ) (ranges : List Range) → prefix ≡ None → ranges ≡ absolute_ranges prefix ranges
+bare-ranges prefix ranges none = here ranges ∙ ap (λ (p : Option ℕ). absolute_ranges p ranges) (sym none)
+
+-- operands in reach are small then
+pub bare-small : (prefix own : Option ℕ) (ranges : List Range) → prefix ≡ own → IsInReach own ranges
+    → is_prefix prefix ≡ true → prefix ≡ None → All (λ (r : Range). r.length ≤ 256) ranges
+bare-small prefix own ranges same reach ok none =
+    subst (λ (rs : List Range). All (λ (r : Range). r.length ≤ 256) rs) (sym (bare-ranges prefix ranges none))
+    (ranges-small prefix ranges ok
+    (accessible-places own ranges reach.accessible))
+
+-- and lie in storage
+pub bare-inside : (prefix own : Option ℕ) (ranges : List Range) → prefix ≡ own → IsInReach own ranges
+    → is_prefix prefix ≡ true → prefix ≡ None
+    → All (λ (r : Range). r.first + r.length ≤ storage_size) ranges
+bare-inside prefix own ranges same reach ok none =
+    subst (λ (rs : List Range). All (λ (r : Range). r.first + r.length ≤ storage_size) rs)
+    (sym (bare-ranges prefix ranges none))
+    (ranges-inside prefix ranges ok (accessible-places own ranges reach.accessible))
+
+-- nobody is asked where nothing is needed
+pub nothing-got : (m : Setting) (i : ℕ) (k : Kept) (prefix : Option ℕ) (need : List Range) → length need ≡ 0
+    → ◌≡◌ {A = KAsked} (record { kept = k; reject = None }) (k_get_lines m i (operand_needs prefix need) k)
+unfolding needs_of asking.k_get_each
+nothing-got m i k prefix [] e = refl
+nothing-got m i k prefix (r ∷ rs) e = absurd (omega arith)
 
 -- a starved attempt is aborted, and the reject is told
 pub starved-is : (i : ℕ) (r : Reject) (at : ℕ) (k next : Kept) (t : Turned) → at ≡ next_address k i
@@ -160,13 +195,6 @@ pub acting-taken : (m : Setting) (i : ℕ) (k : Kept) (p : Option Pending) (wait
 acting-taken m i k None None block t none e told = absurd (cc)
 acting-taken m i k None (Some w) block t none e told = told w.block (let same : is_some w.block ≡ block = cc in same)
 acting-taken m i k (Some b) waiting block t none e told = absurd (cc)
-
--- an instruction that touches nothing needs no line
-pub without-needs : (m : Setting) (i : ℕ) (k : Kept) (prefix : Option ℕ) (need : List Range) (next : Kept → KTurned)
-    → length need ≡ 0 → next k ≡ k_with_lines m i (operand_needs prefix need) k next
-unfolding needs_of asking.k_get_each
-without-needs m i k prefix [] next e = refl
-without-needs m i k prefix (r ∷ rs) next e = absurd (omega arith)
 
 pub same-ranges : (a b : Option (List ℕ)) → is_some a ≡ is_some b → interruption_ranges a ≡
     interruption_ranges b

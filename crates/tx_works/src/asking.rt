@@ -151,6 +151,7 @@ impl Works {
     }
 
     /// The holder yields the line as it is needed.
+    #[inline(never)]
     fn yield_line(&mut self, holder: u32, need: Need)
         requires holder { holder < length self.old.slots }
         requires line { need.line < storage_lines }
@@ -172,6 +173,7 @@ impl Works {
 
     /// One question: a CPU asks a holder for a line, as it needs it. The reject, if the holder rejects the
     /// request; else the holder stands against it no longer.
+    #[inline(always)]
     pub fn ask(&mut self, cpu: u32, need: Need, holder: u32) -> Option<Refused>
         requires cpu { cpu < length self.old.slots }
         requires holder { holder < length self.old.slots }
@@ -210,6 +212,7 @@ impl Works {
     }
 
     /// The lowest CPU at or above `from` whose hold stands against a CPU's request for a line.
+    #[inline(always)]
     fn next_against(&self, cpu: u32, need: Need, from: u32) -> Option<u32>
         requires line { need.line < storage_lines }
         requires from { from ≤ length self.now.slots }
@@ -222,6 +225,7 @@ impl Works {
 
     /// A CPU asks all others that stand against its request for a line, until one rejects it. The reject,
     /// if one does; else nobody stands against the request any more.
+    #[inline(always)]
     pub fn ask_all(&mut self, cpu: u32, need: Need) -> Option<Refused>
         requires cpu { cpu < length self.old.slots }
         requires line { need.line < storage_lines }

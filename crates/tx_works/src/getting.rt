@@ -1,10 +1,11 @@
 //! How a CPU gets the lines that a turn needs.
 ghost use Rattle.std.specs.Prelude.{◌≡◌, ℕ, ◌+◌, ◌<◌, ◌≤◌, true, false, [], All, List, length, map, is_some};
-ghost use Rattle.std.specs.Prelude.{IfSome, ◌==◌, ◌∷◌};
+ghost use Rattle.std.specs.Prelude.{IfSome, ◌==◌, ◌∷◌, if◌then◌else◌};
 ghost use Rattle.std.specs.List.{list_any};
 ghost use Rattle.z_regs.specs.Prefix.{storage_size};
 ghost use Rattle.line_table.specs.Sizes.{storage_lines};
 ghost use Rattle.line_table.specs.Holders.{against};
+ghost use Rattle.line_table.specs.declared.table.Mode.TheVariants.{Shared, Exclusive};
 ghost use Rattle.tx_lines.specs.Owned.{holders_in};
 ghost use Rattle.tx_needs.specs.Needs.{need_at};
 ghost use Rattle.tx_meaning.specs.declared.asking.Need.{Need};
@@ -19,6 +20,7 @@ ghost use Rattle.tx_works.specs.Asks.{IsReady, IsFew, AskLeaves, asked_by, rejec
 
 use crate::asking::Refused;
 use crate::works::Works;
+use line_table::Mode;
 use tx_meaning::Need;
 use tx_needs::{MOST_NEEDS, lines_needed, need_for};
 use z_regs::Touches;
@@ -26,10 +28,18 @@ use z_regs::Touches;
 /// The bytes of a line.
 const LINE_SIZE: u64 = 256;
 
-/// The only line of ranges, where there is one range, and it lies in a line.
-fn only_line(ranges: &Touches) -> Option<u32>
+/// How the line of bytes is needed: exclusively where they are stored, else shared.
+fn mode_for(store: bool) -> Mode
+    ensures { result ≡ (if store then Exclusive else Shared) }
+{
+    if store { Mode::Exclusive } else { Mode::Shared }
+}
+
+/// All that ranges need, where there is one range, and it lies in a line.
+fn only_need(ranges: &Touches) -> Option<Need>
     requires { All (λ r. r.first + r.length ≤ storage_size) ranges.now }
-    ensures { IfSome result (λ line. map (need_at ranges.now) (line ∷ []) ≡ needs_of ranges.now) }
+    ensures needs { IfSome result (λ need. needs_of ranges.now ≡ need ∷ []) }
+    ensures in_storage { IfSome result (λ need. need.line < storage_lines) }
 {
     if ranges.count() != 1 {
         return None;
@@ -39,7 +49,9 @@ fn only_line(ranges: &Touches) -> Option<u32>
     if length == 0 || range.first % LINE_SIZE + length > LINE_SIZE {
         return None;
     }
-    Some((range.first / LINE_SIZE) as u32)
+    let line = (range.first / LINE_SIZE) as u32;
+    let mode = mode_for(range.store);
+    Some(Need { line, mode })
 }
 
 impl Works {
@@ -54,6 +66,7 @@ impl Works {
 
     /// The CPU gets a line that nobody stands against. Where it holds as many as it may, it gives up one
     /// that neither its attempt nor this turn needs, whose lines are `needed`.
+    #[inline(never)]
     fn take_line(&mut self, cpu: u32, need: Need, needed: &[u32])
         requires cpu { cpu < length self.old.slots }
         requires line { need.line < storage_lines }
@@ -72,6 +85,7 @@ impl Works {
     /// The CPU gets one of the lines that a turn needs, which are `needed`: where it does not hold it as it
     /// needs it, it asks all that stand against that. The reject, if one rejects its request; else the line
     /// is there.
+    #[inline(always)]
     pub fn get_line(&mut self, cpu: u32, need: Need, needed: &[u32]) -> Option<Refused>
         requires cpu { cpu < length self.old.slots }
         requires line { need.line < storage_lines }
@@ -101,7 +115,29 @@ impl Works {
         None
     }
 
+    /// The CPU gets the only line that a turn needs. The reject, if its request is rejected; else the line is
+    /// there.
+    #[inline(always)]
+    fn get_only(&mut self, cpu: u32, need: Need) -> Option<Refused>
+        requires cpu { cpu < length self.old.slots }
+        requires line { need.line < storage_lines }
+        requires few { (rest : Seat) → IsFew cpu (need.line ∷ []) (kept_by rest self.old) }
+        requires ready { (rest : Seat) → IsReady 128 cpu self.old (kept_by rest self.old) }
+        ensures kept { (rest : Seat) (m : Setting) → cpus_of m ≡ length self.old.slots
+            → asked_by rest self.new (rejected_in result) ≡ k_get_lines m cpu (need ∷ []) (kept_by rest self.old) }
+        ensures size { IsSameSize self.old self.new }
+        ensures leaves { (rest : Seat)
+            → AskLeaves (length self.old.slots) 128 cpu (kept_by rest self.old) (kept_by rest self.new) }
+        ensures refused { (rest : Seat) → is_some result ≡ true
+            → is_head (kept_by rest self.new).state cpu ≡ false }
+        ensures starved { (rest : Seat) → IfSome result
+            (λ r. r.starved ≡ is_cpu_starved (kept_by rest self.new) cpu) }
+    {
+        self.get_line(cpu, need, &[need.line])
+    }
+
     /// The CPU gets these lines one after the other, as the ranges need them.
+    #[inline(never)]
     fn get_each(&mut self, cpu: u32, ranges: &Touches, lines: &[u32]) -> Option<Refused>
         requires cpu { cpu < length self.old.slots }
         requires in_storage { All (λ r. r.first + r.length ≤ storage_size) ranges.now }
@@ -130,9 +166,34 @@ impl Works {
         None
     }
 
+    /// The CPU gets the lines that ranges by absolute addresses need, in rising order, each looked for among all of
+    /// the ranges.
+    #[inline(never)]
+    fn get_several(&mut self, cpu: u32, ranges: &Touches) -> Option<Refused>
+        requires cpu { cpu < length self.old.slots }
+        requires small { All (λ r. r.length ≤ 256) ranges.now }
+        requires in_storage { All (λ r. r.first + r.length ≤ storage_size) ranges.now }
+        requires holds { (rest : Seat) → MayHold cpu (needs_of ranges.now) (kept_by rest self.old) }
+        requires ready { (rest : Seat) → IsReady 128 cpu self.old (kept_by rest self.old) }
+        ensures kept { (rest : Seat) (m : Setting) → cpus_of m ≡ length self.old.slots
+            → asked_by rest self.new (rejected_in result)
+            ≡ k_get_lines m cpu (needs_of ranges.now) (kept_by rest self.old) }
+        ensures size { IsSameSize self.old self.new }
+        ensures leaves { (rest : Seat)
+            → AskLeaves (length self.old.slots) 128 cpu (kept_by rest self.old) (kept_by rest self.new) }
+        ensures refused { (rest : Seat) → is_some result ≡ true
+            → is_head (kept_by rest self.new).state cpu ≡ false }
+        ensures starved { (rest : Seat) → IfSome result
+            (λ r. r.starved ≡ is_cpu_starved (kept_by rest self.new) cpu) }
+    {
+        let lines = lines_needed(ranges);
+        self.get_each(cpu, ranges, lines.as_slice())
+    }
+
     /// The CPU gets the lines that ranges by absolute addresses need, in rising order, until one of its
     /// requests is rejected. There are at most four ranges, each of at most 256 bytes. The reject, if there
     /// is one; else the lines are there.
+    #[inline(always)]
     pub fn get_lines(&mut self, cpu: u32, ranges: &Touches) -> Option<Refused>
         requires cpu { cpu < length self.old.slots }
         requires small { All (λ r. r.length ≤ 256) ranges.now }
@@ -157,10 +218,9 @@ impl Works {
         ensures starved { (rest : Seat) → IfSome result
             (λ r. r.starved ≡ is_cpu_starved (kept_by rest self.new) cpu) }
     {
-        if let Some(line) = only_line(ranges) {
-            return self.get_each(cpu, ranges, &[line]);
+        if let Some(need) = only_need(ranges) {
+            return self.get_only(cpu, need);
         }
-        let lines = lines_needed(ranges);
-        self.get_each(cpu, ranges, lines.as_slice())
+        self.get_several(cpu, ranges)
     }
 }

@@ -1,5 +1,5 @@
 //! What a CPU does in its turn: the lines first.
-ghost use Rattle.std.specs.Prelude.{◌≡◌, ◌+◌, ◌<◌, ◌≤◌, ◌∷◌, [], All, IsTrue, ℕ, List, Option, true, false, is_some, length};
+ghost use Rattle.std.specs.Prelude.{◌≡◌, ◌+◌, ◌<◌, ◌≤◌, ◌∷◌, [], All, IsTrue, ℕ, List, Option, true, false, IfSome, is_some, length};
 ghost use Rattle.z_regs.specs.Absolute.{absolute_ranges};
 ghost use Rattle.z_regs.specs.Prefix.{is_prefix, storage_size};
 ghost use Rattle.tx_lines.specs.Plans.{IsPrepared, HasPlanRoom, fate_of};
@@ -18,12 +18,13 @@ ghost use Rattle.tx_keeping.specs.Kept.{text_of};
 ghost use Rattle.tx_keeping.specs.Moves.{k_storing, k_taking};
 ghost use Rattle.tx_keeping.specs.Turn.{k_refused_turn, k_with_lines, k_executing, k_turned, k_attempting};
 ghost use Rattle.tx_keeping.specs.Turn.{k_external, k_acting};
-ghost use Rattle.tx_works.specs.Asks.{is_cpu_starved};
+ghost use Rattle.tx_keeping.specs.Asking.{k_get_lines};
+ghost use Rattle.tx_works.specs.Asks.{is_cpu_starved, asked_by, rejected_in};
 ghost use Rattle.tx_works.specs.InTurn.{MayAct, block_awaited};
-ghost use Rattle.tx_works.specs.Ready.{MayAsk, MayHold, MayTurn, IsInReach, image_storage};
+ghost use Rattle.tx_works.specs.Ready.{MayAsk, MayHold, MayTurn, HasTurn, IsInReach, image_storage, owed};
 ghost use Rattle.tx_works.specs.Turned.{turned_as};
 ghost use Rattle.tx_works.specs.Wanted.{MayWant, operands_of, wanted_by};
-ghost use Rattle.tx_works.specs.Works.{Seat, kept_by, IsSameSize};
+ghost use Rattle.tx_works.specs.Works.{Seat, kept_by, seats_of, IsSameSize};
 
 use crate::acting::{Turned, without_reject};
 use crate::asking::Refused;
@@ -31,13 +32,34 @@ use crate::places::{block_places, interruption_places, operand_places};
 use crate::works::Works;
 use tx_control::Why;
 use tx_lines::{Plain, Plan, Program, operands_at};
-use tx_meaning::Outcome;
+use tx_meaning::{Outcome, Reject};
 use z_instr::instr::Instr;
 use z_regs::Touches;
 
 impl Works {
-    /// A request of the CPU was rejected: its turn is at its end, and a starved attempt is aborted.
+    /// A request of the CPU was rejected, and its attempt is starved by that: it is aborted.
+    #[cold]
     #[inline(never)]
+    fn starve(&mut self, cpu: u32, reject: Reject) -> Turned
+        requires cpu { cpu < length self.old.slots }
+        requires asks { (rest : Seat) → MayAsk (length self.old.slots) cpu (kept_by rest self.old) }
+        requires behind { (rest : Seat) → is_head (kept_by rest self.old).state cpu ≡ false }
+        requires starved { (rest : Seat) → is_cpu_starved (kept_by rest self.old) cpu ≡ true }
+        requires room { length self.old.history < self.old.room }
+        ensures value { (rest : Seat) → let k = kept_by rest self.old in
+            turned_as (kept_by rest self.new) result ≡ k_refused_turn (is_cpu_starved k cpu) cpu reject k }
+        ensures size { IsSameSize self.old self.new }
+    {
+        let at = self.next_address(cpu);
+        let ended = self.end_by(cpu, Why::Starved, at);
+        Turned {
+            outcome: ended.outcome,
+            reject: Some(reject),
+        }
+    }
+
+    /// A request of the CPU was rejected: its turn is at its end, and a starved attempt is aborted.
+    #[inline(always)]
     fn refuse(&mut self, cpu: u32, refused: Refused) -> Turned
         requires cpu { cpu < length self.old.slots }
         requires asks { (rest : Seat) → MayAsk (length self.old.slots) cpu (kept_by rest self.old) }
@@ -51,12 +73,7 @@ impl Works {
     {
         let reject = refused.reject;
         if refused.starved {
-            let at = self.next_address(cpu);
-            let ended = self.end_by(cpu, Why::Starved, at);
-            return Turned {
-                outcome: ended.outcome,
-                reject: Some(reject),
-            };
+            return self.starve(cpu, reject);
         }
         Turned {
             outcome: Outcome::Rejected {
@@ -74,6 +91,44 @@ impl Works {
         ensures prefix_in { IsTrue (is_prefix result) }
     {
         self.slots[cpu as usize].cpu.image().prefix
+    }
+
+    /// The CPU gets the lines of operands. Without a prefix these stand where their addresses say. The reject, if one of
+    /// its requests is rejected; else the lines are there.
+    #[inline(always)]
+    fn get_operands(&mut self, cpu: u32, need: &Touches) -> Option<Refused>
+        requires cpu { cpu < length self.old.slots }
+        requires reach { (rest : Seat) →
+            IsInReach ((kept_by rest self.old).locals cpu).attempt.cpu.prefix need.now }
+        requires holds { (rest : Seat) → let k = kept_by rest self.old in
+            MayHold cpu (operand_needs (k.locals cpu).attempt.cpu.prefix need.now) k }
+        requires acts { (rest : Seat) → MayAct cpu self.old rest }
+        ensures kept { (rest : Seat) (m : Setting) → cpus_of m ≡ length self.old.slots
+            → let k = kept_by rest self.old in asked_by rest self.new (rejected_in result)
+            ≡ k_get_lines m cpu (operand_needs (k.locals cpu).attempt.cpu.prefix need.now) k }
+        ensures size { IsSameSize self.old self.new }
+        ensures own { (rest : Seat)
+            → (kept_by rest self.new).locals cpu ≡ (kept_by rest self.old).locals cpu }
+        ensures asks { (rest : Seat) → MayAsk (length self.new.slots) cpu (kept_by rest self.new) }
+        ensures owed_no_more { (rest : Seat)
+            → owed self.new (kept_by rest self.new) ≤ owed self.old (kept_by rest self.old) }
+        ensures turn { (rest : Seat) → HasTurn (seats_of rest self.new.slots cpu) 0 }
+        ensures refused { (rest : Seat) → is_some result ≡ true
+            → is_head (kept_by rest self.new).state cpu ≡ false }
+        ensures starved { (rest : Seat) → IfSome result
+            (λ r. r.starved ≡ is_cpu_starved (kept_by rest self.new) cpu) }
+    {
+        if need.count() == 0 {
+            return None;
+        }
+        let prefix = self.prefix(cpu);
+        match prefix {
+            None => self.get_lines(cpu, need),
+            Some(_) => {
+                let places = operand_places(need, prefix);
+                self.get_lines(cpu, &places)
+            }
+        }
     }
 
     /// An instruction that goes: it is executed where the lines of its operands are there.
@@ -95,12 +150,7 @@ impl Works {
             (k_executing cpu instr.now need.now) }
         ensures size { IsSameSize self.old self.new }
     {
-        if need.count() == 0 {
-            return self.execute(cpu, instr, need);
-        }
-        let prefix = self.prefix(cpu);
-        let places = operand_places(need, prefix);
-        match self.get_lines(cpu, &places) {
+        match self.get_operands(cpu, need) {
             Some(refused) => self.refuse(cpu, refused),
             None => self.execute(cpu, instr, need),
         }
