@@ -179,18 +179,6 @@ fn add_entry(text: &mut Vec<u8>, entry: &Entry) -> Result<(), AllocError>
     add_line(text, Line::of(entry))
 }
 
-/// Adds the line of an entry, and makes room behind it for so many lines of steps and commits with small
-/// numbers.
-#[inline(never)]
-fn add_other(text: &mut Vec<u8>, entry: &Entry, lines: usize) -> Result<(), AllocError>
-    requires { 8 * lines < 2 ^ 64 }
-    ensures items { OnOk result (text.new.items ≡ text.old.items ++ entry_text entry.now) }
-    ensures room { OnOk result (vec_len text.new + 8 * lines ≤ vec_capacity text.new) }
-{
-    add_entry(text, entry)?;
-    text.reserve(lines * SMALL_ROOM)
-}
-
 /// Adds the line of a step of a CPU of one digit or two, where there is room for it.
 #[inline(always)]
 fn push_step(text: &mut Vec<u8>, cpu: u32)
@@ -223,6 +211,27 @@ fn push_commit(text: &mut Vec<u8>, cpu: u32, count: u32)
     text.push_reserved(b'\n');
 }
 
+/// Adds the line of an entry, where there is room for a commit with small numbers. Behind it there is room for
+/// so many more.
+#[inline(never)]
+fn add_other(text: &mut Vec<u8>, entry: &Entry, lines: usize) -> Result<(), AllocError>
+    requires lines { 8 * lines < 2 ^ 64 }
+    requires room { vec_len text.old + 8 + 8 * lines ≤ vec_capacity text.old }
+    ensures items { OnOk result (text.new.items ≡ text.old.items ++ entry_text entry.now) }
+    ensures room { OnOk result (vec_len text.new + 8 * lines ≤ vec_capacity text.new) }
+{
+    match *entry {
+        Entry::Commit(cpu, count) if cpu < SMALL && count < SMALL => {
+            push_commit(text, cpu, count);
+            Ok(())
+        }
+        _ => {
+            add_entry(text, entry)?;
+            text.reserve(lines * SMALL_ROOM)
+        }
+    }
+}
+
 /// Adds the lines of entries. Most lines of a long report are steps and commits, with numbers of one digit or
 /// two: there is always room for as many as may still come.
 fn add_entries(text: &mut Vec<u8>, entries: &[Entry]) -> Result<(), AllocError>
@@ -234,9 +243,6 @@ fn add_entries(text: &mut Vec<u8>, entries: &[Entry]) -> Result<(), AllocError>
         left -= 1;
         match *entry {
             Entry::Step(cpu) if cpu < SMALL => push_step(text, cpu),
-            Entry::Commit(cpu, count) if cpu < SMALL && count < SMALL => push_commit(
-                text, cpu, count,
-            ),
             _ => add_other(text, entry, left)?,
         }
     }
