@@ -27,8 +27,11 @@ fn classes_of_the_architecture(rt: HostRuntime) {
         (0x0007, 1, 1),
     ];
     for (code, class, at_fetch) in kinds {
-        assert_eq!(rt; class_of(exception(code, false)), class);
-        assert_eq!(rt; class_of(exception(code, true)), at_fetch);
+        let classes = [
+            class_of(exception(code, false)),
+            class_of(exception(code, true)),
+        ];
+        assert_eq!(rt; classes, [class, at_fetch]);
     }
     let named = [
         codes::OPERATION,
@@ -52,9 +55,12 @@ fn classes_that_controls_filter(rt: HostRuntime) {
         (2, [false, true, true]),
         (3, [false, false, false]),
     ] {
-        assert_eq!(rt; is_filtered(1, control), filtered[0]);
-        assert_eq!(rt; is_filtered(2, control), filtered[1]);
-        assert_eq!(rt; is_filtered(3, control), filtered[2]);
+        let told = [
+            is_filtered(1, control),
+            is_filtered(2, control),
+            is_filtered(3, control),
+        ];
+        assert_eq!(rt; told, filtered);
     }
 }
 
@@ -79,7 +85,6 @@ fn bits_of_a_begin(rt: HostRuntime) {
             block,
             constrained: false,
         };
-        assert_eq!(rt; Begin::of(field, block, false), plain);
         let constrained = Begin {
             mask,
             a,
@@ -88,7 +93,8 @@ fn bits_of_a_begin(rt: HostRuntime) {
             block: None,
             constrained: true,
         };
-        assert_eq!(rt; Begin::of(field, None, true), constrained);
+        let told = [Begin::of(field, block, false), Begin::of(field, None, true)];
+        assert_eq!(rt; told, [plain, constrained]);
     }
 }
 
@@ -113,6 +119,25 @@ fn in_force(nest: &Nest) -> (bool, bool, u8) {
     )
 }
 
+/// The controls a and f, and that of filtering.
+type Controls = (bool, bool, u8);
+
+/// What is in force in no level, in both of two levels, and in the outer one again; and whether the nest is the same as the
+/// outer one alone, inside the inner level and behind it.
+fn in_force_of(outer: Controls, inner: Controls) -> ([Controls; 3], [bool; 2]) {
+    let mut nest = Nest::none();
+    let none = in_force(&nest);
+    nest.enter(controlled(outer.0, outer.1, outer.2));
+    let mut before = Nest::none();
+    before.copy_from(&nest);
+    nest.enter(controlled(inner.0, inner.1, inner.2));
+    let inside = in_force(&nest);
+    let same_inside = nest.same(&before);
+    nest.leave();
+    let same_behind = nest.same(&before);
+    ([none, inside, in_force(&nest)], [same_inside, same_behind])
+}
+
 #[test]
 fn the_strictest_level_decides(rt: HostRuntime) {
     // the controls of an outer and an inner begin, and what both leave in force
@@ -123,25 +148,14 @@ fn the_strictest_level_decides(rt: HostRuntime) {
         ((true, false, 1), (true, true, 0), (true, false, 1)),
         ((true, true, 2), (true, true, 2), (true, true, 2)),
     ] {
-        let mut nest = Nest::none();
-        let none = in_force(&nest);
-        nest.enter(controlled(outer.0, outer.1, outer.2));
-        let mut before = Nest::none();
-        before.copy_from(&nest);
-        nest.enter(controlled(inner.0, inner.1, inner.2));
-        let inside = in_force(&nest);
-        let same_inside = nest.same(&before);
-        nest.leave();
-        assert_eq!(rt;
-            [none, inside, in_force(&nest)],
-            [(true, true, 0), both, outer]
-        );
-        assert_eq!(rt; [same_inside, nest.same(&before)], [false, true]);
+        let told = in_force_of(outer, inner);
+        let controls = [(true, true, 0), both, outer];
+        assert_eq!(rt; told, (controls, [false, true]));
     }
 }
 
-#[test]
-fn the_outermost_begin_decides(rt: HostRuntime) {
+/// Depth, mask, block and kind of sixteen levels, and the depth of none.
+fn sixteen_levels() -> (u32, u8, Option<u64>, bool, u32) {
     let mut nest = Nest::none();
     nest.enter(Begin {
         mask: 0xC0,
@@ -156,12 +170,18 @@ fn the_outermost_begin_decides(rt: HostRuntime) {
             nest.enter(controlled(true, true, 0));
         }
     }
-    assert_eq!(rt; nest.depth(), 16);
-    assert_eq!(rt; nest.mask(), 0xC0);
-    assert_eq!(rt; nest.block(), None);
-    assert!(rt; nest.constrained());
+    if nest.depth() == 0 {
+        return (0, 0, None, false, 0);
+    }
+    let (depth, mask, block) = (nest.depth(), nest.mask(), nest.block());
+    let constrained = nest.constrained();
     nest.clear();
-    assert_eq!(rt; nest.depth(), 0);
+    (depth, mask, block, constrained, nest.depth())
+}
+
+#[test]
+fn the_outermost_begin_decides(rt: HostRuntime) {
+    assert_eq!(rt; sixteen_levels(), (16, 0xC0, None, true, 0));
 }
 
 #[test]

@@ -207,23 +207,32 @@ fn doubleword(block: &[u8; BLOCK_SIZE], k: usize) -> u64 {
     }
 }
 
+/// Whether the doublewords of a block from a place on are these.
+fn has_from(block: &[u8; BLOCK_SIZE], from: usize, doublewords: &[u64]) -> bool {
+    for (k, due) in doublewords.iter().enumerate() {
+        if doubleword(block, from.saturating_add(k)) != *due {
+            return false;
+        }
+    }
+    true
+}
+
+/// Whether the block of an abort has this head, and then zeros, and the registers at its end.
+fn is_told(why: Why, nest: &Nest, general: [u64; 16], at: u64, head: &[u64; 5]) -> bool {
+    if nest.depth() == 0 {
+        return false;
+    }
+    let mut image = CpuImage::entering(0x5000);
+    image.general = general;
+    let block = block_of(why, nest, &image, at);
+    has_from(&block, 0, head) && has_from(&block, 5, &[0; 11]) && has_from(&block, 16, &general)
+}
+
 #[test]
 fn blocks_of_all_causes(rt: HostRuntime) {
     for (why, depth, constrained, general, at, head) in BLOCKS {
-        let mut image = CpuImage::entering(0x5000);
-        image.general = general;
         let nest = nest_of(depth, constrained);
-        assert!(rt; 0 < nest.depth());
-        let block = block_of(why, &nest, &image, at);
-        for k in 0..5 {
-            assert_eq!(rt; doubleword(&block, k), head[k]);
-        }
-        for k in 5..16 {
-            assert_eq!(rt; doubleword(&block, k), 0);
-        }
-        for k in 0..16 {
-            assert_eq!(rt; doubleword(&block, 16 + k), general[k]);
-        }
+        assert!(rt; is_told(why, &nest, general, at, &head), "{head:?}");
     }
 }
 
@@ -247,26 +256,42 @@ fn condition_codes(rt: HostRuntime) {
     for (why, condition) in table {
         assert_eq!(rt; condition_of(why), condition);
     }
-    assert_eq!(rt; code_of(Why::Starved), 255);
-    assert_eq!(rt; code_of(Why::Tabort(u64::MAX)), u64::MAX);
+    let codes = [code_of(Why::Starved), code_of(Why::Tabort(u64::MAX))];
+    assert_eq!(rt; codes, [255, u64::MAX]);
+}
+
+/// The registers once those that a mask selects are given back.
+fn restored(image: &mut CpuImage, mask: u8) -> [u64; 16] {
+    restore(image, &ALL_DIFFERENT, mask);
+    image.general
 }
 
 #[test]
 fn pairs_come_back(rt: HostRuntime) {
-    let saved = ALL_DIFFERENT;
     let mut image = CpuImage::entering(0x5000);
     image.general = [7; 16];
-    restore(&mut image, &saved, 0x00);
-    assert_eq!(rt; image.general, [7; 16]);
-    restore(&mut image, &saved, 0xA1);
-    let general = image.general;
-    for r in [0usize, 1, 4, 5, 14, 15] {
-        assert_eq!(rt; general[r], saved[r]);
-    }
-    for r in [2usize, 3, 6, 7, 8, 9, 10, 11, 12, 13] {
-        assert_eq!(rt; general[r], 7);
-    }
-    restore(&mut image, &saved, 0xFF);
-    assert_eq!(rt; image.general, saved);
-    assert_eq!(rt; image.address, 0x5000);
+    let none = restored(&mut image, 0x00);
+    let three = restored(&mut image, 0xA1);
+    let all = restored(&mut image, 0xFF);
+    let [first, second, _, _, fifth, sixth, .., last_but_one, last] = ALL_DIFFERENT;
+    let due = [
+        first,
+        second,
+        7,
+        7,
+        fifth,
+        sixth,
+        7,
+        7,
+        7,
+        7,
+        7,
+        7,
+        7,
+        7,
+        last_but_one,
+        last,
+    ];
+    let told = ([none, three, all], image.address);
+    assert_eq!(rt; told, ([[7; 16], due, ALL_DIFFERENT], 0x5000));
 }
