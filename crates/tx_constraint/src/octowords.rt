@@ -1,5 +1,6 @@
 //! The octowords that operands lie in, each once, and at most four.
-ghost use Rattle.std.specs.Prelude.{◌≡◌, ◌+◌, ◌-◌, ◌≤◌, ◌↔◌, ℕ, List, [], ◌∷◌, nat_le, nat_eq, length, take, slice_get, IfSome, IsTrue, Some};
+ghost use Rattle.std.specs.Prelude.{◌≡◌, ◌+◌, ◌-◌, ◌≤◌, ◌↔◌, ℕ, List, [], ◌∷◌, nat_le, nat_eq, length, take};
+ghost use Rattle.std.specs.Prelude.{slice_get, IfSome, IsTrue, Some};
 ghost use Rattle.std.specs.Bool.{OnTrue};
 ghost use Rattle.std.specs.List.{fold, range_with_len};
 ghost use Rattle.arrayvec.specs.ArrayVec.{array_vec_len};

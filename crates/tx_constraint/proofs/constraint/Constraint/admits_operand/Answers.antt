@@ -1,5 +1,6 @@
 -- There is no operand, or one for whose octoword there is room.
-use Rattle.std.proofs.Common.{◌≡◌, ℕ, ◌+◌, ◌%◌, ◌/◌, ◌<◌, ◌≤◌, Bool, true, ◌&&◌, not, leb, [], ◌∷◌, length, None, sym, ap, subst, ◌∙◌, arith}
+use Rattle.std.proofs.Common.{◌≡◌, ℕ, ◌+◌, ◌%◌, ◌/◌, ◌<◌, ◌≤◌, Bool, true, ◌&&◌, not, leb, [], ◌∷◌, length, None}
+use Rattle.std.proofs.Common.{sym, ap, subst, ◌∙◌, arith}
 use Rattle.std.proofs.lemmas.Bool.{and_parts, not-true, leb-true, eqb-false, OnTrue_at}
 use Rattle.z_instr.specs.declared.instr.Instr.{Instr}
 use Rattle.tx_constraint.specs.Bytes.{is_own_page}
