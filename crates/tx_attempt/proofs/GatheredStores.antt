@@ -1,7 +1,7 @@
 -- What an instruction stores in its first operand, as it is gathered.
 use Rattle.std.proofs.Common.{◌≡◌, ℕ, ◌%◌, true, false, List, [], ◌∷◌, Option, Some, refl, sym, ap}
 use Rattle.std.proofs.Common.{◌∙◌, arith, length, take, subst}
-use Rattle.std.specs.Prelude.{slice_get, not, cond, if◌then◌else◌, All}
+use Rattle.std.specs.Prelude.{slice_get, cond, if◌then◌else◌, All}
 use Rattle.std.proofs.lemmas.List.Elements.{All-head}
 use Rattle.byteorder.specs.Endian.{big_bytes}
 use Rattle.z_regs.specs.Absolute.{IsAccessible}

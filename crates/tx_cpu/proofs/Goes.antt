@@ -32,7 +32,7 @@ use Rattle.tx_constraint.specs.Octowords.{with_octowords}
 use Rattle.tx_constraint.specs.Operations.{is_permitted, ends}
 use Rattle.tx_footprint.specs.Touched.{Sets, sets_of, touching, fit_of}
 use Rattle.tx_serial.specs.Fate.{Goes}
-use Rattle.tx_serial.specs.Fate.{Refusal, Excepts, Because, fate_after, first_refusal}
+use Rattle.tx_serial.specs.Fate.{Refusal, Excepts, first_refusal}
 use Rattle.tx_serial.specs.Fate.{operands, fetch_refusal, instruction_at, unreadable, aborts_where}
 use Rattle.tx_serial.specs.Fate.{restricted_refusal, specified_refusal, depth_refusal, operand_refusal}
 use Rattle.tx_serial.specs.Fate.{overflow_in}

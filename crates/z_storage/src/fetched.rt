@@ -2,6 +2,7 @@
 ghost use Rattle.std.specs.Prelude.{◌≡◌, length};
 ghost use Rattle.z_regs.specs.Prefix.{storage_size};
 ghost use Rattle.z_regs.specs.Cpu.{cpu_of};
+ghost use Rattle.z_instr.specs.declared.kind.Operation.TheVariants.{Load};
 ghost use Rattle.z_instr.specs.declared.kind.Storage.TheVariants.{Compute, Compare, CompareImmediate};
 ghost use Rattle.z_instr.specs.declared.kind.Storage.TheVariants.{TestUnderMask, InsertByte, LoadSelected};
 ghost use Rattle.z_effect.specs.After.{AreInside};
@@ -38,6 +39,27 @@ pub fn compute<V: Bytes>(
     let second = fetch_piece(view, first_address(instr, &image.general), w, part);
     let answer = combine(operation, w, image.condition, first, second);
     settle(instr, image, n, w, answer)
+}
+
+/// Puts the operand into R1.
+#[tactic(auto, using(crate::proofs::Ranges::fetched_stays), unfolding(z_effect::specs::StorageEffect::storage_effect, z_effect::specs::Operations::combined, z_instr::specs::Operands::spans_in))]
+pub fn load<V: Bytes>(
+    w: Width,
+    part: Part,
+    n: u8,
+    instr: &Instr,
+    image: &mut CpuImage,
+    view: &V,
+) -> Result<(), Exception>
+    requires size { length (V.bytes view.now) ≡ storage_size }
+    requires inside { AreInside (ranges (Compute Load w part) instr.now (cpu_of image.old)) (V.bytes view.now) }
+    ensures { Performs (Compute Load w part) n instr.now (cpu_of image.old) (cpu_of image.new)
+        (V.bytes view.now) (V.bytes view.now) result }
+{
+    let second = fetch_piece(view, first_address(instr, &image.general), w, part);
+    put(image, w, instr.r1, second);
+    advance(image, n);
+    Ok(())
 }
 
 /// Compares R1 with the operand.

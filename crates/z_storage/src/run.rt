@@ -14,7 +14,7 @@ use crate::{fetched, lists, registers, stored};
 use tx_control::Exception;
 use z_instr::format::length_in;
 use z_instr::instr::Instr;
-use z_instr::kind::{Kind, Storage};
+use z_instr::kind::{Kind, Operation, Storage};
 use z_instr::lookup::{kind_of, line};
 use z_instr::op::Op;
 use z_regs::{Bytes, CpuImage};
@@ -43,6 +43,7 @@ fn run<V: Bytes>(
         (V.bytes view.new) result }
 {
     match kind {
+        Storage::Compute(Operation::Load, w, part) => fetched::load(w, part, n, instr, image, view),
         Storage::Compute(operation, w, part) => {
             fetched::compute(operation, w, part, n, instr, image, view)
         }
