@@ -32,9 +32,10 @@ fn drawn_behind(x: u64) -> u64
     x.wrapping_mul(FACTOR).wrapping_add(STEP)
 }
 
-/// The number of CPUs, at most 16.
+/// The number of CPUs: at least one, and at most 16.
 pub fn cpu_count(machine: &Machine) -> u32
     ensures count { result ≡ length machine.now.image.cpus }
+    ensures some { 0 < result }
     ensures few { result ≤ 16 }
 {
     machine.image().cpu_count()
@@ -107,8 +108,10 @@ fn search_round(machine: &Machine, from: u32) -> Option<u32>
 /// Where the round goes on from a number: behind the last CPU with the first.
 #[inline(always)]
 fn place_in_round(machine: &Machine, from: u32) -> u32
-    ensures { let ready = ready_cpus (setting_of machine.now) (state_of machine.now) in
+    ensures same { let ready = ready_cpus (setting_of machine.now) (state_of machine.now) in
         next_among (Round result) ready ≡ next_among (Round from) ready }
+    ensures known { result < length machine.now.image.cpus }
+    ensures few { result < 16 }
 {
     if from >= cpu_count(machine) {
         return 0;
@@ -126,7 +129,7 @@ fn next_in_round(machine: &Machine, from: u32) -> Option<u32>
     ensures few { IfSome result (λ cpu. cpu < 16) }
 {
     let first = place_in_round(machine, from);
-    if first < cpu_count(machine) && machine.ready(first) {
+    if machine.ready(first) {
         return Some(first);
     }
     search_round(machine, first)

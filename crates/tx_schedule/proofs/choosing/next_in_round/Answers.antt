@@ -1,5 +1,5 @@
 -- The first one that is asked, where it is ready.
-use Rattle.std.proofs.Common.{◌<◌, sym, ◌∙◌, arith}
+use Rattle.std.proofs.Common.{sym, ◌∙◌}
 use Rattle.tx_meaning.specs.Idle.{is_ready}
 use Rattle.tx_meaning.specs.Schedules.{ready_cpus}
 use Rattle.tx_meaning.specs.State.{cpus_of}
@@ -13,7 +13,7 @@ returns-then-ready-clause-value c =
     let m = setting_of c.args.machine.now in
     let s = state_of c.args.machine.now in
     let first = c.place_in_round-first.result in
-    let known : first < cpus_of m = omega arith in
+    let known = c.place_in_round-first.ensures.known in
     round_found first first (ready_cpus m s)
     (first_here (is_ready m s) (cpus_of m) first (sym c.ready.ensures ∙ c.if-ready.true) known)
-    ∙ c.place_in_round-first.ensures
+    ∙ c.place_in_round-first.ensures.same

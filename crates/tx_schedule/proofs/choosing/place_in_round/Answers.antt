@@ -7,9 +7,9 @@ use Rattle.tx_machine.specs.Machine.{setting_of, state_of}
 use Rattle.tx_schedule.proofs.Chosen.{none_behind, round_begins, round_lowest}
 use Rattle.tx_schedule.proofs.choosing.place_in_round.Goals as goal
 
-pub returns-then-from-cpu_count : goal.returns-then-from-cpu_count
+pub returns-then-from-cpu_count-clause-same : goal.returns-then-from-cpu_count-clause-same
 unfolding ready_cpus
-returns-then-from-cpu_count c =
+returns-then-from-cpu_count-clause-same c =
     let m = setting_of c.args.machine.now in
     let s = state_of c.args.machine.now in
     let behind : cpus_of m ≤ c.args.from = omega arith in
