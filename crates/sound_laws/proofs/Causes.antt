@@ -27,7 +27,7 @@ use Rattle.tx_serial.specs.Fate.{Fate, Goes, Ends, Stops, fate, cause_in}
 use Rattle.tx_serial.specs.Flat.{FlatState}
 use Rattle.tx_serial.specs.Run.{run, outcome_of}
 use Rattle.tx_serial.proofs.SameCauses.{same_cause}
-use Rattle.tx_flat.proofs.Room.{SmallCause, SmallEnd, cause_small, fate_small}
+use Rattle.tx_serial.proofs.SmallCauses.{SmallCause, SmallEnd, cause_small, fate_small}
 use Rattle.sound_laws.proofs.Tabort.{tabort_code}
 use Rattle.sound_laws.proofs.Lines.{stored_below, fetched_below}
 

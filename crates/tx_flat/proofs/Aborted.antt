@@ -24,10 +24,11 @@ use Rattle.tx_serial.specs.Ending.{fits, ending, ending_of, is_cause, is_open, c
 use Rattle.tx_serial.specs.Flat.{Storage, FlatState, at_put, bytes_of, laid_over}
 use Rattle.tx_serial.specs.Remains.{remains, cpu_after_abort, pending_after, waiting_after, block_after}
 use Rattle.tx_serial.specs.Remains.{resumed_at, address_in, interrupted_after}
+use Rattle.tx_serial.specs.Room.{HasRoom}
 use Rattle.tx_serial.specs.Run.{run as runs}
 use Rattle.tx_serial.proofs.Copies.{run_prefix}
 use Rattle.tx_serial.proofs.SameCauses.{same_cause}
-use Rattle.tx_flat.specs.Left.{HasRoom, told_in, told_by, resumed_by, block_by, cpu_left, pending_left}
+use Rattle.tx_flat.specs.Left.{told_in, told_by, resumed_by, block_by, cpu_left, pending_left}
 use Rattle.tx_flat.specs.Left.{waiting_left}
 use Rattle.tx_private.specs.Shows.{Shows, IsRun, IsRunOf, mark_of, begin_at, begin_length}
 use Rattle.tx_flat.specs.Slots.{Holds, holding, pending_of}

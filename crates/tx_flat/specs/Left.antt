@@ -1,23 +1,17 @@
 -- What an aborted attempt leaves of its CPU, by what is kept of the run.
-use Rattle.std.specs.Prelude.{ℕ, ◌+◌, ◌<◌, if◌then◌else◌, List, Option}
+use Rattle.std.specs.Prelude.{ℕ, ◌+◌, if◌then◌else◌, List, Option}
 use Rattle.z_regs.specs.Cpu.{Cpu, cpu_of}
 use Rattle.z_regs.specs.declared.waiting.Waiting.{Waiting}
 use Rattle.tx_control.specs.Nesting.{outermost_mask, outermost_block, is_constrained}
 use Rattle.tx_control.specs.declared.causes.Why.{Why}
-use Rattle.tx_control.specs.declared.causes.Why.TheVariants.{Program}
 use Rattle.tx_abort.specs.Causes.{cause_of}
 use Rattle.tx_abort.specs.Block.{block}
 use Rattle.tx_abort.specs.Registers.{with_restored}
 use Rattle.tx_serial.specs.Flat.{Pending}
-use Rattle.tx_serial.specs.Remains.{aborted_bit, interrupted_after, pending_after, waiting_after}
+use Rattle.tx_serial.specs.Remains.{interrupted_after, pending_after, waiting_after}
 use Rattle.tx_private.specs.declared.attempt.Attempt.{Attempt}
 use Rattle.tx_private.specs.declared.attempt.Mark.{Mark}
 use Rattle.tx_private.specs.declared.attempt.Mark.TheVariants.{Open, Committed, Overflowed, Missing}
-
--- the interruption code has room for the bit that tells of an aborted transaction
-abbrev pub HasRoom : Why → Type 0
-HasRoom (Program e) = e.code + aborted_bit < 65536
-HasRoom _ = Unit {0}
 
 -- the address that the block tells: of the last instruction where that overflowed, else of the next one
 abbrev pub told_in : Mark → ℕ → ℕ → ℕ

@@ -6,7 +6,8 @@ ghost use Rattle.z_regs.specs.Prefix.{storage_size};
 ghost use Rattle.tx_journal.specs.declared.entries.Entry.TheVariants as entry;
 ghost use Rattle.tx_serial.specs.Apply.{apply};
 ghost use Rattle.tx_serial.specs.Remains.{pending_after, waiting_after as waits_after};
-ghost use Rattle.tx_flat.specs.Left.{HasRoom, told_by, resumed_by, cpu_left, pending_left, waiting_left};
+ghost use Rattle.tx_serial.specs.Room.{HasRoom};
+ghost use Rattle.tx_flat.specs.Left.{told_by, resumed_by, cpu_left, pending_left, waiting_left};
 ghost use Rattle.tx_flat.specs.Slots.{IsApplied, pending_of};
 ghost use Rattle.tx_private.specs.Ready.{IsReady};
 

@@ -1,6 +1,6 @@
 //! What is kept of one CPU between entries.
 
-use z_regs::{CpuImage, Waiting};
+use z_regs::{CpuImage, NoMemory, Waiting};
 
 /// A diagnostic block that is still to be stored: its real address and its bytes.
 #[derive(Clone, Copy)]
@@ -24,4 +24,15 @@ pub enum ApplyFault {
     Memory,
     /// The entry does not fit.
     Misfit,
+}
+
+impl From<NoMemory> for ApplyFault {
+    ghost use Rattle.std.specs.Prelude.{◌≡◌};
+    ghost use Rattle.tx_flat.specs.declared.slot.ApplyFault.TheVariants.{Memory};
+
+    ghost from_gives = { λ _ e. e ≡ Memory };
+
+    fn from(_error: NoMemory) -> ApplyFault {
+        ApplyFault::Memory
+    }
 }

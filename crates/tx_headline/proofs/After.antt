@@ -41,7 +41,8 @@ module _ (m : Setting) (s : IsSetting m) (events : List Event) (e : Event)
   abbrev u : Kept
   u = (k_happen m e k).kept
 
-  first_known : AreKnown m events
+  -- the events before are known
+  pub first_known : AreKnown m events
   first_known = known_first m events (e ∷ []) known
 
   -- what the event comes to, and what it leaves, is what is kept

@@ -31,7 +31,7 @@ use Rattle.tx_bounds.proofs.Stopping.{Once}
 use Rattle.tx_bounds.proofs.Stretched.{cost_of}
 use Rattle.tx_bounds.proofs.Heads.{queue_is_open, first_waits}
 use Rattle.tx_headline.specs.Queue.{Joins, HeadGoes, Stays, Leaves, GoesLast, QueueChanges, others_before}
-use Rattle.tx_headline.proofs.After.{known_first, kept_before, kept_behind, left_behind}
+use Rattle.tx_headline.proofs.After.{first_known, kept_before, kept_behind, left_behind}
 use Rattle.tx_headline.proofs.Members.{waits_first, waits_later, once_first, parts_apart}
 use Rattle.tx_headline.proofs.Members.{few_once, before_few, members_known}
 use Rattle.tx_headline.proofs.QueueWalk.{Moved, Goes, turn_moves, external_moves}
@@ -81,9 +81,6 @@ module _ (m : Setting) (s : IsSetting m) (events : List Event) (e : Event)
   abbrev u : Kept
   u = (k_happen m e k).kept
 
-  first_known : AreKnown m events
-  first_known = known_first m events (e ∷ []) known
-
   here : a ≡ k.state
   here = kept_before m s events e known
 
@@ -91,7 +88,7 @@ module _ (m : Setting) (s : IsSetting m) (events : List Event) (e : Event)
   there = kept_behind m s events e known
 
   stops_first : StopsAt m a
-  stops_first = stops m events s first_known
+  stops_first = stops m events s (first_known m s events e known)
 
   stops_then : StopsAt m t
   stops_then = subst (StopsAt m) (meant_more m events e) (stops m (events ++ e ∷ []) s known)
@@ -144,7 +141,7 @@ module _ (m : Setting) (s : IsSetting m) (events : List Event) (e : Event)
       → is_counted_turn m a e c ≡ true → is_interrupted_by m a e c ≡ false
       → (a.numbers c).completed < (t.numbers c).completed
   advances c waits later turn apart =
-      by_way ((left_behind m s events e known c).ends (queue_is_open m s c events first_known waits))
+      by_way ((left_behind m s events e known c).ends (queue_is_open m s c events (first_known m s events e known) waits))
       (λ ended.
       let same : ends_transaction a t c ≡ ends_transaction k.state u.state c =
       λ x. ends_transaction (here x) (there x) c in

@@ -210,6 +210,16 @@ module _ (i : Instr) (ranges : List Range) (l own : Local) (s t : Storage) (wait
 
 -- ---- so many
 
+-- what a turn inside a transaction stores waits
+pub waits_made : (text : List ℕ) (held : ℕ → Option Mode) (b : Beside) → is_live b.local.attempt ≡ true
+    → (away : GoesAway text held b)
+    → turn_waits text b
+    ≡ made_by (outcome_by b.storage away.instr away.ranges b.local.attempt) away.ranges b.local.attempt
+waits_made text held b live away =
+    let q = b.local.attempt in
+    ap (λ f. fate_waits f b) away.goes
+    ∙ ap (λ x. if x then made_by (outcome_by b.storage away.instr away.ranges q) away.ranges q else []) live
+
 -- what turns have made: the other CPU has gone on as the first, with what was stored over its own stores; it sees alike
 -- where it saw alike; and the transaction goes on
 pub record Beside_it (l own : Local) (s t : Storage) (later : Overlay) (b c : Beside) : Type 0 where
@@ -271,14 +281,10 @@ module _ (text : List ℕ) (held : ℕ → Option Mode) (l own : Local) (s t : S
     pub goes_away_too : GoesAway text held c
     goes_away_too = subst (GoesAway text held) (sym before.is) its_away
 
-    waits_are : turn_waits text b ≡ made
-    waits_are =
-        ap (λ f. fate_waits f b) away.goes ∙ ap (λ x. if x then made else []) before.live
-
     upon_is : laying waits made ≡ upon (laying later (turn_waits text b)) own.attempt.overlay
     upon_is =
         laying_upon made later own.attempt.overlay
-        ∙ ap (λ x. upon (laying later x) own.attempt.overlay) (sym waits_are)
+        ∙ ap (λ x. upon (laying later x) own.attempt.overlay) (sym (waits_made text held b before.live away))
 
     turn_left : left ≡ lent_turn text b
     turn_left = sym (ap (λ f. lent_by f b) away.goes)

@@ -30,9 +30,9 @@ use Rattle.tx_progress.specs.Progress.{Progress, seen_through, is_live, laying}
 use Rattle.tx_progress.specs.Trial.{at_hand, fetched, tried, tests_by, fate_by_progress, outcome_by}
 use Rattle.tx_lending.specs.Away.{is_plain, lent_by, lent_turn, ran, GoesAway, GoAway}
 use Rattle.tx_lending.specs.Places.{places_from, operand_places, stored_places, is_among}
-use Rattle.tx_lending.specs.Stranger.{made_by, fate_waits, turn_waits, waiting, fate_waits_at, waits_at, only_at}
+use Rattle.tx_lending.specs.Stranger.{made_by, turn_waits, waiting, fate_waits_at, waits_at, only_at}
 use Rattle.tx_lending.proofs.Along.{no_begin, fewer, last_one}
-use Rattle.tx_lending.proofs.Strangers.{one_inside}
+use Rattle.tx_lending.proofs.Strangers.{one_inside, waits_made}
 use Rattle.tx_lending.proofs.Turning.{all_left}
 use Rattle.tx_lending.proofs.Stores.{not_first, not_second}
 use Rattle.tx_lending.proofs.Touching.{on}
@@ -258,9 +258,6 @@ module _ (text : List ℕ) (held : ℕ → Option Mode) (b : Beside) (live : is_
         ∙ (one_inside away.instr away.ranges b.local b.local b.storage b.storage q.overlay away.plain live
         (λ a m. refl) away.told).overlay
 
-    waits_made : turn_waits text b ≡ made
-    waits_made = ap (λ f. fate_waits f b) away.goes ∙ ap (λ x. if x then made else []) live
-
     places_are : fate_waits_at (fate_by_progress text b.storage q) q ≡ stored_places away.ranges q
     places_are =
         ap (λ f. fate_waits_at f q) away.goes ∙ ap (λ x. if x then stored_places away.ranges q else []) live
@@ -273,7 +270,7 @@ module _ (text : List ℕ) (held : ℕ → Option Mode) (b : Beside) (live : is_
         let enough = fills b.storage q away.instr away.ranges
         (its_operands text b.storage q away.instr away.ranges away.goes) in
         let told = told_inside away.instr away.ranges b.local b.storage away.plain live away.told in
-        ap (λ x. laying later x a) waits_made
+        ap (λ x. laying later x a) (waits_made text held b live away)
         ∙ marks_by (marked a) (is_among (stored_places away.ranges q) a) (laying later made a) (later a) (q.overlay a)
         (laying q.overlay made a)
         (made_there away.instr away.ranges b.local b.storage result later q.overlay a enough told)

@@ -6,6 +6,7 @@ use Rattle.store_cache.specs.Overlay.{Overlay, Store, nothing}
 use Rattle.tx_serial.specs.Fate.{Fate, Goes, Ends, Stops}
 use Rattle.tx_serial.specs.Flat.{Storage}
 use Rattle.tx_progress.specs.Progress.{Progress, seen_through, is_live, laying}
+use Rattle.tx_progress.specs.Going.{goes_on_with}
 use Rattle.tx_progress.specs.Trial.{fate_by_progress, outcome_by}
 use Rattle.tx_progress.specs.Local.{Local, Beside}
 use Rattle.tx_progress.specs.Doing.{stores_of}
@@ -83,13 +84,7 @@ only_at marked waits a = if marked a then waits a else None
 
 -- a CPU that has gone on as another has, with these stores that wait
 abbrev pub gone_on : Local → Overlay → Local → Local
-gone_on reached waits own = record own {
-  attempt = record reached.attempt {
-    overlay = waits;
-    lasting = own.attempt.lasting;
-    resumes_at = own.attempt.resumes_at;
-  };
-}
+gone_on reached waits own = record own { attempt = goes_on_with waits reached.attempt own.attempt }
 
 -- outside transactions, a CPU that has become what another has; what is left to do for it is its own
 abbrev pub left_as : Local → Local → Local

@@ -3,15 +3,10 @@ use Rattle.std.proofs.Common.{◌≡◌, ℕ, ◌<◌, Bool, true, false, Option
 use Rattle.std.specs.Prelude.{◌&&◌, is_none, is_some, if◌then◌else◌}
 use Rattle.std.specs.Option.{option_or}
 use Rattle.std.proofs.lemmas.Bool.{and_parts, false≢true}
-use Rattle.z_regs.specs.Cpu.{Cpu}
-use Rattle.z_regs.specs.declared.image.RunState.{RunState}
-use Rattle.z_regs.specs.declared.image.RunState.TheVariants.{Running, Halted, Interrupted}
 use Rattle.tx_serial.specs.Apply.{is_running}
-use Rattle.tx_serial.specs.Flat.{Pending}
 use Rattle.tx_home.specs.Parts.{local_of}
 use Rattle.tx_home.specs.Progress.{Progress}
 use Rattle.tx_home.specs.Reached.{progress_of}
-use Rattle.tx_home.proofs.Parts.{rests}
 use Rattle.tx_meaning.specs.Idle.{has_ended, is_spent, kept_back}
 use Rattle.tx_meaning.specs.Limits.{Setting}
 use Rattle.tx_meaning.specs.Meaning.{IsSetting}
@@ -20,8 +15,8 @@ use Rattle.tx_meaning.specs.declared.outcome.Outcome.{Outcome}
 use Rattle.tx_meaning.specs.declared.outcome.Outcome.TheVariants as outcome
 use Rattle.tx_home.specs.Kept.{Kept, kept_flat, kept_finished}
 use Rattle.tx_home.specs.Turn.{k_idle}
-use Rattle.tx_home.proofs.Needed.{is_awaited}
-use Rattle.tx_home.proofs.Truth.{Truth, live_is}
+use Rattle.tx_home.proofs.Turning.{may_by}
+use Rattle.tx_home.proofs.Truth.{Truth}
 use Rattle.tx_opacity.proofs.Running.{run_runs}
 use Rattle.tx_home.specs.Works.{Works, Seat, kept_by, seats_of}
 use Rattle.tx_home.specs.Lending.{refusal_of}
@@ -57,37 +52,17 @@ unfinished : (finished spent : Bool) (o : Option Outcome)
 unfinished true spent o none = absurd (false≢true (ap is_none none))
 unfinished false spent o none = refl
 
-runs_where : (state : RunState) (prefix : Option ℕ) → has_ended state prefix ≡ false
-    → ((code first : ℕ) → state ≡ Interrupted code → prefix ≡ Some first → ⊥) → is_running state ≡ true
-runs_where Running prefix going never = refl
-runs_where Halted prefix going never = absurd (false≢true (sym going))
-runs_where (Interrupted code) None going never = absurd (false≢true (sym going))
-runs_where (Interrupted code) (Some first) going never = absurd (never code first refl refl)
-
 -- ---- it runs
 
 module _ (m : Setting) (s : IsSetting m) (i : ℕ) (k : Kept) (t : Truth m k) where
-  flat_runs : (live : Bool) → is_live k.state i ≡ live → kept_finished k i ≡ false → (k.locals i).pending ≡ None
-      → (k.locals i).waiting ≡ None → is_running (k.locals i).cpu.state ≡ true
-  flat_runs true live going none empty =
-      (and_parts (is_running (k.locals i).cpu.state) _ ((t.each i).followed.acts (sym (live_is m k t i) ∙ live))).0
-  flat_runs false off going none empty =
-      let l = k.locals i in
-      let own : l.attempt.cpu ≡ l.cpu =
-      ap (λ (q : Progress). q.cpu) (rests (kept_flat m k) i l (t.each i).followed (sym (live_is m k t i) ∙ off)) in
-      let ended : has_ended l.cpu.state l.cpu.prefix ≡ false =
-      ap (λ (c : Cpu). has_ended c.state c.prefix) (sym own)
-      ∙ ap (λ (o : Option Pending). is_none o && has_ended l.attempt.cpu.state l.attempt.cpu.prefix) (sym none) ∙ going in
-      runs_where l.cpu.state l.cpu.prefix ended (λ code first stopped prefix.
-      let there = is_awaited m.image k.state.history (kept_flat m k) s.image t.replayed i code first stopped prefix in
-      false≢true (sym (ap is_some empty) ∙ there))
-
+  -- the CPU of an attempt
   attempt_runs : kept_finished k i ≡ false → (k.locals i).pending ≡ None → (k.locals i).waiting ≡ None
       → is_running (k.locals i).attempt.cpu.state ≡ true
   unfolding progress_of
   attempt_runs going none empty =
       let f = kept_flat m k in
-      let now = flat_runs (is_live k.state i) refl going none empty in
+      let may = may_by m s i k (is_live k.state i) t refl going none empty in
+      let now = (and_parts (is_running (k.locals i).cpu.state) _ may).0 in
       subst (λ (q : Progress). is_running q.cpu.state ≡ true) (t.each i).followed.attempt
       (run_runs f i (k.locals i).attempt.count now)
 

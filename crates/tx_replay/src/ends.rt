@@ -4,8 +4,9 @@ ghost use Rattle.std.specs.Prelude.{get_or, slice_set};
 ghost use Rattle.tx_journal.specs.declared.entries.Entry.{Entry};
 ghost use Rattle.tx_replay.specs.Ends.{AreEnds};
 
-use std::alloc::{AllocError, Global};
+use std::alloc::Global;
 use tx_journal::Entry;
+use z_regs::NoMemory;
 
 /// How many transactions of each CPU have been committed, and how many aborted.
 #[derive(Drop)]
@@ -15,14 +16,14 @@ pub struct Ends {
 }
 
 /// So many zeros.
-fn zeros(alloc: Global, count: usize) -> Result<Vec<u64>, AllocError>
+fn zeros(alloc: Global, count: usize) -> Result<Vec<u64>, NoMemory>
     ensures { IfOk result (λ zeros. zeros.items ≡ replicate count 0) }
 {
     Ok(vec![in alloc; 0u64; count]?)
 }
 
 /// No transaction of so many CPUs has ended.
-pub(crate) fn no_ends(alloc: Global, cpus: usize) -> Result<Ends, AllocError>
+pub(crate) fn no_ends(alloc: Global, cpus: usize) -> Result<Ends, NoMemory>
     ensures { IfOk result (λ ends. AreEnds [] cpus ends) }
 {
     let commits = zeros(alloc, cpus)?;

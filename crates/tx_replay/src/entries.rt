@@ -114,14 +114,9 @@ pub fn apply_line(flat: &mut Flat, alloc: Global, line: &[u8]) -> Result<Entry, 
     ensures unchanged { IfErr result (λ f. flat.new ≡ flat.old) }
     ensures cpus { length flat.new.slots ≡ length flat.old.slots }
 {
-    let Ok(entry) = entry_with(flat, alloc, line) else {
-        return Err(ApplyFault::Memory);
-    };
-    let Some(entry) = entry else {
+    let Some(entry) = entry_with(flat, alloc, line)? else {
         return Err(ApplyFault::Misfit);
     };
-    match flat.apply(entry) {
-        Ok(()) => Ok(entry),
-        Err(fault) => Err(fault),
-    }
+    flat.apply(entry)?;
+    Ok(entry)
 }

@@ -11,6 +11,7 @@ use std::alloc::Global;
 use tx_flat::Flat;
 use tx_flat::slot::ApplyFault;
 use tx_journal::Image;
+use z_regs::NoMemory;
 
 /// What a history leaves that was read back. The entries are not kept.
 #[derive(Drop)]
@@ -28,6 +29,16 @@ pub enum ReplayFault {
     Memory,
     /// The line with this number, counted from 1, is the first whose text no entry has that fits there.
     Entry(u64),
+}
+
+impl From<NoMemory> for ReplayFault {
+    ghost use Rattle.tx_replay.specs.declared.replaying.ReplayFault.TheVariants.{Memory};
+
+    ghost from_gives = { λ _ e. e ≡ Memory };
+
+    fn from(_error: NoMemory) -> ReplayFault {
+        ReplayFault::Memory
+    }
 }
 
 /// The history of an image that the first lines of a text tell, so many of them, each with its line feed: the machine
@@ -48,13 +59,9 @@ pub fn replay(
     ensures cpus { IfOk result (λ r. length r.flat.slots ≡ length image.now.cpus) }
     ensures fault { IfErr result (λ f. IsRefused image.now (take count (lines_of text.now)) f) }
 {
-    let Ok(mut flat) = Flat::open(alloc, image) else {
-        return Err(ReplayFault::Memory);
-    };
+    let mut flat = Flat::open(alloc, image)?;
     let cpus = image.cpu_count() as usize;
-    let Ok(mut ends) = no_ends(alloc, cpus) else {
-        return Err(ReplayFault::Memory);
-    };
+    let mut ends = no_ends(alloc, cpus)?;
     let mut place = start(text);
     for k in 0..count {
         let Some(line) = line_at(text, place) else {

@@ -128,10 +128,11 @@ ended-live i why k left instr need b told is_left =
     ∙ ap (λ (n : Numbers). nat_lt 0 n.completed) (left-number i e.after k)
     ∙ inside_so i k instr need (done.Ended why) b told
 
-pub ended-may : (i : ℕ) (why : Why) (k left : Kept) (instr : Instr) (need : List Range) → IsBefore i k true
+-- so the attempt may end by it
+pub ended-may : (i : ℕ) (why : Why) (k left : Kept) (instr : Instr) (need : List Range)
     → done.Ended why ≡ (what i k instr need).told → MayEndBy why left i
-ended-may i why k left instr need b told =
-    may-end-own why left i (told-own instr need (beside k i) why (rests_or_not i k true b) (sym told))
+ended-may i why k left instr need told =
+    may-end-own why left i (told-own instr need (beside k i) why (sym told))
 
 -- ---- outside transactions
 

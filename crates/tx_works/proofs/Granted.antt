@@ -39,6 +39,7 @@ use Rattle.tx_works.specs.Works.{Works, Seat, IsSameSize, kept_by}
 use Rattle.tx_works.specs.Ready.{MayAsk, MayHold}
 use Rattle.tx_works.specs.Asks.{AskLeaves, IsReady, IsFew, asked_by}
 use Rattle.tx_works.proofs.Leaves.{leaves_then, leaves_at_most}
+use Rattle.tx_works.proofs.Questions.{sizes_then}
 use Rattle.tx_keeping.proofs.Room.{not_some}
 
 -- ---- a line to give up
@@ -271,13 +272,6 @@ module _ (i : ℕ) (ranges : List Range) (lines : List ℕ) (before w next : Wor
         (gets rest m (cpus ∙ sym g.size.cpus))
         ∙ sym (ap (λ l. k_get_each m i needs l (kept_by rest w)) split) ∙ g.got rest m cpus
 
-    pub getting_size : IsSameSize before next
-    getting_size = record {
-      cpus = same.cpus ∙ g.size.cpus;
-      room = same.room ∙ g.size.room;
-      events_room = same.events_room ∙ g.size.events_room;
-    }
-
     line_more : (rest : Seat)
         → AskLeaves (length before.slots) (n * 16 + 16) i (kept_by rest before) (kept_by rest next)
     line_more rest =
@@ -294,7 +288,7 @@ module _ (i : ℕ) (ranges : List Range) (lines : List ℕ) (before w next : Wor
 
     pub getting_goes_on : r ≡ None → IsGetting i ranges before next (n + 1)
     getting_goes_on none = record {
-      size = getting_size;
+      size = sizes_then g.size same;
       got = λ rest m cpus.
           ap (λ r. k_then_ask (asked_by rest next r) (k_get_each m i needs (drop (n + 1) needs))) (sym none)
           ∙ got_on rest m cpus;

@@ -44,9 +44,10 @@ aborted-outcome (Tabort code) not_it = refl
 
 -- ---- what an instruction tells
 
-pub told-own : (i : Instr) (ranges : List Range) (b : Beside) (why : Why) → is_live b.local.attempt ≡ true
+-- an instruction that ends an attempt does so by a cause of its own
+pub told-own : (i : Instr) (ranges : List Range) (b : Beside) (why : Why)
     → (executed i ranges b).told ≡ done.Ended why → IsOwn why
-told-own i ranges b why live told = subst ToldOwn told (executed_own i ranges b)
+told-own i ranges b why told = subst ToldOwn told (executed_own i ranges b)
 
 -- ---- how far it comes
 

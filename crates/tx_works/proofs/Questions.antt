@@ -120,6 +120,14 @@ room_left w k j lt live most =
 
 -- ---- one question after the other
 
+-- sizes that stay, and stay again
+pub sizes_then : {before w next : Works} → IsSameSize before w → IsSameSize w next → IsSameSize before next
+sizes_then first same = record {
+  cpus = same.cpus ∙ first.cpus;
+  room = same.room ∙ first.room;
+  events_room = same.events_room ∙ first.events_room;
+}
+
 abbrev pub test_in : Works → ℕ → Need → ℕ → Bool
 test_in w i need = stands_against (holders_in w.lines) i need.line need.mode
 
@@ -174,13 +182,6 @@ module _ (i : ℕ) (need : Need) (before w next : Works) (at j : ℕ) (r : Optio
   apart : j ≢ i
   apart = asked_other i need before w at j a found
 
-  pub sizes_kept : IsSameSize before next
-  sizes_kept = record {
-    cpus = same.cpus ∙ a.size.cpus;
-    room = same.room ∙ a.size.room;
-    events_room = same.events_room ∙ a.size.events_room;
-  }
-
   one_more : (rest : Seat) → AskLeaves (length before.slots) (at + 1) i (kept_by rest before)
       (kept_by rest next)
   one_more rest =
@@ -233,7 +234,7 @@ module _ (i : ℕ) (need : Need) (before w next : Works) (at j : ℕ) (r : Optio
   pub asking_goes_on : r ≡ None → IsAsking i need before next (j + 1)
   asking_goes_on none = record {
     within = omega (arith, first.high);
-    size = sizes_kept;
+    size = sizes_then a.size same;
     clear = λ x lt. by_way (cases_eq x j)
         (λ e. ap (test_in next i need) e ∙ test_on none j
         ∙ yielded_here (holders_in w.lines) i need.line need.mode j)

@@ -367,23 +367,20 @@ module _ (origin : ℕ) where
 
   -- ---- decks and faults of the same bytes
 
+  -- all but the first one
+  abbrev tail_of : List (List ℕ) → List (List ℕ)
+  tail_of [] = []
+  tail_of (z ∷ zs) = zs
+
   last_same : (xs ys : List (List ℕ)) (x y : List ℕ) → xs ++ x ∷ [] ≡ ys ++ y ∷ [] → (xs ≡ ys) × (x ≡ y)
   last_same [] [] x y same = (refl, cc)
   last_same [] (c ∷ ys) x y same = absurd (two_many ys y (ap tail_of same))
     where
-      tail_of : List (List ℕ) → List (List ℕ)
-      tail_of [] = []
-      tail_of (z ∷ zs) = zs
-
       two_many : (zs : List (List ℕ)) (z : List ℕ) → [] ≡ zs ++ z ∷ [] → ⊥
       two_many [] z e = cc
       two_many (w ∷ zs) z e = cc
   last_same (b ∷ xs) [] x y same = absurd (two_many xs x (ap tail_of same))
     where
-      tail_of : List (List ℕ) → List (List ℕ)
-      tail_of [] = []
-      tail_of (z ∷ zs) = zs
-
       two_many : (zs : List (List ℕ)) (z : List ℕ) → zs ++ z ∷ [] ≡ [] → ⊥
       two_many [] z e = cc
       two_many (w ∷ zs) z e = cc

@@ -11,10 +11,10 @@ loop-k-init c = record {
   at = c.start-place.ensures.line;
   place = c.start-place.ensures.place;
   replayed =
-      none_replayed c.args.image.now (take c.args.count (lines_of c.args.text.now)) (state_of c.in-Ok.flat)
-      c.cpu_count-cpus.result c.in-Ok-no_ends.ends c.in-Ok.ensures.state c.cpu_count-cpus.ensures.count
-      c.in-Ok-no_ends.ensures;
-  cpus = c.in-Ok.ensures.cpus;
+      none_replayed c.args.image.now (take c.args.count (lines_of c.args.text.now)) (state_of c.in_ok-flat.flat)
+      c.cpu_count-cpus.result c.in_ok-ends.ends c.in_ok-flat.ensures.state c.cpu_count-cpus.ensures.count
+      c.in_ok-ends.ensures;
+  cpus = c.in_ok-flat.ensures.cpus;
 }
 
 pub count_end-requires : goal.count_end-requires
@@ -47,14 +47,14 @@ loop-k-preserved c =
       place = next.place;
       replayed =
           one_replayed c.args.image.now lines c.loop-k.k (state_of c.loop-k.flat)
-          (state_of c.apply_line.new.flat) c.in-Ok-apply_line.entry c.loop-k.ends c.count_end.new.ends
+          (state_of c.apply_line.new.flat) c.in-Ok.entry c.loop-k.ends c.count_end.new.ends
           (omega (arith, many, there)) c.loop-k.invariant.replayed
-          c.in-Ok-apply_line.ensures.sound
-          (c.in-Ok-apply_line.ensures.text
+          c.in-Ok.ensures.sound
+          (c.in-Ok.ensures.text
           ∙ sym (line_read c.args.text.now c.args.count c.loop-k.k c.loop-k.place.line c.in-Some.line.text.now there
           c.loop-k.invariant.at c.in-Some.ensures.some))
-          c.in-Ok-apply_line.ensures.applied (λ h. c.count_end.ensures h (length c.args.image.now.cpus));
-      cpus = c.in-Ok-apply_line.ensures.cpus ∙ c.loop-k.invariant.cpus;
+          c.in-Ok.ensures.applied (λ h. c.count_end.ensures h (length c.args.image.now.cpus));
+      cpus = c.in-Ok.ensures.cpus ∙ c.loop-k.invariant.cpus;
     }
 
 pub returns-in-Err-Misfit-clause-fault : goal.returns-in-Err-Misfit-clause-fault

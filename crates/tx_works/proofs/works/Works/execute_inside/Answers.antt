@@ -42,8 +42,7 @@ end_by-requires-clause-live c rest =
 pub end_by-requires-clause-climbs : goal.end_by-requires-clause-climbs
 end_by-requires-clause-climbs c rest =
     ended-may c.args.cpu c.in-Ended.why (kept_by rest c.args.self.now) (kept_by rest c.run.new.self)
-    c.args.instr.now c.args.need.now (record { counted = refl; live_is = c.requires.live rest })
-    (sym c.in-Ended.is ∙ c.run.ensures.told rest)
+    c.args.instr.now c.args.need.now (sym c.in-Ended.is ∙ c.run.ensures.told rest)
 
 pub returns-in-Ended-clause-value : goal.returns-in-Ended-clause-value
 returns-in-Ended-clause-value c rest =
