@@ -139,8 +139,25 @@ impl BitSet {
         self.words == other.words
     }
 
-    /// The lowest number of the set from `from` on and below `end`. Only words in use are read.
+    /// The lowest number of the set from `from` on and below `end`, which most often lies in the word of `from`.
+    /// Besides that only words in use are read.
     pub fn next(&self, from: usize, end: usize) -> Option<usize>
+        requires { end ≤ length self.now }
+        ensures found { IfSome result (λ at. IsNext self.now from end at) }
+        ensures none { IfNone result (NoneMarked self.now from end) }
+    {
+        if end <= from {
+            return None;
+        }
+        match lowest_from(self.words[from / 64], (from % 64) as u32) {
+            Some(bit) => below(from / 64 * 64 + bit as usize, end),
+            None => self.next_in_use(from, end),
+        }
+    }
+
+    /// The lowest number of the set from `from` on and below `end`. Only words in use are read.
+    #[inline(never)]
+    fn next_in_use(&self, from: usize, end: usize) -> Option<usize>
         requires { end ≤ length self.now }
         ensures found { IfSome result (λ at. IsNext self.now from end at) }
         ensures none { IfNone result (NoneMarked self.now from end) }

@@ -1,40 +1,44 @@
-use Rattle.std.proofs.Common.{ℕ, ◌≤◌, ◌<◌, ◌/◌, length, ap, arith, subst, min}
-use Rattle.std.specs.Prelude.{IfSome, IfNone}
-use Rattle.bit_set.specs.Bits.{bits_of, IsNext, NoneMarked}
-use Rattle.bit_set.proofs.Marks.{length-bits_of}
-use Rattle.bit_set.proofs.Used.{found_in_all, none_in_all}
+-- What is found in the word of the first number.
+use Rattle.std.proofs.Common.{◌≤◌, ◌<◌, ◌*◌, ◌+◌, ◌/◌, ◌%◌, ℕ, List, Bool, Option, IfSome, IfNone, length}
+use Rattle.std.proofs.Common.{sym, ap, subst, arith}
+use Rattle.std.proofs.lemmas.List.{get_or_read}
+use Rattle.bit_set.specs.Bits.{bits_of, IsLowestBit, IsNext, NoneMarked}
+use Rattle.bit_set.proofs.Marks.{length-bits_of, next_found, next_none}
 use Rattle.bit_set.proofs.set.BitSet.next.Goals as goal
 
-pub next_in-requires : goal.next_in-requires
-next_in-requires c =
+nothing-before : (marks : List Bool) (from : ℕ) → NoneMarked marks from (from / 64 * 64 + from % 64)
+nothing-before marks from = λ k le lt. absurd (omega arith)
+
+pub index-requires : goal.index-requires
+index-requires c =
     let room = ap length c.self.view_is in
-    omega (arith, length-bits_of c.self.inside.words.items)
+    omega (arith, length-bits_of c.self.inside.words.items, c.if-end-from.false, c.requires)
 
-module _ (c : goal.After-next_in) where
-  near : (k : ℕ) → k < c.saturating_mul-first.result → k < c.args.end → k / 64 < c.self.inside.low
-  near k lt within = omega (arith, c.saturating_mul-first.ensures, lt)
-
-  far : (k : ℕ) → c.saturating_mul-past.result ≤ k → k < c.args.end → c.self.inside.high ≤ k / 64
-  far k le within = omega (arith, c.saturating_mul-past.ensures, c.ranges.end.fits, le, within)
-
-pub returns-clause-found : goal.returns-clause-found
-returns-clause-found c =
+pub returns-in-Some-clause-found : goal.returns-in-Some-clause-found
+returns-in-Some-clause-found c =
     let words = c.self.inside.words.items in
-    subst (λ marks. IfSome c.next_in.result (λ at. IsNext marks c.args.from c.args.end at)) c.self.view_is
-    (found_in_all words c.self.inside.low c.self.inside.high c.args.from c.args.end c.saturating_mul-first.result
-    c.saturating_mul-past.result c.self.invariant (near c) (far c) c.next_in.result
-    (subst (λ low. IfSome c.next_in.result (λ at. IsNext (bits_of words) low (min c.args.end c.saturating_mul-past.result) at)) c.max.ensures
-    (subst (λ high. IfSome c.next_in.result (λ at. IsNext (bits_of words) c.max.result high at)) c.min.ensures
-    (subst (λ all. IfSome c.next_in.result (λ at. IsNext (bits_of all) c.max.result c.min.result at)) c.deref.ensures.value
-    c.next_in.ensures.found))))
+    let room = ap length c.self.view_is in
+    let within : c.args.from / 64 < length words =
+    omega (arith, length-bits_of words, c.if-end-from.false, c.requires) in
+    let start : c.args.from ≤ c.args.from / 64 * 64 + c.args.from % 64 = omega arith in
+    let read = get_or_read words (c.args.from / 64) c.index.result.now within c.index.ensures 0 in
+    let lowest = subst (λ w. IsLowestBit w (c.args.from % 64) c.in-Some.bit) read c.in-Some.ensures.found in
+    subst (λ marks. IfSome c.below.result (λ at. IsNext marks c.args.from c.args.end at)) c.self.view_is
+    (subst (λ (o : Option ℕ). IfSome o (λ at. IsNext (bits_of words) c.args.from c.args.end at))
+    (sym c.below.ensures)
+    (next_found words c.args.from (c.args.from / 64) (c.args.from % 64) c.in-Some.bit c.args.end
+    within start (nothing-before (bits_of words) c.args.from) lowest))
 
-pub returns-clause-none : goal.returns-clause-none
-returns-clause-none c =
+pub returns-in-Some-clause-none : goal.returns-in-Some-clause-none
+returns-in-Some-clause-none c =
     let words = c.self.inside.words.items in
-    subst (λ marks. IfNone c.next_in.result (NoneMarked marks c.args.from c.args.end)) c.self.view_is
-    (none_in_all words c.self.inside.low c.self.inside.high c.args.from c.args.end c.saturating_mul-first.result
-    c.saturating_mul-past.result c.self.invariant (near c) (far c) c.next_in.result
-    (subst (λ low. IfNone c.next_in.result (NoneMarked (bits_of words) low (min c.args.end c.saturating_mul-past.result))) c.max.ensures
-    (subst (λ high. IfNone c.next_in.result (NoneMarked (bits_of words) c.max.result high)) c.min.ensures
-    (subst (λ all. IfNone c.next_in.result (NoneMarked (bits_of all) c.max.result c.min.result)) c.deref.ensures.value
-    c.next_in.ensures.none))))
+    let room = ap length c.self.view_is in
+    let within : c.args.from / 64 < length words =
+    omega (arith, length-bits_of words, c.if-end-from.false, c.requires) in
+    let read = get_or_read words (c.args.from / 64) c.index.result.now within c.index.ensures 0 in
+    let lowest = subst (λ w. IsLowestBit w (c.args.from % 64) c.in-Some.bit) read c.in-Some.ensures.found in
+    subst (λ marks. IfNone c.below.result (NoneMarked marks c.args.from c.args.end)) c.self.view_is
+    (subst (λ (o : Option ℕ). IfNone o (NoneMarked (bits_of words) c.args.from c.args.end))
+    (sym c.below.ensures)
+    (next_none words c.args.from (c.args.from / 64) (c.args.from % 64) c.in-Some.bit c.args.end
+    within (nothing-before (bits_of words) c.args.from) lowest))
