@@ -187,6 +187,7 @@ fn keeps_limits(attempt: &Attempt, ready: &Ready, at: u64, first: u64) -> bool
 }
 
 /// Whether a live attempt admits the next instruction of its CPU, whose operand is reached.
+#[inline(never)]
 fn admits_inside(attempt: &Attempt, image: &CpuImage, ready: &Ready, first: u64) -> bool
     requires prefix { image.now.prefix ≡ None }
     requires ends { image.now.address + 6 ≤ storage_size }
@@ -205,6 +206,7 @@ fn admits_inside(attempt: &Attempt, image: &CpuImage, ready: &Ready, first: u64)
 }
 
 /// Whether the attempt admits the next instruction of its CPU, whose operand is reached; it does where none is live.
+#[inline(always)]
 fn admits(attempt: &Attempt, image: &CpuImage, ready: &Ready, first: u64) -> bool
     requires prefix { image.now.prefix ≡ None }
     requires ends { image.now.address + 6 ≤ storage_size }

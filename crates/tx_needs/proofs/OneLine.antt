@@ -8,7 +8,6 @@ use Rattle.z_regs.specs.declared.ranges.Range.{Range}
 use Rattle.line_table.specs.declared.table.Mode.{Mode}
 use Rattle.line_table.specs.declared.table.Mode.TheVariants.{Shared, Exclusive}
 use Rattle.tx_meaning.specs.Needs.{needs_of, lines_of, has_line, mode_for, rising}
-use Rattle.tx_needs.specs.Needs.{need_at}
 
 abbrev pub one : ℕ → ℕ → Bool → Range
 one first size store = record { first = first; length = size; store = store }
@@ -48,13 +47,6 @@ needs-one first size store some h =
     (rising (ls ++ []))) (one-line first size store some h)
     ∙ ap (λ (mode : Mode). record { line = first / 256; mode = mode } ∷ [])
     (mode-is store (has_line (first / 256) (one first size store)) (has-it first size store some h))
-
--- it is the only one of such a range
-pub only-need : (r : Range) → 0 < r.length → r.first % 256 + r.length ≤ 256
-    → map (need_at (r ∷ [])) (r.first / 256 ∷ []) ≡ needs_of (r ∷ [])
-unfolding needs_of
-only-need r some h =
-    sym (ap (λ (ls : List ℕ). map (need_at (r ∷ [])) (rising (ls ++ []))) (one-line r.first r.length r.store some h))
 
 pub needs-none : (first size : ℕ) (store : Bool) → size ≤ 0 → needs_of (one first size store ∷ []) ≡ []
 unfolding needs_of

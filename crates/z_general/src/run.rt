@@ -60,6 +60,7 @@ fn run(kind: General, n: u8, instr: &Instr, image: &mut CpuImage) -> Result<(), 
 /// The error is a fixed-point overflow exception, after all is done, where the result overflows and the
 /// leftmost bit of the program mask is one; or a fixed-point divide exception, with all as before. Whether R1
 /// of a pair is even is not looked at.
+#[inline(always)]
 pub fn execute_kind<V: Bytes>(
     kind: General,
     instr: &Instr,

@@ -78,6 +78,7 @@ fn run<V: Bytes>(
 /// `view` has 1,048,576 bytes, and all operands lie in them; `z_touch` tests that. Numbers in storage have
 /// their leftmost byte first. The error is a fixed-point overflow exception, after all is done, where the
 /// result overflows and the leftmost bit of the program mask is one.
+#[inline(always)]
 pub fn execute_kind<V: Bytes>(
     kind: Storage,
     instr: &Instr,
