@@ -1,6 +1,6 @@
 -- An instruction that is executed on storage as it is, where an attempt sees its operands so.
-use Rattle.std.proofs.Common.{◌≡◌, ℕ, ◌+◌, ◌<◌, ◌≤◌, false, List, [], ◌∷◌, Option, None, Some, refl, sym, ap}
-use Rattle.std.proofs.Common.{◌∙◌, length, get_or, take}
+use Rattle.std.proofs.Common.{◌≡◌, ℕ, ◌+◌, ◌*◌, ◌/◌, ◌%◌, ◌<◌, ◌≤◌, Bool, true, false, List, [], ◌∷◌, Option, None, Some}
+use Rattle.std.proofs.Common.{refl, sym, ap, ◌∙◌, arith, length, get_or, take}
 use Rattle.std.specs.Prelude.{map, cond, unwrap_or, is_some, All}
 use Rattle.std.proofs.lemmas.Bool.{true≢false}
 use Rattle.z_regs.specs.Absolute.{IsAccessible}
@@ -13,7 +13,11 @@ use Rattle.z_touch.specs.Refusals.{span_of}
 use Rattle.z_effect.specs.After.{touched, range_at, written, storage_after, cpu_after}
 use Rattle.z_effect.specs.One.{one}
 use Rattle.z_effect.specs.Outcome.{Outcome, Did, Overflowed, Divides, Aborts}
-use Rattle.store_cache.specs.Overlay.{Overlay}
+use Rattle.bit_set.specs.Counts.{count_below, one_if}
+use Rattle.bit_set.proofs.Counts.{count_but_at}
+use Rattle.store_cache.specs.Overlay.{Overlay, block_count, has_block}
+use Rattle.store_cache.specs.Sizes.{block_size, storage_blocks}
+use Rattle.store_cache.proofs.Blocks.{has_block-at}
 use Rattle.tx_serial.specs.Fate.{operands}
 use Rattle.tx_serial.specs.Flat.{Storage, bytes_seen, operand_bytes}
 use Rattle.tx_progress.specs.Progress.{seen_through}
@@ -30,6 +34,33 @@ use Rattle.z_regs.proofs.OneArea.{length-range_at}
 pub none-so : (o : Option ℕ) → is_some o ≡ false → o ≡ None
 none-so None h = refl
 none-so (Some p) h = absurd (true≢false h)
+
+-- ---- where no block is stored, no byte is
+
+-- none of those that are counted holds
+count-none : (n : ℕ) (f : ℕ → Bool) (at : ℕ) (b : Bool) → f at ≡ b → at < n → count_below n f ≡ 0 → f at ≡ false
+count-none n f at false e lt h = e
+count-none n f at true e lt h =
+    let whole = count_but_at n f at false lt in
+    let one : one_if (f at) ≡ 1 = ap one_if e in
+    absurd (omega (arith, whole, one, h))
+
+-- a byte that is stored would be one of its block
+none-at : (o : Overlay) (a : ℕ) (b : Bool) → is_some (o a) ≡ b → has_block o (a / block_size) ≡ false
+    → is_some (o a) ≡ false
+none-at o a false e h = e
+none-at o a true e h =
+    let same : a / block_size * block_size + a % block_size ≡ a = omega arith in
+    let under : a % block_size < block_size = omega arith in
+    absurd (true≢false (sym (has_block-at o (a / block_size) (a % block_size) under
+    (ap (λ n. is_some (o n)) same ∙ e)) ∙ h))
+
+-- so all of storage is bare
+pub none-stored : (o : Overlay) (a : ℕ) → block_count o ≡ 0 → a < storage_size → o a ≡ None
+none-stored o a h lt =
+    let under : a / block_size < storage_blocks = omega (arith, lt) in
+    none-so (o a)
+    (none-at o a _ refl (count-none storage_blocks (has_block o) (a / block_size) _ refl under h))
 
 -- ---- bytes over which nothing is stored
 

@@ -233,11 +233,15 @@ impl Attempt {
     }
 
     /// Whether the attempt has stored nothing in the blocks of some bytes, by absolute addresses.
+    #[inline(always)]
     pub fn is_bare(&self, first: u64, length: u32) -> bool
         requires { first + length ≤ storage_size }
         ensures { result ≡ true → (k : ℕ) → k < length
             → (stores_of self.now.stores).overlay (first + k) ≡ None }
     {
+        if self.stores.blocks() == 0 {
+            return true;
+        }
         let block = BLOCK_SIZE as u64;
         let end = (first + u64::from(length) + block - 1) / block;
         for at in first / block..end {

@@ -31,6 +31,7 @@ pub fn operand(need: &Touches, number: u8) -> Range
 
 /// Whether the CPU sees these operands, at most two, as they are in storage: there are none, or it has no prefix,
 /// and its attempt has stored nothing in their blocks.
+#[inline(always)]
 pub fn are_bare(attempt: &Attempt, need: &Touches, prefix: Option<u32>) -> bool
     requires few { length need.now ≤ 2 }
     requires accessible { All (IsAccessible prefix) need.now }
