@@ -1,4 +1,4 @@
-//! Cases of the caches and the sets below them, with values worked by hand.
+//! Cases of the caches, the store cache and the sets below them, with values worked by hand.
 #![tactic(auto)]
 
 #[cfg(test)]
@@ -9,3 +9,5 @@ mod lines;
 mod sets;
 #[cfg(test)]
 mod slots;
+#[cfg(test)]
+mod stores;

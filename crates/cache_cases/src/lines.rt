@@ -112,25 +112,27 @@ fn seen(alloc: Global, bytes: &[u8]) -> Result<([[u64; 4]; 4], Looks), Fail>
     Ok(([inside, across, shared, numbers(&lines)], between))
 }
 
+/// The same of storage of zeros.
+fn seen_in_zeros(alloc: Global) -> Result<([[u64; 4]; 4], Looks), Fail> {
+    let bytes = vec![in alloc; 0; 1_048_576]?;
+    seen(alloc, &bytes)
+}
+
 #[test]
 fn an_exclusive_copy_is_seen_by_all(rt: HostRuntime) -> Result<(), Fail> {
-    let bytes = vec![in rt.alloc(); 0; 1_048_576]?;
-    let ([inside, across, shared, last], between) = seen(rt.alloc(), &bytes)?;
-    assert_eq!(rt;
-        between,
-        (
-            1_048_576,
-            1,
-            0x100_0000,
-            Some(Mode::Exclusive),
-            Some(0),
-            Some(144)
-        )
+    let told = seen_in_zeros(rt.alloc())?;
+    let between = (
+        1_048_576,
+        1,
+        0x100_0000,
+        Some(Mode::Exclusive),
+        Some(0),
+        Some(144),
     );
     let (low, first) = (0x100_0000, 0x100_0000_0000_0001);
-    assert_eq!(rt; inside, [low, low, first, first]);
+    let inside = [low, low, first, first];
     let (low, first) = (0x100_0000_0100_0001, 0x100_0001_0100_0001);
-    assert_eq!(rt; across, [low, low, first, first]);
-    assert_eq!(rt; [shared, last], [across, across]);
+    let across = [low, low, first, first];
+    assert_eq!(rt; told, ([inside, across, across, across], between));
     Ok(())
 }

@@ -1,11 +1,17 @@
 //! A worked set.
+ghost use Rattle.std.specs.Prelude.{◌≡◌, length};
 
 use bit_set::BitSet;
+use std::alloc::{AllocError, Global};
 use std::test::Fail;
 
-#[test]
-fn finds_what_was_added(rt: HostRuntime) -> Result<(), Fail> {
-    let mut set = BitSet::open(rt.alloc(), 3)?;
+/// The next numbers from four places on, and whether five runs are there.
+type Found = ([Option<usize>; 4], [bool; 5]);
+
+/// What is found in a set of two numbers and a run.
+fn find(set: &mut BitSet) -> Found
+    requires { length set.old ≡ 192 }
+{
     set.insert(5);
     set.insert_run(62, 66);
     set.insert(191);
@@ -15,7 +21,6 @@ fn finds_what_was_added(rt: HostRuntime) -> Result<(), Fail> {
         set.next(66, 191),
         set.next(66, 192),
     ];
-    assert_eq!(rt; found, [Some(62), Some(65), None, Some(191)]);
     let whole = [
         set.has_run(62, 66),
         set.has_run(63, 65),
@@ -23,23 +28,53 @@ fn finds_what_was_added(rt: HostRuntime) -> Result<(), Fail> {
         set.has_run(62, 67),
         set.has_run(191, 192),
     ];
-    assert_eq!(rt; whole, [true, true, false, false, true]);
-    Ok(())
+    (found, whole)
+}
+
+/// The same in a set that is opened.
+fn found(alloc: Global) -> Result<Found, AllocError> {
+    let mut set = BitSet::open(alloc, 3)?;
+    Ok(find(&mut set))
 }
 
 #[test]
-fn copies_puts_and_clears(rt: HostRuntime) -> Result<(), Fail> {
-    let mut set = BitSet::open(rt.alloc(), 3)?;
-    let mut other = BitSet::open(rt.alloc(), 3)?;
+fn finds_what_was_added(rt: HostRuntime) -> Result<(), Fail> {
+    let told = found(rt.alloc())?;
+    let next = [Some(62), Some(65), None, Some(191)];
+    assert_eq!(rt; told, (next, [true, true, false, false, true]));
+    Ok(())
+}
+
+/// Whether a set is the same as an empty one before that is a copy of it and behind; whether that has two numbers once one is
+/// taken away and the other put; and the first number of it once it is cleared.
+type Held = ([bool; 4], Option<usize>);
+
+/// What is held of a set of one number, and of another one.
+fn hold(set: &mut BitSet, other: &mut BitSet) -> Held
+    requires size { length set.old ≡ 192 }
+    requires other { length other.old ≡ 192 }
+{
     set.insert(191);
-    let before = set.same(&other);
-    other.copy_from(&set);
-    let behind = set.same(&other);
+    let before = set.same(other);
+    other.copy_from(set);
+    let behind = set.same(other);
     other.put(191, false);
     other.put(7, true);
     let held = [before, behind, other.has(191), other.has(7)];
     other.clear();
-    assert_eq!(rt; held, [false, true, false, true]);
-    assert_eq!(rt; other.next(0, 192), None);
+    (held, other.next(0, 192))
+}
+
+/// The same of sets that are opened.
+fn held(alloc: Global) -> Result<Held, AllocError> {
+    let mut set = BitSet::open(alloc, 3)?;
+    let mut other = BitSet::open(alloc, 3)?;
+    Ok(hold(&mut set, &mut other))
+}
+
+#[test]
+fn copies_puts_and_clears(rt: HostRuntime) -> Result<(), Fail> {
+    let told = held(rt.alloc())?;
+    assert_eq!(rt; told, ([false, true, false, true], None));
     Ok(())
 }

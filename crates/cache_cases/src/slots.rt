@@ -24,8 +24,8 @@ fn keys_have_slots(rt: HostRuntime) -> Result<(), Fail> {
         index.slot_of(4095),
         index.slot_of(4096),
     ];
-    assert_eq!(rt; slots, [None, Some(0), Some(1), None]);
-    assert_eq!(rt; index.count(), 2);
+    let due = [None, Some(0), Some(1), None];
+    assert_eq!(rt; (slots, index.count()), (due, 2));
     Ok(())
 }
 

@@ -285,6 +285,42 @@ fn begun_again(alloc: Global, machine: &Machine) -> Result<Machine, NoMemory>
     Machine::open(alloc, machine.shared_image()?, machine.limits())
 }
 
+/// What is live before the window, and then its turns, on a machine to which those before them have happened.
+fn watch_window(
+    machine: &Machine,
+    replay: &mut Machine,
+    window: Window,
+    picture: &mut Picture,
+) -> Result<(), AllocError>
+    requires { Replays machine.now (start_of window (length machine.now.events)) replay.old }
+    ensures marks { OnOk result (length picture.new.marks.items
+        ≡ length picture.old.marks.items + turns_in window (length machine.now.events)) }
+    ensures entries { OnOk result (length picture.new.entries.items
+        ≡ length picture.old.entries.items + entries_in window (setting_of machine.now) machine.now.events) }
+{
+    add_live(&mut picture.attempts, replay)?;
+    watch_all(machine, replay, window, picture)
+}
+
+/// The turns of the window, and what came of them, on a machine from which nothing has happened.
+fn observe_on(
+    alloc: Global,
+    machine: &Machine,
+    replay: &mut Machine,
+    window: Window,
+) -> Result<Picture, NoMemory>
+    requires { Replays machine.now 0 replay.old }
+    ensures turns { IfOk result (λ picture. length picture.marks.items
+        ≡ turns_in window (length machine.now.events)) }
+    ensures entries { IfOk result (λ picture. length picture.entries.items
+        ≡ entries_in window (setting_of machine.now) machine.now.events) }
+{
+    skip(machine, replay, window.start(machine.events().len() as u64));
+    let mut picture = Picture::blank(alloc, machine.image().cpu_count());
+    watch_window(machine, replay, window, &mut picture)?;
+    Ok(picture)
+}
+
 /// The turns of the window, and what came of them.
 pub fn observe(alloc: Global, machine: &Machine, window: Window) -> Result<Picture, NoMemory>
     ensures turns { IfOk result (λ picture. length picture.marks.items
@@ -293,13 +329,5 @@ pub fn observe(alloc: Global, machine: &Machine, window: Window) -> Result<Pictu
         ≡ entries_in window (setting_of machine.now) machine.now.events) }
 {
     let mut replay = begun_again(alloc, machine)?;
-    skip(
-        machine,
-        &mut replay,
-        window.start(machine.events().len() as u64),
-    );
-    let mut picture = Picture::blank(alloc, machine.image().cpu_count());
-    add_live(&mut picture.attempts, &replay)?;
-    watch_all(machine, &mut replay, window, &mut picture)?;
-    Ok(picture)
+    observe_on(alloc, machine, &mut replay, window)
 }

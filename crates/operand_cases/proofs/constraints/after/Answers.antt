@@ -2,7 +2,7 @@ use Rattle.std.proofs.Common.{◌≡◌, ◌+◌, [], length, ap, ◌∙◌, ari
 use Rattle.tx_constraint.specs.Octowords.{with_octowords}
 use Rattle.tx_constraint.specs.Kept.{Kept}
 use Rattle.tx_constraint.proofs.Piling.{with_octowords-none}
-use Rattle.constraint_cases.proofs.constraints.after.Goals as goal
+use Rattle.operand_cases.proofs.constraints.after.Goals as goal
 
 pub add-requires-clause-admitted : goal.add-requires-clause-admitted
 add-requires-clause-admitted c =

@@ -1,5 +1,5 @@
 use Rattle.std.proofs.Common.{◌≡◌, []}
-use Rattle.constraint_cases.proofs.constraints.after.Given as goal
+use Rattle.operand_cases.proofs.constraints.after.Given as goal
 
 -- so many instructions were added, without operands
 abbrev pub invariant-loop-done : goal.invariant-loop-done

@@ -1,5 +1,5 @@
 use Rattle.std.proofs.Common.{◌≤◌}
-use Rattle.constraint_cases.proofs.constraints.touching.Given as goal
+use Rattle.operand_cases.proofs.constraints.touching.Given as goal
 
 abbrev pub invariant-loop-k : goal.invariant-loop-k
 invariant-loop-k l = l.constraint.count ≤ l.k
