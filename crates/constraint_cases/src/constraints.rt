@@ -152,6 +152,26 @@ fn operands_at_each_boundary(rt: HostRuntime) -> Result<(), Fail> {
 }
 
 #[test]
+fn operands_that_are_admitted_at_once(rt: HostRuntime) -> Result<(), Fail> {
+    let table = [
+        (0x4000, 3, 0x9060, 8, true),
+        (0x4000, 4, 0x9060, 8, true),
+        (0x4000, 4, 0x9080, 8, false),
+        (0x4000, 0, 0x9000, 8, true),
+        (0x4000, 0, 0x9004, 8, false),
+        (0x4000, 0, 0x4FF8, 8, false),
+        (0x4F02, 0, 0x5800, 8, false),
+        (0x4F00, 0, 0x5800, 8, true),
+        (0x4000, 4, 0x4000, 0, true),
+    ];
+    for (begin, octowords, first, length, answer) in table {
+        let constraint = touching(begin, octowords)?;
+        assert_eq!(rt; constraint.admits_operand(first, length), answer);
+    }
+    Ok(())
+}
+
+#[test]
 fn two_operands_of_one_instruction(rt: HostRuntime) -> Result<(), Fail> {
     let compare = instruction(b"CLC", 0)?;
     let mut touches = operand(0x9060, 8);

@@ -9,7 +9,7 @@ use Rattle.std.proofs.lemmas.List.{get_or-set_same, get_or-set_other}
 use Rattle.std.proofs.lemmas.Option.{slice_get-get_or}
 use Rattle.bit_set.specs.Counts.{count_below}
 use Rattle.bit_set.proofs.Counts.{count_agree}
-use Rattle.slot_index.specs.Slots.{Slots, slot_in, slot_without, is_key}
+use Rattle.slot_index.specs.Slots.{Slots, slot_in, slot_after, slot_without, is_key}
 use borrow.Enum.Arm.{by_way}
 use Rattle.slot_index.proofs.Found.{slot_in-has, slot_in-add, slot_in-none, slot_cases}
 use Rattle.l1_data.specs.Sizes.{storage_lines, line_size}
@@ -145,27 +145,24 @@ dropped lines now copies line slot moved e room is slots i q =
     last : ℕ
     last = length lines - 1
 
-    after : ℕ → Option ℕ
-    after s = cond (eqb s slot) None (Some (cond (eqb s last) slot s))
-
     here : q ≡ line → copy_at now (set copies slot moved) q ≡ None
     here same =
         at_none now (set copies slot moved) q
-        (slots q ∙ ap (option_and_then after) (ap (slot_in lines) same ∙ e)
+        (slots q ∙ ap (option_and_then (slot_after lines slot)) (ap (slot_in lines) same ∙ e)
         ∙ cond-true (eqb slot slot) None (Some (cond (eqb slot last) slot slot)) (eq-eqb slot slot refl))
 
     other : q ≢ line → copy_at now (set copies slot moved) q ≡ copy_at lines copies q
     other ne =
         by_way (slot_cases lines q)
         (λ found. at_slot found.0 found.1 (λ same. ne (same_line lines line q slot found.0 e found.1 same)))
-        (λ absent. at_none now (set copies slot moved) q (slots q ∙ ap (option_and_then after) absent)
+        (λ absent. at_none now (set copies slot moved) q (slots q ∙ ap (option_and_then (slot_after lines slot)) absent)
         ∙ sym (at_none lines copies q absent))
       where
         at_slot : (s : ℕ) → slot_in lines q ≡ Some s → s ≢ slot
             → copy_at now (set copies slot moved) q ≡ copy_at lines copies q
         at_slot s found off =
             let kept : slot_in now q ≡ Some (cond (eqb s last) slot s) = slots q
-            ∙ ap (option_and_then after) found
+            ∙ ap (option_and_then (slot_after lines slot)) found
             ∙ cond-false (eqb s slot) None (Some (cond (eqb s last) slot s)) (ne_eqb s slot off) in
             by_way (cases_eq s last)
             (λ at_last. at_found now (set copies slot moved) q slot

@@ -10,7 +10,7 @@ use Rattle.std.proofs.lemmas.List.{get_or-set_other, get_or-take, length-take-le
 use borrow.Enum.Arm.{by_way}
 use Rattle.bit_set.specs.Counts.{one_if, count_below, but_at}
 use Rattle.bit_set.proofs.Counts.{count_agree, count_but_at, count_none}
-use Rattle.slot_index.specs.Slots.{slot_in, slot_without, is_key, IsIndexed}
+use Rattle.slot_index.specs.Slots.{slot_in, slot_after, slot_without, is_key, IsIndexed}
 use Rattle.slot_index.proofs.Found.{Has, HasOneSlot, slot_in-has, slot_in-at, slot_in-none}
 use Rattle.slot_index.proofs.Found.{slot_in-absent, slot_in-one, slot_cases}
 
@@ -257,14 +257,11 @@ pub slot_in-removed : {slots keys : List ℕ} {most capacity : ℕ} → IsIndexe
 slot_in-removed {slots} {keys} kept gone d key lt =
     by_way (slot_cases keys key)
     (λ found. at_slot found.0 (slot_in-has keys key found.0 found.1)
-    ∙ sym (ap (option_and_then slot_after) found.1))
-    (λ none. slot_in-none rest key (absent none) ∙ sym (ap (option_and_then slot_after) none))
+    ∙ sym (ap (option_and_then (slot_after keys gone)) found.1))
+    (λ none. slot_in-none rest key (absent none) ∙ sym (ap (option_and_then (slot_after keys gone)) none))
   where
     rest : List ℕ
     rest = swap_remove keys gone d
-
-    slot_after : ℕ → Option ℕ
-    slot_after slot = cond (eqb slot gone) None (Some (cond (eqb slot (last_of keys)) gone slot))
 
     size : length rest ≡ last_of keys
     size = length-swap_remove keys gone d lt
@@ -300,7 +297,7 @@ slot_in-removed {slots} {keys} kept gone d key lt =
         let old : slot ≡ from.0 = one slot from.0 has.within from.1 (has.here ∙ sym same ∙ from.2) in
         (λ e. old ∙ from.3.0 e, λ ne. old ∙ from.3.1 ne)
 
-    at_slot : (slot : ℕ) → Has keys key slot → slot_in rest key ≡ slot_after slot
+    at_slot : (slot : ℕ) → Has keys key slot → slot_in rest key ≡ slot_after keys gone slot
     at_slot slot has =
         by_way (cases_eq slot gone)
         (λ e. slot_in-none rest key (λ j under same.

@@ -17,11 +17,15 @@ slot_in keys key = position (λ k. k == key) keys
 abbrev pub is_key : List ℕ → ℕ → Bool
 is_key keys key = is_some (slot_in keys key)
 
--- the slots after the key of one slot went away: the key of the last slot has that slot now
+-- the slot that the key of a slot has after the key of one slot went away: the key of the last slot has that slot
+-- now
+abbrev pub slot_after : List ℕ → ℕ → ℕ → Option ℕ
+slot_after keys gone slot =
+    if slot == gone then None else Some (if slot == length keys - 1 then gone else slot)
+
+-- the slots of all keys after that
 abbrev pub slot_without : List ℕ → ℕ → ℕ → Option ℕ
-slot_without keys gone key =
-    option_and_then (λ slot. if slot == gone then None else Some
-    (if slot == length keys - 1 then gone else slot)) (slot_in keys key)
+slot_without keys gone key = option_and_then (slot_after keys gone) (slot_in keys key)
 
 -- the table tells the slot of each key in the list; what it says of others is of no account
 pub record IsIndexed (slots keys : List ℕ) (most capacity : ℕ) : Type 0 where

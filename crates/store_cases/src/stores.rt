@@ -47,16 +47,6 @@ fn store_both(cache: &mut StoreCache) -> bool {
     true
 }
 
-/// A cache with the doubleword 3 by NTSTG, and 4 stored over it.
-fn three_then_four(alloc: Global) -> Result<StoreCache, Fail> {
-    let mut cache = StoreCache::open(alloc)?;
-    if store_both(&mut cache) {
-        Ok(cache)
-    } else {
-        Err("no room")?
-    }
-}
-
 /// The attempt ends in a commit or an abort, where storage has its size.
 fn end(cache: &mut StoreCache, storage: &mut Storage, is_commit: bool) -> bool {
     if storage.as_slice().len() != STORAGE_SIZE as usize {
@@ -107,17 +97,19 @@ fn aborted_twice(
     Ok(aborted(cache, &mut copy, storage))
 }
 
-/// The same of the doubleword 3 by NTSTG with 4 stored over it.
-fn both_aborted(alloc: Global) -> Result<([bool; 2], [Option<u8>; 3], u32), Fail> {
+/// The same of the doubleword 3 by NTSTG with 4 stored over it, and whether these were stored.
+fn both_aborted(alloc: Global) -> Result<(bool, ([bool; 2], [Option<u8>; 3], u32)), Fail> {
     let mut storage = zeros(alloc)?;
-    let mut cache = three_then_four(alloc)?;
-    aborted_twice(alloc, &mut cache, &mut storage)
+    let mut cache = StoreCache::open(alloc)?;
+    let stored = store_both(&mut cache);
+    Ok((stored, aborted_twice(alloc, &mut cache, &mut storage)?))
 }
 
 #[test]
 fn the_last_ntstg_lasts(rt: HostRuntime) -> Result<(), Fail> {
     let answer = both_aborted(rt.alloc())?;
-    assert_eq!(rt; answer, ([true; 2], [Some(3), Some(4), Some(3)], 0));
+    let left = ([true; 2], [Some(3), Some(4), Some(3)], 0);
+    assert_eq!(rt; answer, (true, left));
     Ok(())
 }
 
@@ -129,17 +121,18 @@ fn committed(cache: &mut StoreCache, storage: &mut Storage) -> (bool, [Option<u8
     (done, left, cache.blocks())
 }
 
-/// The same of the doubleword 3 by NTSTG with 4 stored over it.
-fn last_committed(alloc: Global) -> Result<(bool, [Option<u8>; 2], u32), Fail> {
+/// The same of the doubleword 3 by NTSTG with 4 stored over it, and whether these were stored.
+fn last_committed(alloc: Global) -> Result<(bool, (bool, [Option<u8>; 2], u32)), Fail> {
     let mut storage = zeros(alloc)?;
-    let mut cache = three_then_four(alloc)?;
-    Ok(committed(&mut cache, &mut storage))
+    let mut cache = StoreCache::open(alloc)?;
+    let stored = store_both(&mut cache);
+    Ok((stored, committed(&mut cache, &mut storage)))
 }
 
 #[test]
 fn a_commit_leaves_the_last_store(rt: HostRuntime) -> Result<(), Fail> {
     let answer = last_committed(rt.alloc())?;
-    assert_eq!(rt; answer, (true, [Some(4), Some(0)], 0));
+    assert_eq!(rt; answer, (true, (true, [Some(4), Some(0)], 0)));
     Ok(())
 }
 
@@ -188,10 +181,10 @@ fn byte_of_nothing(alloc: Global) -> Result<Option<u8>, Fail> {
 
 #[test]
 fn sixty_four_blocks_have_room(rt: HostRuntime) -> Result<(), Fail> {
-    let (blocks, bytes) = filled(rt.alloc())?;
-    assert_eq!(rt; blocks, (64, true, 64, false));
-    assert_eq!(rt; bytes, [None, Some(1), Some(1)]);
-    assert_eq!(rt; byte_of_nothing(rt.alloc())?, None);
+    let full = filled(rt.alloc())?;
+    let none = byte_of_nothing(rt.alloc())?;
+    let blocks = (64, true, 64, false);
+    assert_eq!(rt; (full, none), ((blocks, [None, Some(1), Some(1)]), None));
     Ok(())
 }
 

@@ -36,15 +36,15 @@ fn take(footprint: &mut Footprint, first: u64, store: bool) -> Option<Overflow> 
     }
 }
 
-/// The footprint of doublewords that fit: where each is, and whether it is stored.
-fn after(alloc: Global, places: &[(u64, bool)]) -> Result<Footprint, Fail> {
-    let mut footprint = Footprint::open(alloc)?;
+/// Takes doublewords, and tells how many fit: where each is, and whether it is stored.
+fn take_all(footprint: &mut Footprint, places: &[(u64, bool)]) -> usize {
+    let mut fitting = 0usize;
     for (first, store) in places {
-        if take(&mut footprint, *first, *store).is_some() {
-            return Err("an overflow")?;
+        if take(footprint, *first, *store).is_none() {
+            fitting = fitting.saturating_add(1);
         }
     }
-    Ok(footprint)
+    fitting
 }
 
 /// How many lines and blocks there are; then whether lines 144 and 145 are fetched, and whether they are stored.
@@ -78,24 +78,47 @@ static TAKEN: [(&[(u64, bool)], [u32; 2], [bool; 4]); 3] = [
     ),
 ];
 
+/// How many of these doublewords fit, and what is seen then.
+fn seen_behind(
+    alloc: Global,
+    places: &[(u64, bool)],
+) -> Result<(usize, ([u32; 2], [bool; 4])), Fail> {
+    let mut footprint = Footprint::open(alloc)?;
+    let fitting = take_all(&mut footprint, places);
+    Ok((fitting, seen(&footprint)))
+}
+
 #[test]
 fn lines_and_blocks_count_once(rt: HostRuntime) -> Result<(), Fail> {
     for (places, counts, lines) in TAKEN {
-        let footprint = after(rt.alloc(), places)?;
-        assert_eq!(rt; seen(&footprint), (counts, lines));
+        let told = seen_behind(rt.alloc(), places)?;
+        assert_eq!(rt; told, (places.len(), (counts, lines)));
     }
     Ok(())
 }
 
+/// Whether a doubleword fits, and whether the footprint then is the same as an empty one, before that is a copy of it and
+/// behind; and how many lines there are once the copy is cleared.
+fn copied(footprint: &mut Footprint, other: &mut Footprint) -> ([bool; 3], u32) {
+    let fits = take(footprint, 0x9000, true).is_none();
+    let before = footprint.same(other);
+    other.copy_from(footprint);
+    let behind = footprint.same(other);
+    other.clear();
+    ([fits, before, behind], other.lines())
+}
+
+/// The same, of footprints that are opened.
+fn copied_anew(alloc: Global) -> Result<([bool; 3], u32), Fail> {
+    let mut footprint = Footprint::open(alloc)?;
+    let mut other = Footprint::open(alloc)?;
+    Ok(copied(&mut footprint, &mut other))
+}
+
 #[test]
 fn copies_and_clears(rt: HostRuntime) -> Result<(), Fail> {
-    let footprint = after(rt.alloc(), &[(0x9000, true)])?;
-    let mut other = after(rt.alloc(), &[])?;
-    let before = footprint.same(&other);
-    other.copy_from(&footprint);
-    let behind = footprint.same(&other);
-    other.clear();
-    assert_eq!(rt; ([before, behind], other.lines()), ([false, true], 0));
+    let told = copied_anew(rt.alloc())?;
+    assert_eq!(rt; told, ([true, false, true], 0));
     Ok(())
 }
 
@@ -106,24 +129,42 @@ static LIMITS: [(u64, u64, bool, Overflow, u64); 2] = [
     (128, 64, true, Overflow::Store, 8_192),
 ];
 
-/// A footprint with so many doublewords, all of which fit.
-fn full(alloc: Global, apart: u64, count: u64, store: bool) -> Result<Footprint, Fail> {
-    let mut footprint = Footprint::open(alloc)?;
+/// Of so many doublewords how many fit, what one more overflows, and what one of the other kind.
+fn filled(
+    footprint: &mut Footprint,
+    apart: u64,
+    count: u64,
+    store: bool,
+    other: u64,
+) -> (u64, [Option<Overflow>; 2]) {
+    let mut fitting = 0u64;
     for k in 0..count {
-        if take(&mut footprint, k.saturating_mul(apart), store).is_some() {
-            return Err("an overflow")?;
+        if take(footprint, k.saturating_mul(apart), store).is_none() {
+            fitting = fitting.saturating_add(1);
         }
     }
-    Ok(footprint)
+    let one_more = take(footprint, count.saturating_mul(apart), store);
+    let other_kind = take(footprint, other, !store);
+    (fitting, [one_more, other_kind])
+}
+
+/// The same, of a footprint that is opened.
+fn filled_anew(
+    alloc: Global,
+    apart: u64,
+    count: u64,
+    store: bool,
+    other: u64,
+) -> Result<(u64, [Option<Overflow>; 2]), Fail> {
+    let mut footprint = Footprint::open(alloc)?;
+    Ok(filled(&mut footprint, apart, count, store, other))
 }
 
 #[test]
 fn limits_are_exact(rt: HostRuntime) -> Result<(), Fail> {
     for (apart, count, store, overflow, other) in LIMITS {
-        let mut footprint = full(rt.alloc(), apart, count, store)?;
-        let one_more = take(&mut footprint, count.saturating_mul(apart), store);
-        let other_kind = take(&mut footprint, other, !store);
-        assert_eq!(rt; [one_more, other_kind], [Some(overflow), None]);
+        let told = filled_anew(rt.alloc(), apart, count, store, other)?;
+        assert_eq!(rt; told, (count, [Some(overflow), None]));
     }
     Ok(())
 }

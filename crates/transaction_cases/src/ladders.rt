@@ -1,18 +1,20 @@
 //! The ladder's numbers at their ends, by values from outside.
-ghost use Rattle.std.specs.Prelude.{◌≡◌, ◌+◌, ◌≤◌};
+ghost use Rattle.std.specs.Prelude.{◌≡◌, []};
 
-use std::process::Abort;
 use std::test::Fail;
 use tx_ladder::{DELAY, Ladder, Next, Parms, REJECT, STARVE, STOP, StopQueue};
 
-/// Suffers one more conflict abort of a constrained attempt.
-fn abort(rt: &impl Abort, parms: &Parms, ladder: &mut Ladder) -> Next
+/// Suffers one more conflict abort of a constrained attempt, where one more may come.
+fn abort(parms: &Parms, ladder: &mut Ladder) -> Option<Next>
     requires { ladder.old.parms ≡ parms.now }
     ensures { ladder.new.parms ≡ parms.now }
 {
     ladder.begin(true);
-    assert!(rt; ladder.aborts() < parms.stop);
-    ladder.conflict()
+    if ladder.aborts() < parms.stop {
+        Some(ladder.conflict())
+    } else {
+        None
+    }
 }
 
 /// Rejects as often as the live attempt may, and counts.
@@ -57,159 +59,215 @@ fn usual_numbers(rt: HostRuntime) {
         parms.stop,
         parms.delay,
     ];
-    assert_eq!(rt; numbers, [8, 64, 4, 64, 8, 128]);
     let least = [REJECT.least, STARVE.least, STOP.least, DELAY.least];
     let most = [REJECT.most, STARVE.most, STOP.most, DELAY.most];
-    assert_eq!(rt; (least, most), ([0, 1, 1, 0], [1000, 1000, 16, 32768]));
+    let due = (
+        [8, 64, 4, 64, 8, 128],
+        [0, 1, 1, 0],
+        [1000, 1000, 16, 32768],
+    );
+    assert_eq!(rt; (numbers, least, most), due);
 }
 
-/// Suffers conflict aborts with these delays, and then the one that leads to the queue.
-fn climb(rt: &impl Abort, parms: Parms, delays: &[u32]) {
-    let mut ladder = Ladder::new(parms);
+/// How many conflict aborts have these delays.
+fn right_delays(parms: &Parms, ladder: &mut Ladder, delays: &[u32]) -> usize
+    requires { ladder.old.parms ≡ parms.now }
+    ensures { ladder.new.parms ≡ parms.now }
+{
+    let mut right = 0usize;
     for turns in delays {
-        assert_eq!(rt; abort(rt, &parms, &mut ladder), Next::Delay(*turns));
+        if abort(parms, ladder) == Some(Next::Delay(*turns)) {
+            right = right.saturating_add(1);
+        }
     }
-    assert_eq!(rt; abort(rt, &parms, &mut ladder), Next::Queue);
-    assert_eq!(rt; ladder.aborts(), parms.stop);
+    right
+}
+
+/// Whether conflict aborts have these delays, the next one leads to the queue, and one of an attempt that is not constrained
+/// neither waits nor counts.
+fn is_climbed(parms: Parms, delays: &[u32]) -> bool {
+    let mut ladder = Ladder::new(parms);
+    let right = right_delays(&parms, &mut ladder, delays);
+    let last = abort(&parms, &mut ladder);
+    let aborts = ladder.aborts();
     ladder.begin(false);
-    assert_eq!(rt; ladder.conflict(), Next::Plain);
-    assert_eq!(rt; ladder.aborts(), parms.stop);
+    let plain = ladder.conflict();
+    let told = (right, last, plain, [aborts, ladder.aborts()]);
+    told == (
+        delays.len(),
+        Some(Next::Queue),
+        Next::Plain,
+        [parms.stop; 2],
+    )
 }
 
 #[test]
 fn delays_and_the_queue(rt: HostRuntime) {
     let usual = Parms::usual();
-    climb(&rt, usual, &[2, 4, 8, 16, 32, 64, 128]);
-    climb(&rt, Parms { delay: 5, ..usual }, &[2, 4, 5, 5, 5, 5, 5]);
-    climb(
-        &rt,
-        Parms {
-            stop: 3,
-            delay: 0,
-            ..usual
-        },
-        &[0, 0],
-    );
-    climb(
-        &rt,
-        Parms {
-            stop: 1,
-            delay: 32768,
-            ..usual
-        },
-        &[],
-    );
     let most = [
         2, 4, 8, 16, 32, 64, 128, 256, 512, 1024, 2048, 4096, 8192, 16384, 32768,
     ];
-    climb(
-        &rt,
-        Parms {
-            stop: 16,
-            delay: 32768,
-            ..usual
-        },
-        &most,
-    );
+    let short = Parms {
+        stop: 3,
+        delay: 0,
+        ..usual
+    };
+    let shortest = Parms {
+        stop: 1,
+        delay: 32768,
+        ..usual
+    };
+    let longest = Parms {
+        stop: 16,
+        delay: 32768,
+        ..usual
+    };
+    let right = [
+        is_climbed(usual, &[2, 4, 8, 16, 32, 64, 128]),
+        is_climbed(Parms { delay: 5, ..usual }, &[2, 4, 5, 5, 5, 5, 5]),
+        is_climbed(short, &[0, 0]),
+        is_climbed(shortest, &[]),
+        is_climbed(longest, &most),
+    ];
+    assert_eq!(rt; right, [true; 5]);
 }
 
-/// The rejects that a constrained attempt gives after each number of conflict aborts.
-fn reject_after_aborts(rt: &impl Abort, parms: Parms, rejects: &[u32]) {
+/// The rejects that a constrained attempt gives; those that another one gives, and whether it is constrained or late; and
+/// whether one more conflict abort may come.
+fn rejected(parms: &Parms, ladder: &mut Ladder) -> (u32, u32, bool, bool)
+    requires { ladder.old.parms ≡ parms.now }
+    ensures { ladder.new.parms ≡ parms.now }
+{
+    ladder.begin(true);
+    let given = reject_all(ladder);
+    ladder.begin(false);
+    let plain = reject_all(ladder);
+    let is_firm = ladder.is_constrained() || ladder.is_late();
+    (given, plain, is_firm, abort(parms, ladder).is_some())
+}
+
+/// Whether a constrained attempt gives these rejects after each number of conflict aborts, and another one the usual ones.
+fn is_right(parms: Parms, rejects: &[u32]) -> bool {
     let mut ladder = Ladder::new(parms);
+    let mut right = 0usize;
     for given in rejects {
-        ladder.begin(true);
-        assert_eq!(rt; reject_all(&mut ladder), *given);
-        ladder.begin(false);
-        assert_eq!(rt; reject_all(&mut ladder), parms.reject);
-        assert!(rt; !ladder.is_constrained() && !ladder.is_late());
-        abort(rt, &parms, &mut ladder);
+        if rejected(&parms, &mut ladder) == (*given, parms.reject, false, true) {
+            right = right.saturating_add(1);
+        }
     }
+    right == rejects.len()
 }
 
 #[test]
 fn rejects_after_each_abort(rt: HostRuntime) {
     let usual = Parms::usual();
-    reject_after_aborts(&rt, usual, &[8, 8, 8, 8, 64, 64, 64, 64]);
-    reject_after_aborts(
-        &rt,
-        Parms {
-            reject: 0,
-            firm: 1000,
-            late: 1,
-            ..usual
-        },
-        &[0, 1000],
-    );
-    reject_after_aborts(
-        &rt,
-        Parms {
-            reject: 1000,
-            firm: 0,
-            late: 2,
-            ..usual
-        },
-        &[1000, 1000, 0],
-    );
-    let after_fifteen = [8, 8, 8, 8, 8, 8, 8, 8, 8, 8, 8, 8, 8, 8, 8, 8];
-    reject_after_aborts(
-        &rt,
-        Parms {
-            late: 16,
-            stop: 16,
-            ..usual
-        },
-        &after_fifteen,
-    );
+    let early = Parms {
+        reject: 0,
+        firm: 1000,
+        late: 1,
+        ..usual
+    };
+    let yielding = Parms {
+        reject: 1000,
+        firm: 0,
+        late: 2,
+        ..usual
+    };
+    let late = Parms {
+        late: 16,
+        stop: 16,
+        ..usual
+    };
+    let right = [
+        is_right(usual, &[8, 8, 8, 8, 64, 64, 64, 64]),
+        is_right(early, &[0, 1000]),
+        is_right(yielding, &[1000, 1000, 0]),
+        is_right(late, &[8; 16]),
+    ];
+    assert_eq!(rt; right, [true; 4]);
+}
+
+/// At which rejected request a constrained attempt is starved, and how often; and the same of another one.
+fn starved(parms: Parms) -> [(u32, u32); 2] {
+    let mut ladder = Ladder::new(parms);
+    ladder.begin(true);
+    let constrained = starve(&mut ladder);
+    ladder.begin(false);
+    [constrained, starve(&mut ladder)]
 }
 
 #[test]
 fn starves_at_one_request(rt: HostRuntime) {
     let usual = Parms::usual();
-    for (parms, at) in [
-        (usual, 64),
-        (Parms { starve: 1, ..usual }, 1),
-        (
-            Parms {
-                starve: 1000,
-                ..usual
-            },
-            1000,
-        ),
-    ] {
-        let mut ladder = Ladder::new(parms);
-        ladder.begin(true);
-        assert_eq!(rt; starve(&mut ladder), (at, 1));
-        ladder.begin(false);
-        assert_eq!(rt; starve(&mut ladder), (0, 0));
+    let told = [
+        starved(usual),
+        starved(Parms { starve: 1, ..usual }),
+        starved(Parms {
+            starve: 1000,
+            ..usual
+        }),
+    ];
+    let due = [[(64, 1), (0, 0)], [(1, 1), (0, 0)], [(1000, 1), (0, 0)]];
+    assert_eq!(rt; told, due);
+}
+
+/// Whether one of the next 31 rejected requests starves the attempt.
+fn is_starved(ladder: &mut Ladder) -> bool
+    ensures { ladder.new.parms ≡ ladder.old.parms }
+{
+    let mut starved = false;
+    for _ in 0..31 {
+        if ladder.was_rejected() {
+            starved = true;
+        }
     }
+    starved
+}
+
+/// Of a constrained attempt: the conflict aborts before it, whether it is starved within 31 rejected requests, how many
+/// rejects it gives, at which request it is starved then, and whether it may give one more.
+fn attempted(ladder: &mut Ladder) -> (u32, bool, u32, (u32, u32), bool)
+    ensures { ladder.new.parms ≡ ladder.old.parms }
+{
+    ladder.begin(true);
+    let aborts = ladder.aborts();
+    let starved = is_starved(ladder);
+    let given = reject_all(ladder);
+    let at = starve(ladder);
+    (aborts, starved, given, at, ladder.may_reject())
+}
+
+/// The conflict aborts behind the interruption of a transaction that has suffered one, and behind its commit.
+fn descended(parms: &Parms, ladder: &mut Ladder) -> [u32; 2]
+    requires { ladder.old.parms ≡ parms.now }
+{
+    ladder.interrupted();
+    let interrupted = ladder.aborts();
+    abort(parms, ladder);
+    ladder.commit();
+    [interrupted, ladder.aborts()]
 }
 
 #[test]
 fn counts_anew_and_apart(rt: HostRuntime) {
     let parms = Parms::usual();
     let mut ladder = Ladder::new(parms);
-    abort(&rt, &parms, &mut ladder);
-    for _ in 0..2 {
-        // eight rejects given between 64 rejected requests, twice
-        ladder.begin(true);
-        assert_eq!(rt; ladder.aborts(), 1);
-        for _ in 0..31 {
-            assert!(rt; !ladder.was_rejected());
-        }
-        assert_eq!(rt; reject_all(&mut ladder), 8);
-        assert_eq!(rt; starve(&mut ladder), (33, 1));
-        assert!(rt; !ladder.may_reject());
-    }
-    ladder.interrupted();
-    assert_eq!(rt; ladder.aborts(), 0);
-    abort(&rt, &parms, &mut ladder);
-    ladder.commit();
-    assert_eq!(rt; ladder.aborts(), 0);
+    abort(&parms, &mut ladder);
+    // eight rejects given between 64 rejected requests, twice
+    let attempts = [attempted(&mut ladder), attempted(&mut ladder)];
+    let behind = descended(&parms, &mut ladder);
+    assert_eq!(rt;
+        (attempts, behind),
+        ([(1, false, 8, (33, 1), false); 2], [0; 2])
+    );
 }
 
-#[test]
-fn queues_and_turns(rt: HostRuntime) -> Result<(), Fail> {
-    let mut queue = StopQueue::open(rt.alloc(), 3).map_err(|_| "no memory")?;
+/// The heads of a queue: while it is empty, once 2 and 0 have joined, behind a turn to the tail, and behind the head's
+/// leave; and whether 2 and 0 wait then.
+fn heads(queue: &mut StopQueue) -> ([Option<u32>; 4], [bool; 2])
+    requires few { queue.old.cpus ≡ 3 }
+    requires empty { queue.old.order ≡ [] }
+{
     let empty = queue.head();
     queue.join(2);
     queue.join(0);
@@ -217,10 +275,16 @@ fn queues_and_turns(rt: HostRuntime) -> Result<(), Fail> {
     queue.to_tail();
     let second = queue.head();
     queue.leave();
-    assert_eq!(rt;
+    (
         [empty, first, second, queue.head()],
-        [None, Some(2), Some(0), Some(2)]
-    );
-    assert_eq!(rt; [queue.has(2), queue.has(0)], [true, false]);
+        [queue.has(2), queue.has(0)],
+    )
+}
+
+#[test]
+fn queues_and_turns(rt: HostRuntime) -> Result<(), Fail> {
+    let mut queue = StopQueue::open(rt.alloc(), 3).map_err(|_| "no memory")?;
+    let told = heads(&mut queue);
+    assert_eq!(rt; told, ([None, Some(2), Some(0), Some(2)], [true, false]));
     Ok(())
 }

@@ -10,6 +10,7 @@ pub mod Returning
 pub mod Lent
 pub mod Small
 pub mod Bare
+pub mod Unstored
 pub mod Laying
 pub mod GatheredBlocks
 pub mod GatheredRuns
@@ -18,3 +19,5 @@ pub mod GatheredStores
 pub mod Advances
 pub mod StoredMore
 pub mod LastingStores
+pub mod Stepping
+pub mod Registers

@@ -6,7 +6,7 @@ use Rattle.z_regs.specs.Absolute.{absolute_ranges}
 use Rattle.z_regs.specs.declared.ranges.Range.{Range}
 use Rattle.z_instr.specs.declared.instr.Instr.{Instr}
 use Rattle.z_instr.specs.Roles.{begins, is_end}
-use Rattle.z_instr.specs.Table.{entry_at}
+use Rattle.z_instr.specs.Table.{entry_at, kind_at}
 use Rattle.z_effect.specs.Beginning.{begin_of}
 use Rattle.z_effect.specs.Registers.{register}
 use Rattle.tx_control.specs.declared.begins.Begin.{Begin}
@@ -15,6 +15,7 @@ use Rattle.tx_attempt.specs.declared.advancing.Before.{Before}
 use Rattle.tx_constraint.specs.Kept.{Kept, added}
 use Rattle.tx_constraint.specs.Octowords.{with_octowords}
 use Rattle.tx_footprint.specs.Touched.{sets_of, touching, fit_of}
+use Rattle.tx_attempt.specs.Performed.{is_transaction}
 use Rattle.tx_attempt.specs.Tracked.{Tracked}
 
 -- a constrained attempt has run one more instruction, with these operands
@@ -47,3 +48,11 @@ pub record WasBefore (b : Before) (i : Instr) (need : List Range) : Type 0 where
   pub cpu : Cpu
   pub known : IsBefore b i cpu
   pub operands_are : need ≡ operands i cpu
+
+-- An attempt may go on with an instruction that is not about transactions, and some CPU has these operands of it.
+pub record MayStep (t : Tracked) (prefix : Option ℕ) (need : List Range) : Type 0 where
+  pub instr : Instr
+  pub cpu : Cpu
+  pub plain : is_transaction (kind_at instr.op.number) ≡ false
+  pub operands_are : need ≡ operands instr cpu
+  pub advances : MayAdvance t instr prefix need

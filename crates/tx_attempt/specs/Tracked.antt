@@ -10,6 +10,7 @@ use Rattle.store_cache.specs.Overlay.{has_block}
 use Rattle.store_cache.specs.Stores.{no_stores, lasting_bytes}
 use Rattle.store_cache.specs.Entries.{Entries, stores_of}
 use Rattle.tx_progress.specs.Progress.{Progress}
+use Rattle.tx_progress.specs.Going.{goes_on_with}
 
 -- all that is kept of an attempt but the CPU: the open begins, oldest first, the footprint, what constraints
 -- ask, the stores, the number of completed instructions, and where the program goes on after an abort
@@ -58,11 +59,6 @@ pub record IsSound (t : Tracked) : Type 0 where
   pub counted : (k : Kept) → t.constraint ≡ Some k → k.count + 1 ≡ t.count
   pub block : (a : ℕ) → outermost_block t.nest ≡ Some a → a + 256 ≤ storage_size
 
--- the progress of an attempt that goes on as another: what it has stored, and where the program goes on after an abort, are
--- its own
+-- the progress of an attempt that goes on as another: what it has stored is its own too
 abbrev pub goes_on_as : Progress → Progress → Progress
-goes_on_as other own = record other {
-  overlay = own.overlay;
-  lasting = own.lasting;
-  resumes_at = own.resumes_at;
-}
+goes_on_as other own = goes_on_with own.overlay other own

@@ -75,7 +75,20 @@ pub fn change_nest(nest: &mut Nest, instr: &Instr, opens: Option<Begin>)
     }
 }
 
+/// The operands, at most two, are touched too, by their absolute addresses.
+#[cold]
+fn touch_all(footprint: &mut Footprint, need: &Touches, prefix: Option<u32>)
+    requires prefix_in { IsTrue (is_prefix prefix) }
+    requires few { length need.now ≤ 2 }
+    requires accessible { All (IsAccessible prefix) need.now }
+    requires fits { fit_of (touching (sets_of footprint.old) (absolute_ranges prefix need.now)) ≡ Ok tt }
+    ensures { sets_of footprint.new ≡ touching (sets_of footprint.old) (absolute_ranges prefix need.now) }
+{
+    footprint.add(&need.absolute(prefix));
+}
+
 /// The operands, at most two, are touched too.
+#[inline(always)]
 pub fn touch(footprint: &mut Footprint, need: &Touches, prefix: Option<u32>)
     requires prefix_in { IsTrue (is_prefix prefix) }
     requires few { length need.now ≤ 2 }
@@ -87,7 +100,7 @@ pub fn touch(footprint: &mut Footprint, need: &Touches, prefix: Option<u32>)
         return;
     }
     if prefix.is_some() || need.count() > 1 {
-        return footprint.add(&need.absolute(prefix));
+        return touch_all(footprint, need, prefix);
     }
     footprint.add_one(need.at(0));
 }

@@ -3,14 +3,15 @@ ghost use Rattle.std.specs.Prelude.{◌≡◌, ◌<◌, ◌≤◌, ◌+◌, ℕ,
 ghost use Rattle.std.specs.Prelude.{slice_index};
 ghost use Rattle.std.specs.Prelude.{true, Some, []};
 ghost use Rattle.z_instr.specs.Roles.{begins as is_begun, block_named};
-ghost use Rattle.z_instr.specs.Table.{entry_at};
+ghost use Rattle.z_instr.specs.Table.{entry_at, kind_at};
 ghost use Rattle.tx_progress.specs.Progress.{advanced};
 ghost use Rattle.std.specs.Prelude.{take, get_or, ◌^◌};
 ghost use Rattle.tx_serial.specs.Flat.{operand_stores};
 ghost use Rattle.z_instr.specs.Roles.{stores_lastingly as lasts};
-ghost use Rattle.tx_attempt.specs.Advancing.{MayAdvance, IsBefore, WasBefore};
+ghost use Rattle.tx_attempt.specs.Advancing.{MayAdvance, IsBefore, WasBefore, MayStep};
 ghost use Rattle.tx_attempt.specs.Gathered.{IsDoubleword};
-ghost use Rattle.tx_attempt.specs.Performed.{first_size, no_range};
+ghost use Rattle.tx_attempt.specs.Performed.{first_size, no_range, is_transaction};
+ghost use Rattle.z_instr.specs.declared.instr.Instr.{Instr};
 ghost use Rattle.z_regs.specs.Cpu.{Cpu};
 ghost use Rattle.z_regs.specs.Prefix.{storage_size};
 ghost use Rattle.store_cache.specs.Entries.{stores_of};
@@ -34,10 +35,10 @@ ghost use Rattle.tx_serial.specs.Fate.{overflow_in};
 ghost use Rattle.tx_progress.specs.Trial.{constraint_refusal};
 ghost use Rattle.tx_attempt.specs.Refused.{found};
 ghost use Rattle.tx_attempt.specs.Plain.{IsPlain};
-ghost use Rattle.std.specs.Prelude.{IfSome, None, false};
+ghost use Rattle.std.specs.Prelude.{IfSome, None, false, Bool, ◌∷◌};
 
 use crate::advancing::{Before, add_operands, change_nest, touch};
-use crate::gathering::gather_stores;
+use crate::gathering::{gather_first, gather_stores};
 use crate::refusal::{Refusal, breach};
 use std::alloc::Global;
 use std::marker::Model;
@@ -220,6 +221,9 @@ impl Attempt {
         requires { place + 6 ≤ storage_size }
         ensures { result ≡ false → (k : ℕ) → k < 6 → (stores_of self.now.stores).overlay (place + k) ≡ None }
     {
+        if self.stores.blocks() == 0 {
+            return false;
+        }
         let first = place / BLOCK_SIZE as u64;
         let last = (place + 5) / BLOCK_SIZE as u64;
         if self.stores.has_block(first as u32) {
@@ -318,6 +322,27 @@ impl Attempt {
             return false;
         }
         constraint.admit_operands(instr, need).is_ok()
+    }
+
+    /// Whether it is seen at once that constraints let the attempt have the instruction at an address next, with an
+    /// operand of so many bytes, or none.
+    #[inline(always)]
+    pub fn admits_at_once(&self, instr: &Instr, at: u64, first: u64, size: u32) -> bool
+        ensures text { result ≡ true →
+            constraint_refusal (λ kept. next_text_breach kept instr.now at) instr.now self.now.constraint ≡ None }
+        ensures one { (store : Bool) → result ≡ true →
+            constraint_refusal (λ kept. next_operand_breach kept instr.now
+            (record { first = first; length = size; store = store } ∷ [])) instr.now self.now.constraint ≡ None }
+        ensures none { result ≡ true →
+            constraint_refusal (λ kept. next_operand_breach kept instr.now []) instr.now self.now.constraint ≡ None }
+    {
+        let Some(constraint) = &self.constraint else {
+            return true;
+        };
+        if constraint.admit_text(instr, at).is_err() {
+            return false;
+        }
+        constraint.admits_operand(first, size)
     }
 
     /// Whether the attempt may touch these operands too, which are accessible.
@@ -473,6 +498,27 @@ impl Attempt {
         );
         touch(&mut self.footprint, need, before.prefix);
         change_nest(&mut self.nest, instr, before.opens);
+        add_operands(&mut self.constraint, need);
+        self.count += 1;
+    }
+
+    /// One instruction more, which is not about transactions, is completed in a live attempt, and has stored these bytes;
+    /// the CPU had this prefix before it.
+    #[inline(always)]
+    pub fn advance_plainly(&mut self, need: &Touches, stored: &[u8], prefix: Option<u32>)
+        requires live { 0 < self.old.count }
+        requires count { self.old.count + 1 < 2 ^ 32 }
+        requires prefix_in { IsTrue (is_prefix prefix) }
+        requires size { (get_or need.now 0 no_range).length ≤ length stored.now }
+        requires accessible { All (IsAccessible prefix) need.now }
+        requires goes_on { MayStep self.old prefix need.now }
+        ensures value { (i : Instr) (x c : Cpu) → is_transaction (kind_at i.op.number) ≡ false → x.prefix ≡ prefix →
+            progress self.new c ≡ advanced i need.now c
+            (operand_stores prefix need.now (take (first_size need.now) stored.now)) (progress self.old x) }
+        ensures live { 0 < self.new.count }
+    {
+        gather_first(&mut self.stores, need, stored, prefix);
+        touch(&mut self.footprint, need, prefix);
         add_operands(&mut self.constraint, need);
         self.count += 1;
     }

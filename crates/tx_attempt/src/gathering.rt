@@ -101,3 +101,31 @@ pub fn gather_stores(
         );
     }
 }
+
+/// Gathers what an instruction that is not about transactions stores in its first operand.
+#[inline(always)]
+pub fn gather_first(stores: &mut StoreCache, need: &Touches, stored: &[u8], prefix: Option<u32>)
+    requires size { (get_or need.now 0 no_range).length ≤ length stored.now }
+    requires prefix_in { IsTrue (is_prefix prefix) }
+    requires first { StoresFirst need.now }
+    requires accessible { All (IsAccessible prefix) need.now }
+    requires room { (r : Range) → slice_get need.now 0 ≡ Some r → r.store ≡ true
+        → HasRoomFor (stores_of stores.old).overlay prefix r.first r.length }
+    ensures { stores_of stores.new ≡ record (stores_of stores.old) {
+      overlay = laying (stores_of stores.old).overlay
+          (operand_stores prefix need.now (take (first_size need.now) stored.now));
+    } }
+{
+    if need.count() == 0 {
+        return;
+    }
+    let first = need.at(0);
+    if first.store {
+        gather(
+            stores,
+            &stored[..first.length as usize],
+            first.first,
+            prefix,
+        );
+    }
+}

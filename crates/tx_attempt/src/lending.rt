@@ -43,11 +43,14 @@ pub fn are_bare(attempt: &Attempt, need: &Touches, prefix: Option<u32>) -> bool
     if prefix.is_some() {
         return false;
     }
-    let first = operand(need, 0);
+    let first = need.at(0);
     if !attempt.is_bare(first.first, first.length) {
         return false;
     }
-    let second = operand(need, 1);
+    if need.count() == 1 {
+        return true;
+    }
+    let second = need.at(1);
     attempt.is_bare(second.first, second.length)
 }
 

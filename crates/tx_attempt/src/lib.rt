@@ -5,6 +5,7 @@
 mod advancing;
 mod attempt;
 mod gathering;
+mod keeping;
 mod lending;
 mod performing;
 mod refusal;
@@ -13,6 +14,6 @@ mod storing;
 pub use advancing::Before;
 pub use attempt::Attempt;
 pub use lending::operand;
-pub use performing::{Ended, MOST_BYTES, execute_plain, perform, transaction_of};
+pub use performing::{Ended, MOST_BYTES, execute_plain, execute_seen, perform, transaction_of};
 pub use refusal::{Refusal, cause_in};
 pub use storing::{get_all, put_all, put_stored};

@@ -24,6 +24,7 @@ ghost use Rattle.z_effect.specs.One.{length_of};
 ghost use Rattle.z_effect.specs.TransactionEffect.{transaction_effect};
 
 use crate::attempt::Attempt;
+use crate::keeping::{keep_register, stores_register};
 use crate::lending::{are_bare, exchange, fetch, operand, see};
 use byteorder::{BigEndian, ByteOrder};
 use tx_control::Exception;
@@ -142,6 +143,7 @@ pub fn transaction_of(op: Op) -> Option<Transaction>
 
 /// Executes an instruction that is not about transactions on storage as it is, and keeps apart the doubleword that
 /// is its first operand then, where it stores there. Storage stays.
+#[inline(never)]
 fn execute_doubleword<V: Bytes>(
     instr: &Instr,
     need: &Touches,
@@ -172,6 +174,7 @@ fn execute_doubleword<V: Bytes>(
 }
 
 /// The same of an instruction whose first operand has any size.
+#[inline(never)]
 fn execute_apart<V: Bytes>(
     instr: &Instr,
     need: &Touches,
@@ -200,6 +203,7 @@ fn execute_apart<V: Bytes>(
 }
 
 /// The same in the shortest way: of an instruction that stores nothing, nothing is kept apart.
+#[inline(always)]
 fn execute_there<V: Bytes>(
     instr: &Instr,
     need: &Touches,
@@ -231,6 +235,7 @@ fn execute_there<V: Bytes>(
 
 /// Executes an instruction that is not about transactions on the bytes that the attempt sees of its operands,
 /// and keeps apart what is stored in the first of them; no other is ever stored into. Storage stays.
+#[inline(never)]
 fn execute_lent<V: Bytes>(
     attempt: &Attempt,
     instr: &Instr,
@@ -269,6 +274,7 @@ fn execute_lent<V: Bytes>(
 }
 
 /// The same of an instruction that has no second operand.
+#[inline(never)]
 fn execute_lent_one<V: Bytes>(
     attempt: &Attempt,
     instr: &Instr,
@@ -302,7 +308,8 @@ fn execute_lent_one<V: Bytes>(
 }
 
 /// The same. Where the attempt sees the operands as they are in storage, they are not lent.
-fn execute_seen<V: Bytes>(
+#[inline(always)]
+pub fn execute_seen<V: Bytes>(
     attempt: &Attempt,
     instr: &Instr,
     need: &Touches,
@@ -323,6 +330,9 @@ fn execute_seen<V: Bytes>(
     ensures same { V.bytes base.new ≡ V.bytes base.old }
     ensures size { length stored.new ≡ length stored.old }
 {
+    if stores_register(instr.op) {
+        return keep_register(instr, image, stored);
+    }
     if are_bare(attempt, need, image.prefix) {
         return execute_there(instr, need, image, stored, base);
     }

@@ -46,7 +46,7 @@ use Rattle.tx_progress.specs.Doing.{executed, stopped}
 use Rattle.tx_meaning.specs.declared.outcome.Outcome.{Outcome}
 use Rattle.tx_meaning.specs.declared.outcome.Outcome.TheVariants as outcome
 use Rattle.tx_meaning.specs.Limits.{Setting}
-use Rattle.tx_meaning.specs.Needs.{needs_of, with_number}
+use Rattle.tx_meaning.specs.Needs.{needs_of}
 use Rattle.tx_meaning.specs.State.{State, beginning}
 use Rattle.tx_meaning.specs.Changes.{with_event, counting_turn, waiting_turn, granting, aborting}
 use Rattle.tx_meaning.specs.Turn.{is_tick}
@@ -227,7 +227,7 @@ four_steps : ShowsByText (started 0x4000 ∷ []) (usual) (program adding)
     )
 unfolding events_by k_idle k_external k_executing k_ends_by k_aborting k_get_line k_get_each k_ask_each
     k_ask_one
-    k_reply k_granting reply against granting needs_of with_number aborting fate_by_progress executed stopped
+    k_reply k_granting reply against granting needs_of aborting fate_by_progress executed stopped
     aborted block_stored interruption_taken cause_in laid_over reading_of row_number entry_at table
     accessible_pages text_pages unfetched spans_in unspecified_in inaccessible_in kind_at combined
     general_effect branch_effect storage_effect transaction_effect absolute_range has_place count_below
@@ -254,7 +254,7 @@ rejected_once : ShowsByText (both_at 0x4000 0x4012) (with_reject 1) (program rac
     )
 unfolding events_by k_idle k_external k_executing k_ends_by k_aborting k_get_line k_get_each k_ask_each
     k_ask_one
-    k_reply k_granting reply against granting needs_of with_number aborting fate_by_progress executed stopped
+    k_reply k_granting reply against granting needs_of aborting fate_by_progress executed stopped
     aborted block_stored interruption_taken cause_in laid_over reading_of row_number entry_at table
     accessible_pages text_pages unfetched spans_in unspecified_in inaccessible_in kind_at combined
     general_effect branch_effect storage_effect transaction_effect absolute_range has_place count_below
@@ -272,7 +272,7 @@ rejected_never : ShowsByText (both_at 0x4000 0x4012) (with_reject 0) (program ra
     )
 unfolding events_by k_idle k_external k_executing k_ends_by k_aborting k_get_line k_get_each k_ask_each
     k_ask_one
-    k_reply k_granting reply against granting needs_of with_number aborting fate_by_progress executed stopped
+    k_reply k_granting reply against granting needs_of aborting fate_by_progress executed stopped
     aborted block_stored interruption_taken cause_in laid_over reading_of row_number entry_at table
     accessible_pages text_pages unfetched spans_in unspecified_in inaccessible_in kind_at combined
     general_effect branch_effect storage_effect transaction_effect absolute_range has_place count_below
@@ -297,7 +297,7 @@ stopped_once : ShowsByText (both_at 0x4000 0x4012) (with_stop 1) (program stoppi
     )
 unfolding events_by k_idle k_external k_executing k_ends_by k_aborting k_get_line k_get_each k_ask_each
     k_ask_one
-    k_reply k_granting reply against granting needs_of with_number aborting fate_by_progress executed stopped
+    k_reply k_granting reply against granting needs_of aborting fate_by_progress executed stopped
     aborted block_stored interruption_taken cause_in laid_over reading_of row_number entry_at table
     accessible_pages text_pages unfetched spans_in unspecified_in inaccessible_in kind_at combined
     general_effect branch_effect storage_effect transaction_effect absolute_range has_place count_below
@@ -322,7 +322,7 @@ block_stored_next : ShowsByText (started 0x4000 ∷ []) (usual) (program telling
     )
 unfolding events_by k_idle k_external k_executing k_ends_by k_aborting k_get_line k_get_each k_ask_each
     k_ask_one
-    k_reply k_granting reply against granting needs_of with_number aborting fate_by_progress executed stopped
+    k_reply k_granting reply against granting needs_of aborting fate_by_progress executed stopped
     aborted block_stored interruption_taken cause_in laid_over reading_of row_number entry_at table
     accessible_pages text_pages unfetched spans_in unspecified_in inaccessible_in kind_at combined
     general_effect branch_effect storage_effect transaction_effect absolute_range has_place count_below
@@ -340,7 +340,7 @@ interrupted_once : ShowsByText (both_at 0x4000 0x4012) usual (program stopping)
     )
 unfolding events_by k_idle k_external k_executing k_ends_by k_aborting k_get_line k_get_each k_ask_each
     k_ask_one
-    k_reply k_granting reply against granting needs_of with_number aborting fate_by_progress executed stopped
+    k_reply k_granting reply against granting needs_of aborting fate_by_progress executed stopped
     aborted block_stored interruption_taken cause_in laid_over reading_of row_number entry_at table
     accessible_pages text_pages unfetched spans_in unspecified_in inaccessible_in kind_at combined
     general_effect branch_effect storage_effect transaction_effect absolute_range has_place count_below
@@ -360,7 +360,7 @@ interruption_taken_next : ShowsByText (record (started 0x4000) { prefix = Some 0
     (Step 0 ∷ Interrupt 0 ∷ Step 0 ∷ [], turns (0 ∷ 0 ∷ 0 ∷ []), [], (3 ∷ 0 ∷ 0 ∷ []) ∷ (0 ∷ 0 ∷ 0 ∷ []) ∷ [])
 unfolding events_by k_idle k_external k_executing k_ends_by k_aborting k_get_line k_get_each k_ask_each
     k_ask_one
-    k_reply k_granting reply against granting needs_of with_number aborting fate_by_progress executed stopped
+    k_reply k_granting reply against granting needs_of aborting fate_by_progress executed stopped
     aborted block_stored interruption_taken cause_in laid_over reading_of row_number entry_at table
     accessible_pages text_pages unfetched spans_in unspecified_in inaccessible_in kind_at combined
     general_effect branch_effect storage_effect transaction_effect absolute_range has_place count_below

@@ -26,8 +26,9 @@ use Rattle.line_table.specs.Sizes.{storage_lines}
 use Rattle.tx_constraint.specs.Bytes.{pieces}
 use Rattle.tx_constraint.specs.Constraints.{Step}
 use Rattle.tx_constraint.specs.Kept.{Kept, kept, next_operand_breach}
-use Rattle.tx_constraint.specs.Octowords.{with_octoword, with_octowords}
-use Rattle.tx_constraint.proofs.Whole.{any_all}
+use Rattle.z_regs.specs.Rising.{with_number}
+use Rattle.tx_constraint.specs.Octowords.{with_octowords}
+use Rattle.z_regs.proofs.Rising.{any_all}
 use Rattle.tx_constraint.proofs.Attempts.{unbroken}
 use Rattle.tx_footprint.specs.Places.{has_place, fetches, stores, stores_block}
 use Rattle.tx_footprint.specs.Touched.{Sets, touching, untouched, line_count, block_count, fit_of}
@@ -58,7 +59,7 @@ use Rattle.tx_progress.proofs.Limits.{breach_none}
 -- ---- octowords that are piled up
 
 piled : (p : ℕ → Bool) (found xs : List ℕ) → (list_any p found || list_any p xs) ≡ true
-    → list_any p (fold with_octoword found xs) ≡ true
+    → list_any p (fold with_number found xs) ≡ true
 piled p found xs h = any_all p found xs ∙ h
 
 -- ---- a place of storage holds whole octowords
@@ -221,11 +222,11 @@ module _ (f : FlatState) (i k : ℕ) (exists : (run f i k).mark ≢ Missing) (ok
       let p = holds prefix ok size whole place in
       let before = flat_map (pieces 32) (flat_map (λ (s : Step). s.ranges) behind) in
       by_way (or_cases (list_any (λ r. has_place size r place) (run f i k).touched) _ h)
-      (λ was. piled p (fold with_octoword [] before) (flat_map (pieces 32) rs)
-      (or_left (list_any p (fold with_octoword [] before)) _
+      (λ was. piled p (fold with_number [] before) (flat_map (pieces 32) rs)
+      (or_left (list_any p (fold with_number [] before)) _
       (piled p [] before (sym (run_lies place) ∙ was))))
-      (λ now. piled p (fold with_octoword [] before) (flat_map (pieces 32) rs)
-      (or_right (list_any p (fold with_octoword [] before)) _
+      (λ now. piled p (fold with_number [] before) (flat_map (pieces 32) rs)
+      (or_right (list_any p (fold with_number [] before)) _
       (sym (operands_there prefix ok size whole place rs small) ∙ now)))
 
 -- ---- lines and blocks

@@ -1,10 +1,10 @@
--- Lemmas on lists, on pieces of storage, on octowords in their places and those that stand there, on attempts,
--- and on all bytes of operands.
+-- Lemmas on lists, on pieces of storage, on octowords that stand in their places, on attempts, on all bytes of
+-- operands, and on operands that are seen at once to break nothing.
 pub mod Lists
 pub mod Between
 pub mod Piling
 pub mod Attempts
-pub mod Places
 pub mod Standing
 pub mod Whole
+pub mod AtOnce
 mod Examples

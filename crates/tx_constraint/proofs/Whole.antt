@@ -1,58 +1,24 @@
 -- Octowords, pages and units said of every byte.
-use Rattle.std.proofs.Common.{◌≡◌, ℕ, ◌+◌, ◌-◌, ◌/◌, ◌%◌, ◌<◌, ◌≤◌, Bool, true, false, ◌||◌, cond, eqb, ltb, List, [], ◌∷◌, get_or, All, refl, sym, ap, subst, ◌∙◌, arith}
+use Rattle.std.proofs.Common.{◌≡◌, ℕ, ◌+◌, ◌-◌, ◌/◌, ◌%◌, ◌<◌, ◌≤◌, true, false, ◌||◌, cond, eqb, List, [], ◌∷◌, get_or, All, refl, sym, ap, subst, ◌∙◌, arith}
 use Rattle.std.specs.Prelude.{◌↔◌, nat_lt}
-use Rattle.std.specs.List.{list_any, flat_map, fold, count_by, range_with_len}
-use Rattle.std.proofs.lemmas.Bool.{cases_Bool, cases_eq, cases_lt, or_left, or_right, or_parts, eq-eqb, ne_eqb, eqb-true, eqb-false, ltb-true, ltb-false, leb-true, le-leb}
+use Rattle.std.specs.List.{list_any, flat_map, count_by, range_with_len}
+use Rattle.std.proofs.lemmas.Bool.{cases_Bool, cases_eq, cases_lt, or_left, or_right, or_parts, eq-eqb, ne_eqb, eqb-true, ltb-false, leb-true, le-leb}
 use Rattle.std.proofs.lemmas.List.Folds.{list_any_at, Any-from_list_any}
 use Rattle.std.proofs.lemmas.List.Sums.{sum_by-cons}
 use Rattle.std.proofs.lemmas.List.FromFn.{length-range_with_len, get_or-range_with_len, length-map-range_with_len, get_or-map-range_with_len}
 use borrow.Enum.Arm.{by_way}
 use Rattle.z_regs.specs.declared.ranges.Range.{Range}
 use Rattle.tx_constraint.specs.Bytes.{pieces, lies_in_one, is_own_page}
-use Rattle.tx_constraint.specs.Octowords.{with_octoword, with_octowords, IsAbove, Ascends}
+use Rattle.z_regs.specs.Rising.{IsAbove, Ascends}
+use Rattle.z_regs.proofs.Rising.{any_all, ascends_all}
+use Rattle.tx_constraint.specs.Octowords.{with_octowords}
 use Rattle.std.specs.Cmp.{both_ways}
 use Rattle.std.proofs.Common.{None, length}
-use Rattle.std.proofs.Math.Bool.{or-false, or_assoc}
 use Rattle.z_instr.specs.declared.instr.Instr.{Instr}
 use Rattle.tx_constraint.specs.Kept.{Kept, next_operand_breach}
 use Rattle.tx_constraint.proofs.Attempts.{unbroken}
 
 -- ---- octowords
-
-or_again : (a b : Bool) → (a || b) ≡ ((a || b) || a)
-or_again true b = refl
-or_again false true = refl
-or_again false false = refl
-
-or_turned : (a b c : Bool) → (a || (b || c)) ≡ ((b || c) || a)
-or_turned true true c = refl
-or_turned true false true = refl
-or_turned true false false = refl
-or_turned false true c = refl
-or_turned false false true = refl
-or_turned false false false = refl
-
--- an octoword passes a test among them where one did before, or the one that is added
-any_one : (p : ℕ → Bool) (found : List ℕ) (o : ℕ) →
-    list_any p (with_octoword found o) ≡ (list_any p found || p o)
-any_one p [] o = or-false (p o)
-any_one p (y ∷ rest) o = by_order (ltb y o) (eqb y o) refl (any_one p rest o)
-  where
-    by_order : (less same : Bool) → eqb y o ≡ same
-        → list_any p (with_octoword rest o) ≡ (list_any p rest || p o)
-        → list_any p (cond less (y ∷ with_octoword rest o) (cond same (y ∷ rest) (o ∷ y ∷ rest)))
-        ≡ ((p y || list_any p rest) || p o)
-    by_order true same e more = ap (λ b. p y || b) more ∙ sym (or_assoc (p y) (list_any p rest) (p o))
-    by_order false true e more =
-        or_again (p y) (list_any p rest) ∙ ap (λ z. (p y || list_any p rest) || p z) (eqb-true y o e)
-    by_order false false e more = or_turned (p o) (p y) (list_any p rest)
-
-pub any_all : (p : ℕ → Bool) (found os : List ℕ) →
-    list_any p (fold with_octoword found os) ≡ (list_any p found || list_any p os)
-any_all p found [] = sym (or-false (list_any p found))
-any_all p found (o ∷ os) =
-    any_all p (with_octoword found o) os ∙ ap (λ b. b || list_any p os) (any_one p found o)
-    ∙ or_assoc (list_any p found) (p o) (list_any p os)
 
 pub members : (ranges : List Range) (x : ℕ) →
     list_any (eqb x) (with_octowords [] ranges) ≡ list_any (eqb x) (flat_map (pieces 32) ranges)
@@ -75,33 +41,6 @@ tally_front : (x y : ℕ) (ys : List ℕ) → tally x (y ∷ ys) ≡ cond {A = �
 tally_front x y ys = omega (arith, sum_by-cons (λ z. cond {A = ℕ} (eqb x z) 1 0) y ys)
 
 -- ---- in ascending order
-
-above_one : (before o : ℕ) (found : List ℕ) → IsAbove before found → before < o
-    → IsAbove before (with_octoword found o)
-above_one before o [] above less = less
-above_one before o (x ∷ rest) above less = by_order (ltb x o) (eqb x o)
-  where
-    by_order : (less same : Bool)
-        → IsAbove before (cond less (x ∷ with_octoword rest o) (cond same (x ∷ rest) (o ∷ x ∷ rest)))
-    by_order true same = above
-    by_order false true = above
-    by_order false false = less
-
-ascends_one : (o : ℕ) (found : List ℕ) → Ascends found → Ascends (with_octoword found o)
-ascends_one o [] h = (tt, tt)
-ascends_one o (x ∷ rest) h = by_order (ltb x o) (eqb x o) refl refl (ascends_one o rest h.1)
-  where
-    by_order : (less same : Bool) → ltb x o ≡ less → eqb x o ≡ same → Ascends (with_octoword rest o)
-        → Ascends (cond less (x ∷ with_octoword rest o) (cond same (x ∷ rest) (o ∷ x ∷ rest)))
-    by_order true same p q more = (above_one x o rest h.0 (ltb-true x o p), more)
-    by_order false true p q more = h
-    by_order false false p q more =
-        let behind = ltb-false x o p in
-        let other = eqb-false x o q in (omega arith, h)
-
-ascends_all : (found os : List ℕ) → Ascends found → Ascends (fold with_octoword found os)
-ascends_all found [] h = h
-ascends_all found (o ∷ os) h = ascends_all (with_octoword found o) os (ascends_one o found h)
 
 pub ascends : (ranges : List Range) → Ascends (with_octowords [] ranges)
 unfolding with_octowords

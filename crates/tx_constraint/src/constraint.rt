@@ -1,12 +1,13 @@
 //! What a constrained attempt has done so far, as far as its constraints ask.
-ghost use Rattle.std.specs.Prelude.{◌≡◌, ◌≤◌, ◌↔◌, IsTrue, OnOk, length};
+ghost use Rattle.std.specs.Prelude.{◌≡◌, ◌≤◌, ◌↔◌, IsTrue, OnOk, length, Bool, true, None, [], ◌∷◌};
+ghost use Rattle.z_instr.specs.declared.instr.Instr.{Instr};
 ghost use Rattle.tx_constraint.specs.Octowords.{with_octowords};
 ghost use Rattle.tx_constraint.specs.Constraints.{verdict, lies_near};
 ghost use Rattle.tx_constraint.specs.Kept.{Kept, kept_at, added, next_text_breach, next_operand_breach, AreSame};
 
 use crate::octowords::Octowords;
-use crate::operations::{instruction_length, is_permitted, unit};
-use crate::pieces::{is_one_near, is_one_split};
+use crate::operations::{OCTOWORD_SIZE, instruction_length, is_permitted, unit};
+use crate::pieces::{is_apart, is_one_near, is_one_split};
 use std::marker::Model;
 use z_instr::instr::Instr;
 use z_instr::roles::is_end;
@@ -17,6 +18,9 @@ pub const MOST_INSTRUCTIONS: u32 = 32;
 
 /// The bytes that begin with TBEGINC and hold all instructions.
 const MOST_BYTES: u64 = 256;
+
+/// The bytes of the longest instructions.
+const LONGEST: u64 = 6;
 
 /// What a constrained attempt has done since its TBEGINC: how many instructions it has run, and the octowords
 /// of their operands.
@@ -38,11 +42,16 @@ impl Model for Constraint {
     ghost invariant = { λ c. c.count ≤ 33 };
 }
 
-/// Whether the instruction at `at` lies in the 256 bytes that begin at `begin`.
+/// Whether the instruction at `at` lies in the 256 bytes that begin at `begin`. Its length is asked for only where the
+/// longest one would not.
 fn is_near(begin: u64, instr: &Instr, at: u64) -> bool
     ensures { result ≡ lies_near begin instr.now at }
 {
-    at >= begin && at - begin <= MOST_BYTES - instruction_length(instr)
+    if at < begin {
+        return false;
+    }
+    let distance = at - begin;
+    distance <= MOST_BYTES - LONGEST || distance <= MOST_BYTES - instruction_length(instr)
 }
 
 impl Constraint {
@@ -61,6 +70,7 @@ impl Constraint {
     /// at most 32 instructions, TEND not counted; the instruction lies in the 256 bytes that begin with
     /// TBEGINC; and it is permitted, and does not branch back. An error is the lowest number of these that it
     /// would break.
+    #[inline(always)]
     #[tactic(auto, unfolding(crate::specs::Kept::next_text_breach))]
     pub fn admit_text(&self, instr: &Instr, at: u64) -> Result<(), u8>
         ensures { result ≡ verdict (next_text_breach self.now instr.now at) }
@@ -96,6 +106,25 @@ impl Constraint {
             return Err(7);
         }
         Ok(())
+    }
+
+    /// Whether it is seen at once that constraints 4 to 7 admit an operand of so many bytes, or none, of whatever
+    /// instruction: it lies in one doubleword, in no page of the 256 bytes that begin with TBEGINC, and there is
+    /// room for one more octoword or its octoword is there. Where it is not seen, `admit_operands` says more.
+    #[inline(always)]
+    pub fn admits_operand(&self, first: u64, size: u32) -> bool
+        ensures one { (i : Instr) (store : Bool) → result ≡ true
+            → next_operand_breach self.now i (record { first = first; length = size; store = store } ∷ []) ≡ None }
+        ensures none { (i : Instr) → next_operand_breach self.now i [] ≡ None }
+    {
+        let is_full = self.octowords.is_full();
+        if size == 0 {
+            return true;
+        }
+        if !is_apart(self.begin, first, size) {
+            return false;
+        }
+        !is_full || self.octowords.has(first / OCTOWORD_SIZE)
     }
 
     /// The attempt has run one more instruction, with these operands; it was admitted.

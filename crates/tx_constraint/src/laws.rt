@@ -3,7 +3,8 @@ ghost use Rattle.std.specs.Prelude.{◌≡◌, ◌≤◌, ◌<◌, ◌/◌, ◌�
 ghost use Rattle.std.specs.List.{list_any, flat_map, range_with_len};
 ghost use Rattle.z_regs.specs.declared.ranges.Range.{Range};
 ghost use Rattle.tx_constraint.specs.Bytes.{pieces, lies_in_one, is_own_page};
-ghost use Rattle.tx_constraint.specs.Octowords.{with_octowords, Ascends};
+ghost use Rattle.z_regs.specs.Rising.{Ascends};
+ghost use Rattle.tx_constraint.specs.Octowords.{with_octowords};
 ghost use Rattle.tx_constraint.specs.Constraints.{Attempt, Step, begun, with_step, text_breach, operand_breach, GoesOn};
 ghost use Rattle.tx_constraint.specs.Kept.{kept, kept_at, added, next_text_breach, next_operand_breach};
 

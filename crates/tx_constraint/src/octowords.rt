@@ -1,15 +1,16 @@
 //! The octowords that operands lie in, each once, and at most four.
-ghost use Rattle.std.specs.Prelude.{◌≡◌, ◌+◌, ◌-◌, ◌≤◌, ◌↔◌, ℕ, List, nat_le, length, take, slice_get, IfSome, IsTrue, Some};
+ghost use Rattle.std.specs.Prelude.{◌≡◌, ◌+◌, ◌-◌, ◌≤◌, ◌↔◌, ℕ, List, [], ◌∷◌, nat_le, nat_eq, length, take, slice_get, IfSome, IsTrue, Some};
 ghost use Rattle.std.specs.Bool.{OnTrue};
 ghost use Rattle.std.specs.List.{fold, range_with_len};
 ghost use Rattle.arrayvec.specs.ArrayVec.{array_vec_len};
-ghost use Rattle.tx_constraint.specs.Octowords.{with_octoword, with_octowords, place_of};
+ghost use Rattle.z_regs.specs.Rising.{with_number, numbers_below};
+ghost use Rattle.tx_constraint.specs.Octowords.{with_octowords};
 
 use crate::operations::OCTOWORD_SIZE;
 use crate::pieces::{Pieces, pieces_of};
 use arrayvec::ArrayVec;
 use std::marker::Model;
-use z_regs::Touches;
+use z_regs::{Range, Touches};
 
 /// The most octowords that the operands of an attempt may lie in.
 const MOST: usize = 4;
@@ -30,7 +31,7 @@ impl Model for Octowords {
 
 /// How many octowords come before the first that is not below this one.
 fn place(octowords: &[u64], octoword: u64) -> usize
-    ensures value { result ≡ place_of octowords.now octoword }
+    ensures value { result ≡ numbers_below octowords.now octoword }
     ensures within { result ≤ length octowords.now }
 {
     for (at, other) in octowords.iter().enumerate() {
@@ -51,9 +52,29 @@ fn is_at(octowords: &[u64], at: usize, octoword: u64) -> bool
     }
 }
 
-impl Octowords {
-    ghost use Rattle.std.specs.Prelude.{[]};
+/// The octoword of a range, where one octoword has all its bytes, one at least.
+fn whole_octoword(range: Range) -> Option<u64>
+    ensures { IfSome result (λ octoword. (found : List ℕ)
+        → with_octowords found (range ∷ []) ≡ with_number found octoword) }
+{
+    if range.length == 0 || range.first % OCTOWORD_SIZE + u64::from(range.length) > OCTOWORD_SIZE {
+        return None;
+    }
+    Some(range.first / OCTOWORD_SIZE)
+}
 
+/// The octoword of the operands, where there is one operand and one octoword has all its bytes.
+fn only_octoword(touches: &Touches) -> Option<u64>
+    ensures { IfSome result (λ octoword. (found : List ℕ)
+        → with_octowords found touches.now ≡ with_number found octoword) }
+{
+    if touches.count() != 1 {
+        return None;
+    }
+    whole_octoword(touches.at(0))
+}
+
+impl Octowords {
     /// None.
     pub fn none() -> Octowords
         ensures { result ≡ [] }
@@ -65,8 +86,8 @@ impl Octowords {
 
     /// Adds an octoword at its place, unless it is there; says whether there was room.
     fn add(&mut self, octoword: u64) -> bool
-        ensures room { result ≡ nat_le (length (with_octoword self.old octoword)) 4 }
-        ensures added { OnTrue result (self.new ≡ with_octoword self.old octoword) }
+        ensures room { result ≡ nat_le (length (with_number self.old octoword)) 4 }
+        ensures added { OnTrue result (self.new ≡ with_number self.old octoword) }
     {
         let at = place(self.numbers.as_slice(), octoword);
         if is_at(self.numbers.as_slice(), at, octoword) {
@@ -84,9 +105,9 @@ impl Octowords {
         requires { pieces.first ≤ pieces.end }
         ensures room { result ≡
             nat_le (length
-            (fold with_octoword self.old (range_with_len pieces.first (pieces.end - pieces.first)))) 4 }
+            (fold with_number self.old (range_with_len pieces.first (pieces.end - pieces.first)))) 4 }
         ensures added { OnTrue result
-            (self.new ≡ fold with_octoword self.old
+            (self.new ≡ fold with_number self.old
             (range_with_len pieces.first (pieces.end - pieces.first))) }
     {
         let _most = self.numbers.is_full();
@@ -105,6 +126,23 @@ impl Octowords {
         ensures added { OnTrue result (self.new ≡ with_octowords self.old touches.now) }
     {
         let _most = self.numbers.is_full();
+        if touches.count() == 0 {
+            return true;
+        }
+        match only_octoword(touches) {
+            Some(octoword) => self.add(octoword),
+            None => self.add_each(touches),
+        }
+    }
+
+    /// Adds the octowords of each operand in turn.
+    #[cold]
+    #[inline(never)]
+    fn add_each(&mut self, touches: &Touches) -> bool
+        ensures room { result ≡ nat_le (length (with_octowords self.old touches.now)) 4 }
+        ensures added { OnTrue result (self.new ≡ with_octowords self.old touches.now) }
+    {
+        let _most = self.numbers.is_full();
         for i in 0..touches.count() {
             if !self.add_pieces(pieces_of(touches.at(i), OCTOWORD_SIZE)) {
                 return false;
@@ -113,9 +151,17 @@ impl Octowords {
         true
     }
 
+    /// Whether there is no room for one more; there are never more than four.
+    pub fn is_full(&self) -> bool
+        ensures value { result ≡ nat_eq (length self.now) 4 }
+        ensures few { length self.now ≤ 4 }
+    {
+        self.numbers.is_full()
+    }
+
     /// Whether the octoword is there already.
-    fn has(&self, octoword: u64) -> bool
-        ensures { OnTrue result (with_octoword self.now octoword ≡ self.now) }
+    pub fn has(&self, octoword: u64) -> bool
+        ensures { OnTrue result (with_number self.now octoword ≡ self.now) }
     {
         let at = place(self.numbers.as_slice(), octoword);
         is_at(self.numbers.as_slice(), at, octoword)
@@ -127,9 +173,9 @@ impl Octowords {
     fn room_left(&self, pieces: Pieces, room: usize) -> Option<usize>
         requires { pieces.first ≤ pieces.end }
         ensures { IfSome result (λ left. (before : List ℕ) →
-            length (fold with_octoword (fold with_octoword self.now before)
+            length (fold with_number (fold with_number self.now before)
             (range_with_len pieces.first (pieces.end - pieces.first))) + left ≤
-            length (fold with_octoword self.now before) + room) }
+            length (fold with_number self.now before) + room) }
     {
         let mut left = room;
         for octoword in pieces.first..pieces.end {

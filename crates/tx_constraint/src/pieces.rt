@@ -1,9 +1,10 @@
 //! The pieces of storage that operands lie in.
-ghost use Rattle.std.specs.Prelude.{◌≡◌, ◌<◌, ◌≤◌, ℕ, nat_le, nat_lt, ◌&&◌, nat_eq, take};
+ghost use Rattle.std.specs.Prelude.{◌≡◌, ◌+◌, ◌/◌, ◌%◌, ◌<◌, ◌≤◌, ℕ, nat_le, nat_lt, ◌&&◌, not, nat_eq, take};
 ghost use Rattle.std.specs.List.{list_any};
-ghost use Rattle.tx_constraint.specs.Bytes.{first_piece, end_piece, touches_own_page};
+ghost use Rattle.tx_constraint.specs.Bytes.{first_piece, end_piece, is_own_page, touches_own_page};
 ghost use Rattle.tx_constraint.specs.Constraints.{is_split};
 
+use crate::operations::DOUBLEWORD_SIZE;
 use z_regs::{Range, Touches};
 
 /// The bytes of a page.
@@ -42,6 +43,23 @@ pub fn pieces_of(range: Range, size: u64) -> Pieces
         first,
         end: last + 1,
     }
+}
+
+/// Whether a page is that of the first or of the last of the 256 bytes that begin at `begin`.
+fn is_own_page(begin: u64, page: u64) -> bool
+    ensures { result ≡ is_own_page begin page }
+{
+    let first = begin / PAGE_SIZE;
+    let last = first + (begin % PAGE_SIZE + 255) / PAGE_SIZE;
+    page == first || page == last
+}
+
+/// Whether an operand of so many bytes lies in one doubleword, in neither of these pages.
+pub fn is_apart(begin: u64, first: u64, size: u32) -> bool
+    ensures { result ≡ (nat_le (first % 8 + size) 8 && not (is_own_page begin (first / 4096))) }
+{
+    first % DOUBLEWORD_SIZE + u64::from(size) <= DOUBLEWORD_SIZE
+        && !is_own_page(begin, first / PAGE_SIZE)
 }
 
 /// Whether a byte of the operand lies in the page of the first or of the last of the 256 bytes that begin at

@@ -133,3 +133,13 @@ open-placed touch.Other first n text h = h
 pub reached-placed : (s : Shape) (first : ℕ) (text : List ℕ) → is_reached s first text ≡ true
     → is_placed s first ≡ true
 reached-placed s first text h = open-placed s.touch first s.size text (and_parts _ _ h).1
+
+-- ---- operands of a shape
+
+-- what holds of no operand, and of one whether it is stored into or not, holds of the operand of a shape
+pub touched-so : (P : List Range → Type 0) (t : Touch) (first size : ℕ) → P []
+    → ((store : Bool) → P (record { first = first; length = size; store = store } ∷ [])) → P (touched_by t first size)
+touched-so P touch.Nothing first size none one = none
+touched-so P touch.Fetch first size none one = one false
+touched-so P touch.Store first size none one = one true
+touched-so P touch.Other first size none one = none

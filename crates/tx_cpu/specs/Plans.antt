@@ -1,12 +1,10 @@
 -- Plans as fates, what a plan that goes promises, and what holds of a cause by which an attempt is aborted.
-use Rattle.std.specs.Prelude.{◌≡◌, ℕ, ◌+◌, ◌<◌, if◌then◌else◌, length, List, Option, Some, None}
+use Rattle.std.specs.Prelude.{◌≡◌, ℕ, if◌then◌else◌, length, List, Option, Some, None}
 use Rattle.z_regs.specs.declared.ranges.Range.{Range}
 use Rattle.z_instr.specs.declared.instr.Instr.{Instr}
-use Rattle.tx_control.specs.declared.causes.Why.{Why}
-use Rattle.tx_control.specs.declared.causes.Why.TheVariants.{Program}
 use Rattle.tx_serial.specs.Fate.{Fate, Goes, Ends, Stops}
 use Rattle.tx_serial.specs.Flat.{Storage}
-use Rattle.tx_serial.specs.Remains.{aborted_bit}
+pub use Rattle.tx_serial.specs.Room.{HasRoom}
 use Rattle.tx_progress.specs.Progress.{Progress, is_live}
 use Rattle.tx_progress.specs.Trial.{fate_by_progress}
 use Rattle.tx_progress.specs.declared.done.Done.{Done}
@@ -18,11 +16,6 @@ abbrev pub fate_of : Plan → Fate
 fate_of (plan.Go instr need) = Goes instr need
 fate_of (plan.Ends why) = Ends why
 fate_of (plan.Stops e) = Stops e
-
--- the interruption code has room for the bit that tells of an aborted transaction
-abbrev pub HasRoom : Why → Type 0
-HasRoom (Program e) = e.code + aborted_bit < 65536
-HasRoom _ = Unit {0}
 
 -- how many begins are open, and how many instructions are completed, of an attempt that is live
 abbrev pub levels_of : Progress → Option (ℕ × ℕ)

@@ -38,7 +38,10 @@ use crate::plan::{Plan, next_plan};
 use std::alloc::Global;
 use std::marker::Model;
 use tx_abort::block_of;
-use tx_attempt::{Attempt, Before, Ended, MOST_BYTES, cause_in, operand, perform, put_all};
+use tx_attempt::{
+    Attempt, Before, Ended, MOST_BYTES, cause_in, execute_seen, operand, perform, put_all,
+    transaction_of,
+};
 use tx_control::codes::{FIXED_POINT_DIVIDE, FIXED_POINT_OVERFLOW};
 use tx_control::{Exception, Why};
 use tx_footprint::Footprint;
@@ -334,8 +337,10 @@ impl Cpu {
         is_end(instr.op) && self.attempt.nest().depth() == 1
     }
 
-    /// Executes an instruction inside a transaction, with room for the bytes of its first operand.
-    fn execute_with<V: Bytes>(
+    /// Executes an instruction inside a transaction that may be about transactions, with room for the bytes of its first
+    /// operand.
+    #[inline(never)]
+    fn execute_nested<V: Bytes>(
         &mut self,
         instr: &Instr,
         need: &Touches,
@@ -368,6 +373,50 @@ impl Cpu {
             }
             Ended::Exceeded => {
                 self.attempt.advance(instr, need, stored, &before);
+                let overflow = exception(FIXED_POINT_OVERFLOW, length_in(line(instr.op).format));
+                Done::Ended(cause_in(self.attempt.nest(), overflow))
+            }
+            Ended::Suppressed => {
+                let divide = exception(FIXED_POINT_DIVIDE, length_in(line(instr.op).format));
+                Done::Ended(cause_in(self.attempt.nest(), divide))
+            }
+            Ended::Aborting(code) => Done::Ended(Why::Tabort(code)),
+        }
+    }
+
+    /// Executes an instruction inside a transaction, with room for the bytes of its first operand. One that is not about
+    /// transactions opens and closes no begin, so nothing is asked of the CPU before it but its prefix.
+    fn execute_with<V: Bytes>(
+        &mut self,
+        instr: &Instr,
+        need: &Touches,
+        stored: &mut [u8],
+        base: &mut V,
+    ) -> Done
+        requires live { is_live (local_of self.old).attempt ≡ true }
+        requires goes { MayGo self.old.attempt self.old.image instr.now need.now }
+        requires count { (local_of self.old).attempt.count + 1 < 2 ^ 32 }
+        requires room { (get_or need.now 0 no_range).length ≤ length stored.old }
+        requires size { length (V.bytes base.old) ≡ storage_size }
+        ensures value { record { after = beside self.new (V.bytes base.new); told = result } ≡
+            inside instr.now need.now (beside self.old (V.bytes base.old))
+            (outcome_by (storage_of (V.bytes base.old)) instr.now need.now (local_of self.old).attempt) }
+        ensures size { length (V.bytes base.new) ≡ storage_size }
+    {
+        if transaction_of(instr.op).is_some() {
+            return self.execute_nested(instr, need, stored, base);
+        }
+        self.attempt.is_sound();
+        let prefix = self.image.prefix;
+        let ended = execute_seen(&self.attempt, instr, need, &mut self.image, stored, base);
+        match ended {
+            Ended::Completed => {
+                self.attempt.advance_plainly(need, stored, prefix);
+                self.attempt.is_sound();
+                Done::Stepped
+            }
+            Ended::Exceeded => {
+                self.attempt.advance_plainly(need, stored, prefix);
                 let overflow = exception(FIXED_POINT_OVERFLOW, length_in(line(instr.op).format));
                 Done::Ended(cause_in(self.attempt.nest(), overflow))
             }

@@ -37,6 +37,7 @@ pub fn delay_after(instr: &Instr, image: &CpuImage) -> u32
 }
 
 /// What is told of a CPU that an instruction has left so.
+#[inline(always)]
 pub fn told(state: RunState, turns: u32) -> Done
     ensures { result ≡ told_of state turns }
 {
@@ -52,8 +53,10 @@ pub fn told(state: RunState, turns: u32) -> Done
     }
 }
 
-/// The CPU is interrupted where the instruction, of so many bytes, has ended by an exception.
-pub fn end_outside(image: &mut CpuImage, ended: Ended, length: u8)
+/// The CPU after an instruction of so many bytes, of which more may have come than that it is completed.
+#[cold]
+#[inline(never)]
+fn interrupt_outside(image: &mut CpuImage, ended: Ended, length: u8)
     ensures { cpu_of image.new ≡
         cpu_outside length (cpu_of image.old) (outcome_from ended (cpu_of image.old) []) }
 {
@@ -65,8 +68,22 @@ pub fn end_outside(image: &mut CpuImage, ended: Ended, length: u8)
     }
 }
 
-/// An interruption waits from now on where the instruction has ended by an exception.
-pub fn wait_outside(waiting: &mut Option<Waiting>, prefix: Option<u32>, length: u8, ended: Ended)
+/// The CPU is interrupted where the instruction, of so many bytes, has ended by an exception.
+#[inline(always)]
+pub fn end_outside(image: &mut CpuImage, ended: Ended, length: u8)
+    ensures { cpu_of image.new ≡
+        cpu_outside length (cpu_of image.old) (outcome_from ended (cpu_of image.old) []) }
+{
+    match ended {
+        Ended::Completed => {}
+        _ => interrupt_outside(image, ended, length),
+    }
+}
+
+/// The interruption that waits after an instruction of which more may have come than that it is completed.
+#[cold]
+#[inline(never)]
+fn wait_with(waiting: &mut Option<Waiting>, prefix: Option<u32>, length: u8, ended: Ended)
     ensures { waiting.new ≡ waits_outside prefix length ended waiting.old }
 {
     match ended {
@@ -74,6 +91,17 @@ pub fn wait_outside(waiting: &mut Option<Waiting>, prefix: Option<u32>, length: 
         Ended::Exceeded => *waiting = waiting_with(prefix, length, None),
         Ended::Suppressed => *waiting = waiting_with(prefix, length, None),
         Ended::Aborting(_) => {}
+    }
+}
+
+/// An interruption waits from now on where the instruction has ended by an exception.
+#[inline(always)]
+pub fn wait_outside(waiting: &mut Option<Waiting>, prefix: Option<u32>, length: u8, ended: Ended)
+    ensures { waiting.new ≡ waits_outside prefix length ended waiting.old }
+{
+    match ended {
+        Ended::Completed => {}
+        _ => wait_with(waiting, prefix, length, ended),
     }
 }
 

@@ -12,7 +12,7 @@ ghost use Rattle.tx_constraint.specs.Kept.{next_text_breach, next_operand_breach
 ghost use Rattle.tx_footprint.specs.Touched.{sets_of, touching, fit_of};
 ghost use Rattle.tx_serial.specs.Fate.{Goes};
 ghost use Rattle.tx_progress.specs.Trial.{fate_by_progress, constraint_refusal};
-ghost use Rattle.tx_cpu.specs.Admits.{Admits};
+ghost use Rattle.tx_cpu.specs.Admits.{Admits, KeepsLimits};
 ghost use Rattle.tx_attempt.specs.Tracked.{progress};
 ghost use Rattle.tx_attempt.specs.Storages.{storage_of};
 ghost use Rattle.tx_program.specs.Shapes.{is_in_line as lies_in_line, is_open as lies_open, is_reached as lies_reached};
@@ -110,9 +110,8 @@ fn is_reached(shape: Shape, first: u64, guard: &Guard) -> bool
     is_on(first, shape.boundary) && is_open(shape.touch, first, shape.size, guard)
 }
 
-/// Whether the constraints of a constrained attempt admit an instruction at an address, with its operand.
-#[inline(always)]
-fn admits_constrained(attempt: &Attempt, ready: &Ready, at: u64, first: u64) -> bool
+/// Whether the constraints of an attempt, where it has any, admit an instruction at an address, with its operand.
+fn keeps_constraints(attempt: &Attempt, ready: &Ready, at: u64, first: u64) -> bool
     ensures text { result ≡ true → constraint_refusal (λ kept. next_text_breach kept ready.now.instr at)
         ready.now.instr attempt.now.constraint ≡ None }
     ensures place { result ≡ true → constraint_refusal (λ kept. next_operand_breach kept ready.now.instr
@@ -123,22 +122,7 @@ fn admits_constrained(attempt: &Attempt, ready: &Ready, at: u64, first: u64) -> 
     attempt.keeps_constraints(&ready.instr, at, &need)
 }
 
-/// Whether its constraints admit it, where the attempt has any.
-fn keeps_constraints(attempt: &Attempt, ready: &Ready, at: u64, first: u64) -> bool
-    ensures text { result ≡ true → constraint_refusal (λ kept. next_text_breach kept ready.now.instr at)
-        ready.now.instr attempt.now.constraint ≡ None }
-    ensures place { result ≡ true → constraint_refusal (λ kept. next_operand_breach kept ready.now.instr
-        (touched_by ready.now.shape.touch first ready.now.shape.size)) ready.now.instr attempt.now.constraint
-        ≡ None }
-{
-    if !attempt.is_constrained() {
-        return true;
-    }
-    admits_constrained(attempt, ready, at, first)
-}
-
 /// Whether the footprint keeps its limits with an operand that lies in one line, where it has to be counted.
-#[cold]
 fn fits_counted(attempt: &Attempt, shape: Shape, first: u64) -> bool
     requires { is_placed shape first ≡ true }
     ensures { result ≡ true → fit_of (touching (sets_of attempt.now.footprint)
@@ -160,6 +144,48 @@ fn fits(attempt: &Attempt, shape: Shape, first: u64) -> bool
     fits_counted(attempt, shape, first)
 }
 
+/// Whether constraints and footprint let an attempt have an instruction at an address, with an operand that lies in one
+/// line. Asked only where that is not seen at once.
+#[cold]
+#[inline(never)]
+fn keeps_limits_counted(attempt: &Attempt, ready: &Ready, at: u64, first: u64) -> bool
+    requires { is_placed ready.now.shape first ≡ true }
+    ensures { result ≡ true → KeepsLimits attempt.now ready.now.instr at
+        (touched_by ready.now.shape.touch first ready.now.shape.size) }
+{
+    if !keeps_constraints(attempt, ready, at, first) {
+        return false;
+    }
+    fits(attempt, ready.shape, first)
+}
+
+/// Whether it is seen at once that they do: nothing has to be counted, and no list of operands is made.
+#[inline(always)]
+fn keeps_limits_at_once(attempt: &Attempt, ready: &Ready, at: u64, first: u64) -> bool
+    requires { is_placed ready.now.shape first ≡ true }
+    ensures { result ≡ true → KeepsLimits attempt.now ready.now.instr at
+        (touched_by ready.now.shape.touch first ready.now.shape.size) }
+{
+    if !attempt.has_room() {
+        return false;
+    }
+    attempt.admits_at_once(&ready.instr, at, first, ready.shape.size)
+}
+
+/// Whether constraints and footprint let an attempt have an instruction at an address, with an operand that lies in one
+/// line.
+#[inline(always)]
+fn keeps_limits(attempt: &Attempt, ready: &Ready, at: u64, first: u64) -> bool
+    requires { is_placed ready.now.shape first ≡ true }
+    ensures { result ≡ true → KeepsLimits attempt.now ready.now.instr at
+        (touched_by ready.now.shape.touch first ready.now.shape.size) }
+{
+    if keeps_limits_at_once(attempt, ready, at, first) {
+        return true;
+    }
+    keeps_limits_counted(attempt, ready, at, first)
+}
+
 /// Whether a live attempt admits the next instruction of its CPU, whose operand is reached.
 fn admits_inside(attempt: &Attempt, image: &CpuImage, ready: &Ready, first: u64) -> bool
     requires prefix { image.now.prefix ≡ None }
@@ -175,10 +201,7 @@ fn admits_inside(attempt: &Attempt, image: &CpuImage, ready: &Ready, first: u64)
     if !ready.admitted {
         return false;
     }
-    if !keeps_constraints(attempt, ready, image.address, first) {
-        return false;
-    }
-    fits(attempt, ready.shape, first)
+    keeps_limits(attempt, ready, image.address, first)
 }
 
 /// Whether the attempt admits the next instruction of its CPU, whose operand is reached; it does where none is live.

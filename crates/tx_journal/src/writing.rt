@@ -1,9 +1,9 @@
 //! The texts of entries and of events.
-ghost use Rattle.std.specs.Prelude.{◌≡◌, [], ◌∷◌, ◌++◌, ◌*◌, ◌+◌, ◌/◌, ◌<◌, ◌≤◌, IfOk, OnOk, length, take, drop, codes, vec_len, vec_capacity};
+ghost use Rattle.std.specs.Prelude.{◌≡◌, [], ◌∷◌, ◌++◌, ◌*◌, ◌+◌, ◌/◌, ◌^◌, ◌<◌, ◌≤◌, IfOk, OnOk, length, take, drop, codes, vec_len, vec_capacity};
 ghost use Rattle.std.specs.Fmt.{decimal};
 ghost use Rattle.tx_journal.specs.Lines.{detail_text, reason_text, words_text, line_text, entry_text};
 ghost use Rattle.tx_journal.specs.Lines.{history_text};
-ghost use Rattle.tx_journal.specs.declared.lines.Line.TheVariants.{Step};
+ghost use Rattle.tx_journal.specs.declared.lines.Line.TheVariants.{Step, Commit};
 ghost use Rattle.tx_journal.specs.Schedule.{event_text, further_text, events_text, row_text, rows_text};
 ghost use Rattle.tx_journal.specs.Schedule.{schedule_text};
 
@@ -22,8 +22,14 @@ const ROW_ROOM: usize = 71;
 /// six.
 const ENTRY_ROOM: usize = 32;
 
+/// The bytes of the line of a commit with two numbers of two digits; that of a step is shorter.
+const SMALL_ROOM: usize = 8;
+
+/// The bytes of a turn of a CPU of two digits, behind a comma.
+const TURN_ROOM: usize = 3;
+
 /// The first number of more than two digits.
-const SMALL: u64 = 100;
+const SMALL: u32 = 100;
 
 /// Adds a byte.
 fn add_byte(text: &mut Vec<u8>, byte: u8) -> Result<(), AllocError>
@@ -33,21 +39,35 @@ fn add_byte(text: &mut Vec<u8>, byte: u8) -> Result<(), AllocError>
     Ok(())
 }
 
+/// Adds the tens of a number of one digit or two, if it has any, where there is room for them, and gives its
+/// units.
+#[inline(always)]
+fn push_tens(text: &mut Vec<u8>, number: u32) -> u32
+    requires small { number < 100 }
+    requires room { vec_len text.old < vec_capacity text.old }
+    ensures items { text.new.items ++ (48 + result) ∷ [] ≡ text.old.items ++ decimal number }
+    ensures units { result < 10 }
+    ensures len { vec_len text.new ≤ vec_len text.old + 1 }
+    ensures capacity { vec_capacity text.new ≡ vec_capacity text.old }
+{
+    if number < 10 {
+        return number;
+    }
+    text.push_reserved(b'0' + (number / 10) as u8);
+    number % 10
+}
+
 /// Adds a number of one digit or two, where there is room for two bytes.
-#[tactic(auto, using(std::proofs::lemmas::Fmt::decimal_digit))]
-fn push_small(text: &mut Vec<u8>, number: u64)
+#[inline(always)]
+fn push_small(text: &mut Vec<u8>, number: u32)
     requires small { number < 100 }
     requires room { vec_len text.old + 2 ≤ vec_capacity text.old }
     ensures items { text.new.items ≡ text.old.items ++ decimal number }
     ensures len { vec_len text.new ≤ vec_len text.old + 2 }
     ensures capacity { vec_capacity text.new ≡ vec_capacity text.old }
 {
-    if number < 10 {
-        text.push_reserved(b'0' + number as u8);
-        return;
-    }
-    text.push_reserved(b'0' + (number / 10) as u8);
-    text.push_reserved(b'0' + (number % 10) as u8);
+    let units = push_tens(text, number);
+    text.push_reserved(b'0' + units as u8);
 }
 
 /// Adds a number in decimal, of any length.
@@ -60,11 +80,12 @@ fn add_digits(text: &mut Vec<u8>, number: u64) -> Result<(), AllocError>
 }
 
 /// Adds a number in decimal. Most numbers in a long report are those of CPUs, of one digit or two.
-fn add_number(text: &mut Vec<u8>, number: u64) -> Result<(), AllocError>
+#[inline(always)]
+fn add_number(text: &mut Vec<u8>, number: u32) -> Result<(), AllocError>
     ensures { OnOk result (text.new.items ≡ text.old.items ++ decimal number) }
 {
     if number >= SMALL {
-        return add_digits(text, number);
+        return add_digits(text, u64::from(number));
     }
     text.reserve(2)?;
     push_small(text, number);
@@ -98,24 +119,18 @@ fn add_detail(text: &mut Vec<u8>, detail: Detail) -> Result<(), AllocError>
 fn add_reason(text: &mut Vec<u8>, reason: Reason) -> Result<(), AllocError>
     ensures { OnOk result (text.new.items ≡ text.old.items ++ reason_text reason) }
 {
-    add_number(text, reason.code)?;
+    add_digits(text, reason.code)?;
     add_byte(text, b' ')?;
     add_detail(text, reason.detail)
 }
 
 /// Adds a byte and a number behind it.
+#[inline(never)]
 fn add_marked(text: &mut Vec<u8>, mark: u8, number: u32) -> Result<(), AllocError>
     ensures { OnOk result (text.new.items ≡ text.old.items ++ mark ∷ decimal number) }
 {
-    let number = u64::from(number);
-    if number >= SMALL {
-        add_byte(text, mark)?;
-        return add_digits(text, number);
-    }
-    text.reserve(3)?;
-    text.push_reserved(mark);
-    push_small(text, number);
-    Ok(())
+    add_byte(text, mark)?;
+    add_number(text, number)
 }
 
 /// Adds a letter, a blank and the number of a CPU.
@@ -156,65 +171,134 @@ fn add_line(text: &mut Vec<u8>, line: Line) -> Result<(), AllocError>
     add_byte(text, b'\n')
 }
 
-/// Adds the line of a step. Most lines of a long report are such, of CPUs of one digit or two: for these, room
-/// is asked for once.
-fn add_step_line(text: &mut Vec<u8>, cpu: u32) -> Result<(), AllocError>
-    ensures { OnOk result (text.new.items ≡ text.old.items ++ line_text (Step cpu)) }
-{
-    let number = u64::from(cpu);
-    if number >= SMALL {
-        return add_line(text, Line::Step(cpu));
-    }
-    text.reserve(5)?;
-    text.push_reserved(b'S');
-    text.push_reserved(b' ');
-    push_small(text, number);
-    text.push_reserved(b'\n');
-    Ok(())
-}
-
 /// Adds the line of an entry.
+#[inline(never)]
 fn add_entry(text: &mut Vec<u8>, entry: &Entry) -> Result<(), AllocError>
     ensures { OnOk result (text.new.items ≡ text.old.items ++ entry_text entry.now) }
 {
+    add_line(text, Line::of(entry))
+}
+
+/// Adds the line of a step of a CPU of one digit or two, where there is room for it.
+#[inline(always)]
+fn push_step(text: &mut Vec<u8>, cpu: u32)
+    requires small { cpu < 100 }
+    requires room { vec_len text.old + 5 ≤ vec_capacity text.old }
+    ensures items { text.new.items ≡ text.old.items ++ line_text (Step cpu) }
+    ensures len { vec_len text.new ≤ vec_len text.old + 5 }
+    ensures capacity { vec_capacity text.new ≡ vec_capacity text.old }
+{
+    text.push_reserved(b'S');
+    text.push_reserved(b' ');
+    push_small(text, cpu);
+    text.push_reserved(b'\n');
+}
+
+/// Adds the line of a commit whose numbers have one digit or two, where there is room for it.
+#[inline(always)]
+fn push_commit(text: &mut Vec<u8>, cpu: u32, count: u32)
+    requires small { (cpu < 100) × (count < 100) }
+    requires room { vec_len text.old + 8 ≤ vec_capacity text.old }
+    ensures items { text.new.items ≡ text.old.items ++ line_text (Commit cpu count) }
+    ensures len { vec_len text.new ≤ vec_len text.old + 8 }
+    ensures capacity { vec_capacity text.new ≡ vec_capacity text.old }
+{
+    text.push_reserved(b'C');
+    text.push_reserved(b' ');
+    push_small(text, cpu);
+    text.push_reserved(b' ');
+    push_small(text, count);
+    text.push_reserved(b'\n');
+}
+
+/// Adds the line of an entry, where there is room for a commit with small numbers. Behind it there is room for
+/// so many more.
+#[inline(never)]
+fn add_other(text: &mut Vec<u8>, entry: &Entry, lines: usize) -> Result<(), AllocError>
+    requires lines { 8 * lines < 2 ^ 64 }
+    requires room { vec_len text.old + 8 + 8 * lines ≤ vec_capacity text.old }
+    ensures items { OnOk result (text.new.items ≡ text.old.items ++ entry_text entry.now) }
+    ensures room { OnOk result (vec_len text.new + 8 * lines ≤ vec_capacity text.new) }
+{
     match *entry {
-        Entry::Step(cpu) => add_step_line(text, cpu),
-        _ => add_line(text, Line::of(entry)),
+        Entry::Commit(cpu, count) if cpu < SMALL && count < SMALL => {
+            push_commit(text, cpu, count);
+            Ok(())
+        }
+        _ => {
+            add_entry(text, entry)?;
+            text.reserve(lines * SMALL_ROOM)
+        }
     }
 }
 
-/// Adds the lines of entries.
+/// Adds the lines of entries. Most lines of a long report are steps and commits, with numbers of one digit or
+/// two: there is always room for as many as may still come.
 fn add_entries(text: &mut Vec<u8>, entries: &[Entry]) -> Result<(), AllocError>
     ensures { OnOk result (text.new.items ≡ text.old.items ++ history_text entries.now) }
 {
     text.try_reserve(entries.len().saturating_mul(ENTRY_ROOM))?;
+    let mut left = entries.len();
     for entry in entries {
-        add_entry(text, entry)?;
+        left -= 1;
+        match *entry {
+            Entry::Step(cpu) if cpu < SMALL => push_step(text, cpu),
+            _ => add_other(text, entry, left)?,
+        }
     }
     Ok(())
 }
 
 /// Adds an event.
+#[inline(always)]
 fn add_event(text: &mut Vec<u8>, event: Event) -> Result<(), AllocError>
     ensures { OnOk result (text.new.items ≡ text.old.items ++ event_text event) }
 {
     match event {
-        Event::Turn(cpu) => add_number(text, u64::from(cpu)),
+        Event::Turn(cpu) => add_number(text, cpu),
         Event::External(cpu) => add_marked(text, b'X', cpu),
     }
 }
 
-/// Adds an event behind a comma.
-fn add_further(text: &mut Vec<u8>, event: Event) -> Result<(), AllocError>
-    ensures { OnOk result (text.new.items ≡ text.old.items ++ 44 ∷ event_text event) }
+/// Adds an event behind a comma, and makes room behind it for so many turns.
+#[inline(never)]
+fn add_other_event(text: &mut Vec<u8>, event: Event, turns: usize) -> Result<(), AllocError>
+    requires { 3 * turns < 2 ^ 64 }
+    ensures items { OnOk result (text.new.items ≡ text.old.items ++ 44 ∷ event_text event) }
+    ensures room { OnOk result (vec_len text.new + 3 * turns ≤ vec_capacity text.new) }
 {
-    match event {
-        Event::Turn(cpu) => add_marked(text, b',', cpu),
-        Event::External(cpu) => {
-            add_byte(text, b',')?;
-            add_marked(text, b'X', cpu)
+    add_byte(text, b',')?;
+    add_event(text, event)?;
+    text.reserve(turns * TURN_ROOM)
+}
+
+/// Adds a turn of a CPU of one digit or two behind a comma, where there is room for it.
+#[inline(always)]
+fn push_turn(text: &mut Vec<u8>, cpu: u32)
+    requires small { cpu < 100 }
+    requires room { vec_len text.old + 3 ≤ vec_capacity text.old }
+    ensures items { text.new.items ≡ text.old.items ++ 44 ∷ decimal cpu }
+    ensures len { vec_len text.new ≤ vec_len text.old + 3 }
+    ensures capacity { vec_capacity text.new ≡ vec_capacity text.old }
+{
+    text.push_reserved(b',');
+    push_small(text, cpu);
+}
+
+/// Adds events, each behind a comma. There is always room for as many turns as may still come.
+fn add_further(text: &mut Vec<u8>, events: &[Event]) -> Result<(), AllocError>
+    ensures { OnOk result (text.new.items ≡ text.old.items ++ further_text events.now) }
+{
+    let mut left = events.len();
+    text.reserve(left * TURN_ROOM)?;
+    for event in events {
+        left -= 1;
+        match *event {
+            Event::Turn(cpu) if cpu < SMALL => push_turn(text, cpu),
+            _ => add_other_event(text, *event, left)?,
         }
     }
+    Ok(())
 }
 
 /// Adds events with commas between them.
@@ -225,10 +309,7 @@ fn add_events(text: &mut Vec<u8>, events: &[Event]) -> Result<(), AllocError>
         return Ok(());
     };
     add_event(text, *first)?;
-    for event in others {
-        add_further(text, *event)?;
-    }
-    Ok(())
+    add_further(text, others)
 }
 
 /// The events of a line: sixteen, or what is left.

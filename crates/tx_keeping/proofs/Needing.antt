@@ -10,13 +10,14 @@ use Rattle.std.proofs.lemmas.Bool.{cases_eq, or_cases, or_left, or_right, and_pa
 use Rattle.std.proofs.lemmas.Bool.{cond-false}
 use Rattle.std.proofs.lemmas.Bool.{cond-true, ne_eqb, lt-ltb, le-leb}
 use borrow.Enum.Arm.{by_way}
+use Rattle.z_regs.specs.Rising.{with_number}
 use Rattle.z_regs.specs.declared.ranges.Range.{Range}
 use Rattle.line_table.specs.declared.table.Mode.{Mode}
 use Rattle.line_table.specs.declared.table.Mode.TheVariants.{Shared, Exclusive}
 use Rattle.tx_footprint.specs.Sizes.{line_size}
 use Rattle.tx_footprint.specs.Places.{has_place, fetches, stores}
 use Rattle.tx_meaning.specs.declared.asking.Need.{Need}
-use Rattle.tx_meaning.specs.Needs.{first_line, last_line, has_line, lines_of, with_number, rising, mode_for}
+use Rattle.tx_meaning.specs.Needs.{first_line, last_line, has_line, lines_of, rising, mode_for}
 use Rattle.tx_meaning.specs.Needs.{needs_of}
 use Rattle.tx_meaning.specs.Asking.{is_there}
 use Rattle.tx_keeping.proofs.Getting.{Among}
@@ -48,35 +49,36 @@ in_where : (x n : ℕ) (b : Bool) (first other : List ℕ) → In x first → In
 in_where x n true first other h g = h
 in_where x n false first other h g = g
 
-same_number : (n k : ℕ) (b : Bool) (rest : List ℕ) (other : List ℕ) → nat_eq n k ≡ b → In n other
+-- whichever of the two it is, where they are one number
+same_number : (k n : ℕ) (b : Bool) (rest : List ℕ) (other : List ℕ) → nat_eq k n ≡ b → In n other
     → In n (if b then k ∷ rest else other)
-same_number n k true rest other e h = inl (eqb-true n k e)
-same_number n k false rest other e h = h
+same_number k n true rest other e h = inl (sym (eqb-true k n e))
+same_number k n false rest other e h = h
 
-new_in : (n : ℕ) (xs : List ℕ) → In n (with_number n xs)
-unfolding with_number
+-- a number that is put is there
+new_in : (n : ℕ) (xs : List ℕ) → In n (with_number xs n)
 new_in n [] = inl refl
 new_in n (k ∷ rest) =
-    in_where n n (nat_lt n k) (n ∷ k ∷ rest) _ (inl refl)
-    (same_number n k (nat_eq n k) rest (k ∷ with_number n rest) refl (inr (new_in n rest)))
+    in_where n n (nat_lt k n) (k ∷ with_number rest n) _ (inr (new_in n rest))
+    (same_number k n (nat_eq k n) rest (n ∷ k ∷ rest) refl (inl refl))
 
-old_in : (n x : ℕ) (xs : List ℕ) → In x xs → In x (with_number n xs)
-unfolding with_number
+-- and so is one that was there
+old_in : (n x : ℕ) (xs : List ℕ) → In x xs → In x (with_number xs n)
 old_in n x [] h = absurd h
 old_in n x (k ∷ rest) h =
-    in_where x n (nat_lt n k) (n ∷ k ∷ rest) _ (inr h)
-    (in_where x n (nat_eq n k) (k ∷ rest) (k ∷ with_number n rest) h
-    (by_way h (λ e. inl e) (λ later. inr (old_in n x rest later))))
+    in_where x n (nat_lt k n) (k ∷ with_number rest n) _
+    (by_way h (λ e. inl e) (λ later. inr (old_in n x rest later)))
+    (in_where x n (nat_eq k n) (k ∷ rest) (n ∷ k ∷ rest) h (inr h))
 
-in_fold : (x : ℕ) (xs sorted : List ℕ) → (In x sorted) ⊎ (In x xs)
-    → In x (fold (λ sorted n. with_number n sorted) sorted xs)
+-- several that are put are there, and those that were
+in_fold : (x : ℕ) (xs sorted : List ℕ) → (In x sorted) ⊎ (In x xs) → In x (fold with_number sorted xs)
 in_fold x [] sorted (inl h) = h
 in_fold x [] sorted (inr h) = absurd h
-in_fold x (y ∷ ys) sorted (inl h) = in_fold x ys (with_number y sorted) (inl (old_in y x sorted h))
+in_fold x (y ∷ ys) sorted (inl h) = in_fold x ys (with_number sorted y) (inl (old_in y x sorted h))
 in_fold x (y ∷ ys) sorted (inr (inl e)) =
-    in_fold x ys (with_number y sorted) (inl (subst (λ z. In z (with_number y sorted)) (sym e)
+    in_fold x ys (with_number sorted y) (inl (subst (λ z. In z (with_number sorted y)) (sym e)
     (new_in y sorted)))
-in_fold x (y ∷ ys) sorted (inr (inr h)) = in_fold x ys (with_number y sorted) (inr h)
+in_fold x (y ∷ ys) sorted (inr (inr h)) = in_fold x ys (with_number sorted y) (inr h)
 
 in_map : (f : ℕ → Need) (x : ℕ) (xs : List ℕ) → In x xs → Among (f x) (map f xs)
 in_map f x [] h = absurd h

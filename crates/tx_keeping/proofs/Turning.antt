@@ -455,6 +455,7 @@ module _ (m : Setting) (s : IsSetting m) where
 
   -- ---- what a turn does
 
+  -- a program that is not at its end runs, where no interruption is to be taken
   runs_where : (state : RunState) (prefix : Option ℕ) → has_ended state prefix ≡ false
       → ((code first : ℕ) → state ≡ Interrupted code → prefix ≡ Some first → ⊥) → is_running state ≡ true
   runs_where Running prefix h never = refl
@@ -463,7 +464,7 @@ module _ (m : Setting) (s : IsSetting m) where
   runs_where (Interrupted code) (Some first) h never = absurd (never code first refl refl)
 
   -- a CPU that has nothing else to do, and whose program is not at its end, may act
-  may_by : (i : ℕ) (k : Kept) (live : Bool) → Truth m k → is_live k.state i ≡ live → kept_finished k i ≡ false
+  pub may_by : (i : ℕ) (k : Kept) (live : Bool) → Truth m k → is_live k.state i ≡ live → kept_finished k i ≡ false
       → (k.locals i).pending ≡ None → (k.locals i).waiting ≡ None → may_act (kept_flat m k) i ≡ true
   may_by i k true t live unfinished none empty = (t.each i).followed.acts (sym (live_is m k t i) ∙ live)
   may_by i k false t off unfinished none empty =

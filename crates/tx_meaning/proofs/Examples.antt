@@ -30,7 +30,7 @@ use Rattle.tx_meaning.specs.Asking.{asker_of, by_answer}
 use Rattle.tx_meaning.specs.Idle.{kept_back, idle_by, finished_by}
 use Rattle.tx_meaning.specs.Turn.{Turned, counted_turn, external}
 use Rattle.tx_meaning.specs.declared.asking.Need.{Need}
-use Rattle.tx_meaning.specs.Needs.{needs_of, with_number, operand_needs, interruption_needs}
+use Rattle.tx_meaning.specs.Needs.{needs_of, operand_needs, interruption_needs}
 use Rattle.tx_meaning.specs.Stretches.{bound}
 
 -- ---- the bound of a constrained transaction's turns
@@ -58,41 +58,41 @@ shared line = record { line = line; mode = Shared }
 
 -- across the end of a line
 two_lines : needs_of (stored 0x90f8 16 ∷ []) ≡ exclusive 144 ∷ exclusive 145 ∷ []
-unfolding needs_of with_number
+unfolding needs_of
 two_lines = refl
 
 -- one byte behind the end of a line is no byte of the next
 one_line : needs_of (fetched 0x90f8 8 ∷ []) ≡ shared 144 ∷ []
-unfolding needs_of with_number
+unfolding needs_of
 one_line = refl
 
 -- a line that is fetched and stored, behind one that is higher
 rising_lines : needs_of (fetched 0x9200 8 ∷ fetched 0x9008 8 ∷ stored 0x90ff 1 ∷ [])
     ≡ exclusive 144 ∷ shared 146 ∷ []
-unfolding needs_of with_number
+unfolding needs_of
 rising_lines = refl
 
 no_bytes : needs_of (stored 0x9000 0 ∷ []) ≡ []
-unfolding needs_of with_number
+unfolding needs_of
 no_bytes = refl
 
 -- a prefix moves the first area of storage
 prefixed_lines : operand_needs (Some 0xa000) (stored 0x8c 4 ∷ fetched 0xa000 8 ∷ [])
     ≡ shared 0 ∷ exclusive 160 ∷ []
-unfolding needs_of with_number absolute_range
+unfolding needs_of absolute_range
 prefixed_lines = refl
 
 -- an interruption that aborted nothing needs the lines of its identification, the old and the new program
 -- status word: 0 and 1 of the area
 interruption_lines : interruption_needs (Some 0xa000) (record { length = 6; block = None })
     ≡ exclusive 160 ∷ exclusive 161 ∷ []
-unfolding needs_of with_number absolute_range
+unfolding needs_of absolute_range
 interruption_lines = refl
 
 -- with a block also the line at 1800 in hexadecimal
 interruption_and_block : interruption_needs (Some 0xa000) (record { length = 6; block = Some [] })
     ≡ exclusive 160 ∷ exclusive 161 ∷ exclusive 184 ∷ []
-unfolding needs_of with_number absolute_range
+unfolding needs_of absolute_range
 interruption_and_block = refl
 
 -- ---- the line that is given up

@@ -1,7 +1,7 @@
 -- The needed lines are those of the ranges, each once, in rising order.
 use Rattle.std.proofs.Common.{◌≡◌, ℕ, zero, suc, ◌+◌, ◌-◌, ◌<◌, ◌≤◌, Bool, true, false, List, []}
 use Rattle.std.proofs.Common.{◌∷◌, length, get_or, refl, sym, ap, ◌∙◌, arith}
-use Rattle.std.specs.Prelude.{◌||◌, ◌&&◌, ◌==◌, nat_eq, nat_lt, nat_le, if◌then◌else◌, map, fold, All}
+use Rattle.std.specs.Prelude.{◌||◌, ◌&&◌, ◌==◌, nat_eq, nat_lt, nat_le, if◌then◌else◌, map, All}
 use Rattle.std.specs.Prelude.{AllPairs}
 use Rattle.std.specs.List.{list_any, flat_map, range_with_len}
 use Rattle.std.specs.Cmp.{both_ways}
@@ -11,15 +11,16 @@ use Rattle.std.proofs.lemmas.List.Folds.{list_any-append}
 use Rattle.std.proofs.lemmas.List.Elements.{All-map}
 use borrow.Enum.Arm.{by_way}
 use Rattle.z_regs.specs.declared.ranges.Range.{Range}
+use Rattle.z_regs.specs.Rising.{IsAbove, Ascends}
+use Rattle.z_regs.proofs.Rising.{any_all, ascends_all}
 use Rattle.line_table.specs.declared.table.Mode.TheVariants.{Shared, Exclusive}
 use Rattle.interrogate.specs.Sizes.{line_size}
 use Rattle.interrogate.specs.Places.{has_place, lies_in, fetches, stores}
 use Rattle.interrogate.proofs.Spans.{span_is, no_bytes}
 use Rattle.tx_meaning.specs.declared.asking.Need.{Need}
-use Rattle.tx_meaning.specs.Needs.{first_line, last_line, has_line, lines_of, with_number, rising, mode_for}
+use Rattle.tx_meaning.specs.Needs.{first_line, last_line, has_line, lines_of, rising, mode_for}
 use Rattle.tx_meaning.specs.Needs.{needs_of}
 use Rattle.tx_meaning.specs.Changes.{is_needed}
-use Rattle.std.proofs.Math.Bool.{or-false, or_assoc}
 use Rattle.interrogate.proofs.Limits.{either_way}
 
 abbrev has : ℕ → List ℕ → Bool
@@ -125,87 +126,9 @@ stored_lines (r ∷ rest) x =
 
 -- ---- in rising order
 
-or_again : (a b : Bool) → (a || b) ≡ (a || (a || b))
-or_again true b = refl
-or_again false b = refl
-
-or_swap : (a b c : Bool) → (a || (b || c)) ≡ (b || (a || c))
-or_swap true true c = refl
-or_swap true false c = refl
-or_swap false b c = refl
-
-put_by : (n k x : ℕ) (rest more : List ℕ) (less same : Bool) → nat_eq n k ≡ same
-    → has x more ≡ ((n == x) || has x rest)
-    → has x (if less then n ∷ k ∷ rest else (if same then k ∷ rest else k ∷ more))
-    ≡ ((n == x) || ((k == x) || has x rest))
-put_by n k x rest more true same e h = refl
-put_by n k x rest more false true e h =
-    or_again (k == x) (has x rest)
-    ∙ ap (λ j. (j == x) || ((k == x) || has x rest)) (sym (eqb-true n k e))
-put_by n k x rest more false false e h =
-    ap (λ b. (k == x) || b) h ∙ or_swap (k == x) (n == x) (has x rest)
-
-put_is : (n x : ℕ) (numbers : List ℕ) → has x (with_number n numbers) ≡ ((n == x) || has x numbers)
-unfolding with_number
-put_is n x [] = refl
-put_is n x (k ∷ rest) =
-    put_by n k x rest (with_number n rest) (nat_lt n k) (nat_eq n k) refl (put_is n x rest)
-
-sorted_has : (sorted numbers : List ℕ) (x : ℕ)
-    → has x (fold (λ s n. with_number n s) sorted numbers) ≡ (has x numbers || has x sorted)
-sorted_has sorted [] x = refl
-sorted_has sorted (n ∷ rest) x =
-    sorted_has (with_number n sorted) rest x
-    ∙ ap (λ b. has x rest || b) (put_is n x sorted)
-    ∙ or_swap (has x rest) (n == x) (has x sorted)
-    ∙ sym (or_assoc (n == x) (has x rest) (has x sorted))
-
+-- the same numbers
 rising_has : (numbers : List ℕ) (x : ℕ) → has x (rising numbers) ≡ has x numbers
-rising_has numbers x = sorted_has [] numbers x ∙ or-false (has x numbers)
-
--- each number is above the one before it
-abbrev IsAbove : ℕ → List ℕ → Type 0
-IsAbove k [] = Unit {0}
-IsAbove k (j ∷ rest) = k < j
-
-abbrev Rises : List ℕ → Type 0
-Rises [] = Unit {0}
-Rises (k ∷ rest) = IsAbove k rest × Rises rest
-
-above_put_by : (j n k : ℕ) (rest more : List ℕ) (less same : Bool) → j < k → j < n
-    → IsAbove j (if less then n ∷ k ∷ rest else (if same then k ∷ rest else k ∷ more))
-above_put_by j n k rest more true same h lt = lt
-above_put_by j n k rest more false true h lt = h
-above_put_by j n k rest more false false h lt = h
-
-above_put : (j n : ℕ) (numbers : List ℕ) → IsAbove j numbers → j < n → IsAbove j (with_number n numbers)
-unfolding with_number
-above_put j n [] h lt = lt
-above_put j n (k ∷ rest) h lt =
-    above_put_by j n k rest (with_number n rest) (nat_lt n k) (nat_eq n k) h lt
-
-rises_put_by : (n k : ℕ) (rest more : List ℕ) (less same : Bool) → nat_lt n k ≡ less → nat_eq n k ≡ same
-    → IsAbove k rest → Rises rest → (k < n → IsAbove k more) → Rises more
-    → Rises (if less then n ∷ k ∷ rest else (if same then k ∷ rest else k ∷ more))
-rises_put_by n k rest more true same e f above rises above_more rises_more = (ltb-true n k e, (above, rises))
-rises_put_by n k rest more false true e f above rises above_more rises_more = (above, rises)
-rises_put_by n k rest more false false e f above rises above_more rises_more =
-    let ge = ltb-false n k e in
-    let ne = eqb-false n k f in
-    let lt : k < n = omega arith in
-    (above_more lt, rises_more)
-
-rises_put : (n : ℕ) (numbers : List ℕ) → Rises numbers → Rises (with_number n numbers)
-unfolding with_number
-rises_put n [] h = (tt, tt)
-rises_put n (k ∷ rest) h =
-    rises_put_by n k rest (with_number n rest) (nat_lt n k) (nat_eq n k) refl refl h.0 h.1
-    (above_put k n rest h.0) (rises_put n rest h.1)
-
-sorted_rises : (sorted numbers : List ℕ) → Rises sorted
-    → Rises (fold (λ s n. with_number n s) sorted numbers)
-sorted_rises sorted [] h = h
-sorted_rises sorted (n ∷ rest) h = sorted_rises (with_number n sorted) rest (rises_put n sorted h)
+rising_has numbers x = any_all (λ k. k == x) [] numbers
 
 -- ---- as needs
 
@@ -236,7 +159,7 @@ needed_modes ranges =
     (need_at ranges) numbers
     (λ k d lo. ap (λ b. if b then Exclusive else Shared) (stored_lines ranges (get_or numbers k d)))
 
-above_each : (ranges : List Range) (x : ℕ) (numbers : List ℕ) → IsAbove x numbers → Rises numbers
+above_each : (ranges : List Range) (x : ℕ) (numbers : List ℕ) → IsAbove x numbers → Ascends numbers
     → (j : ℕ) (d : Need) → j < length (map (need_at ranges) numbers)
     → x < (get_or (map (need_at ranges) numbers) j d).line
 above_each ranges x [] above rises j d lo = absurd (omega arith)
@@ -246,7 +169,7 @@ above_each ranges x (k ∷ rest) above rises (suc j) d lo =
     let later = above_each ranges k rest rises.0 rises.1 j d less in
     omega arith
 
-rising_pairs : (ranges : List Range) (numbers : List ℕ) → Rises numbers
+rising_pairs : (ranges : List Range) (numbers : List ℕ) → Ascends numbers
     → AllPairs (λ (a b : Need). a.line < b.line) (map (need_at ranges) numbers)
 rising_pairs ranges [] rises i j d lt lo = absurd (omega arith)
 rising_pairs ranges (k ∷ rest) rises i zero d lt lo = absurd (omega arith)
@@ -261,4 +184,4 @@ rising_pairs ranges (k ∷ rest) rises (suc i) (suc j) d lt lo =
 pub needs_rise : (ranges : List Range) → AllPairs (λ (a b : Need). a.line < b.line) (needs_of ranges)
 unfolding needs_of
 needs_rise ranges = rising_pairs ranges (rising (flat_map lines_of ranges))
-    (sorted_rises [] (flat_map lines_of ranges) tt)
+    (ascends_all [] (flat_map lines_of ranges) tt)

@@ -3,6 +3,7 @@ use Rattle.std.specs.Prelude.{ℕ, ◌+◌, ◌-◌, ◌/◌, Bool, true, ◌&&�
 use Rattle.std.specs.Prelude.{if◌then◌else◌, List, [], ◌∷◌, map, fold, Option, Some, None}
 use Rattle.std.specs.List.{list_any, flat_map, range_with_len}
 use Rattle.z_regs.specs.Absolute.{absolute_ranges}
+use Rattle.z_regs.specs.Rising.{with_number}
 use Rattle.z_regs.specs.declared.ranges.Range.{Range}
 use Rattle.z_regs.specs.declared.waiting.Waiting.{Waiting}
 use Rattle.interrogate.specs.Sizes.{line_size}
@@ -29,14 +30,9 @@ lines_of r = lines_by r.length
     lines_by : ℕ → List ℕ
     lines_by n = if nat_eq n 0 then [] else range_with_len (first_line r) (last_line r + 1 - first_line r)
 
--- one more number in its place among rising ones, where it is not there
-unfoldable pub with_number : ℕ → List ℕ → List ℕ
-with_number n [] = n ∷ []
-with_number n (k ∷ rest) =
-    if nat_lt n k then n ∷ k ∷ rest else (if nat_eq n k then k ∷ rest else k ∷ with_number n rest)
-
+-- in rising order, each once
 abbrev pub rising : List ℕ → List ℕ
-rising numbers = fold (λ sorted n. with_number n sorted) [] numbers
+rising numbers = fold with_number [] numbers
 
 -- exclusively, where a byte of the line is stored
 abbrev pub mode_for : List Range → ℕ → Mode

@@ -6,10 +6,11 @@ use Rattle.std.specs.List.{flat_map, range_with_len}
 use Rattle.std.proofs.lemmas.Bool.{eqb-false}
 use Rattle.std.proofs.lemmas.List.Elements.{All-head, All-tail, All-nil, All-cons}
 use Rattle.z_regs.specs.Prefix.{storage_size}
+use Rattle.z_regs.specs.Rising.{with_number}
 use Rattle.z_regs.specs.declared.ranges.Range.{Range}
 use Rattle.line_table.specs.Sizes.{storage_lines}
 use Rattle.tx_meaning.specs.declared.asking.Need.{Need}
-use Rattle.tx_meaning.specs.Needs.{needs_of, lines_of, first_line, last_line, with_number, rising}
+use Rattle.tx_meaning.specs.Needs.{needs_of, lines_of, first_line, last_line, rising}
 use Rattle.tx_needs.specs.Needs.{need_at}
 
 -- each of these is a line of storage
@@ -19,23 +20,22 @@ AllSmall (line ∷ rest) = (line < storage_lines) × AllSmall rest
 
 small_with_by : (n line : ℕ) (rest more : List ℕ) (less same : Bool) → n < storage_lines
     → AllSmall (line ∷ rest) → AllSmall more
-    → AllSmall (if less then n ∷ line ∷ rest else (if same then line ∷ rest else line ∷ more))
-small_with_by n line rest more true same lt small put = (lt, small)
+    → AllSmall (if less then line ∷ more else (if same then line ∷ rest else n ∷ line ∷ rest))
+small_with_by n line rest more true same lt small put = (small.0, put)
 small_with_by n line rest more false true lt small put = small
-small_with_by n line rest more false false lt small put = (small.0, put)
+small_with_by n line rest more false false lt small put = (lt, small)
 
-small_with : (n : ℕ) (sorted : List ℕ) → n < storage_lines → AllSmall sorted → AllSmall (with_number n sorted)
-unfolding with_number
+small_with : (n : ℕ) (sorted : List ℕ) → n < storage_lines → AllSmall sorted → AllSmall (with_number sorted n)
 small_with n [] lt small = (lt, tt)
 small_with n (line ∷ rest) lt small =
-    small_with_by n line rest (with_number n rest) (nat_lt n line) (nat_eq n line) lt small
+    small_with_by n line rest (with_number rest n) (nat_lt line n) (nat_eq line n) lt small
     (small_with n rest lt small.1)
 
 small_rising : (numbers sorted : List ℕ) → AllSmall numbers → AllSmall sorted
-    → AllSmall (fold (λ sorted n. with_number n sorted) sorted numbers)
+    → AllSmall (fold with_number sorted numbers)
 small_rising [] sorted small so = so
 small_rising (n ∷ rest) sorted small so =
-    small_rising rest (with_number n sorted) small.1 (small_with n sorted small.0 so)
+    small_rising rest (with_number sorted n) small.1 (small_with n sorted small.0 so)
 
 small_range : (a n : ℕ) → a + n ≤ storage_lines → AllSmall (range_with_len a n)
 small_range a zero le = tt

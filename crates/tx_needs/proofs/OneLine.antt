@@ -7,7 +7,7 @@ use Rattle.std.proofs.lemmas.Bool.Decides.{nat_tests}
 use Rattle.z_regs.specs.declared.ranges.Range.{Range}
 use Rattle.line_table.specs.declared.table.Mode.{Mode}
 use Rattle.line_table.specs.declared.table.Mode.TheVariants.{Shared, Exclusive}
-use Rattle.tx_meaning.specs.Needs.{needs_of, lines_of, has_line, mode_for, rising, with_number}
+use Rattle.tx_meaning.specs.Needs.{needs_of, lines_of, has_line, mode_for, rising}
 use Rattle.tx_needs.specs.Needs.{need_at}
 
 abbrev pub one : ℕ → ℕ → Bool → Range
@@ -42,7 +42,7 @@ mode-is false b e = refl
 -- the one line that it needs
 pub needs-one : (first size : ℕ) (store : Bool) → 0 < size → first % 256 + size ≤ 256
     → needs_of (one first size store ∷ []) ≡ record { line = first / 256; mode = mode_of store } ∷ []
-unfolding needs_of with_number
+unfolding needs_of
 needs-one first size store some h =
     ap (λ (ls : List ℕ). map (λ line. record { line = line; mode = mode_for (one first size store ∷ []) line })
     (rising (ls ++ []))) (one-line first size store some h)
@@ -52,7 +52,7 @@ needs-one first size store some h =
 -- it is the only one of such a range
 pub only-need : (r : Range) → 0 < r.length → r.first % 256 + r.length ≤ 256
     → map (need_at (r ∷ [])) (r.first / 256 ∷ []) ≡ needs_of (r ∷ [])
-unfolding needs_of with_number
+unfolding needs_of
 only-need r some h =
     sym (ap (λ (ls : List ℕ). map (need_at (r ∷ [])) (rising (ls ++ []))) (one-line r.first r.length r.store some h))
 

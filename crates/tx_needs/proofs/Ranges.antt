@@ -7,7 +7,8 @@ use Rattle.std.proofs.lemmas.List.{take_more}
 use Rattle.std.proofs.lemmas.List.Concat.{flat_map-append}
 use Rattle.std.proofs.lemmas.Option.{get_or_from_slice_get, slice_get_within}
 use Rattle.z_regs.specs.declared.ranges.Range.{Range}
-use Rattle.tx_meaning.specs.Needs.{with_number, lines_of}
+use Rattle.z_regs.specs.Rising.{with_number}
+use Rattle.tx_meaning.specs.Needs.{lines_of}
 use Rattle.tx_needs.specs.Needs.{with_numbers}
 
 pub more_ranges : (ranges : List Range) (i : ℕ) (r : Range) → slice_get ranges i ≡ Some r
@@ -19,7 +20,7 @@ more_ranges ranges i r e =
 -- numbers in two lists, one after the other
 with_both : (rising xs ys : List ℕ) → with_numbers rising (xs ++ ys) ≡ with_numbers (with_numbers rising xs) ys
 with_both rising [] ys = refl
-with_both rising (x ∷ xs) ys = with_both (with_number x rising) xs ys
+with_both rising (x ∷ xs) ys = with_both (with_number rising x) xs ys
 
 pub lines_more : (ranges : List Range) (i : ℕ) (r : Range) → slice_get ranges i ≡ Some r
     → with_numbers [] (flat_map lines_of (take (i + 1) ranges))

@@ -3,8 +3,9 @@ ghost use Rattle.std.specs.Prelude.{◌≡◌, ◌<◌, ◌≤◌, ◌+◌, ◌^
 ghost use Rattle.std.specs.List.{flat_map, list_any};
 ghost use Rattle.arrayvec.specs.ArrayVec.{array_vec_len};
 ghost use Rattle.z_regs.specs.Prefix.{storage_size};
-ghost use Rattle.tx_meaning.specs.Needs.{with_number, lines_of, has_line, needs_of};
-ghost use Rattle.tx_needs.specs.Needs.{below, with_numbers, need_at};
+ghost use Rattle.z_regs.specs.Rising.{with_number, numbers_below};
+ghost use Rattle.tx_meaning.specs.Needs.{lines_of, has_line, needs_of};
+ghost use Rattle.tx_needs.specs.Needs.{with_numbers, need_at};
 
 use arrayvec::ArrayVec;
 use line_table::Mode;
@@ -19,7 +20,7 @@ pub const MOST_NEEDS: usize = 8;
 
 /// How many lines stand before the first that is not below this one.
 fn place(lines: &[u32], line: u32) -> usize
-    ensures value { result ≡ below line lines.now }
+    ensures value { result ≡ numbers_below lines.now line }
     ensures within { result ≤ length lines.now }
 {
     for (at, other) in lines.iter().enumerate() {
@@ -43,7 +44,7 @@ fn is_at(lines: &[u32], at: usize, line: u32) -> bool
 /// Puts a line in its place among rising ones, where it is not there.
 fn put(lines: &mut ArrayVec<u32, MOST_NEEDS>, line: u32)
     requires { array_vec_len lines.old < MOST_NEEDS }
-    ensures value { lines.new.items ≡ with_number line lines.old.items }
+    ensures value { lines.new.items ≡ with_number lines.old.items line }
     ensures room { array_vec_len lines.new ≤ array_vec_len lines.old + 1 }
 {
     let at = place(lines.as_slice(), line);

@@ -1,5 +1,6 @@
 -- What is kept of one CPU while a machine runs, and what each thing that it does makes of that.
 pub mod Progress
+pub mod Going
 pub mod Trial
 pub mod Local
 pub mod Doing

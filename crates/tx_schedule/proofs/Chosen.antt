@@ -161,3 +161,11 @@ round_lowest from (c ∷ rest) e =
     let low : 0 ≤ c = omega arith in
     ap (λ b. if b then Some c else first_at 0 rest) (le-leb 0 c low)
     ∙ ap (λ i. Some i) (sym (lowest from (c ∷ rest) (c ∷ rest) e))
+
+-- from the first number on, the lowest ready one is next
+pub round_begins : (ready : List ℕ) → first_at 0 ready ≡ next_among (Round 0) ready
+round_begins [] = refl
+round_begins (c ∷ rest) =
+    let low : 0 ≤ c = omega arith in
+    let first = ap (λ b. if b then Some c else first_at 0 rest) (le-leb 0 c low) in
+    first ∙ round_found 0 c (c ∷ rest) first

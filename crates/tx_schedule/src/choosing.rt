@@ -66,6 +66,16 @@ fn pick(ready: &[u32], x: u64) -> Option<u32>
     Some(ready[place])
 }
 
+/// The ready CPU that a number draws; None exactly where none is ready.
+#[inline(never)]
+fn pick_ready(machine: &Machine, x: u64) -> Option<u32>
+    ensures value { result
+        ≡ place_among (x / 2 ^ 33) (ready_cpus (setting_of machine.now) (state_of machine.now)) }
+    ensures known { IfSome result (λ cpu. cpu < length machine.now.image.cpus) }
+{
+    pick(ready_among(machine).as_slice(), x)
+}
+
 /// The lowest ready CPU at or above a number; None exactly where there is none.
 fn first_ready(machine: &Machine, from: u32) -> Option<u32>
     ensures value { result ≡ first_at from (ready_cpus (setting_of machine.now) (state_of machine.now)) }
@@ -81,7 +91,8 @@ fn first_ready(machine: &Machine, from: u32) -> Option<u32>
 }
 
 /// The lowest ready CPU at or above a number, else the lowest ready one; None exactly where none is ready.
-fn next_in_round(machine: &Machine, from: u32) -> Option<u32>
+#[inline(never)]
+fn search_round(machine: &Machine, from: u32) -> Option<u32>
     ensures value { result
         ≡ next_among (Round from) (ready_cpus (setting_of machine.now) (state_of machine.now)) }
     ensures known { IfSome result (λ cpu. cpu < length machine.now.image.cpus) }
@@ -93,8 +104,37 @@ fn next_in_round(machine: &Machine, from: u32) -> Option<u32>
     }
 }
 
+/// Where the round goes on from a number: behind the last CPU with the first.
+#[inline(always)]
+fn place_in_round(machine: &Machine, from: u32) -> u32
+    ensures { let ready = ready_cpus (setting_of machine.now) (state_of machine.now) in
+        next_among (Round result) ready ≡ next_among (Round from) ready }
+{
+    if from >= cpu_count(machine) {
+        return 0;
+    }
+    from
+}
+
+/// The CPU that the round has next from a number on; None exactly where none is ready. Mostly it is the first
+/// that is asked.
+#[inline(always)]
+fn next_in_round(machine: &Machine, from: u32) -> Option<u32>
+    ensures value { result
+        ≡ next_among (Round from) (ready_cpus (setting_of machine.now) (state_of machine.now)) }
+    ensures known { IfSome result (λ cpu. cpu < length machine.now.image.cpus) }
+    ensures few { IfSome result (λ cpu. cpu < 16) }
+{
+    let first = place_in_round(machine, from);
+    if first < cpu_count(machine) && machine.ready(first) {
+        return Some(first);
+    }
+    search_round(machine, first)
+}
+
 impl Order {
     /// The CPU that has the next turn; None exactly where none is ready.
+    #[inline(always)]
     pub fn next(&mut self, machine: &Machine) -> Option<u32>
         ensures cpu { result ≡ next_among (choosing_by self.old)
             (ready_cpus (setting_of machine.now) (state_of machine.now)) }
@@ -105,7 +145,7 @@ impl Order {
         match *self {
             Order::Drawn(before) => {
                 let x = drawn_behind(before);
-                let cpu = pick(ready_among(machine).as_slice(), x)?;
+                let cpu = pick_ready(machine, x)?;
                 *self = Order::Drawn(x);
                 Some(cpu)
             }

@@ -1,4 +1,4 @@
--- Worked values, copies and stores, runs on states that agree, what entries change, and causes.
+-- Worked values, copies and stores, runs on states that agree, what entries change, and causes, those of tests being small.
 pub mod Examples
 mod Neighbours
 pub mod Lasting
@@ -16,6 +16,7 @@ pub mod TextKept
 pub mod StoredBytes
 pub mod StoredPlaces
 pub mod Starting
+pub mod SmallCauses
 -- what callers name of crates below
 pub use Rattle.z_touch.proofs.Reach
 pub use Rattle.z_touch.proofs.SmallRanges

@@ -5,6 +5,7 @@ pub mod Fate
 pub mod Run
 pub mod Ending
 pub mod Remains
+pub mod Room
 pub mod Apply
 pub mod History
 pub mod Alike

@@ -27,29 +27,31 @@ pub fn is_tick(limits: Limits, turns: u32) -> bool
 
 impl Works {
     /// A turn that is counted: a tick comes, or the program waits, or the CPU acts.
-    fn counted_turn(&mut self, cpu: u32, program: &Program, limits: Limits) -> Turned
+    fn counted_turn(&mut self, cpu: u32, program: &Program, limits: Limits, turned: &mut Turned)
         requires cpu { cpu < length self.old.slots }
         requires turns { (rest : Seat) (limits : RunLimits) →
             MayTurn (record { image = program.now; limits = limits }) cpu (kept_by rest self.old) }
         requires acts { (rest : Seat) → MayAct cpu self.old rest }
         requires cpus { length program.now.cpus ≡ length self.old.slots }
         ensures value { (rest : Seat) → let m : Setting = record { image = program.now; limits = limits } in
-            turned_as (kept_by rest self.new) result ≡ k_counted_turn m cpu (kept_by rest self.old) }
+            turned_as (kept_by rest self.new) turned.new ≡ k_counted_turn m cpu (kept_by rest self.old) }
         ensures size { IsSameSize self.old self.new }
     {
         let turns = self.turns(cpu);
         if is_tick(limits, turns) {
-            return self.external(cpu);
+            *turned = self.external(cpu);
+            return;
         }
         if self.delay_of(cpu) > 0 {
             self.wait(cpu);
-            return without_reject(Outcome::Delayed);
+            *turned = without_reject(Outcome::Delayed);
+            return;
         }
-        self.act(cpu, program)
+        self.act(cpu, program, turned);
     }
 
     /// A turn of the CPU. Where it is not idle, it is recorded and counted.
-    pub fn turn(&mut self, cpu: u32, program: &Program, limits: Limits) -> Turned
+    fn turn(&mut self, cpu: u32, program: &Program, limits: Limits, turned: &mut Turned)
         requires cpu { cpu < length self.old.slots }
         requires cpus { length program.now.cpus ≡ length self.old.slots }
         requires turns { (rest : Seat) → let m : Setting = record { image = program.now; limits = limits } in
@@ -57,16 +59,17 @@ impl Works {
         requires room { (rest : Seat) → owed self.old (kept_by rest self.old) < self.old.room }
         requires events { length self.old.events < self.old.events_room }
         ensures value { (rest : Seat) → let m : Setting = record { image = program.now; limits = limits } in
-            turned_as (kept_by rest self.new) result ≡ k_turn m cpu (kept_by rest self.old) }
+            turned_as (kept_by rest self.new) turned.new ≡ k_turn m cpu (kept_by rest self.old) }
         ensures size { IsSameSize self.old self.new }
     {
         let _most = limits.turns;
         if let Some(outcome) = self.idle(cpu, limits) {
-            return without_reject(outcome);
+            *turned = without_reject(outcome);
+            return;
         }
         self.note(Event::Turn(cpu));
         self.count_turn(cpu);
-        self.counted_turn(cpu, program, limits)
+        self.counted_turn(cpu, program, limits, turned);
     }
 
     /// An event: a turn of a CPU, or an interruption of it from outside, which is always recorded.
@@ -83,12 +86,14 @@ impl Works {
             turned_as (kept_by rest self.new) result ≡ k_happen m e (kept_by rest self.old) }
         ensures size { IsSameSize self.old self.new }
     {
+        let mut turned = without_reject(Outcome::Executed);
         match e {
-            Event::Turn(cpu) => self.turn(cpu, program, limits),
+            Event::Turn(cpu) => self.turn(cpu, program, limits, &mut turned),
             Event::External(cpu) => {
                 self.note(e);
-                self.external(cpu)
+                turned = self.external(cpu);
             }
         }
+        turned
     }
 }

@@ -75,7 +75,7 @@ impl Works {
 
     /// The CPU executes an instruction that is prepared, inside a transaction.
     #[inline(always)]
-    fn execute_inside(&mut self, cpu: u32, instr: &Instr, need: &Touches) -> Turned
+    fn execute_inside(&mut self, cpu: u32, instr: &Instr, need: &Touches, turned: &mut Turned)
         requires cpu { cpu < length self.old.slots }
         requires live { (rest : Seat) → is_live (kept_by rest self.old).state cpu ≡ true }
         requires prepared { (rest : Seat) →
@@ -85,26 +85,26 @@ impl Works {
         requires room { length self.old.history < self.old.room }
         ensures value { (rest : Seat) → let k = kept_by rest self.old in
             let e = executed instr.now need.now (beside k cpu) in
-            turned_as (kept_by rest self.new) result ≡ k_inside cpu (next_address k cpu) e.after k e.told }
+            turned_as (kept_by rest self.new) turned.new ≡ k_inside cpu (next_address k cpu) e.after k e.told }
         ensures size { IsSameSize self.old self.new }
     {
         let at = self.next_address(cpu);
         match self.run(cpu, instr, need) {
-            Done::Stepped => without_reject(Outcome::Executed),
+            Done::Stepped => *turned = without_reject(Outcome::Executed),
             Done::Committed(count) => {
                 self.commit(cpu, count);
-                without_reject(Outcome::Executed)
+                *turned = without_reject(Outcome::Executed);
             }
-            Done::Ended(why) => self.end_by(cpu, why, at),
-            Done::Began => without_reject(Outcome::Executed),
-            Done::Paused(_) => without_reject(Outcome::Executed),
-            Done::Interrupted(_) => without_reject(Outcome::Executed),
+            Done::Ended(why) => *turned = self.end_by(cpu, why, at),
+            Done::Began => *turned = without_reject(Outcome::Executed),
+            Done::Paused(_) => *turned = without_reject(Outcome::Executed),
+            Done::Interrupted(_) => *turned = without_reject(Outcome::Executed),
         }
     }
 
     /// The CPU executes an instruction that is prepared, outside transactions.
     #[inline(always)]
-    pub(crate) fn execute_outside(&mut self, cpu: u32, instr: &Instr, need: &Touches) -> Turned
+    fn execute_outside(&mut self, cpu: u32, instr: &Instr, need: &Touches, turned: &mut Turned)
         requires cpu { cpu < length self.old.slots }
         requires live { (rest : Seat) → is_live (kept_by rest self.old).state cpu ≡ false }
         requires rested { (rest : Seat) → let local = (kept_by rest self.old).locals cpu in
@@ -118,35 +118,59 @@ impl Works {
         requires room { length self.old.history < self.old.room }
         ensures value { (rest : Seat) → let k = kept_by rest self.old in
             let e = executed instr.now need.now (beside k cpu) in
-            turned_as (kept_by rest self.new) result ≡ k_outside cpu e.after k e.told }
+            turned_as (kept_by rest self.new) turned.new ≡ k_outside cpu e.after k e.told }
         ensures size { IsSameSize self.old self.new }
     {
         match self.run(cpu, instr, need) {
             Done::Began => {
                 let constrained = self.is_constrained(cpu);
                 self.count_begin(cpu, constrained);
-                without_reject(Outcome::Executed)
+                *turned = without_reject(Outcome::Executed);
             }
             Done::Stepped => {
                 self.write(Entry::Step(cpu));
-                without_reject(Outcome::Executed)
+                *turned = without_reject(Outcome::Executed);
             }
             Done::Paused(turns) => {
                 self.write(Entry::Step(cpu));
                 self.delay(cpu, turns);
-                without_reject(Outcome::Executed)
+                *turned = without_reject(Outcome::Executed);
             }
             Done::Interrupted(code) => {
                 self.write(Entry::Step(cpu));
-                without_reject(Outcome::Interrupted { code })
+                *turned = without_reject(Outcome::Interrupted { code });
             }
-            Done::Committed(_) => without_reject(Outcome::Executed),
-            Done::Ended(_) => without_reject(Outcome::Executed),
+            Done::Committed(_) => *turned = without_reject(Outcome::Executed),
+            Done::Ended(_) => *turned = without_reject(Outcome::Executed),
         }
     }
 
-    /// The CPU executes an instruction that is prepared, and whose lines are there.
+    /// The CPU executes an instruction that is prepared, and whose lines are there. What came of the turn is
+    /// written where the caller keeps it.
     #[inline(always)]
+    pub(crate) fn perform(&mut self, cpu: u32, instr: &Instr, need: &Touches, turned: &mut Turned)
+        requires cpu { cpu < length self.old.slots }
+        requires prepared { (rest : Seat) →
+            IsPrepared ((kept_by rest self.old).locals cpu).attempt instr.now need.now }
+        requires rested { (rest : Seat) → let k = kept_by rest self.old in is_live k.state cpu ≡ false
+            → (k.locals cpu).attempt ≡ resting (k.locals cpu).cpu }
+        requires counts { (rest : Seat) → let n = (kept_by rest self.old).state.numbers cpu in
+            n.completed < n.turns }
+        requires begins { (rest : Seat) → let n = (kept_by rest self.old).state.numbers cpu in
+            n.attempts < n.turns }
+        requires room { length self.old.history < self.old.room }
+        ensures value { (rest : Seat) → turned_as (kept_by rest self.new) turned.new ≡
+            k_executing cpu instr.now need.now (kept_by rest self.old) }
+        ensures size { IsSameSize self.old self.new }
+    {
+        if self.is_live(cpu) {
+            self.execute_inside(cpu, instr, need, turned);
+        } else {
+            self.execute_outside(cpu, instr, need, turned);
+        }
+    }
+    /// The CPU executes an instruction that is prepared, and whose lines are there.
+    #[inline(never)]
     pub(crate) fn execute(&mut self, cpu: u32, instr: &Instr, need: &Touches) -> Turned
         requires cpu { cpu < length self.old.slots }
         requires prepared { (rest : Seat) →
@@ -162,10 +186,8 @@ impl Works {
             k_executing cpu instr.now need.now (kept_by rest self.old) }
         ensures size { IsSameSize self.old self.new }
     {
-        if self.is_live(cpu) {
-            self.execute_inside(cpu, instr, need)
-        } else {
-            self.execute_outside(cpu, instr, need)
-        }
+        let mut turned = without_reject(Outcome::Executed);
+        self.perform(cpu, instr, need, &mut turned);
+        turned
     }
 }

@@ -157,7 +157,7 @@ impl Works {
     }
 
     /// A plain instruction that goes: it is executed where the line of its operand is there.
-    fn go_plainly(&mut self, cpu: u32, plain: &Plain, program: &Program) -> Turned
+    fn go_plainly(&mut self, cpu: u32, plain: &Plain, program: &Program, turned: &mut Turned)
         requires cpu { cpu < length self.old.slots }
         requires turns { (rest : Seat) (limits : RunLimits) →
             MayTurn (record { image = program.now; limits = limits }) cpu (kept_by rest self.old) }
@@ -172,16 +172,16 @@ impl Works {
         requires reached { is_reached plain.now.ready.now.shape plain.now.first (items program.now.guard) ≡ true }
         ensures value { (rest : Seat) (limits : RunLimits) →
             let m : Setting = record { image = program.now; limits = limits } in let k = kept_by rest self.old in
-            turned_as (kept_by rest self.new) result ≡
+            turned_as (kept_by rest self.new) turned.new ≡
             k_attempting m cpu k (fate_by_progress (text_of m) k.storage (k.locals cpu).attempt) }
         ensures size { IsSameSize self.old self.new }
     {
         let ready = plain.ready;
         match self.get_operand(cpu, ready.shape, plain.first) {
-            Some(refused) => self.refuse(cpu, refused),
+            Some(refused) => *turned = self.refuse(cpu, refused),
             None => {
                 let need = operands_at(ready.shape, plain.first);
-                self.execute(cpu, &ready.instr, &need)
+                self.perform(cpu, &ready.instr, &need, turned);
             }
         }
     }
@@ -272,7 +272,7 @@ impl Works {
     }
 
     /// The next instruction of the CPU.
-    fn attempt(&mut self, cpu: u32, program: &Program) -> Turned
+    fn attempt(&mut self, cpu: u32, program: &Program, turned: &mut Turned)
         requires cpu { cpu < length self.old.slots }
         requires turns { (rest : Seat) (limits : RunLimits) →
             MayTurn (record { image = program.now; limits = limits }) cpu (kept_by rest self.old) }
@@ -280,13 +280,13 @@ impl Works {
         requires cpus { length program.now.cpus ≡ length self.old.slots }
         ensures value { (rest : Seat) (limits : RunLimits) →
             let m : Setting = record { image = program.now; limits = limits } in let k = kept_by rest self.old in
-            turned_as (kept_by rest self.new) result ≡
+            turned_as (kept_by rest self.new) turned.new ≡
             k_attempting m cpu k (fate_by_progress (text_of m) k.storage (k.locals cpu).attempt) }
         ensures size { IsSameSize self.old self.new }
     {
         match self.plain(cpu, program) {
-            Some(plain) => self.go_plainly(cpu, &plain, program),
-            None => self.attempt_planned(cpu, program),
+            Some(plain) => self.go_plainly(cpu, &plain, program, turned),
+            None => *turned = self.attempt_planned(cpu, program),
         }
     }
 
@@ -328,7 +328,7 @@ impl Works {
     }
 
     /// What is left to do comes before the next instruction: a block that is pending, then an interruption.
-    pub(crate) fn act(&mut self, cpu: u32, program: &Program) -> Turned
+    pub(crate) fn act(&mut self, cpu: u32, program: &Program, turned: &mut Turned)
         requires cpu { cpu < length self.old.slots }
         requires turns { (rest : Seat) (limits : RunLimits) →
             MayTurn (record { image = program.now; limits = limits }) cpu (kept_by rest self.old) }
@@ -336,17 +336,19 @@ impl Works {
         requires cpus { length program.now.cpus ≡ length self.old.slots }
         ensures value { (rest : Seat) (limits : RunLimits) →
             let m : Setting = record { image = program.now; limits = limits } in
-            let k = kept_by rest self.old in turned_as (kept_by rest self.new) result ≡
+            let k = kept_by rest self.old in turned_as (kept_by rest self.new) turned.new ≡
             k_acting m cpu k (k.locals cpu).pending (k.locals cpu).waiting }
         ensures size { IsSameSize self.old self.new }
     {
         if let Some(address) = self.pending(cpu) {
-            return self.store_pending(cpu, address);
+            *turned = self.store_pending(cpu, address);
+            return;
         }
         if let Some(block) = self.awaited(cpu) {
-            return self.take_waiting(cpu, block);
+            *turned = self.take_waiting(cpu, block);
+            return;
         }
-        self.attempt(cpu, program)
+        self.attempt(cpu, program, turned);
     }
 
     /// The bytes that the next instruction of the CPU touches, by absolute addresses; none where it does not

@@ -2,7 +2,7 @@
 use Rattle.std.proofs.Common.{◌≡◌, ℕ, zero, suc, ◌+◌, ◌*◌, ◌/◌, ◌%◌, ◌^◌, ◌<◌, true, false, Bool, ◌&&◌, nat_eq, not, ◌-◌, ◌≤◌, inl, inr}
 use Rattle.std.proofs.Common.{List, [], ◌∷◌, if◌then◌else◌, map, length, refl, sym, ap, ap₂, subst, ◌∙◌, arith}
 use Rattle.std.proofs.Common.{eq-eqb, lit<}
-use Rattle.std.proofs.Math.Nat.{mul-add-div_right, div-div-eq-div-mul, pow-suc, zero-div}
+use Rattle.std.proofs.Math.Nat.{mul-add-div_right, div-div-eq-div-mul, pow-suc, zero-add, zero-div}
 use Rattle.std.proofs.lemmas.Bool.{eqb-true, cases_lt}
 use Rattle.std.proofs.lemmas.List.{length-map}
 use Rattle.std.proofs.lemmas.Nat.{pow-add}
@@ -103,10 +103,7 @@ digit_of_number (d ∷ ds) (h ∷ hs) r k a o =
     by_field true e n rest there =
         by_index (nat_eq d.index k) refl
         (there ∙ not_there ds hs r d.index (absent (rank d.field) (eqb-true _ _ e) n)) rest
-    by_field false e n rest there = ap (λ m. m / 16 ^ k % 16) (none (number_in ds hs r)) ∙ rest
-      where
-        none : (n : ℕ) → 0 + n ≡ n
-        none n = omega arith
+    by_field false e n rest there = ap (λ m. m / 16 ^ k % 16) (zero-add (number_in ds hs r)) ∙ rest
 
 -- ---- digits that make the same numbers are the same
 

@@ -28,6 +28,10 @@ use Rattle.z_decode.proofs.Rows.{row_below}
 
 -- ---- numbers by their bits
 
+-- no more than eight digits
+over : (w : ℕ) → suc (suc (suc (suc (suc (suc (suc (suc (suc w)))))))) ≤ 8 → ⊥
+over w h = omega arith
+
 -- a number with a sign or without is the one among its bounds
 among_is : (s : Bool) (w t : ℕ) → is_known s w ≡ true → t < 16 ^ w → among (bounds_by s w) t ≡ number s (4 * w) t
 among_is false w t k h = ap (λ b. if b then pos t else negsuc (16 ^ w + 0 - 1 - t)) (lt-ltb t (16 ^ w) h)
@@ -41,10 +45,7 @@ among_is true (suc (suc (suc (suc (suc (suc zero)))))) t k h = refl
 among_is true (suc (suc (suc (suc (suc (suc (suc zero))))))) t k h = refl
 among_is true (suc (suc (suc (suc (suc (suc (suc (suc zero)))))))) t k h = refl
 among_is true (suc (suc (suc (suc (suc (suc (suc (suc (suc w))))))))) t k h =
-    absurd (over (leb-true _ _ (and_left (nat_le (suc (suc (suc (suc (suc (suc (suc (suc (suc w))))))))) 8) _ k)))
-  where
-    over : suc (suc (suc (suc (suc (suc (suc (suc (suc w)))))))) ≤ 8 → ⊥
-    over h = omega arith
+    absurd (over w (leb-true _ _ (and_left (nat_le (suc (suc (suc (suc (suc (suc (suc (suc (suc w))))))))) 8) _ k)))
 
 -- its bits are fewer than the numbers among its bounds
 inside : (s : Bool) (w t : ℕ) → is_known s w ≡ true → t < 16 ^ w → t < (bounds_by s w).above + (bounds_by s w).below
@@ -59,10 +60,7 @@ inside true (suc (suc (suc (suc (suc (suc zero)))))) t k h = omega arith
 inside true (suc (suc (suc (suc (suc (suc (suc zero))))))) t k h = omega arith
 inside true (suc (suc (suc (suc (suc (suc (suc (suc zero)))))))) t k h = omega arith
 inside true (suc (suc (suc (suc (suc (suc (suc (suc (suc w))))))))) t k h =
-    absurd (over (leb-true _ _ (and_left (nat_le (suc (suc (suc (suc (suc (suc (suc (suc (suc w))))))))) 8) _ k)))
-  where
-    over : suc (suc (suc (suc (suc (suc (suc (suc (suc w)))))))) ≤ 8 → ⊥
-    over h = omega arith
+    absurd (over w (leb-true _ _ (and_left (nat_le (suc (suc (suc (suc (suc (suc (suc (suc (suc w))))))))) 8) _ k)))
 
 -- the last bits of a number with a sign
 abbrev signed_in : ℕ → ℕ → ℕ → Bool → ℕ

@@ -3,5 +3,6 @@ pub mod Storeless
 pub mod Examples
 pub mod Lengths
 pub mod Lasting
+pub mod Aborting
 pub mod Prefix
 mod TransactionExamples

@@ -3,7 +3,7 @@ use Rattle.std.proofs.Common.{◌≡◌, ℕ, zero, suc, ◌+◌, ◌*◌, ◌/�
 use Rattle.std.proofs.Common.{List, [], ◌∷◌, if◌then◌else◌, map, length, get_or, refl, sym, ap, ap₂, subst, ◌∙◌, arith, inl, inr}
 use Rattle.std.specs.List.{list_all}
 use Rattle.std.proofs.Math.Arith.{mod-mul}
-use Rattle.std.proofs.Math.Nat.{pow-suc}
+use Rattle.std.proofs.Math.Nat.{pow-suc, zero-add}
 use Rattle.std.proofs.lemmas.Bool.{eqb-true, ltb-true, cases_lt}
 use Rattle.std.proofs.lemmas.List.{length-map}
 use Rattle.std.proofs.lemmas.Nat.{mod_below, mul-add-lt}
@@ -135,10 +135,7 @@ number_is_sum most (d ∷ ds) (h ∷ hs) r o u =
         (ap (λ s. h * 16 ^ d.index + s) rest ∙ sym sum_is)
     by_field false e n l rest =
         subst (λ b. (if b then h * 16 ^ d.index else 0) + number_in ds hs r ≡ sum (most r) (λ k. if b && nat_eq d.index k then h else digit_at ds hs r k)) (sym e)
-        (none (number_in ds hs r) ∙ rest)
-      where
-        none : (n : ℕ) → 0 + n ≡ n
-        none n = omega arith
+        (zero-add (number_in ds hs r) ∙ rest)
 
 -- what is spelled in the place of a digit
 digit_spelled : (ds : List Digit) (v : ℕ → ℕ) (r k : ℕ) → has ds r k ≡ true →

@@ -16,5 +16,6 @@ pub mod ReadingExamples
 mod AccessExamples
 pub mod Pieces
 pub mod PlainImmediates
+pub mod SmallCodes
 pub mod SmallOperands
 pub mod Examples

@@ -1,4 +1,4 @@
--- A CPU as plain data, sets of pages, bytes of storage, and real and absolute addresses.
+-- A CPU as plain data, sets of pages, bytes of storage, real and absolute addresses, and rising numbers.
 pub mod Cpu
 pub mod Pages
 pub mod Prefix
@@ -7,3 +7,4 @@ pub mod Seen
 pub mod Written
 pub mod Psw
 pub mod Absolute
+pub mod Rising

@@ -4,7 +4,7 @@ use Rattle.std.proofs.Common.{take, drop, true, false, nat_eq, nat_lt, slice_ind
 use Rattle.std.proofs.Common.{ne_eqb, ◌≢◌, drop-drop}
 use Rattle.std.proofs.lemmas.Bool.{cases_eq, cases_lt, lt-ltb, le-ltb}
 use Rattle.std.proofs.Math.Nat.{add-mul, mul-le-mul_right, mod-lt}
-use Rattle.std.proofs.Math.Seq.{take-add}
+use Rattle.std.proofs.Math.Seq.{take-add, take-length}
 use Rattle.byteorder.specs.Endian.{big_from, big_bytes, big_number}
 use Rattle.byteorder.specs.Numbers.{big_from-cons, big_from-lt, length-bytes_high_first}
 use borrow.Enum.Arm.{by_way}
@@ -88,64 +88,73 @@ order_before (x ∷ a) b (y ∷ c) d size differ =
     ∙ sym (order_front_equal x y a c e))
     (λ ne. order_front_differs x y (a ++ b) (c ++ d) ne ∙ sym (order_front_differs x y a c ne))
 
--- ---- two ranges
+-- ---- what is left of two lists
 
--- what is left of both operands after j bytes
-abbrev pub left : List ℕ → ℕ → ℕ → ℕ → ℕ → ℕ
-left s a b j n = order_of_bytes (range_at s (a + j) (n - j)) (range_at s (b + j) (n - j))
+-- what is left of two lists after j bytes, of n
+abbrev pub left : List ℕ → List ℕ → ℕ → ℕ → ℕ
+left s t j n = order_of_bytes (range_at s j (n - j)) (range_at t j (n - j))
 
-range_split : (s : List ℕ) (a j c n : ℕ) → j + c ≤ n
-    → range_at s (a + j) (n - j) ≡ range_at s (a + j) c ++ range_at s (a + (j + c)) (n - (j + c))
-range_split s a j c n h =
+range_split : (s : List ℕ) (j c n : ℕ) → j + c ≤ n
+    → range_at s j (n - j) ≡ range_at s j c ++ range_at s (j + c) (n - (j + c))
+range_split s j c n h =
     let e : n - j ≡ c + (n - (j + c)) = omega arith in
-    let f : a + j + c ≡ a + (j + c) = omega arith in
-    ap (λ k. take k (drop (a + j) s)) e
-    ∙ take-add c (n - (j + c)) (drop (a + j) s)
-    ∙ ap (λ u. range_at s (a + j) c ++ take (n - (j + c)) u) (drop-drop c (a + j) s)
-    ∙ ap (λ k. range_at s (a + j) c ++ range_at s k (n - (j + c))) f
+    ap (λ k. take k (drop j s)) e
+    ∙ take-add c (n - (j + c)) (drop j s)
+    ∙ ap (λ u. range_at s j c ++ take (n - (j + c)) u) (drop-drop c j s)
 
-module _ (s : List ℕ) (a b j c n : ℕ) where
-  split_both : j + c ≤ n → left s a b j n
-      ≡ order_of_bytes (range_at s (a + j) c ++ range_at s (a + (j + c)) (n - (j + c)))
-      (range_at s (b + j) c ++ range_at s (b + (j + c)) (n - (j + c)))
+module _ (s t : List ℕ) (j c n : ℕ) where
+  split_both : j + c ≤ n → left s t j n
+      ≡ order_of_bytes (range_at s j c ++ range_at s (j + c) (n - (j + c)))
+      (range_at t j c ++ range_at t (j + c) (n - (j + c)))
   split_both h =
-      ap (λ x. order_of_bytes x (range_at s (b + j) (n - j))) (range_split s a j c n h)
-      ∙ ap (order_of_bytes (range_at s (a + j) c ++ range_at s (a + (j + c)) (n - (j + c))))
-      (range_split s b j c n h)
+      ap (λ x. order_of_bytes x (range_at t j (n - j))) (range_split s j c n h)
+      ∙ ap (order_of_bytes (range_at s j c ++ range_at s (j + c) (n - (j + c))))
+      (range_split t j c n h)
 
-  same_size : j + c ≤ n → a + n ≤ length s → b + n ≤ length s
-      → length (range_at s (a + j) c) ≡ length (range_at s (b + j) c)
-  same_size h p q = length-range_at s (a + j) c (omega arith) ∙ sym (length-range_at s (b + j) c (omega arith))
+  same_size : j + c ≤ n → n ≤ length s → n ≤ length t
+      → length (range_at s j c) ≡ length (range_at t j c)
+  same_size h p q = length-range_at s j c (omega arith) ∙ sym (length-range_at t j c (omega arith))
 
-  pub order_equal : j + c ≤ n → a + n ≤ length s → b + n ≤ length s
-      → order_of_bytes (range_at s (a + j) c) (range_at s (b + j) c) ≡ 0
-      → left s a b j n ≡ left s a b (j + c) n
+  -- equal bytes leave it to those behind them
+  pub order_equal : j + c ≤ n → n ≤ length s → n ≤ length t
+      → order_of_bytes (range_at s j c) (range_at t j c) ≡ 0
+      → left s t j n ≡ left s t (j + c) n
   order_equal h p q equal =
       split_both h
-      ∙ order_behind (range_at s (a + j) c) (range_at s (a + (j + c)) (n - (j + c)))
-      (range_at s (b + j) c) (range_at s (b + (j + c)) (n - (j + c))) (same_size h p q) equal
+      ∙ order_behind (range_at s j c) (range_at s (j + c) (n - (j + c)))
+      (range_at t j c) (range_at t (j + c) (n - (j + c))) (same_size h p q) equal
 
-  pub order_differs : j + c ≤ n → a + n ≤ length s → b + n ≤ length s
-      → order_of_bytes (range_at s (a + j) c) (range_at s (b + j) c) ≢ 0
-      → left s a b j n ≡ order_of_bytes (range_at s (a + j) c) (range_at s (b + j) c)
+  -- unequal ones decide
+  pub order_differs : j + c ≤ n → n ≤ length s → n ≤ length t
+      → order_of_bytes (range_at s j c) (range_at t j c) ≢ 0
+      → left s t j n ≡ order_of_bytes (range_at s j c) (range_at t j c)
   order_differs h p q differ =
       split_both h
-      ∙ order_before (range_at s (a + j) c) (range_at s (a + (j + c)) (n - (j + c)))
-      (range_at s (b + j) c) (range_at s (b + (j + c)) (n - (j + c))) (same_size h p q) differ
+      ∙ order_before (range_at s j c) (range_at s (j + c) (n - (j + c)))
+      (range_at t j c) (range_at t (j + c) (n - (j + c))) (same_size h p q) differ
 
   -- the last ones
-  pub order_last : j + c ≡ n
-      → left s a b j n ≡ order_of_bytes (range_at s (a + j) c) (range_at s (b + j) c)
+  pub order_last : j + c ≡ n → left s t j n ≡ order_of_bytes (range_at s j c) (range_at t j c)
   order_last h =
       let e : n - j ≡ c = omega (arith, h) in
-      ap (λ k. order_of_bytes (range_at s (a + j) k) (range_at s (b + j) k)) e
+      ap (λ k. order_of_bytes (range_at s j k) (range_at t j k)) e
 
 -- lists of no bytes are equal
-pub order_end : (s : List ℕ) (a b j n : ℕ) → n ≤ j → left s a b j n ≡ 0
+pub order_end : (s t : List ℕ) (j n : ℕ) → n ≤ j → left s t j n ≡ 0
 unfolding order_of_bytes
-order_end s a b j n h =
+order_end s t j n h =
     let e : n - j ≡ 0 = omega arith in
-    ap (λ k. order_of_bytes (range_at s (a + j) k) (range_at s (b + j) k)) e
+    ap (λ k. order_of_bytes (range_at s j k) (range_at t j k)) e
+
+-- at first all is left
+pub order_whole : (s t : List ℕ) → length s ≡ length t → order_of_bytes s t ≡ left s t 0 (length s)
+order_whole s t same =
+    let mine : take (length s) s ≡ s = take-length s in
+    let others : take (length s) t ≡ t = ap (λ n. take n t) same ∙ take-length t in
+    let all : length s ≡ length s - 0 = omega arith in
+    ap (λ x. order_of_bytes x t) (sym mine)
+    ∙ ap (order_of_bytes (take (length s) s)) (sym others)
+    ∙ ap (λ n. order_of_bytes (take n s) (take n t)) all
 
 -- ---- numbers in bytes
 

@@ -18,7 +18,7 @@ use z_effect::{advance, compare, logic};
 use z_instr::addresses::{first_address, second_address};
 use z_instr::instr::Instr;
 use z_instr::kind::{Combination, Logic, Order};
-use z_regs::{Bytes, CpuImage};
+use z_regs::{Bytes, CpuImage, number_in};
 
 /// The most bytes that an operand has.
 const MOST_BYTES: usize = 256;
@@ -177,44 +177,62 @@ fn move_bytes<V: Bytes>(view: &mut V, target: u64, source: u64, count: u64)
     }
 }
 
-/// Compares one to eight bytes as the numbers that they are, which have the order of their bytes.
+/// Compares one to eight bytes of two lists, from a place on, as the numbers that they are, which have the order of
+/// their bytes.
 #[inline(always)]
-fn order_of_item<V: Bytes>(view: &V, first: u64, second: u64, count: u8) -> u8
+fn order_of_item(first: &[u8], second: &[u8], at: usize, count: u8) -> u8
     requires low { 1 ≤ count }
     requires high { count ≤ 8 }
-    requires first_in { first + count ≤ length (V.bytes view.now) }
-    requires second_in { second + count ≤ length (V.bytes view.now) }
-    ensures order { result ≡ order_of_bytes (range_at (V.bytes view.now) first count)
-        (range_at (V.bytes view.now) second count) }
+    requires first_in { at + count ≤ length first.now }
+    requires second_in { at + count ≤ length second.now }
+    ensures order { result ≡ order_of_bytes (range_at first.now at count) (range_at second.now at count) }
     ensures code { result < 4 }
 {
-    let a = view.word(first, count);
-    let b = view.word(second, count);
+    let a = number_in(first, at, count);
+    let b = number_in(second, at, count);
     compare(Order::Logical, Width::Double, a, b)
 }
 
-/// Compares `count` bytes from the left, eight at a time and then the rest: 0 equal, 1 where the first list is
-/// low, 2 where it is high.
-fn order_in<V: Bytes>(view: &V, first: u64, second: u64, count: u64) -> u8
-    requires size { length (V.bytes view.now) ≡ storage_size }
-    requires first_in { first + count ≤ storage_size }
-    requires second_in { second + count ≤ storage_size }
-    ensures order { result ≡ order_of_bytes (range_at (V.bytes view.now) first count)
-        (range_at (V.bytes view.now) second count) }
+/// Compares two lists of as many bytes from the left, eight at a time and then the rest: 0 equal, 1 where the first list
+/// is low, 2 where it is high.
+fn order_of_lists(first: &[u8], second: &[u8]) -> u8
+    requires alike { length first.now ≡ length second.now }
+    ensures order { result ≡ order_of_bytes first.now second.now }
     ensures code { result < 4 }
 {
+    let count = first.len();
     let whole = count / 8;
     for k in 0..whole {
-        let order = order_of_item(view, first + 8 * k, second + 8 * k, 8);
+        let order = order_of_item(first, second, 8 * k, 8);
         if order != 0 {
             return order;
         }
     }
     let rest = (count % 8) as u8;
     if rest > 0 {
-        return order_of_item(view, first + 8 * whole, second + 8 * whole, rest);
+        return order_of_item(first, second, 8 * whole, rest);
     }
     0
+}
+
+/// Compares `count` bytes from the left, which are fetched at once: 0 equal, 1 where the first list is low, 2 where
+/// it is high.
+fn order_in<V: Bytes>(view: &V, first: u64, second: u64, count: u64) -> u8
+    requires some { 1 ≤ count }
+    requires few { count ≤ 256 }
+    requires first_in { first + count ≤ length (V.bytes view.now) }
+    requires second_in { second + count ≤ length (V.bytes view.now) }
+    ensures order { result ≡ order_of_bytes (range_at (V.bytes view.now) first count)
+        (range_at (V.bytes view.now) second count) }
+    ensures code { result < 4 }
+{
+    let mut bytes = [0; MOST_BYTES];
+    let items = &mut bytes[..count as usize];
+    view.read_into(first, items);
+    let mut others = [0; MOST_BYTES];
+    let other_items = &mut others[..count as usize];
+    view.read_into(second, other_items);
+    order_of_lists(items, other_items)
 }
 
 /// Sets the code by whether all results are zero, where a combination sets it.

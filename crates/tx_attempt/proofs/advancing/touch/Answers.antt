@@ -1,14 +1,11 @@
 -- What is touched is one range, or those by absolute addresses.
-use Rattle.std.proofs.Common.{◌≡◌, ℕ, List, [], ◌∷◌, Option, None, refl, sym, subst, ap, ◌∙◌, arith, length}
-use Rattle.std.specs.Prelude.{All}
+use Rattle.std.proofs.Common.{◌≡◌, ℕ, List, [], ◌∷◌, Option, None, refl, sym, ap, ◌∙◌, arith, length}
 use Rattle.z_regs.specs.Absolute.{absolute_range, absolute_ranges}
 use Rattle.z_regs.specs.declared.ranges.Range.{Range}
-use Rattle.tx_footprint.specs.Places.{IsInStorage}
 use Rattle.tx_footprint.specs.Touched.{touching, sets_of, fit_of}
 use Rattle.tx_footprint.proofs.Limits.{nothing_more}
 use Rattle.tx_footprint.proofs.Ones.{only}
 use Rattle.tx_attempt.proofs.Bare.{none-so}
-use Rattle.tx_serial.proofs.Reached.{ranges_in_storage}
 use Rattle.tx_attempt.proofs.advancing.touch.Goals as goal
 
 -- no ranges, and one without a prefix, by absolute addresses
@@ -27,11 +24,6 @@ pub returns-then-count-eq0 : goal.returns-then-count-eq0
 returns-then-count-eq0 c =
     sym (nothing_more (sets_of c.args.footprint.now) (absolute_ranges c.args.prefix c.args.need.now)
     (no-ranges c.args.prefix c.args.need.now (sym c.count.ensures.value ∙ c.if-count-eq0.true)))
-
-pub add-requires-clause-in_storage : goal.add-requires-clause-in_storage
-add-requires-clause-in_storage c =
-    subst (All IsInStorage) (sym c.absolute.ensures)
-    (ranges_in_storage c.args.prefix c.args.need.now c.requires.prefix_in c.requires.accessible)
 
 pub add_one-requires-clause-fits : goal.add_one-requires-clause-fits
 add_one-requires-clause-fits c =

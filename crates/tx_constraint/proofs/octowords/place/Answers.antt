@@ -1,5 +1,5 @@
 -- The octowords before are below, and the one at the place is not.
-use Rattle.tx_constraint.proofs.Places.{goes_on, stops, ends}
+use Rattle.z_regs.proofs.Rising.{goes_on, stops, ends}
 use Rattle.tx_constraint.proofs.octowords.place.Goals as goal
 
 pub returns-then-other-octoword-clause-value : goal.returns-then-other-octoword-clause-value

@@ -7,11 +7,10 @@ use Rattle.tx_cpu.proofs.Plainly.{attempt-admits}
 use Rattle.tx_cpu.proofs.plain.admits_inside.Goals as goal
 
 pub returns : goal.returns
-returns c fits =
+returns c so =
     let r = c.args.ready.now in
+    let keeps = c.keeps_limits.ensures so in
     attempt-admits (progress c.args.attempt.now (cpu_of c.args.image.now)) r.instr
     (touched_by r.shape.touch c.args.first r.shape.size) c.requires.prefix
-    (c.has_stored.ensures c.if-has_stored.false)
-    (sym c.requires.admitted ∙ c.if-not-ready.false)
-    (c.keeps_constraints.ensures.text c.if-not-keeps_constraints.false)
-    (c.keeps_constraints.ensures.place c.if-not-keeps_constraints.false) (c.fits.ensures fits)
+    (c.has_stored.ensures c.if-has_stored.false) (sym c.requires.admitted ∙ c.if-not-ready.false) keeps.text keeps.place
+    keeps.fits

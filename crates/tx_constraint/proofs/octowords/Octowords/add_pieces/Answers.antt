@@ -1,7 +1,7 @@
 use Rattle.std.proofs.Common.{◌≡◌, ℕ, ◌-◌, ◌+◌, ◌≤◌, List, leb, false, length, subst, sym, ap, ◌∙◌, arith}
 use Rattle.std.specs.List.{fold, range_with_len}
 use Rattle.std.proofs.lemmas.Bool.{le-leb, leb-true}
-use Rattle.tx_constraint.specs.Octowords.{with_octoword}
+use Rattle.z_regs.specs.Rising.{with_number}
 use Rattle.tx_constraint.proofs.Piling.{range_with, stays_full, pile_more}
 use Rattle.tx_constraint.proofs.octowords.Octowords.add_pieces.Goals as goal
 
@@ -10,7 +10,7 @@ loop-octoword-init c =
     let found = c.args.self.now in
     let nothing : 0 ≡ c.args.pieces.first - c.args.pieces.first = omega arith in
     let P : List ℕ → Type 0 = λ xs. length xs ≤ 4 in (
-      ap (λ n. fold with_octoword found (range_with_len c.args.pieces.first n)) nothing,
+      ap (λ n. fold with_number found (range_with_len c.args.pieces.first n)) nothing,
       subst P c.self.view_is c.is_full-most.ensures.fits,
       omega arith,
     )
@@ -22,10 +22,10 @@ returns-then-not-add-clause-room c =
     let end = c.args.pieces.end in
     let o = c.loop-octoword.octoword in
     let full : leb
-    (length (with_octoword (fold with_octoword found (range_with_len first (o - first))) o)) 4 ≡ false =
-    ap (λ xs. leb (length (with_octoword xs o)) 4) (sym c.loop-octoword.invariant.0)
+    (length (with_number (fold with_number found (range_with_len first (o - first))) o)) 4 ≡ false =
+    ap (λ xs. leb (length (with_number xs o)) 4) (sym c.loop-octoword.invariant.0)
     ∙ sym ((c.if-not-add.ensures).room) in
-    sym (ap (λ xs. leb (length (fold with_octoword found xs)) 4)
+    sym (ap (λ xs. leb (length (fold with_number found xs)) 4)
     (range_with first end o c.loop-octoword.invariant.2 c.loop-octoword-test.true)
     ∙ stays_full found (range_with_len first (o - first)) (range_with_len (o + 1) (end - o - 1)) o full)
 
@@ -34,10 +34,10 @@ loop-octoword-preserved c =
     let found = c.args.self.now in
     let first = c.args.pieces.first in
     let o = c.loop-octoword.octoword in
-    let one : c.add.new.self ≡ with_octoword c.loop-octoword.self o = (c.if-not-add.ensures).added in
-    let few : length (with_octoword c.loop-octoword.self o) ≤ 4 =
+    let one : c.add.new.self ≡ with_number c.loop-octoword.self o = (c.if-not-add.ensures).added in
+    let few : length (with_number c.loop-octoword.self o) ≤ 4 =
     leb-true _ _ (sym ((c.if-not-add.ensures).room)) in (
-      one ∙ ap (λ xs. with_octoword xs o) c.loop-octoword.invariant.0
+      one ∙ ap (λ xs. with_number xs o) c.loop-octoword.invariant.0
           ∙ sym (pile_more found first o c.loop-octoword.invariant.2),
       omega (arith, ap length one, few),
       omega (arith, c.loop-octoword.invariant.2),
@@ -49,7 +49,7 @@ returns-clause-room c =
     let at_end : c.loop-octoword.octoword - first ≡ c.args.pieces.end - first =
     omega (arith, c.loop-octoword.auto.octoword-end) in
     let all = c.loop-octoword.invariant.0
-    ∙ ap (λ n. fold with_octoword c.args.self.now (range_with_len first n)) at_end in
+    ∙ ap (λ n. fold with_number c.args.self.now (range_with_len first n)) at_end in
     sym (le-leb _ _ (omega (arith, ap length all, c.loop-octoword.invariant.1)))
 
 pub returns-clause-added : goal.returns-clause-added
@@ -57,4 +57,4 @@ returns-clause-added c =
     let first = c.args.pieces.first in
     let at_end : c.loop-octoword.octoword - first ≡ c.args.pieces.end - first =
     omega (arith, c.loop-octoword.auto.octoword-end) in
-    c.loop-octoword.invariant.0 ∙ ap (λ n. fold with_octoword c.args.self.now (range_with_len first n)) at_end
+    c.loop-octoword.invariant.0 ∙ ap (λ n. fold with_number c.args.self.now (range_with_len first n)) at_end

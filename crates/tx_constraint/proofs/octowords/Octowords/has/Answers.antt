@@ -1,7 +1,7 @@
 -- An octoword that stands at its place adds nothing.
 use Rattle.std.proofs.Common.{◌∙◌}
 use Rattle.std.proofs.lemmas.Bool.{OnTrue_from}
-use Rattle.tx_constraint.proofs.Places.{stays_at}
+use Rattle.z_regs.proofs.Rising.{stays_at}
 use Rattle.tx_constraint.proofs.octowords.Octowords.has.Goals as goal
 
 pub returns : goal.returns

@@ -1,7 +1,7 @@
 -- An octoword that is there makes none longer, and another one each at most by one.
 use Rattle.std.proofs.Common.{◌≡◌, ◌-◌, ◌+◌, length, ap, ◌∙◌, arith}
 use Rattle.std.specs.List.{fold, range_with_len}
-use Rattle.tx_constraint.specs.Octowords.{with_octoword}
+use Rattle.z_regs.specs.Rising.{with_number}
 use Rattle.tx_constraint.proofs.Piling.{pile_more}
 use Rattle.tx_constraint.proofs.Standing.{Stands, stands_among, one_longer_at_most}
 use Rattle.tx_constraint.proofs.octowords.Octowords.room_left.Goals as goal
@@ -12,9 +12,9 @@ loop-octoword-preserved-then-has c =
     let o = c.loop-octoword.octoword in
     let low = c.loop-octoword.invariant.1 in (
       (λ before.
-          let found = fold with_octoword c.args.self.now before in
-          let so_far = fold with_octoword found (range_with_len first (o - first)) in
-          let one_more = fold with_octoword found (range_with_len first (o + 1 - first)) in
+          let found = fold with_number c.args.self.now before in
+          let so_far = fold with_number found (range_with_len first (o - first)) in
+          let one_more = fold with_number found (range_with_len first (o + 1 - first)) in
           let here : Stands found o = stands_among c.args.self.now before o c.if-has.ensures in
           let stands : Stands so_far o = stands_among found (range_with_len first (o - first)) o here in
           let same : one_more ≡ so_far = pile_more found first o low ∙ stands in
@@ -28,10 +28,10 @@ loop-octoword-preserved c =
     let o = c.loop-octoword.octoword in
     let low = c.loop-octoword.invariant.1 in (
       (λ before.
-          let found = fold with_octoword c.args.self.now before in
-          let so_far = fold with_octoword found (range_with_len first (o - first)) in
-          let one_more = fold with_octoword found (range_with_len first (o + 1 - first)) in
-          let same : one_more ≡ with_octoword so_far o = pile_more found first o low in
+          let found = fold with_number c.args.self.now before in
+          let so_far = fold with_number found (range_with_len first (o - first)) in
+          let one_more = fold with_number found (range_with_len first (o + 1 - first)) in
+          let same : one_more ≡ with_number so_far o = pile_more found first o low in
           omega (
             arith,
             ap length same,

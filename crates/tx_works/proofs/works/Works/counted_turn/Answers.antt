@@ -37,7 +37,7 @@ returns-clause-value c rest =
     let k = kept_by rest c.args.self.now in
     let mine = c.delay_of.ensures rest in
     let rests : (k.state.numbers c.args.cpu).delay ≤ 0 = omega (arith, c.if-delay_of-gt0.false) in
-    acted-is m k c.args.cpu (turned_as (kept_by rest c.act.new.self) c.act.result)
+    acted-is m k c.args.cpu (turned_as (kept_by rest c.act.new.self) c.act.new.turned)
     (sym (ap (is_tick c.args.limits) (c.turns-turns.ensures rest)) ∙ sym c.is_tick.ensures ∙
     c.if-is_tick.false) rests
     (c.act.ensures.value rest c.args.limits)

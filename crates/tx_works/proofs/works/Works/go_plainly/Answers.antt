@@ -69,8 +69,8 @@ returns-in-Some-clause-value c rest limits =
 
 -- ---- its line is there
 
-pub execute-requires-clause-prepared : goal.execute-requires-clause-prepared
-execute-requires-clause-prepared c rest =
+pub perform-requires-clause-prepared : goal.perform-requires-clause-prepared
+perform-requires-clause-prepared c rest =
     let m : Setting = record { image = c.args.program.now; limits = no_limits } in
     let instr = c.args.plain.now.ready.now.instr in
     subst (λ (l : Local). IsPrepared l.attempt instr c.operands_at-need.result)
@@ -80,13 +80,13 @@ execute-requires-clause-prepared c rest =
       goes = c.requires.goes rest no_limits ∙ ap (Goes instr) (sym c.operands_at-need.ensures);
     }
 
-pub execute-requires-clause-rested : goal.execute-requires-clause-rested
-execute-requires-clause-rested c rest =
+pub perform-requires-clause-rested : goal.perform-requires-clause-rested
+perform-requires-clause-rested c rest =
     subst (λ (l : Local). nat_lt 0 l.attempt.count ≡ false → l.attempt ≡ resting l.cpu)
     (sym (c.get_operand.ensures.own rest)) (c.requires.turns rest no_limits).rested
 
-pub execute-requires-clause-room : goal.execute-requires-clause-room
-execute-requires-clause-room c =
+pub perform-requires-clause-room : goal.perform-requires-clause-room
+perform-requires-clause-room c =
     room-left c.args.self.now c.get_operand.new.self (c.get_operand.ensures.owed_no_more no_seat)
     (c.requires.acts no_seat).room c.get_operand.ensures.size
 
@@ -102,10 +102,10 @@ returns-in-None-clause-value c rest limits =
     let prefix = (k.locals i).attempt.cpu.prefix in
     given-is m i need (absolute_ranges prefix need) k (kept_by rest c.get_operand.new.self) None
     (k_executing i instr need)
-    (turned_as (kept_by rest c.execute.new.self) c.execute.result)
+    (turned_as (kept_by rest c.perform.new.self) c.perform.new.turned)
     (touched-places s.touch p.first s.size prefix (c.requires.quiet rest).prefix)
     ((c.in-None.ensures).kept rest m c.requires.cpus)
-    (c.execute.ensures.value rest
+    (c.perform.ensures.value rest
     ∙ ap (λ (rs : List Range). k_executing i instr rs (kept_by rest c.get_operand.new.self))
     c.operands_at-need.ensures)
     ∙ ap (k_attempting m i k) (sym (c.requires.goes rest limits) ∙ (c.requires.turns rest limits).text)

@@ -7,8 +7,8 @@ use Rattle.tx_works.specs.Works.{Works, kept_by}
 use Rattle.tx_works.proofs.Seats.{no_seat}
 use Rattle.tx_works.proofs.works.Works.happen.Goals as goal
 
-pub external-requires-clause-room : goal.external-requires-clause-room
-external-requires-clause-room c =
+pub external-turned-requires-clause-room : goal.external-turned-requires-clause-room
+external-turned-requires-clause-room c =
     subst (λ (w : Works). length w.history < w.room) (sym c.note.ensures)
     (omega (arith, c.requires.room no_seat))
 
@@ -18,6 +18,6 @@ returns-in-External-clause-value c rest =
     let m : Setting = record { image = c.args.program.now; limits = c.args.limits } in
     let now = c.args.self.now in
     let cpu = c.in-External.cpu in
-    c.external.ensures.value rest
+    c.external-turned.ensures.value rest
     ∙ ap (λ (w : Works). k_external cpu (kept_by rest w)) c.note.ensures
     ∙ sym (ap (λ (e : Event). k_happen m e (kept_by rest now)) c.in-External.is)

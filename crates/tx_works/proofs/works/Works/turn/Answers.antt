@@ -61,7 +61,7 @@ pub returns-clause-value : goal.returns-clause-value
 returns-clause-value c rest =
     let m : Setting = record { image = c.args.program.now; limits = c.args.limits } in
     turned-on m (kept_by rest c.args.self.now) (kept_by rest c.count_turn.new.self) c.args.cpu
-    (turned_as (kept_by rest c.counted_turn.new.self) c.counted_turn.result)
+    (turned_as (kept_by rest c.counted_turn.new.self) c.counted_turn.new.turned)
     (sym (c.idle.ensures rest c.args.program.now) ∙ c.in_default.is)
     (c.count_turn.ensures.value rest ∙ ap (λ (w : Works). k_counted c.args.cpu (kept_by rest w))
     c.note.ensures)

@@ -1,5 +1,5 @@
 -- In one area the bytes are written at the absolute address.
-use Rattle.std.proofs.Common.{◌≡◌, ◌≤◌, ◌+◌, ◌%◌, length, ap, ◌∙◌, arith}
+use Rattle.std.proofs.Common.{◌≤◌, ◌+◌, ◌%◌, length, ap, ◌∙◌, arith}
 use Rattle.std.proofs.lemmas.Bool.Decides.{nat_tests}
 use Rattle.z_regs.specs.Prefix.{storage_size}
 use Rattle.z_regs.specs.Seen.{seen_by}
