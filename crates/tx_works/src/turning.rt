@@ -156,7 +156,7 @@ impl Works {
         }
     }
 
-    /// A plain instruction that goes: it is executed at once where the line of its operand is there.
+    /// A plain instruction that goes: it is executed where the line of its operand is there.
     fn go_plainly(&mut self, cpu: u32, plain: &Plain, program: &Program, turned: &mut Turned)
         requires cpu { cpu < length self.old.slots }
         requires turns { (rest : Seat) (limits : RunLimits) →
@@ -177,11 +177,13 @@ impl Works {
         ensures size { IsSameSize self.old self.new }
     {
         let ready = plain.ready;
-        let need = operands_at(ready.shape, plain.first);
-        if self.holds_operand(cpu, ready.shape, plain.first) {
-            return self.perform(cpu, &ready.instr, &need, turned);
+        match self.get_operand(cpu, ready.shape, plain.first) {
+            Some(refused) => *turned = self.refuse(cpu, refused),
+            None => {
+                let need = operands_at(ready.shape, plain.first);
+                self.perform(cpu, &ready.instr, &need, turned);
+            }
         }
-        *turned = self.go(cpu, &ready.instr, &need);
     }
 
     /// The block that is pending for the CPU is stored, where its lines are there.
