@@ -81,13 +81,10 @@ short_by most depth n false low deep few = tt
 
 module _ (m : Setting) (setting : IsSetting m) (events : List Event) (are : AreEvents m events)
     (places : HasPlaces m (meaning m events)) where
-  known : AreKnown m events
-  known = are.known
-
   -- no more events than all CPUs may have turns, and those from outside
   few_events : length (meaning m events).events ≤ 7394304
   few_events =
-      let most = at_most m events known are.externals in
+      let most = at_most m events are.known are.externals in
       let cpus = setting.image.few_cpus in
       let turns : cpus_of m * m.limits.turns ≤ cpus_of m * 200000 =
       mul-le-mul_left (cpus_of m) setting.limits.few_turns in
@@ -95,7 +92,7 @@ module _ (m : Setting) (setting : IsSetting m) (events : List Event) (are : AreE
       omega (arith, most, cpus, turns, outside)
 
   few_entries : length (meaning m events).history ≤ 7394304
-  few_entries = let e = entries_at_most m events known in let f = few_events in omega (arith, e, f)
+  few_entries = let e = entries_at_most m events are.known in let f = few_events in omega (arith, e, f)
 
   few_turns : (i : ℕ) → ((meaning m events).numbers i).turns ≤ 7394304
   few_turns i =
@@ -118,7 +115,7 @@ module _ (m : Setting) (setting : IsSetting m) (events : List Event) (are : AreE
         attempt =
             short_by m.limits.turns (length (attempt_of m s i).nest) (s.numbers i).completed (is_live s i)
             setting.limits.few_turns (deep (flat_of m s) i (s.numbers i).completed)
-            (few_completed m setting events known i below);
+            (few_completed m setting events are.known i below);
         counts = record {
           turns = (let t = few_turns i in omega (arith, t));
           asked = place.numbers.asked;
@@ -131,7 +128,7 @@ module _ (m : Setting) (setting : IsSetting m) (events : List Event) (are : AreE
   can_be_reported : CanBeReported m.image (shown_in m (meaning m events))
   can_be_reported =
       let s = meaning m events in
-      let is_legal = legal m setting events known in
+      let is_legal = legal m setting events are.known in
       let some = setting.image.some_cpu in
       record {
         some = some;
@@ -147,15 +144,15 @@ module _ (m : Setting) (setting : IsSetting m) (events : List Event) (are : AreE
             let e = get_or s.history k d in
             let cpu = known_cpus m.image s.history setting.image is_legal k d lt in
             let same = cpu_told e in
-            let few = few_told m.limits.turns e (took_turns m events setting known k d lt) in
+            let few = few_told m.limits.turns e (took_turns m events setting are.known k d lt) in
             let most = setting.limits.few_turns in
             record {
-              sound = all_sound m events setting known k d lt;
+              sound = all_sound m events setting are.known k d lt;
               known = omega (arith, cpu, same);
               few = omega (arith, few, most);
             };
         few_entries = (let f = few_entries in omega (arith, f));
-        events = λ k d lt. let there = recorded m events known k d lt in omega (arith, there);
+        events = λ k d lt. let there = recorded m events are.known k d lt in omega (arith, there);
         few_events = (let f = few_events in omega (arith, f));
       }
 
@@ -166,7 +163,7 @@ module _ (m : Setting) (setting : IsSetting m) (events : List Event) (are : AreE
     form = has_form m.image (shown_in m (meaning m events)) can_be_reported;
     shown = shown_in m (meaning m events);
     after = flat_of m (meaning m events);
-    left = is_left m setting events known;
-    live = are_live m setting events known;
+    left = is_left m setting events are.known;
+    live = are_live m setting events are.known;
     text = refl;
   }

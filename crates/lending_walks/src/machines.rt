@@ -1,6 +1,6 @@
 //! Machines of listings, and their turns.
 
-use anyhow::{Result, bail};
+use anyhow::{Context, Result};
 use std::alloc::Global;
 use std::sync::Arc;
 use tx_journal::{Event, Image};
@@ -10,18 +10,17 @@ use z_assemble::assemble;
 
 /// The image of a listing.
 pub fn image_of(alloc: Global, listing: &str) -> Result<Arc<Image>> {
-    let Ok(image) = assemble(alloc, listing.as_bytes()) else {
-        bail!("no image");
-    };
+    let image = assemble(alloc, listing.as_bytes())
+        .ok()
+        .context("no image")?;
     Ok(Arc::new(alloc, image)?)
 }
 
 /// A machine of an image.
 pub fn open(alloc: Global, image: &Arc<Image>, limits: Limits) -> Result<Machine> {
-    match Machine::open(alloc, Arc::try_clone(image)?, limits) {
-        Ok(machine) => Ok(machine),
-        Err(_) => bail!("no memory"),
-    }
+    Machine::open(alloc, Arc::try_clone(image)?, limits)
+        .ok()
+        .context("no memory")
 }
 
 /// So many turns of a CPU, each of which has to be executed.

@@ -1,15 +1,13 @@
 -- What a machine that has raced gives: the report of the events that it has recorded.
-use Rattle.std.proofs.Common.{◌≡◌, ℕ, ◌<◌, List, [], length, sym, ap, ◌∙◌, subst, arith, inl, Result, IfOk}
+use Rattle.std.proofs.Common.{◌≡◌, ℕ, ◌<◌, List, length, sym, ap, ◌∙◌, subst, arith, inl, Result, IfOk}
 use Rattle.std.specs.Prelude.{All, count_by}
-use Rattle.std.proofs.lemmas.Result.{IfOk-weaker}
 use Rattle.tx_journal.specs.Content.{Content}
 use Rattle.tx_journal.specs.Image.{IsImage, cpu_of_event}
-use Rattle.tx_report.specs.Machine.{Seen, setting_of, state_of, opened}
+use Rattle.tx_report.specs.Machine.{Seen, setting_of, state_of}
 use Rattle.tx_meaning.specs.Limits.{Setting}
 use Rattle.tx_meaning.specs.Meaning.{IsSetting, meaning, is_external}
 use Rattle.tx_meaning.specs.Schedules.{IsComplete}
 use Rattle.tx_report.specs.Report.{report_of, status_of}
-use Rattle.z_assemble.specs.Whole.{Stands}
 use Rattle.z_assemble.specs.Words.{fault_line}
 use Rattle.z_assemble.proofs.Images.{stands_for_image}
 use Rattle.listing_answers.specs.declared.answer.Answer.{Answer}
@@ -21,18 +19,6 @@ use Rattle.listing_answers.proofs.Given.{both}
 use Rattle.run_answers.proofs.Serials.{serial_run}
 
 -- ---- before a race
-
-module _ {E : Type 0} (image : Content) (turns tick : ℕ) (r : Result Seen E)
-    (is : IfOk r (λ machine. machine ≡ opened image (racing image turns tick).limits)) where
-  pub may_race_ok : (input : List ℕ) → Stands input image → IfOk r (λ machine. MayRace turns tick input machine)
-  may_race_ok input stands =
-      IfOk-weaker r _ _ (λ machine e. record { image = image; stands = stands; is = e }) is
-
-  pub unused_ok : IfOk r (λ machine. machine.events ≡ [])
-  unused_ok = IfOk-weaker r _ _ (λ machine e. ap (λ (v : Seen). v.events) e) is
-
-  pub externals_ok : IfOk r (λ machine. machine.limits.externals ≡ 0)
-  externals_ok = IfOk-weaker r _ _ (λ machine e. ap (λ (v : Seen). v.limits.externals) e) is
 
 -- the line of the fault of an input that is too long
 pub long_race_ok : {E : Type 0} (r : Result Answer E) → IfOk r (λ a. a.status ≡ 5)

@@ -22,24 +22,27 @@ pub enum NoRace {
     Refused(Answer),
 }
 
+impl From<NoMemory> for NoRace {
+    ghost use Rattle.run_answers.specs.declared.raced.NoRace.TheVariants.{Memory};
+
+    ghost from_gives = { λ _ e. e ≡ Memory };
+
+    fn from(_error: NoMemory) -> NoRace {
+        NoRace::Memory
+    }
+}
+
 /// A machine of an image from which nothing has happened, and to which nothing comes from outside.
-fn open_for_race(alloc: Global, image: Image, turns: u32, tick: u32) -> Result<Machine, NoRace>
+fn open_for_race(alloc: Global, image: Image, turns: u32, tick: u32) -> Result<Machine, NoMemory>
     requires { AreLimits turns tick }
-    ensures machine { IfOk result (λ machine. machine ≡ opened image (racing image turns tick).limits) }
-    ensures memory { IfErr result (λ e. (input : List ℕ) → IsNoRace input e) }
+    ensures { IfOk result (λ machine. machine ≡ opened image (racing image turns tick).limits) }
 {
     let limits = Limits {
         turns,
         tick,
         externals: 0,
     };
-    let Ok(shared) = Arc::new(alloc, image) else {
-        return Err(NoRace::Memory);
-    };
-    match Machine::open(alloc, shared, limits) {
-        Ok(machine) => Ok(machine),
-        Err(_) => Err(NoRace::Memory),
-    }
+    Machine::open(alloc, Arc::new(alloc, image)?, limits)
 }
 
 /// The machine of a listing whose CPUs are to race, from the listing's bytes; its schedule is passed over. Each
@@ -53,11 +56,8 @@ pub fn prepare_race(alloc: Global, input: &[u8], turns: u32, tick: u32) -> Resul
     ensures refused { IfErr result (λ e. IsNoRace input.now e) }
 {
     match assemble(alloc, input) {
-        Ok(image) => open_for_race(alloc, image, turns, tick),
-        Err(fault) => match refuse(alloc, fault) {
-            Ok(answer) => Err(NoRace::Refused(answer)),
-            Err(_) => Err(NoRace::Memory),
-        },
+        Ok(image) => Ok(open_for_race(alloc, image, turns, tick)?),
+        Err(fault) => Err(NoRace::Refused(refuse(alloc, fault)?)),
     }
 }
 

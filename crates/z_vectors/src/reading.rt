@@ -19,10 +19,8 @@ fn add_listing(words: &mut Words, alloc: Global, instr: &Instr) {
 
 /// Whether the listing prints an instruction as this line; none where there was no memory.
 fn is_listing(alloc: Global, line: &str, instr: &Instr) -> Option<bool> {
-    match instruction_text(alloc, instr) {
-        Ok(ours) => Some(ours.as_slice() == line.as_bytes()),
-        Err(_) => None,
-    }
+    let ours = instruction_text(alloc, instr).ok()?;
+    Some(ours.as_slice() == line.as_bytes())
 }
 
 /// Adds what differs where an instruction does not have just these bytes; nothing where it does.
