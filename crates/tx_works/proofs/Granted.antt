@@ -208,13 +208,6 @@ unfolding k_get_each
 one_got m i need k after r asked =
     all_asked (record { kept = after; reject = r }) r refl ∙ ap (λ (a : KAsked). k_then_ask a k_all_given) asked
 
--- nobody is asked where nothing is needed
-pub none_got : (m : Setting) (i : ℕ) (k : Kept) (needs : List Need) → needs ≡ []
-    → ◌≡◌ {A = KAsked} (record { kept = k; reject = None }) (k_get_lines m i needs k)
-unfolding k_get_each
-none_got m i k [] e = refl
-none_got m i k (need ∷ rest) e = absurd (cc)
-
 -- ---- one line after the other
 
 -- lines as needs, however they are needed

@@ -11,7 +11,6 @@ use Rattle.tx_program.specs.declared.ready.Touch.TheVariants as touch
 use Rattle.tx_program.specs.Shapes.{is_in_line, is_open, is_reached}
 use Rattle.tx_lines.proofs.Plainly.{in-line}
 use Rattle.std.proofs.lemmas.Bool.{and_parts}
-use Rattle.std.specs.Prelude.{◌&&◌}
 use Rattle.tx_needs.proofs.OneLine.{one, mode_of, needs-one, needs-none}
 use Rattle.tx_meaning.specs.Asking.{is_there}
 use Rattle.tx_meaning.specs.Limits.{Setting}
@@ -76,28 +75,6 @@ by-touch touch.Store i k first size text bare opened held m next =
     let l = in-line first size (and_parts (is_in_line first size) _ opened).0 in
     goes-on m i k (k.locals i).attempt.cpu.prefix first size true next bare l.line held
 by-touch touch.Other i k first size text bare opened held m next = absurd (true≢false (sym held))
-
--- an operand without bytes needs no line
-pub no-bytes : (t : Touch) (first size : ℕ) → size ≤ 0 → needs_of (touched_by t first size) ≡ []
-unfolding needs_of
-no-bytes touch.Nothing first size none = refl
-no-bytes touch.Fetch first size none = needs-none first size false none
-no-bytes touch.Store first size none = needs-none first size true none
-no-bytes touch.Other first size none = refl
-
--- nor does an instruction without an operand
-pub no-operand : (t : Touch) (first size : ℕ) → t ≡ touch.Nothing → needs_of (touched_by t first size) ≡ []
-unfolding needs_of
-no-operand t first size e = ap (λ (t : Touch). needs_of (touched_by t first size)) e
-
--- what may be touched where there are text pages may be touched where there are none
-pub opened-anyway : (t : Touch) (first size : ℕ) (text : List ℕ) → is_open t first size text ≡ true
-    → is_open t first size [] ≡ true
-opened-anyway touch.Nothing first size text opened = refl
-opened-anyway touch.Fetch first size text opened = opened
-opened-anyway touch.Store first size text opened =
-    ap (λ b. b && true) (and_parts (is_in_line first size) _ opened).0
-opened-anyway touch.Other first size text opened = opened
 
 -- so it is for a plain instruction whose operand's line is held
 pub is-there : (i : ℕ) (s : Shape) (first : ℕ) (text : List ℕ) (k : Kept)

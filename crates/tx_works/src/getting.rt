@@ -1,12 +1,11 @@
 //! How a CPU gets the lines that a turn needs.
 ghost use Rattle.std.specs.Prelude.{◌≡◌, ℕ, ◌+◌, ◌<◌, ◌≤◌, true, false, [], All, List, length, map, is_some};
-ghost use Rattle.std.specs.Prelude.{IfSome, IfNone, ◌==◌, ◌∷◌, if◌then◌else◌};
+ghost use Rattle.std.specs.Prelude.{IfSome, ◌==◌, ◌∷◌, if◌then◌else◌};
 ghost use Rattle.std.specs.List.{list_any};
 ghost use Rattle.z_regs.specs.Prefix.{storage_size};
 ghost use Rattle.line_table.specs.Sizes.{storage_lines};
 ghost use Rattle.line_table.specs.Holders.{against};
 ghost use Rattle.line_table.specs.declared.table.Mode.TheVariants.{Shared, Exclusive};
-ghost use Rattle.tx_program.specs.Shapes.{touched_by, is_placed};
 ghost use Rattle.tx_lines.specs.Owned.{holders_in};
 ghost use Rattle.tx_needs.specs.Needs.{need_at};
 ghost use Rattle.tx_meaning.specs.declared.asking.Need.{Need};
@@ -22,7 +21,6 @@ ghost use Rattle.tx_works.specs.Asks.{IsReady, IsFew, AskLeaves, asked_by, rejec
 use crate::asking::Refused;
 use crate::works::Works;
 use line_table::Mode;
-use tx_lines::{Shape, Touch};
 use tx_meaning::Need;
 use tx_needs::{MOST_NEEDS, lines_needed, need_for};
 use z_regs::Touches;
@@ -56,31 +54,6 @@ fn only_need(ranges: &Touches) -> Option<Need>
     Some(Need { line, mode })
 }
 
-/// What a plain operand needs, where it needs anything.
-#[inline(always)]
-fn need_of(shape: Shape, first: u64) -> Option<Need>
-    requires { is_placed shape first ≡ true }
-    ensures needs { IfSome result (λ need. needs_of (touched_by shape.touch first shape.size) ≡ need ∷ []) }
-    ensures none { IfNone result (needs_of (touched_by shape.touch first shape.size) ≡ []) }
-    ensures in_storage { IfSome result (λ need. need.line < storage_lines) }
-{
-    if shape.size == 0 {
-        return None;
-    }
-    match shape.touch {
-        Touch::Fetch => Some(Need {
-            line: (first / LINE_SIZE) as u32,
-            mode: Mode::Shared,
-        }),
-        Touch::Store => Some(Need {
-            line: (first / LINE_SIZE) as u32,
-            mode: Mode::Exclusive,
-        }),
-        Touch::Nothing => None,
-        Touch::Other => None,
-    }
-}
-
 impl Works {
     /// Whether the CPU holds a line as it needs it.
     fn is_there(&self, cpu: u32, need: Need) -> bool
@@ -109,36 +82,6 @@ impl Works {
         self.lines.grant(cpu, need, slot.cpu.footprint(), needed);
     }
 
-    /// The CPU gets a line that it does not hold as it needs it, one of those that a turn needs, which are `needed`:
-    /// it asks all that stand against that. The reject, if one rejects its request; else the line is there.
-    #[inline(never)]
-    fn get_missing(&mut self, cpu: u32, need: Need, needed: &[u32]) -> Option<Refused>
-        requires cpu { cpu < length self.old.slots }
-        requires line { need.line < storage_lines }
-        requires among { list_any (λ other. other == need.line) needed.now ≡ true }
-        requires few { (rest : Seat) → IsFew cpu needed.now (kept_by rest self.old) }
-        requires ready { (rest : Seat) → IsReady 16 cpu self.old (kept_by rest self.old) }
-        requires missing { is_there need.mode (holders_in self.old.lines cpu need.line) ≡ false }
-        ensures kept { (rest : Seat) (m : Setting) (needs : List Need) → cpus_of m ≡ length self.old.slots
-            → map (λ need. need.line) needs ≡ needed.now
-            → asked_by rest self.new (rejected_in result) ≡ k_get_line m cpu needs need
-            (kept_by rest self.old) }
-        ensures size { IsSameSize self.old self.new }
-        ensures leaves { (rest : Seat)
-            → AskLeaves (length self.old.slots) 16 cpu (kept_by rest self.old) (kept_by rest self.new) }
-        ensures refused { (rest : Seat) → is_some result ≡ true
-            → is_head (kept_by rest self.new).state cpu ≡ false }
-        ensures starved { (rest : Seat) → IfSome result
-            (λ r. r.starved ≡ is_cpu_starved (kept_by rest self.new) cpu) }
-    {
-        let refused = self.ask_all(cpu, need);
-        if refused.is_some() {
-            return refused;
-        }
-        self.take_line(cpu, need, needed);
-        None
-    }
-
     /// The CPU gets one of the lines that a turn needs, which are `needed`: where it does not hold it as it
     /// needs it, it asks all that stand against that. The reject, if one rejects its request; else the line
     /// is there.
@@ -164,7 +107,12 @@ impl Works {
         if self.is_there(cpu, need) {
             return None;
         }
-        self.get_missing(cpu, need, needed)
+        let refused = self.ask_all(cpu, need);
+        if refused.is_some() {
+            return refused;
+        }
+        self.take_line(cpu, need, needed);
+        None
     }
 
     /// The CPU gets the only line that a turn needs. The reject, if its request is rejected; else the line is
@@ -274,37 +222,5 @@ impl Works {
             return self.get_only(cpu, need);
         }
         self.get_several(cpu, ranges)
-    }
-
-    /// The CPU gets the line of a plain operand, where it has one. The reject, if its request is rejected; else the
-    /// line is there.
-    #[inline(always)]
-    pub(crate) fn get_operand(&mut self, cpu: u32, shape: Shape, first: u64) -> Option<Refused>
-        requires cpu { cpu < length self.old.slots }
-        requires placed { is_placed shape first ≡ true }
-        requires holds { (rest : Seat) →
-            MayHold cpu (needs_of (touched_by shape.touch first shape.size)) (kept_by rest self.old) }
-        requires asks { (rest : Seat) → MayAsk (length self.old.slots) cpu (kept_by rest self.old) }
-        requires room { (rest : Seat) → owed self.old (kept_by rest self.old) ≤ self.old.room }
-        requires turn { (rest : Seat) → HasTurn (seats_of rest self.old.slots cpu) 128 }
-        ensures kept { (rest : Seat) (m : Setting) → cpus_of m ≡ length self.old.slots
-            → asked_by rest self.new (rejected_in result)
-            ≡ k_get_lines m cpu (needs_of (touched_by shape.touch first shape.size)) (kept_by rest self.old) }
-        ensures size { IsSameSize self.old self.new }
-        ensures own { (rest : Seat)
-            → (kept_by rest self.new).locals cpu ≡ (kept_by rest self.old).locals cpu }
-        ensures asks { (rest : Seat) → MayAsk (length self.new.slots) cpu (kept_by rest self.new) }
-        ensures owed_no_more { (rest : Seat)
-            → owed self.new (kept_by rest self.new) ≤ owed self.old (kept_by rest self.old) }
-        ensures turn { (rest : Seat) → HasTurn (seats_of rest self.new.slots cpu) 0 }
-        ensures refused { (rest : Seat) → is_some result ≡ true
-            → is_head (kept_by rest self.new).state cpu ≡ false }
-        ensures starved { (rest : Seat) → IfSome result
-            (λ r. r.starved ≡ is_cpu_starved (kept_by rest self.new) cpu) }
-    {
-        match need_of(shape, first) {
-            Some(need) => self.get_only(cpu, need),
-            None => None,
-        }
     }
 }

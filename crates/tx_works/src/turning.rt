@@ -156,35 +156,6 @@ impl Works {
         }
     }
 
-    /// A plain instruction that goes: it is executed once the line of its operand has been got.
-    #[inline(never)]
-    fn go_asking(&mut self, cpu: u32, plain: &Plain, program: &Program) -> Turned
-        requires cpu { cpu < length self.old.slots }
-        requires turns { (rest : Seat) (limits : RunLimits) →
-            MayTurn (record { image = program.now; limits = limits }) cpu (kept_by rest self.old) }
-        requires acts { (rest : Seat) → MayAct cpu self.old rest }
-        requires cpus { length program.now.cpus ≡ length self.old.slots }
-        requires quiet { (rest : Seat) → IsQuiet ((kept_by rest self.old).locals cpu) }
-        requires goes { (rest : Seat) (limits : RunLimits) →
-            let m : Setting = record { image = program.now; limits = limits } in
-            fate_by_progress (text_of m) (image_storage m) ((kept_by rest self.old).locals cpu).attempt ≡
-            Goes plain.now.ready.now.instr
-            (touched_by plain.now.ready.now.shape.touch plain.now.first plain.now.ready.now.shape.size) }
-        requires reached { is_reached plain.now.ready.now.shape plain.now.first (items program.now.guard) ≡ true }
-        ensures value { (rest : Seat) (limits : RunLimits) →
-            let m : Setting = record { image = program.now; limits = limits } in let k = kept_by rest self.old in
-            turned_as (kept_by rest self.new) result ≡
-            k_attempting m cpu k (fate_by_progress (text_of m) k.storage (k.locals cpu).attempt) }
-        ensures size { IsSameSize self.old self.new }
-    {
-        let ready = plain.ready;
-        if let Some(refused) = self.get_operand(cpu, ready.shape, plain.first) {
-            return self.refuse(cpu, refused);
-        }
-        let need = operands_at(ready.shape, plain.first);
-        self.execute(cpu, &ready.instr, &need)
-    }
-
     /// A plain instruction that goes: it is executed at once where the line of its operand is there.
     fn go_plainly(&mut self, cpu: u32, plain: &Plain, program: &Program, turned: &mut Turned)
         requires cpu { cpu < length self.old.slots }
@@ -210,7 +181,7 @@ impl Works {
         if self.holds_operand(cpu, ready.shape, plain.first) {
             return self.perform(cpu, &ready.instr, &need, turned);
         }
-        *turned = self.go_asking(cpu, plain, program);
+        *turned = self.go(cpu, &ready.instr, &need);
     }
 
     /// The block that is pending for the CPU is stored, where its lines are there.

@@ -1,4 +1,4 @@
--- Its line is there, or it is got.
+-- Its line is there, or it is got as for any other instruction.
 use Rattle.std.proofs.Common.{◌≡◌, List, sym, ap, ◌∙◌}
 use Rattle.std.specs.FinSet.{items}
 use Rattle.z_regs.specs.declared.ranges.Range.{Range}
@@ -30,6 +30,31 @@ perform-requires-clause-rested c rest = (c.requires.turns rest no_limits).rested
 pub perform-requires-clause-room : goal.perform-requires-clause-room
 perform-requires-clause-room c = room-now c.args.self.now (c.requires.acts no_seat).room
 
+pub go-requires-clause-prepared : goal.go-requires-clause-prepared
+go-requires-clause-prepared c rest =
+    let m : Setting = record { image = c.args.program.now; limits = no_limits } in
+    record {
+      text = text_of m;
+      storage = image_storage m;
+      goes = c.requires.goes rest no_limits
+          ∙ ap (Goes c.args.plain.now.ready.now.instr) (sym c.operands_at-need.ensures);
+    }
+
+pub go-requires-clause-reach : goal.go-requires-clause-reach
+go-requires-clause-reach c rest =
+    (c.requires.turns rest no_limits).reach c.args.plain.now.ready.now.instr c.operands_at-need.result
+    (sym (c.requires.turns rest no_limits).text ∙ c.requires.goes rest no_limits
+    ∙ ap (Goes c.args.plain.now.ready.now.instr) (sym c.operands_at-need.ensures))
+
+pub go-requires-clause-holds : goal.go-requires-clause-holds
+go-requires-clause-holds c rest =
+    (c.requires.turns rest no_limits).goes c.args.plain.now.ready.now.instr c.operands_at-need.result
+    (sym (c.requires.turns rest no_limits).text ∙ c.requires.goes rest no_limits
+    ∙ ap (Goes c.args.plain.now.ready.now.instr) (sym c.operands_at-need.ensures))
+
+pub go-requires-clause-rested : goal.go-requires-clause-rested
+go-requires-clause-rested c rest = (c.requires.turns rest no_limits).rested
+
 pub returns-then-holds_operand-clause-value : goal.returns-then-holds_operand-clause-value
 returns-then-holds_operand-clause-value c rest limits =
     let m : Setting = record { image = c.args.program.now; limits = limits } in
@@ -49,4 +74,12 @@ returns-then-holds_operand-clause-value c rest limits =
     ∙ ap (k_attempting m i k) (sym goes ∙ (c.requires.turns rest limits).text)
 
 pub returns-clause-value : goal.returns-clause-value
-returns-clause-value c rest limits = c.go_asking.ensures.value rest limits
+returns-clause-value c rest limits =
+    let m : Setting = record { image = c.args.program.now; limits = limits } in
+    let k = kept_by rest c.args.self.now in
+    let instr = c.args.plain.now.ready.now.instr in
+    let goes : fate_by_progress (text_of m) (image_storage m) (k.locals c.args.cpu).attempt
+    ≡ Goes instr c.operands_at-need.result =
+    c.requires.goes rest limits ∙ ap (Goes instr) (sym c.operands_at-need.ensures) in
+    c.go.ensures.value rest m c.requires.cpus
+    ∙ ap (k_attempting m c.args.cpu k) (sym goes ∙ (c.requires.turns rest limits).text)
