@@ -4,8 +4,10 @@
 //! on the first eight of them. There it is lent, makes some steps away, and comes home, again and again.
 
 use crate::machines::{image_of, make_turns, open};
-use anyhow::{Result, bail};
+use anyhow::{Context, Result};
 use std::alloc::{AllocError, Global};
+use std::sync::Arc;
+use tx_journal::Image;
 use tx_machine::{Home, Lend, Machine};
 use tx_meaning::Limits;
 use tx_meaning::limits::MOST_TURNS;
@@ -105,23 +107,35 @@ impl Loans {
         taken
     }
 
-    /// All loans of all machines. How many of the runs were taken with all their steps.
-    fn lend_all(&self, alloc: Global) -> Result<u32> {
-        let mut listing = String::new(alloc);
-        add_listing(&mut listing, self.lines)?;
-        let image = image_of(alloc, listing.as_str())?;
+    /// All loans of a machine, behind the turns that touch its lines. How many of the runs were taken with all their steps;
+    /// None where a turn was not executed.
+    fn touch_and_lend(&self, machine: &mut Machine) -> Option<u32> {
+        if !make_turns(machine, 0, self.lines.saturating_mul(TURNS_A_LINE)) {
+            return None;
+        }
+        Some(self.lend(machine))
+    }
+
+    /// All loans of one machine of an image.
+    fn lend_one(&self, alloc: Global, image: &Arc<Image>) -> Result<Option<u32>> {
         let limits = Limits {
             turns: MOST_TURNS,
             tick: 0,
             externals: 0,
         };
+        let mut machine = open(alloc, image, limits)?;
+        Ok(self.touch_and_lend(&mut machine))
+    }
+
+    /// All loans of all machines. How many of the runs were taken with all their steps.
+    fn lend_all(&self, alloc: Global) -> Result<u32> {
+        let mut listing = String::new(alloc);
+        add_listing(&mut listing, self.lines)?;
+        let image = image_of(alloc, listing.as_str())?;
         let mut taken = 0u32;
         for _ in 0..MACHINES {
-            let mut machine = open(alloc, &image, limits)?;
-            if !make_turns(&mut machine, 0, self.lines.saturating_mul(TURNS_A_LINE)) {
-                bail!("a turn was not executed");
-            }
-            taken = taken.saturating_add(self.lend(&mut machine));
+            let more = self.lend_one(alloc, &image)?;
+            taken = taken.saturating_add(more.context("a turn was not executed")?);
         }
         Ok(taken)
     }

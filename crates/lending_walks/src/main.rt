@@ -23,7 +23,7 @@ use std::sync::Arc;
 use tx_journal::Image;
 use tx_machine::Machine;
 use tx_meaning::Limits;
-use walk::{Met, Walk};
+use walk::{Met, make_walk};
 use words::{Task, task_of};
 use ztx_io::{WriterSink, write_all};
 
@@ -98,12 +98,22 @@ fn open_short(alloc: Global, image: &Arc<Image>) -> Result<Machine> {
     open(alloc, image, limits)
 }
 
+/// One walk of a machine that lends, by a number, beside one that does not. Whether all was right.
+fn go_beside(
+    alloc: Global,
+    image: &Arc<Image>,
+    number: u32,
+    lending: &mut Machine,
+    met: &mut Met,
+) -> Result<bool> {
+    let mut plain = open_short(alloc, image)?;
+    Ok(make_walk(alloc, lending, &mut plain, u64::from(number), met)?)
+}
+
 /// One walk by a number. Whether all was right.
 fn go(alloc: Global, image: &Arc<Image>, number: u32, met: &mut Met) -> Result<bool> {
-    let first = open_short(alloc, image)?;
-    let second = open_short(alloc, image)?;
-    let mut walk = Walk::open(alloc, first, second, u64::from(number))?;
-    Ok(walk.go(met))
+    let mut lending = open_short(alloc, image)?;
+    go_beside(alloc, image, number, &mut lending, met)
 }
 
 /// So many walks of a listing: how many were wrong.

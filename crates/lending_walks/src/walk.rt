@@ -119,9 +119,9 @@ impl Draws {
 
 /// A machine that lends its CPUs, one that does not, and the runs that are away.
 #[derive(Drop)]
-pub struct Walk {
-    lending: Machine,
-    plain: Machine,
+struct Walk<'a> {
+    lending: &'a mut Machine,
+    plain: &'a mut Machine,
     away: Vec<Option<Run>>,
     draws: Draws,
 }
@@ -174,26 +174,35 @@ fn same(one: &Machine, other: &Machine) -> bool {
         && same_bytes(one, other)
 }
 
-impl Walk {
-    /// A walk of two machines of one image, by this number.
-    pub fn open(
-        alloc: Global,
-        lending: Machine,
-        plain: Machine,
-        number: u64,
-    ) -> Result<Walk, AllocError> {
-        let mut away = Vec::new(alloc);
-        for _ in 0..lending.image().cpu_count() {
-            away.push(None)?;
-        }
-        Ok(Walk {
-            lending,
-            plain,
-            away,
-            draws: Draws::from(number),
-        })
+/// Places for so many runs, none of which is away.
+fn places_for(alloc: Global, cpus: u32) -> Result<Vec<Option<Run>>, AllocError> {
+    let mut away = Vec::new(alloc);
+    for _ in 0..cpus {
+        away.push(None)?;
     }
+    Ok(away)
+}
 
+/// A walk of two machines of one image, by this number. Whether both show the same behind it, and all was due.
+pub fn make_walk(
+    alloc: Global,
+    lending: &mut Machine,
+    plain: &mut Machine,
+    number: u64,
+    met: &mut Met,
+) -> Result<bool, AllocError> {
+    let away = places_for(alloc, lending.image().cpu_count())?;
+    let draws = Draws::from(number);
+    let mut walk = Walk {
+        lending,
+        plain,
+        away,
+        draws,
+    };
+    Ok(walk.go(met))
+}
+
+impl<'a> Walk<'a> {
     /// A turn of a CPU of both machines. Whether the same comes of it.
     fn turn(&mut self, cpu: u32) -> bool {
         if cpu >= self.lending.image().cpu_count() || cpu >= self.plain.image().cpu_count() {
@@ -249,7 +258,7 @@ impl Walk {
         if run.cpu() != cpu {
             return false;
         }
-        let due = due_to(&self.plain, &run, cpu);
+        let due = due_to(self.plain, &run, cpu);
         let inside = self.plain.live(cpu).is_some();
         let told = self.lending.home(run);
         met.came(told, inside);
@@ -257,7 +266,7 @@ impl Walk {
             return false;
         }
         match told {
-            Home::Taken(turns) => make_turns(&mut self.plain, cpu, turns),
+            Home::Taken(turns) => make_turns(self.plain, cpu, turns),
             Home::Discarded { .. } => true,
         }
     }
@@ -275,7 +284,7 @@ impl Walk {
     }
 
     /// All moves of the walk; then all runs come home. Whether both machines show the same, and all was due.
-    pub fn go(&mut self, met: &mut Met) -> bool {
+    fn go(&mut self, met: &mut Met) -> bool {
         for _ in 0..MOVES {
             if !self.make_move(met) {
                 return false;
@@ -286,6 +295,6 @@ impl Walk {
                 return false;
             }
         }
-        same(&self.lending, &self.plain)
+        same(self.lending, self.plain)
     }
 }
