@@ -1,48 +1,18 @@
 //! What the constraints ask of an operation.
 ghost use Rattle.std.specs.Prelude.{◌≡◌, ◌≤◌};
-ghost use Rattle.z_instr.specs.Forms.{has_target as names_target};
-ghost use Rattle.z_instr.specs.Roles.{loads_target as only_loads, is_relative_branch as branches};
-ghost use Rattle.z_instr.specs.Table.{entry_at};
 ghost use Rattle.tx_constraint.specs.Operations.{is_permitted as permits, is_multiple as is_many, unit_of, bytes_of};
 
-use z_instr::form::Form;
 use z_instr::format::length_in;
 use z_instr::instr::Instr;
-use z_instr::kind::{General, Kind};
 use z_instr::lookup::line;
-use z_instr::op::Op;
 use z_instr::operand::Operands;
+use z_instr::roles::is_relative_branch;
 
 /// The bytes of an octoword.
 pub const OCTOWORD_SIZE: u64 = 32;
 
 /// The bytes of a doubleword.
 pub const DOUBLEWORD_SIZE: u64 = 8;
-
-/// Whether the instructions of a form have a target.
-fn has_target(form: Form) -> bool
-    ensures { result ≡ names_target form }
-{
-    matches!(
-        form,
-        Form::RIb | Form::RIc | Form::RILb | Form::RILc | Form::RIEb | Form::RIEc
-    )
-}
-
-/// Whether the operation puts the address of its target into a register.
-fn loads_target(op: Op) -> bool
-    ensures { result ≡ only_loads (entry_at op.number).kind }
-{
-    matches!(line(op).kind, Kind::General(General::Target))
-}
-
-/// Whether the operation branches to a target that stands in the instruction: all that have a target, but for the one
-/// that only loads its address. Asked of each instruction of an attempt, so by the form alone where that decides.
-fn is_relative_branch(op: Op) -> bool
-    ensures { result ≡ branches (entry_at op.number) }
-{
-    has_target(line(op).form) && !loads_target(op)
-}
 
 /// Whether constrained transactions may have the instruction: the table permits its operation, and a branch
 /// with a target goes ahead.

@@ -117,9 +117,14 @@ pub fn slots_of(form: Form) -> &'static [Slot]
     }
 }
 
-/// Whether the instructions of a form have a target.
+/// Whether the instructions of a form have a target. Asked at each turn of a constrained attempt, so by the forms that
+/// have one, and not by a search through their slots.
+#[inline(always)]
 pub fn has_target(form: Form) -> bool
     ensures { result ≡ has_target form }
 {
-    slots_of(form).iter().any(|slot| *slot == Slot::Target)
+    matches!(
+        form,
+        Form::RIb | Form::RIc | Form::RILb | Form::RILc | Form::RIEb | Form::RIEc
+    )
 }

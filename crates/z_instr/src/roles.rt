@@ -26,7 +26,8 @@ pub fn sets_access_register(op: Op) -> bool
 }
 
 /// Whether the operation branches to a target that stands in the instruction: all that have a target, but for
-/// LARL.
+/// LARL. Asked at each turn of a constrained attempt.
+#[inline(always)]
 pub fn is_relative_branch(op: Op) -> bool
     ensures { result ≡ branches (entry_at op.number) }
 {
