@@ -105,6 +105,10 @@ impl Runnable for Counting {
     fn take_event(&mut self, e: Event) {
         self.event(e)
     }
+
+    fn take_turn(&mut self, cpu: u32) {
+        self.event(Event::Turn(cpu))
+    }
 }
 
 /// The conflicts of the run of an image over events, of CPUs that there are, of which at most as many are external

@@ -13,7 +13,7 @@ use Rattle.tx_machine.proofs.Shown.{shown}
 use Rattle.tx_home.proofs.Turns.{may_turn, may_want}
 use Rattle.tx_home.specs.Wanted.{MayWant}
 use Rattle.tx_machine.proofs.Most.{at_most}
-use Rattle.tx_machine.proofs.Read.{reads_state}
+use Rattle.tx_machine.proofs.Read.{reads_state, reads_idle, none_where}
 use Rattle.std.specs.Prelude.{◌||◌, ◌&&◌, nat_lt, is_none}
 use Rattle.std.proofs.Common.{List}
 use Rattle.std.proofs.lemmas.List.{get_or_default}
@@ -27,7 +27,7 @@ use Rattle.tx_home.specs.Progress.{resting}
 use Rattle.tx_home.specs.Trial.{fate_by_progress}
 use Rattle.tx_meaning.specs.declared.asking.Need.{Need}
 use Rattle.tx_meaning.specs.Changes.{is_needed}
-use Rattle.tx_meaning.specs.Idle.{idle_by, has_ended}
+use Rattle.tx_meaning.specs.Idle.{idle, idle_by, has_ended, is_ready}
 use Rattle.tx_meaning.specs.Needs.{operand_needs, block_needs, interruption_needs}
 use Rattle.tx_home.specs.Kept.{text_of}
 use Rattle.tx_home.specs.Turn.{k_idle}
@@ -136,14 +136,25 @@ module _ (m : Setting) (w : Works) (remaining : ℕ) (s : Stands m w remaining) 
             ≡ fate_by_progress (text_of m) storage (local_of s.cpu).attempt) same t.text;
       }
 
+  idle_alike : (i : ℕ) → i < cpus_of m → (rest : Seat)
+      → k_idle m (kept_by (nobody m) w) i ≡ k_idle m (kept_by rest w) i
+  unfolding k_idle
+  idle_alike i known rest =
+      let lt : i < length w.slots = subst (λ n. i < n) (sym s.cpus) known in
+      ap (λ (s : Seat). idle_by m.limits (is_none (local_of s.cpu).pending
+      && has_ended (local_of s.cpu).attempt.cpu.state (local_of s.cpu).attempt.cpu.prefix) w.queue (numbers_of s) i)
+      (same_seat rest i lt)
+
   pub turns_may : (i : ℕ) → i < cpus_of m → (rest : Seat) → k_idle m (kept_by rest w) i ≡ None
       → MayTurn m i (kept_by rest w)
-  unfolding k_idle
   turns_may i known rest none =
       let lt : i < length w.slots = subst (λ n. i < n) (sym s.cpus) known in
-      let same = same_seat rest i lt in
       let facts = shown m w remaining s in
       may_alike rest i lt (may_turn m s.setting i (kept_by (nobody m) w) facts.good facts.within facts.between
-      (ap (λ (s : Seat). idle_by m.limits (is_none (local_of s.cpu).pending
-      && has_ended (local_of s.cpu).attempt.cpu.state (local_of s.cpu).attempt.cpu.prefix) w.queue (numbers_of s) i) same
-      ∙ none))
+      (idle_alike i known rest ∙ none))
+
+  pub has_turn : (i : ℕ) → i < cpus_of m → is_ready m (meaning m w.events) i ≡ true → (rest : Seat)
+      → k_idle m (kept_by rest w) i ≡ None
+  has_turn i known ready rest =
+      sym (idle_alike i known rest) ∙ sym (reads_idle m w remaining s i)
+      ∙ none_where (idle m (meaning m w.events) i) ready

@@ -6,6 +6,7 @@ pub mod Opened
 pub mod Going
 pub mod Happened
 pub mod Laws
+pub mod Behind
 pub mod Places
 pub mod Homes
 pub mod Runner

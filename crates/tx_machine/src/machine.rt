@@ -5,6 +5,7 @@ ghost use Rattle.std.specs.Arc.{arc_value};
 ghost use Rattle.z_regs.specs.Cpu.{cpu_of};
 ghost use Rattle.z_regs.specs.Prefix.{storage_size};
 ghost use Rattle.tx_journal.specs.Image.{cpu_of_event};
+ghost use Rattle.tx_journal.specs.declared.events.Event.TheVariants.{Turn};
 ghost use Rattle.tx_meaning.specs.Idle.{is_ready, is_finished, is_spent};
 ghost use Rattle.tx_meaning.specs.Meaning.{is_external};
 ghost use Rattle.tx_meaning.specs.Limits.{Setting};
@@ -167,6 +168,35 @@ fn advance(
     turned.outcome
 }
 
+/// One turn more, of a CPU that is ready.
+fn advance_ready(
+    program: &Program,
+    limits: Limits,
+    works: &mut Works,
+    externals_left: u32,
+    reject: &mut Option<Reject>,
+    cpu: u32,
+) -> Outcome
+    requires stands { Stands record { image = program.now; limits = limits } works.old externals_left }
+    requires known { cpu < length program.now.cpus }
+    requires ready { let m : Setting = record { image = program.now; limits = limits } in
+        is_ready m (meaning m works.old.events) cpu ≡ true }
+    ensures stands { Stands record { image = program.now; limits = limits } works.new externals_left }
+    ensures state { let m : Setting = record { image = program.now; limits = limits } in
+        meaning m works.new.events ≡ (happen m (Turn cpu) (meaning m works.old.events)).state }
+    ensures events { let m : Setting = record { image = program.now; limits = limits } in
+        works.new.events ≡ (happen m (Turn cpu) (meaning m works.old.events)).state.events }
+    ensures reject { let m : Setting = record { image = program.now; limits = limits } in
+        reject.new ≡ (happen m (Turn cpu) (meaning m works.old.events)).reject }
+    ensures outcome { let m : Setting = record { image = program.now; limits = limits } in
+        result ≡ (happen m (Turn cpu) (meaning m works.old.events)).outcome }
+{
+    let _left = externals_left;
+    let turned = works.turn(cpu, program, limits);
+    *reject = turned.reject;
+    turned.outcome
+}
+
 impl Machine {
     /// A machine of an image, from which nothing has happened, and no run of which is away. It has room for all that can be
     /// recorded, and a run for each CPU, so no event takes memory. The error is want of memory.
@@ -236,6 +266,49 @@ impl Machine {
             &mut self.externals_left,
             &mut self.reject,
             e,
+        )
+    }
+
+    /// One turn more, of a CPU that is ready: what `event` makes of it, and whether it is ready is not asked again. It takes no
+    /// memory, and no run leaves or comes home by it. Behind it holds what holds behind every event.
+    pub fn turn(&mut self, cpu: u32) -> Outcome
+        requires known { cpu < length self.old.image.cpus }
+        requires ready { is_ready (setting_of self.old) (state_of self.old) cpu ≡ true }
+        ensures machine { self.new ≡ after self.old (Turn cpu) }
+        ensures outcome { result ≡ (event_of self.old (Turn cpu)).outcome }
+        ensures state { state_of self.new ≡ (event_of self.old (Turn cpu)).state }
+        ensures legal { IsLegal self.new.image (state_of self.new).history }
+        ensures grows { GoesOnWith (state_of self.old).history (state_of self.new).history }
+        ensures views { KeepsViews (setting_of self.old) (state_of self.old) (state_of self.new) }
+        ensures opaque { SeesOneRun (setting_of self.old) (state_of self.old) (state_of self.new) }
+        ensures held { HoldsTouched (setting_of self.new) (state_of self.new) }
+        ensures few { (i : ℕ) →
+            hits self.new.image (state_of self.new).history i ≤ self.new.image.parms.stop }
+        ensures queue { QueueMoves (state_of self.old).queue (state_of self.new).queue }
+        ensures head { (i : ℕ) → head_turns (setting_of self.old) self.old.events i
+            + counted (is_counted_turn (setting_of self.old) (state_of self.old) (Turn cpu) i) ≤ 34 }
+        ensures unrejected { is_head (state_of self.old) cpu ≡ true → (event_of self.old (Turn cpu)).reject ≡ None }
+        ensures turns { (i : ℕ) → let stretch = stretch_of (setting_of self.new) self.new.events i in
+            stretch.is_open ≡ true → stretch.age + left (setting_of self.new) (state_of self.new) i
+            ≤ bound self.new.image.parms + attempt_turns self.new.image.parms * stretch.externals }
+        ensures some_left { (i : ℕ) → (stretch_of (setting_of self.new) self.new.events i).is_open ≡ true
+            → 1 ≤ left (setting_of self.new) (state_of self.new) i }
+        ensures ages { (i : ℕ) → let stretch = stretch_of (setting_of self.new) self.new.events i in
+            stretch.is_open ≡ true → stretch.age
+            < bound self.new.image.parms + attempt_turns self.new.image.parms * stretch.externals }
+        ensures reasons { QueueChanges (setting_of self.old) (state_of self.old) (Turn cpu) }
+        ensures behind_few { (i : ℕ) → waits_in (state_of self.new).queue i ≡ true
+            → others_before i (state_of self.new).queue < length self.new.image.cpus }
+        ensures head_alone { (i : ℕ) → is_counted_turn (setting_of self.old) (state_of self.old) (Turn cpu) i ≡ true
+            → ((state_of self.old).queue ≡ []) ⊎ (is_head (state_of self.old) i ≡ true) }
+    {
+        advance_ready(
+            &self.program,
+            self.limits,
+            &mut self.works,
+            self.externals_left,
+            &mut self.reject,
+            cpu,
         )
     }
 

@@ -1,5 +1,6 @@
 //! Which of the ready CPUs has the next turn.
-ghost use Rattle.std.specs.Prelude.{◌≡◌, ℕ, ◌<◌, ◌≤◌, ◌/◌, ◌^◌, IfSome, All, length};
+ghost use Rattle.std.specs.Prelude.{◌≡◌, ℕ, Bool, true, ◌<◌, ◌≤◌, ◌/◌, ◌^◌, IfSome, All, length};
+ghost use Rattle.tx_meaning.specs.Idle.{is_ready};
 ghost use Rattle.tx_meaning.specs.Schedules.{ready_cpus, drawn_after, chosen_next, Drawing, Round};
 ghost use Rattle.tx_machine.specs.Machine.{setting_of, state_of};
 ghost use Rattle.tx_schedule.specs.Next.{choosing_by, first_at, next_among, place_among};
@@ -45,6 +46,7 @@ pub fn cpu_count(machine: &Machine) -> u32
 fn ready_among(machine: &Machine) -> ArrayVec<u32, MOST_CPUS>
     ensures value { result.items ≡ ready_cpus (setting_of machine.now) (state_of machine.now) }
     ensures known { All (λ cpu. cpu < length machine.now.image.cpus) result.items }
+    ensures ready { All (λ cpu. is_ready (setting_of machine.now) (state_of machine.now) cpu ≡ true) result.items }
 {
     let mut ready = ArrayVec::new();
     for cpu in 0..cpu_count(machine) {
@@ -59,6 +61,8 @@ fn ready_among(machine: &Machine) -> ArrayVec<u32, MOST_CPUS>
 fn pick(ready: &[u32], x: u64) -> Option<u32>
     ensures value { result ≡ place_among (x / 2 ^ 33) ready.now }
     ensures known { (limit : ℕ) → All (λ cpu. cpu < limit) ready.now → IfSome result (λ cpu. cpu < limit) }
+    ensures alike { (test : ℕ → Bool) → All (λ cpu. test cpu ≡ true) ready.now
+        → IfSome result (λ cpu. test cpu ≡ true) }
 {
     if ready.is_empty() {
         return None;
@@ -73,6 +77,7 @@ fn pick_ready(machine: &Machine, x: u64) -> Option<u32>
     ensures value { result
         ≡ place_among (x / 2 ^ 33) (ready_cpus (setting_of machine.now) (state_of machine.now)) }
     ensures known { IfSome result (λ cpu. cpu < length machine.now.image.cpus) }
+    ensures ready { IfSome result (λ cpu. is_ready (setting_of machine.now) (state_of machine.now) cpu ≡ true) }
 {
     pick(ready_among(machine).as_slice(), x)
 }
@@ -81,6 +86,7 @@ fn pick_ready(machine: &Machine, x: u64) -> Option<u32>
 fn first_ready(machine: &Machine, from: u32) -> Option<u32>
     ensures value { result ≡ first_at from (ready_cpus (setting_of machine.now) (state_of machine.now)) }
     ensures known { IfSome result (λ cpu. cpu < length machine.now.image.cpus) }
+    ensures ready { IfSome result (λ cpu. is_ready (setting_of machine.now) (state_of machine.now) cpu ≡ true) }
     ensures few { IfSome result (λ cpu. cpu < 16) }
 {
     for next in from..cpu_count(machine) {
@@ -97,6 +103,7 @@ fn search_round(machine: &Machine, from: u32) -> Option<u32>
     ensures value { result
         ≡ next_among (Round from) (ready_cpus (setting_of machine.now) (state_of machine.now)) }
     ensures known { IfSome result (λ cpu. cpu < length machine.now.image.cpus) }
+    ensures ready { IfSome result (λ cpu. is_ready (setting_of machine.now) (state_of machine.now) cpu ≡ true) }
     ensures few { IfSome result (λ cpu. cpu < 16) }
 {
     match first_ready(machine, from) {
@@ -126,6 +133,7 @@ fn next_in_round(machine: &Machine, from: u32) -> Option<u32>
     ensures value { result
         ≡ next_among (Round from) (ready_cpus (setting_of machine.now) (state_of machine.now)) }
     ensures known { IfSome result (λ cpu. cpu < length machine.now.image.cpus) }
+    ensures ready { IfSome result (λ cpu. is_ready (setting_of machine.now) (state_of machine.now) cpu ≡ true) }
     ensures few { IfSome result (λ cpu. cpu < 16) }
 {
     let first = place_in_round(machine, from);
@@ -144,6 +152,7 @@ impl Order {
         ensures order { IfSome result (λ cpu.
             choosing_by self.new ≡ chosen_next (choosing_by self.old) cpu) }
         ensures known { IfSome result (λ cpu. cpu < length machine.now.image.cpus) }
+        ensures ready { IfSome result (λ cpu. is_ready (setting_of machine.now) (state_of machine.now) cpu ≡ true) }
     {
         match *self {
             Order::Drawn(before) => {

@@ -1,8 +1,10 @@
 //! What can be run by a schedule: a machine, or what follows one event by event.
 ghost use Rattle.std.specs.Prelude.{◌≡◌, ◌<◌, true, length, count_by};
 ghost use Rattle.tx_journal.specs.Image.{cpu_of_event};
+ghost use Rattle.tx_journal.specs.declared.events.Event.TheVariants.{Turn};
+ghost use Rattle.tx_meaning.specs.Idle.{is_ready};
 ghost use Rattle.tx_meaning.specs.Meaning.{is_external};
-ghost use Rattle.tx_machine.specs.Machine.{Seen, state_of, event_of, after};
+ghost use Rattle.tx_machine.specs.Machine.{Seen, setting_of, state_of, event_of, after};
 
 use tx_journal::Event;
 use tx_machine::machine::Machine;
@@ -23,6 +25,13 @@ pub trait Runnable {
             → count_by is_external (seen self.old).events < (seen self.old).limits.externals }
         ensures machine { seen self.new ≡ after (seen self.old) e }
         ensures state { state_of (seen self.new) ≡ (event_of (seen self.old) e).state };
+
+    /// One turn more, of a CPU that is ready.
+    fn take_turn(&mut self, cpu: u32)
+        requires known { cpu < length (seen self.old).image.cpus }
+        requires ready { is_ready (setting_of (seen self.old)) (state_of (seen self.old)) cpu ≡ true }
+        ensures machine { seen self.new ≡ after (seen self.old) (Turn cpu) }
+        ensures state { state_of (seen self.new) ≡ (event_of (seen self.old) (Turn cpu)).state };
 }
 
 impl Runnable for Machine {
@@ -34,5 +43,9 @@ impl Runnable for Machine {
 
     fn take_event(&mut self, e: Event) {
         let _outcome = self.event(e);
+    }
+
+    fn take_turn(&mut self, cpu: u32) {
+        let _outcome = self.turn(cpu);
     }
 }

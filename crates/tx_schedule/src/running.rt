@@ -28,7 +28,7 @@ fn run_by<R: Runnable>(runner: &mut R, mut order: Order, most: u64)
     for _ in 0..most {
         match order.next(runner.machine()) {
             None => return,
-            Some(cpu) => runner.take_event(Event::Turn(cpu)),
+            Some(cpu) => runner.take_turn(cpu),
         }
     }
 }

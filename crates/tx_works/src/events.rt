@@ -50,29 +50,30 @@ impl Works {
         self.act(cpu, program, turned);
     }
 
-    /// A turn of the CPU. Where it is not idle, it is recorded and counted.
-    fn turn(&mut self, cpu: u32, program: &Program, limits: Limits, turned: &mut Turned)
+    /// A turn of a CPU that is not idle: it is recorded and counted.
+    pub fn turn(&mut self, cpu: u32, program: &Program, limits: Limits) -> Turned
         requires cpu { cpu < length self.old.slots }
         requires cpus { length program.now.cpus ≡ length self.old.slots }
+        requires ready { (rest : Seat) → let m : Setting = record { image = program.now; limits = limits } in
+            k_idle m (kept_by rest self.old) cpu ≡ None }
         requires turns { (rest : Seat) → let m : Setting = record { image = program.now; limits = limits } in
-            k_idle m (kept_by rest self.old) cpu ≡ None → MayTurn m cpu (kept_by rest self.old) }
+            MayTurn m cpu (kept_by rest self.old) }
         requires room { (rest : Seat) → owed self.old (kept_by rest self.old) < self.old.room }
         requires events { length self.old.events < self.old.events_room }
         ensures value { (rest : Seat) → let m : Setting = record { image = program.now; limits = limits } in
-            turned_as (kept_by rest self.new) turned.new ≡ k_turn m cpu (kept_by rest self.old) }
+            turned_as (kept_by rest self.new) result ≡ k_turn m cpu (kept_by rest self.old) }
         ensures size { IsSameSize self.old self.new }
     {
         let _most = limits.turns;
-        if let Some(outcome) = self.idle(cpu, limits) {
-            *turned = without_reject(outcome);
-            return;
-        }
+        let mut turned = without_reject(Outcome::Executed);
         self.note(Event::Turn(cpu));
         self.count_turn(cpu);
-        self.counted_turn(cpu, program, limits, turned);
+        self.counted_turn(cpu, program, limits, &mut turned);
+        turned
     }
 
-    /// An event: a turn of a CPU, or an interruption of it from outside, which is always recorded.
+    /// An event: a turn of a CPU, which is recorded where it is not idle, or an interruption of it from outside, which
+    /// always is.
     #[tactic(auto, unfolding(tx_keeping::specs::Turn::k_happen))]
     pub fn happen(&mut self, e: Event, program: &Program, limits: Limits) -> Turned
         requires cpu { cpu_of_event e < length self.old.slots }
@@ -86,14 +87,15 @@ impl Works {
             turned_as (kept_by rest self.new) result ≡ k_happen m e (kept_by rest self.old) }
         ensures size { IsSameSize self.old self.new }
     {
-        let mut turned = without_reject(Outcome::Executed);
         match e {
-            Event::Turn(cpu) => self.turn(cpu, program, limits, &mut turned),
+            Event::Turn(cpu) => match self.idle(cpu, limits) {
+                Some(outcome) => without_reject(outcome),
+                None => self.turn(cpu, program, limits),
+            },
             Event::External(cpu) => {
                 self.note(e);
-                turned = self.external(cpu);
+                self.external(cpu)
             }
         }
-        turned
     }
 }

@@ -1,5 +1,5 @@
 -- One CPU more is ready, or it is not.
-use Rattle.std.proofs.Common.{◌≡◌, ℕ, ◌<◌, ◌++◌, [], ◌∷◌, List, All, sym, ap, ◌∙◌, subst, arith}
+use Rattle.std.proofs.Common.{◌≡◌, ℕ, ◌<◌, ◌++◌, [], ◌∷◌, List, All, true, sym, ap, ◌∙◌, subst, arith}
 use Rattle.std.proofs.lemmas.List.Elements.{All-push}
 use Rattle.std.specs.List.{filter, range_with_len}
 use Rattle.arrayvec.specs.ArrayVec.{array_vec_len}
@@ -29,6 +29,10 @@ loop-cpu-preserved c =
             known =
                 subst (λ (l : List ℕ). All (λ i. i < cpus_of m) l) (sym items)
                 (All-push (λ i. i < cpus_of m) c.loop-cpu.ready.items cpu c.loop-cpu.invariant.known known);
+            each =
+                subst (λ (l : List ℕ). All (λ i. test i ≡ true) l) (sym items)
+                (All-push (λ i. test i ≡ true) c.loop-cpu.ready.items cpu c.loop-cpu.invariant.each
+                (sym c.ready.ensures ∙ w.if-ready.true));
           }
       | else-ready w ↦
           let items = ap (λ r. r.items) w.ready-is in
@@ -39,6 +43,7 @@ loop-cpu-preserved c =
                 ∙ sym (still_ready test cpu (sym c.ready.ensures ∙ w.if-ready.false));
             few = omega arith;
             known = subst (λ (l : List ℕ). All (λ i. i < cpus_of m) l) (sym items) c.loop-cpu.invariant.known;
+            each = subst (λ (l : List ℕ). All (λ i. test i ≡ true) l) (sym items) c.loop-cpu.invariant.each;
           }
     ]
 

@@ -1,5 +1,5 @@
 -- Those below the next one are there.
-use Rattle.std.proofs.Common.{◌≡◌, ◌<◌, ◌≤◌, All, length}
+use Rattle.std.proofs.Common.{◌≡◌, ◌<◌, ◌≤◌, All, true, length}
 use Rattle.std.specs.List.{filter, range_with_len}
 use Rattle.arrayvec.specs.ArrayVec.{array_vec_len}
 use Rattle.tx_meaning.specs.Idle.{is_ready}
@@ -13,4 +13,5 @@ invariant-loop-cpu l = record {
       ≡ filter (is_ready (setting_of l.machine) (state_of l.machine)) (range_with_len 0 l.cpu);
   few : array_vec_len l.ready ≤ l.cpu;
   known : All (λ cpu. cpu < length l.machine.image.cpus) l.ready.items;
+  each : All (λ cpu. is_ready (setting_of l.machine) (state_of l.machine) cpu ≡ true) l.ready.items;
 }

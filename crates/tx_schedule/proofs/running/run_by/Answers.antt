@@ -19,11 +19,11 @@ loop-preserved g c =
     let left = c.args.most - (c.loop.counter + 1) in
     let one : now ≡ suc left = omega arith in
     let choosing = choosing_by c.loop.order in
-    leads_on _ _ choosing now left (g.R.Runnable.seen c.loop.runner) (g.R.Runnable.seen c.take_event.new.self)
+    leads_on _ _ choosing now left (g.R.Runnable.seen c.loop.runner) (g.R.Runnable.seen c.take_turn.new.self)
     c.in-Some.cpu (choosing_by c.next.new.self) one c.loop.invariant
     (subst (λ (m : Seen). Some c.in-Some.cpu ≡ next_among choosing (ready_cpus (setting_of m) (state_of m)))
     c.machine.ensures c.in-Some.ensures.cpu) c.in-Some.ensures.order
-    c.take_event.ensures.machine c.take_event.ensures.state
+    c.take_turn.ensures.machine c.take_turn.ensures.state
 
 pub returns-clause-state : goal.returns-clause-state
 returns-clause-state g c =
