@@ -1,12 +1,20 @@
 -- Needs of lines, one line after the other.
 use Rattle.std.proofs.Common.{◌≡◌, ℕ, ◌+◌, ◌<◌, ◌≤◌, true, false, List, [], ◌∷◌, ◌++◌, length, map, take, drop}
-use Rattle.std.proofs.Common.{get_or, Option, Some, None, refl, sym, ap, ◌∙◌}
+use Rattle.std.proofs.Common.{get_or, Option, Some, None, refl, sym, ap, ◌∙◌, arith}
 use Rattle.std.proofs.lemmas.List.{take_more, drop_more, drop_all, map-append}
+use Rattle.z_regs.specs.declared.ranges.Range.{Range}
 use Rattle.line_table.specs.declared.table.Mode.{Mode}
 use Rattle.tx_lending.specs.Need.{Need}
+use Rattle.tx_lending.specs.Needs.{needs_of}
 use Rattle.tx_lending.specs.Asking.{is_there}
 use Rattle.tx_marks.specs.Marks.{with_need, with_needs, first_missing}
 use Rattle.tx_marks.proofs.MarksNeeded.{one_needed, there_first, missing_first}
+
+-- where nothing is touched, no line is needed
+pub none_touched : (ranges : List Range) → length ranges ≡ 0 → needs_of ranges ≡ []
+unfolding needs_of
+none_touched [] none = refl
+none_touched (r ∷ rest) none = absurd (omega (arith, none))
 
 -- no line is needed yet
 pub none_added : (modes : ℕ → Option Mode) (line : ℕ) → modes line ≡ with_needs [] modes line

@@ -10,7 +10,7 @@ use Rattle.bit_set.proofs.Runs.{lies_inside, lies_before, lies_behind}
 use Rattle.z_regs.specs.Prefix.{absolute_of}
 use Rattle.z_instr.specs.Operands.{from_up}
 use Rattle.tx_lending.specs.Places.{is_among, places_from}
-use Rattle.tx_marks.specs.Traces.{has_page}
+use Rattle.tx_marks.specs.Traces.{has_page, lies_on}
 
 -- bytes that stay are those of the real addresses
 pub still_placed : (prefix : Option ℕ) (first n : ℕ) → ((k : ℕ) → k < n → absolute_of prefix (first + k) ≡ first + k)
@@ -75,3 +75,20 @@ paged_run first n page some =
     (λ over. any_not (λ a. nat_eq page (a / 4096)) first n
     (λ k lt. ne_eqb page ((first + k) / 4096) (λ e. omega (arith, e, over, lt)))
     ∙ sym (lies_behind (first / 4096) ((first + n - 1) / 4096 + 1) page over)))
+
+-- one number is a run of its own
+lies_alone : (k a : ℕ) → lies_in k (k + 1) a ≡ nat_eq a k
+lies_alone k a =
+    by_way (cases_lt a k)
+    (λ low. lies_before k (k + 1) a low ∙ sym (ne_eqb a k (λ e. omega (arith, e, low))))
+    (λ ge. by_way (cases_lt a (k + 1))
+    (λ lt. lies_inside k (k + 1) a ge lt ∙ sym (eq-eqb a k (omega (arith, ge, lt))))
+    (λ over. lies_behind k (k + 1) a over ∙ sym (ne_eqb a k (λ e. omega (arith, e, over)))))
+
+-- bytes that lie on one page
+pub paged_alone : (first n page : ℕ) → 0 < n → first / 4096 ≡ (first + n - 1) / 4096
+    → has_page (from_up first n) page ≡ lies_on page first
+paged_alone first n page some same =
+    paged_run first n page some
+    ∙ ap (λ last. lies_in (first / 4096) (last + 1) page) (sym same)
+    ∙ lies_alone (first / 4096) page

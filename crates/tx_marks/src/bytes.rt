@@ -131,6 +131,7 @@ impl OwnBytes {
     }
 
     /// Whether it is seen at one look that so many bytes from a real address on are touched, for a CPU with this prefix.
+    #[inline(always)]
     fn are_touched(&self, prefix: Option<u32>, first: u64, length: u32) -> bool
         requires prefix_in { IsTrue (is_prefix prefix) }
         requires inside { first + length ≤ storage_size }
@@ -171,6 +172,7 @@ impl OwnBytes {
     }
 
     /// Marks so many bytes from a real address on as touched, for a CPU with this prefix.
+    #[inline(always)]
     pub fn touch_places(&mut self, prefix: Option<u32>, first: u64, length: u32)
         requires prefix_in { IsTrue (is_prefix prefix) }
         requires inside { first + length ≤ storage_size }
@@ -182,6 +184,20 @@ impl OwnBytes {
         if length == 0 || self.are_touched(prefix, first, length) {
             return;
         }
+        self.touch_more(prefix, first, length);
+    }
+
+    /// Marks so many bytes from a real address on as touched, of which some may be touched already.
+    #[inline(never)]
+    fn touch_more(&mut self, prefix: Option<u32>, first: u64, length: u32)
+        requires some { 0 < length }
+        requires prefix_in { IsTrue (is_prefix prefix) }
+        requires inside { first + length ≤ storage_size }
+        ensures now { self.new.now ≡ self.old.now }
+        ensures given { (a : ℕ) → given self.new a ≡ given self.old a }
+        ensures touched { (a : ℕ) → is_touched self.new a
+            ≡ (is_touched self.old a || is_among (places_from prefix first length) a) }
+    {
         if self.are_untouched(prefix, first, length) {
             self.touch_run(first, length);
             return;
@@ -192,6 +208,7 @@ impl OwnBytes {
     }
 
     /// Marks the bytes of operands, by real addresses, as touched.
+    #[inline(always)]
     pub fn touch_operands(&mut self, prefix: Option<u32>, need: &Touches)
         requires prefix_in { IsTrue (is_prefix prefix) }
         requires inside { All (λ r. r.first + r.length ≤ storage_size) need.now }

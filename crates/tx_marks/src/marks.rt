@@ -36,6 +36,7 @@ impl Model for LineMarks {
 }
 
 /// How the only line of ranges is needed, where they are one range by absolute addresses that lies in a line.
+#[inline(always)]
 fn one_need(ranges: &Touches) -> Option<Need>
     requires { All (λ r. r.first + r.length ≤ storage_size) ranges.now }
     ensures need { IfSome result (λ need. needs_of ranges.now ≡ need ∷ []) }
@@ -122,11 +123,15 @@ impl LineMarks {
 
     /// The lines that ranges by absolute addresses need have the modes that these need, or still stronger ones.
     /// There are at most four ranges, each of at most 256 bytes of storage.
+    #[inline(always)]
     pub fn add_all(&mut self, ranges: &Touches)
         requires small { All (λ r. r.length ≤ 256) ranges.now }
         requires in_storage { All (λ r. r.first + r.length ≤ storage_size) ranges.now }
         ensures { (line : ℕ) → mode_in self.new line ≡ with_needs (needs_of ranges.now) (mode_in self.old) line }
     {
+        if ranges.count() == 0 {
+            return;
+        }
         match one_need(ranges) {
             Some(need) => self.add(need),
             None => self.add_each(ranges),
@@ -134,6 +139,7 @@ impl LineMarks {
     }
 
     /// The same, line by line.
+    #[inline(never)]
     fn add_each(&mut self, ranges: &Touches)
         requires small { All (λ r. r.length ≤ 256) ranges.now }
         requires in_storage { All (λ r. r.first + r.length ≤ storage_size) ranges.now }
@@ -147,11 +153,15 @@ impl LineMarks {
     }
 
     /// The lowest line that such ranges need and that is not there as they need it; None exactly where all are.
+    #[inline(always)]
     pub fn missing(&self, ranges: &Touches) -> Option<u32>
         requires small { All (λ r. r.length ≤ 256) ranges.now }
         requires in_storage { All (λ r. r.first + r.length ≤ storage_size) ranges.now }
         ensures { result ≡ first_missing (needs_of ranges.now) (mode_in self.now) }
     {
+        if ranges.count() == 0 {
+            return None;
+        }
         match one_need(ranges) {
             Some(need) => self.missing_one(need),
             None => self.missing_of(ranges),
@@ -170,6 +180,7 @@ impl LineMarks {
     }
 
     /// The lowest line that ranges need and that is not there as they need it, looked for line by line.
+    #[inline(never)]
     fn missing_of(&self, ranges: &Touches) -> Option<u32>
         requires small { All (λ r. r.length ≤ 256) ranges.now }
         requires in_storage { All (λ r. r.first + r.length ≤ storage_size) ranges.now }

@@ -90,8 +90,21 @@ impl PagedSet {
         clear_set(&mut self.pages);
     }
 
-    /// The lowest place of the set from `from` on. Only its own page is read, and those behind it that have some.
+    /// The lowest place of the set from `from` on, which is often `from` itself.
+    #[inline(always)]
     pub fn next(&self, from: usize) -> Option<usize>
+        ensures found { IfSome result (λ at. IsNext self.now from storage_size at) }
+        ensures none { IfNone result (NoneMarked self.now from storage_size) }
+    {
+        if from < PAGES * PAGE_SIZE && self.places.has(from) {
+            return Some(from);
+        }
+        self.next_behind(from)
+    }
+
+    /// The same, looked for. Only its own page is read, and those behind it that have some.
+    #[inline(never)]
+    fn next_behind(&self, from: usize) -> Option<usize>
         ensures found { IfSome result (λ at. IsNext self.now from storage_size at) }
         ensures none { IfNone result (NoneMarked self.now from storage_size) }
     {

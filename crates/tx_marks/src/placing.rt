@@ -8,6 +8,7 @@ use z_regs::AREA_SIZE;
 
 /// Whether so many bytes from a real address on all lie where they would without a prefix: none of them is in one of the two
 /// areas that the prefix exchanges.
+#[inline(always)]
 pub fn stay(prefix: Option<u32>, first: u64, length: u32) -> bool
     requires prefix_in { IsTrue (is_prefix prefix) }
     requires inside { first + length ≤ storage_size }

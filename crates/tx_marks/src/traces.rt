@@ -78,6 +78,7 @@ impl Traces {
     }
 
     /// Marks the pages of so many bytes from a real address on, for a CPU with this prefix.
+    #[inline(always)]
     pub fn mark_pages(&mut self, prefix: Option<u32>, first: u64, length: u32)
         requires prefix_in { IsTrue (is_prefix prefix) }
         requires inside { first + length ≤ storage_size }
@@ -90,6 +91,10 @@ impl Traces {
         }
         if stay(prefix, first, length) {
             let last = first + u64::from(length) - 1;
+            if first / PAGE_SIZE == last / PAGE_SIZE {
+                self.mark_page(first);
+                return;
+            }
             self.pages.insert_run(
                 (first / PAGE_SIZE) as usize,
                 (last / PAGE_SIZE) as usize + 1,
@@ -136,6 +141,7 @@ impl Traces {
     }
 
     /// Marks the bytes of the operands that are stored, and their pages.
+    #[inline(always)]
     pub fn mark_operands(&mut self, prefix: Option<u32>, need: &Touches)
         requires prefix_in { IsTrue (is_prefix prefix) }
         requires inside { All (λ r. r.first + r.length ≤ storage_size) need.now }

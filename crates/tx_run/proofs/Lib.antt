@@ -12,6 +12,7 @@ pub mod Doublewords
 pub mod Adding
 pub mod Texts
 pub mod Taking
+mod Unmoved
 -- what callers name of crates below
 pub use Rattle.tx_cpu.proofs.Agreeing
 pub use Rattle.tx_cpu.proofs.Plainly

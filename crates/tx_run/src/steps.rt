@@ -129,6 +129,7 @@ impl StepsRoom {
 }
 
 /// Whether an instruction has completed, with nothing else to tell.
+#[inline(always)]
 fn is_done(done: &Done) -> bool
     ensures { result ≡ is_stepped done.now }
 {
@@ -137,6 +138,7 @@ fn is_done(done: &Done) -> bool
 
 /// Whether an operation that begins no transaction is one for the machine: it ends or aborts a transaction, stores lastingly,
 /// asks for time or calls the service.
+#[inline(always)]
 fn is_for_machine(kind: Kind) -> bool
     ensures { result ≡ (ends_level kind || (is_abort kind || (is_lasting_store kind || (is_assist kind
         || is_service kind)))) }
@@ -152,6 +154,7 @@ fn is_for_machine(kind: Kind) -> bool
 }
 
 /// Whether an instruction may be made away.
+#[inline(always)]
 fn is_made_away(instr: &Instr) -> bool
     ensures { result ≡ is_plain instr.now }
 {
@@ -182,6 +185,7 @@ impl Steps {
     }
 
     /// The byte that the CPU sees over its storage at a place.
+    #[inline(always)]
     fn seen(&self, place: u64) -> u8
         requires { place < storage_size }
         ensures { result ≡ seen_through (local_of self.now.reached).attempt.overlay (bytes_at self.now.own.now) place }
@@ -191,6 +195,7 @@ impl Steps {
     }
 
     /// How many bytes the next instruction has, by the first of them.
+    #[inline(always)]
     fn length(&self) -> u32
         requires { (local_of self.now.reached).attempt.cpu.address < storage_size }
         ensures { let q = (local_of self.now.reached).attempt in result ≡ length_by
@@ -201,6 +206,7 @@ impl Steps {
     }
 
     /// Marks the bytes of the next instruction, and their pages.
+    #[inline(always)]
     fn touch_text(&mut self)
         requires first { (local_of self.old.reached).attempt.cpu.address < storage_size }
         requires fetched { let q = (local_of self.old.reached).attempt in q.cpu.address + length_by
@@ -225,6 +231,7 @@ impl Steps {
     }
 
     /// Marks the bytes of operands, and of those that are stored the pages too.
+    #[inline(always)]
     fn touch_operands(&mut self, need: &Touches)
         requires inside { All (λ r. r.first + r.length ≤ storage_size) need.now }
         ensures start { self.new.start ≡ self.old.start }
@@ -246,6 +253,7 @@ impl Steps {
     }
 
     /// Marks the bytes of the next instruction, which goes, and of its operands.
+    #[inline(always)]
     fn touch(&mut self, need: &Touches)
         requires within { IsWithin (bytes_at self.old.own.now) (local_of self.old.reached).attempt need.now }
         ensures start { self.new.start ≡ self.old.start }
@@ -267,8 +275,9 @@ impl Steps {
         self.touch_operands(need);
     }
 
-    /// Marks the lines of the operands as needed.
-    fn need(&mut self, need: &Touches)
+    /// Marks the lines of the operands as needed, of a CPU that may have a prefix.
+    #[inline(never)]
+    fn need_moved(&mut self, need: &Touches)
         requires within { IsWithin (bytes_at self.old.own.now) (local_of self.old.reached).attempt need.now }
         ensures start { self.new.start ≡ self.old.start }
         ensures reached { self.new.reached ≡ self.old.reached }
@@ -282,7 +291,26 @@ impl Steps {
         self.needed.add_all(&places);
     }
 
+    /// Marks the lines of the operands as needed.
+    #[inline(always)]
+    fn need(&mut self, need: &Touches)
+        requires within { IsWithin (bytes_at self.old.own.now) (local_of self.old.reached).attempt need.now }
+        ensures start { self.new.start ≡ self.old.start }
+        ensures reached { self.new.reached ≡ self.old.reached }
+        ensures own { self.new.own ≡ self.old.own }
+        ensures traces { self.new.traces ≡ self.old.traces }
+        ensures steps { self.new.steps ≡ self.old.steps }
+        ensures needed { (line : ℕ) → mode_in self.new.needed line ≡ with_needs
+            (operand_needs (local_of self.old.reached).attempt.cpu.prefix need.now) (mode_in self.old.needed) line }
+    {
+        match self.prefix() {
+            None => self.needed.add_all(need),
+            Some(_) => self.need_moved(need),
+        }
+    }
+
     /// Executes an instruction whose operands are marked as touched. The CPU that was lent and the bytes before stay.
+    #[inline(always)]
     fn execute(&mut self, instr: &Instr, need: &Touches) -> Done
         requires plain { is_plain instr.now ≡ true }
         requires prepared { IsPrepared (local_of self.old.reached).attempt instr.now need.now }
@@ -303,6 +331,7 @@ impl Steps {
 
     /// Makes the next instruction, which goes and may be made away, and answers whether it completes. Where it does not, the
     /// CPU that was lent and the bytes before are still as they were, and so is the number of steps.
+    #[inline(always)]
     fn make(&mut self, instr: &Instr, need: &Touches) -> bool
         requires plain { is_plain instr.now ≡ true }
         requires prepared { IsPrepared (local_of self.old.reached).attempt instr.now need.now }
@@ -369,6 +398,8 @@ impl Steps {
     }
 
     /// Makes all steps again, from the CPU that was lent and the bytes before.
+    #[cold]
+    #[inline(never)]
     fn make_again(&mut self, program: &Program)
         requires again { MayBeMadeAgain (items program.now.guard) program.now.storage self.old }
         requires few { self.old.steps ≤ 64 }
@@ -400,8 +431,9 @@ impl Steps {
         self.count = 0;
     }
 
-    /// The lowest line that an instruction needs and that is not held as it needs it.
-    fn missing(&self, need: &Touches, held: &LineMarks) -> Option<u32>
+    /// The lowest line that an instruction needs and that is not held as it needs it, of a CPU that may have a prefix.
+    #[inline(never)]
+    fn missing_moved(&self, need: &Touches, held: &LineMarks) -> Option<u32>
         requires within { IsWithin (bytes_at self.now.own.now) (local_of self.now.reached).attempt need.now }
         ensures { result ≡ first_missing (operand_needs (local_of self.now.reached).attempt.cpu.prefix need.now)
             (mode_in held.now) }
@@ -410,8 +442,22 @@ impl Steps {
         held.missing(&places)
     }
 
+    /// The lowest line that an instruction needs and that is not held as it needs it.
+    #[inline(always)]
+    fn missing(&self, need: &Touches, held: &LineMarks) -> Option<u32>
+        requires within { IsWithin (bytes_at self.now.own.now) (local_of self.now.reached).attempt need.now }
+        ensures { result ≡ first_missing (operand_needs (local_of self.now.reached).attempt.cpu.prefix need.now)
+            (mode_in held.now) }
+    {
+        match self.prefix() {
+            None => held.missing(need),
+            Some(_) => self.missing_moved(need, held),
+        }
+    }
+
     /// Makes the next instruction, which goes, may be made away and has its lines; where it does not complete, all is as it
     /// was.
+    #[inline(always)]
     fn make_or_stay(&mut self, instr: &Instr, need: &Touches, program: &Program) -> RunStep
         requires made { IsMade (items program.now.guard) program.now.storage self.old }
         requires goes { next_fate (items program.now.guard) self.old ≡ Goes instr.now need.now }
@@ -438,6 +484,7 @@ impl Steps {
 
     /// The next instruction, where nothing unusual is the case. It is one of the program's as long as its text pages are those of
     /// the image.
+    #[inline(always)]
     fn plain<'a>(&self, program: &'a Program) -> Option<Plain<'a>>
         requires { SameText (items program.now.guard) (bytes_at program.now.storage) (bytes_at self.now.own.now) }
         ensures goes { IfSome result (λ p. next_fate (items program.now.guard) self.now ≡ Goes p.ready.now.instr
@@ -453,6 +500,7 @@ impl Steps {
     }
 
     /// Makes the next instruction, which goes, where it may be made away, with these lines, and completes.
+    #[inline(always)]
     fn step_going(
         &mut self,
         instr: &Instr,
@@ -484,6 +532,7 @@ impl Steps {
     }
 
     /// Makes the next instruction, where it may be made away, with these lines, and completes.
+    #[inline(always)]
     pub(crate) fn step(&mut self, program: &Program, held: &LineMarks) -> RunStep
         requires made { IsMade (items program.now.guard) program.now.storage self.old }
         requires few { self.old.steps < 64 }
@@ -495,11 +544,28 @@ impl Steps {
         ensures steps { self.new.steps ≡ (if is_done result then self.old.steps + 1 else self.old.steps) }
         ensures start { StartsAlike self.old self.new }
     {
-        if let Some(plain) = self.plain(program) {
-            let ready = plain.ready;
-            let need = operands_at(ready.shape, plain.first);
-            return self.step_going(&ready.instr, &need, program, held);
-        }
+        let Some(plain) = self.plain(program) else {
+            return self.step_planned(program, held);
+        };
+        let ready = plain.ready;
+        let need = operands_at(ready.shape, plain.first);
+        self.step_going(&ready.instr, &need, program, held)
+    }
+
+    /// The same, by the plan of the instruction.
+    #[cold]
+    #[inline(never)]
+    fn step_planned(&mut self, program: &Program, held: &LineMarks) -> RunStep
+        requires made { IsMade (items program.now.guard) program.now.storage self.old }
+        requires few { self.old.steps < 64 }
+        requires completed { (local_of self.old.start).attempt.count + self.old.steps + 1 < 2 ^ 32 }
+        ensures answer { result ≡ step_by (mode_in held.now) (next_fate (items program.now.guard) self.old) self.old }
+        ensures made { IsMade (items program.now.guard) program.now.storage self.new }
+        ensures now { now self.new ≡ (if is_done result then lent_turn (items program.now.guard) (now self.old)
+            else now self.old) }
+        ensures steps { self.new.steps ≡ (if is_done result then self.old.steps + 1 else self.old.steps) }
+        ensures start { StartsAlike self.old self.new }
+    {
         let Plan::Go { instr, need } = self.plan(program) else {
             return RunStep::Leave(Reason::AtHome);
         };

@@ -1,27 +1,17 @@
--- Accessible operands are small and lie in storage.
-use Rattle.std.proofs.Common.{◌≤◌, ◌+◌, sym, subst, List}
-use Rattle.std.specs.Prelude.{All}
-use Rattle.z_regs.specs.Absolute.{IsAccessible}
-use Rattle.z_regs.specs.Prefix.{storage_size}
-use Rattle.z_regs.specs.declared.ranges.Range.{Range}
-use Rattle.tx_marks.proofs.SmallPlaces.{ranges-small, ranges-inside, accessible-places}
+-- Without a prefix the operands lie where their addresses say.
+use Rattle.std.proofs.Common.{ap, sym, ◌∙◌}
+use Rattle.tx_marks.specs.Marks.{mode_in, with_needs}
+use Rattle.tx_marks.specs.Needs.{needs_of}
+use Rattle.tx_run.specs.Made.{Made}
+use Rattle.tx_run.proofs.Unmoved.{small-unmoved, unmoved-needs}
 use Rattle.tx_run.proofs.steps.Steps.need.Goals as goal
 
 pub add_all-requires-clause-small : goal.add_all-requires-clause-small
-add_all-requires-clause-small c =
-    subst (λ (rs : List Range). All (λ (r : Range). r.length ≤ 256) rs) (sym c.absolute-places.ensures)
-    (ranges-small c.prefix.result c.args.need.now c.prefix.ensures.prefix_in
-    (accessible-places c.prefix.result c.args.need.now
-    (subst (λ p. All (IsAccessible p) c.args.need.now)
-    (sym c.prefix.ensures.value)
-    c.requires.within.accessible)))
+add_all-requires-clause-small c = small-unmoved _ c.args.need.now c.requires.within.accessible
 
-pub add_all-requires-clause-in_storage : goal.add_all-requires-clause-in_storage
-add_all-requires-clause-in_storage c =
-    subst (λ (rs : List Range). All (λ (r : Range). r.first + r.length ≤ storage_size) rs)
-    (sym c.absolute-places.ensures)
-    (ranges-inside c.prefix.result c.args.need.now c.prefix.ensures.prefix_in
-    (accessible-places c.prefix.result c.args.need.now
-    (subst (λ p. All (IsAccessible p) c.args.need.now)
-    (sym c.prefix.ensures.value)
-    c.requires.within.accessible)))
+pub returns-in-None-clause-needed : goal.returns-in-None-clause-needed
+returns-in-None-clause-needed c = λ line.
+    c.add_all.ensures line
+    ∙ ap (λ (m : Made). with_needs (needs_of c.args.need.now) (mode_in m.needed) line) c.self.view_is
+    ∙ ap (λ needs. with_needs needs (mode_in c.args.self.now.needed) line)
+    (sym (unmoved-needs _ c.args.need.now (sym c.prefix.ensures.value ∙ c.in-None.is)))

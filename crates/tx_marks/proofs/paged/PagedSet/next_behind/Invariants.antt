@@ -2,7 +2,7 @@
 use Rattle.std.proofs.Common.{◌≤◌, ◌-◌}
 use Rattle.bit_set.specs.Bits.{NoneMarked}
 use Rattle.z_regs.specs.Prefix.{storage_size}
-use Rattle.tx_marks.proofs.paged.PagedSet.next.Given as goal
+use Rattle.tx_marks.proofs.paged.PagedSet.next_behind.Given as goal
 
 abbrev pub invariant-loop-at : goal.invariant-loop-at
 invariant-loop-at l =

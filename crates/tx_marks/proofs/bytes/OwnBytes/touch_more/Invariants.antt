@@ -2,7 +2,7 @@
 use Rattle.std.proofs.Common.{◌≡◌, ℕ, ◌||◌}
 use Rattle.tx_lending.specs.Places.{is_among, places_from}
 use Rattle.tx_marks.specs.Own.{is_touched, given}
-use Rattle.tx_marks.proofs.bytes.OwnBytes.touch_places.Given as goal
+use Rattle.tx_marks.proofs.bytes.OwnBytes.touch_more.Given as goal
 
 abbrev pub invariant-loop-k : goal.invariant-loop-k
 invariant-loop-k l =

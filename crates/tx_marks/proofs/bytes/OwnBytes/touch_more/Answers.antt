@@ -5,7 +5,7 @@ use Rattle.tx_lending.specs.Places.{is_among}
 use Rattle.tx_marks.specs.Own.{is_touched}
 use Rattle.tx_marks.proofs.BytesTouched.{up_marked}
 use Rattle.tx_marks.proofs.RunsPlaced.{among_run}
-use Rattle.tx_marks.proofs.bytes.OwnBytes.touch_places.Goals as goal
+use Rattle.tx_marks.proofs.bytes.OwnBytes.touch_more.Goals as goal
 
 pub loop-k-preserved : goal.loop-k-preserved
 loop-k-preserved c = record {
