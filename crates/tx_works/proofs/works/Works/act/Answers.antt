@@ -28,7 +28,7 @@ returns-in-Some-clause-value c rest limits =
     let m : Setting = record { image = c.args.program.now; limits = limits } in
     let k = kept_by rest c.args.self.now in
     acting-block m c.args.cpu k (k.locals c.args.cpu).pending (k.locals c.args.cpu).waiting c.in-Some.address
-    (turned_as (kept_by rest c.store_pending.new.self) c.store_pending.result) ((c.in-Some.ensures) rest)
+    (turned_as (kept_by rest c.store_pending.new.self) c.store_pending.new.turned) ((c.in-Some.ensures) rest)
     (c.store_pending.ensures.value rest m c.requires.cpus)
 
 pub take_waiting-requires-clause-rests : goal.take_waiting-requires-clause-rests
@@ -51,6 +51,6 @@ returns-in-Some-awaited-clause-value c rest limits =
     let m : Setting = record { image = c.args.program.now; limits = limits } in
     let k = kept_by rest c.args.self.now in
     acting-taken m c.args.cpu k (k.locals c.args.cpu).pending (k.locals c.args.cpu).waiting c.in-Some-awaited.block
-    (turned_as (kept_by rest c.take_waiting.new.self) c.take_waiting.result)
+    (turned_as (kept_by rest c.take_waiting.new.self) c.take_waiting.new.turned)
     ((c.in_default.ensures) rest) ((c.in-Some-awaited.ensures) rest)
     (λ bytes is. c.take_waiting.ensures.value rest m bytes is c.requires.cpus)
