@@ -10,7 +10,7 @@ use Rattle.tx_program.specs.Shapes.{touched_by}
 use Rattle.tx_program.specs.declared.ready.Shape.{Shape}
 use Rattle.tx_program.specs.declared.ready.Touch.{Touch}
 use Rattle.tx_program.specs.declared.ready.Touch.TheVariants as touch
-use Rattle.tx_program.specs.Shapes.{is_in_line, is_open, is_placed, is_reached}
+use Rattle.tx_program.specs.Shapes.{is_in_line, is_nothing, is_open, is_placed, is_reached}
 use Rattle.tx_lines.proofs.Plainly.{in-line}
 use Rattle.std.proofs.lemmas.Bool.{and_parts}
 use Rattle.tx_needs.proofs.OneLine.{one, mode_of, needs-one, needs-none}
@@ -175,3 +175,10 @@ touched-places touch.Fetch first size prefix bare =
 touched-places touch.Store first size prefix bare =
     sym (ap (λ p. absolute_ranges p (touched_by touch.Store first size)) bare)
 touched-places touch.Other first size prefix bare = refl
+
+-- nothing is touched where the shape says so
+pub nothing-touched : (t : Touch) (first size : ℕ) → is_nothing t ≡ true → touched_by t first size ≡ []
+nothing-touched touch.Nothing first size h = refl
+nothing-touched touch.Fetch first size h = absurd (true≢false (sym h))
+nothing-touched touch.Store first size h = absurd (true≢false (sym h))
+nothing-touched touch.Other first size h = absurd (true≢false (sym h))

@@ -2,7 +2,7 @@
 ghost use Rattle.std.specs.Prelude.{◌≡◌, ◌<◌, true, false, is_some, length};
 ghost use Rattle.tx_journal.specs.declared.entries.Entry.TheVariants as entry;
 ghost use Rattle.tx_lines.specs.Plans.{HasDoneRoom, IsPrepared};
-ghost use Rattle.tx_program.specs.Shapes.{touched_by};
+ghost use Rattle.tx_program.specs.Shapes.{touched_by, is_nothing};
 ghost use Rattle.tx_progress.specs.Doing.{executed};
 ghost use Rattle.tx_progress.specs.Progress.{resting};
 ghost use Rattle.tx_meaning.specs.State.{is_live};
@@ -15,7 +15,7 @@ ghost use Rattle.tx_works.specs.Works.{Seat, kept_by, IsSameSize, KeepsBooks};
 use crate::acting::{Turned, without_reject};
 use crate::works::Works;
 use tx_journal::Entry;
-use tx_lines::{Done, Plain, operands_at};
+use tx_lines::{Done, Plain, Touch, operands_at};
 use tx_meaning::Outcome;
 use z_instr::instr::Instr;
 use z_instr::kind::Kind;
@@ -217,6 +217,55 @@ impl Works {
         self.perform(cpu, &plain.ready.instr, &need, turned);
     }
 
+    /// The same, of an instruction that has no operand.
+    #[inline(always)]
+    fn execute_untouching(&mut self, cpu: u32, plain: &Plain, turned: &mut Turned)
+        requires cpu { cpu < length self.old.slots }
+        requires nothing { is_nothing plain.now.ready.now.shape.touch ≡ true }
+        requires prepared { (rest : Seat) →
+            IsPrepared ((kept_by rest self.old).locals cpu).attempt plain.now.ready.now.instr
+            (touched_by plain.now.ready.now.shape.touch plain.now.first plain.now.ready.now.shape.size) }
+        requires rested { (rest : Seat) → let k = kept_by rest self.old in is_live k.state cpu ≡ false
+            → (k.locals cpu).attempt ≡ resting (k.locals cpu).cpu }
+        requires counts { (rest : Seat) → let n = (kept_by rest self.old).state.numbers cpu in
+            n.completed < n.turns }
+        requires begins { (rest : Seat) → let n = (kept_by rest self.old).state.numbers cpu in
+            n.attempts < n.turns }
+        requires room { length self.old.history < self.old.room }
+        ensures value { (rest : Seat) → turned_as (kept_by rest self.new) turned.new ≡
+            k_executing cpu plain.now.ready.now.instr (touched_by plain.now.ready.now.shape.touch plain.now.first
+            plain.now.ready.now.shape.size) (kept_by rest self.old) }
+        ensures size { IsSameSize self.old self.new }
+    {
+        let need = Touches::none();
+        self.perform(cpu, &plain.ready.instr, &need, turned);
+    }
+
+    /// The same, inside a transaction mostly: of an instruction without an operand no more is asked.
+    #[inline(always)]
+    fn execute_by_touch(&mut self, cpu: u32, plain: &Plain, turned: &mut Turned)
+        requires cpu { cpu < length self.old.slots }
+        requires prepared { (rest : Seat) →
+            IsPrepared ((kept_by rest self.old).locals cpu).attempt plain.now.ready.now.instr
+            (touched_by plain.now.ready.now.shape.touch plain.now.first plain.now.ready.now.shape.size) }
+        requires rested { (rest : Seat) → let k = kept_by rest self.old in is_live k.state cpu ≡ false
+            → (k.locals cpu).attempt ≡ resting (k.locals cpu).cpu }
+        requires counts { (rest : Seat) → let n = (kept_by rest self.old).state.numbers cpu in
+            n.completed < n.turns }
+        requires begins { (rest : Seat) → let n = (kept_by rest self.old).state.numbers cpu in
+            n.attempts < n.turns }
+        requires room { length self.old.history < self.old.room }
+        ensures value { (rest : Seat) → turned_as (kept_by rest self.new) turned.new ≡
+            k_executing cpu plain.now.ready.now.instr (touched_by plain.now.ready.now.shape.touch plain.now.first
+            plain.now.ready.now.shape.size) (kept_by rest self.old) }
+        ensures size { IsSameSize self.old self.new }
+    {
+        match plain.ready.shape.touch {
+            Touch::Nothing => self.execute_untouching(cpu, plain, turned),
+            _ => self.execute_plainly(cpu, plain, turned),
+        }
+    }
+
     /// The same, of an instruction that may be about transactions, outside them.
     #[inline(never)]
     pub(crate) fn execute_apart(&mut self, cpu: u32, plain: &Plain, turned: &mut Turned)
@@ -260,7 +309,7 @@ impl Works {
         ensures size { IsSameSize self.old self.new }
     {
         if self.is_live(cpu) {
-            return self.execute_plainly(cpu, plain, turned);
+            return self.execute_by_touch(cpu, plain, turned);
         }
         match kind_of(plain.ready.instr.op) {
             Kind::Transaction(_) => self.execute_apart(cpu, plain, turned),

@@ -319,25 +319,6 @@ impl Works {
         }
     }
 
-    /// The next instruction of the CPU.
-    fn attempt(&mut self, cpu: u32, program: &Program, turned: &mut Turned)
-        requires cpu { cpu < length self.old.slots }
-        requires turns { (rest : Seat) (limits : RunLimits) →
-            MayTurn (record { image = program.now; limits = limits }) cpu (kept_by rest self.old) }
-        requires acts { (rest : Seat) → MayAct cpu self.old rest }
-        requires cpus { length program.now.cpus ≡ length self.old.slots }
-        ensures value { (rest : Seat) (limits : RunLimits) →
-            let m : Setting = record { image = program.now; limits = limits } in let k = kept_by rest self.old in
-            turned_as (kept_by rest self.new) turned.new ≡
-            k_attempting m cpu k (fate_by_progress (text_of m) k.storage (k.locals cpu).attempt) }
-        ensures size { IsSameSize self.old self.new }
-    {
-        match self.plain(cpu, program) {
-            Some(plain) => self.go_plainly(cpu, &plain, program, turned),
-            None => self.attempt_planned(cpu, program, turned),
-        }
-    }
-
     /// An external interruption comes to the CPU: it aborts a live attempt, and the head of the stop queue goes
     /// to the tail.
     #[inline(never)]
@@ -389,7 +370,8 @@ impl Works {
     }
 
     /// What is left to do comes before the next instruction: a block that is pending, then an interruption.
-    pub(crate) fn act(&mut self, cpu: u32, program: &Program, turned: &mut Turned)
+    #[inline(never)]
+    fn act_in_order(&mut self, cpu: u32, program: &Program, turned: &mut Turned)
         requires cpu { cpu < length self.old.slots }
         requires turns { (rest : Seat) (limits : RunLimits) →
             MayTurn (record { image = program.now; limits = limits }) cpu (kept_by rest self.old) }
@@ -407,7 +389,27 @@ impl Works {
         if let Some(block) = self.awaited(cpu) {
             return self.take_waiting(cpu, block, turned);
         }
-        self.attempt(cpu, program, turned);
+        self.attempt_planned(cpu, program, turned);
+    }
+
+    /// A turn that is neither a tick nor waits. Mostly nothing is left to do before the next instruction, and that is plain, which
+    /// is seen at once.
+    pub(crate) fn act(&mut self, cpu: u32, program: &Program, turned: &mut Turned)
+        requires cpu { cpu < length self.old.slots }
+        requires turns { (rest : Seat) (limits : RunLimits) →
+            MayTurn (record { image = program.now; limits = limits }) cpu (kept_by rest self.old) }
+        requires acts { (rest : Seat) → MayAct cpu self.old rest }
+        requires cpus { length program.now.cpus ≡ length self.old.slots }
+        ensures value { (rest : Seat) (limits : RunLimits) →
+            let m : Setting = record { image = program.now; limits = limits } in
+            let k = kept_by rest self.old in turned_as (kept_by rest self.new) turned.new ≡
+            k_acting m cpu k (k.locals cpu).pending (k.locals cpu).waiting }
+        ensures size { IsSameSize self.old self.new }
+    {
+        match self.plain(cpu, program) {
+            Some(plain) => self.go_plainly(cpu, &plain, program, turned),
+            None => self.act_in_order(cpu, program, turned),
+        }
     }
 
     /// The bytes that the next instruction of the CPU touches, by absolute addresses; none where it does not
