@@ -176,6 +176,13 @@ acting-block m i k (Some b) w a t e told =
     told ∙ ap (λ n. k_with_lines m i (operand_needs (k.locals i).attempt.cpu.prefix (stored n 256 ∷ [])) k
     (λ (t : Kept). k_turned (k_storing i t) Executed)) same
 
+-- nothing is left to do before the next instruction
+pub acting-next : (m : Setting) (i : ℕ) (k : Kept) (p : Option Pending) (w : Option Waiting) (t : KTurned)
+    → p ≡ None → w ≡ None → t ≡ k_acting m i k None None → t ≡ k_acting m i k p w
+acting-next m i k None None t p w told = told
+acting-next m i k None (Some x) t p w told = absurd (cc)
+acting-next m i k (Some b) w t p none told = absurd (cc)
+
 -- an interruption that waits, with or without a diagnostic block as is said
 pub record Awaited (waiting : Option Waiting) (block : Bool) : Type 0 where
   pub interruption : Waiting

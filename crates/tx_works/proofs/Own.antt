@@ -14,7 +14,7 @@ use Rattle.tx_control.specs.declared.causes.Why.TheVariants.{Restricted, Filtere
 use Rattle.tx_control.specs.Causes.{code_number}
 use Rattle.tx_serial.specs.Flat.{Storage}
 use Rattle.tx_serial.specs.Fate.{Ends}
-use Rattle.tx_progress.specs.Progress.{Progress, is_live, advanced}
+use Rattle.tx_progress.specs.Progress.{Progress, advanced}
 use Rattle.tx_progress.specs.Local.{Beside}
 use Rattle.tx_progress.specs.Trial.{fate_by_progress}
 use Rattle.tx_progress.specs.Trial.{outcome_by}

@@ -1,14 +1,16 @@
 -- The line of one operand is there, so that nobody is asked for it.
-use Rattle.std.proofs.Common.{◌≡◌, ℕ, ◌+◌, ◌/◌, ◌%◌, ◌≤◌, Bool, true, false, List, [], ◌∷◌, Option, None}
-use Rattle.std.proofs.Common.{refl, sym, ap, ◌∙◌, inl, inr}
+use Rattle.std.proofs.Common.{◌≡◌, ℕ, ◌+◌, ◌/◌, ◌%◌, ◌≤◌, ◌<◌, Bool, true, false, List, [], ◌∷◌, Option, None}
+use Rattle.std.proofs.Common.{refl, sym, ap, subst, ◌∙◌, inl, inr}
+use Rattle.line_table.specs.declared.table.Mode.TheVariants.{Shared, Exclusive}
 use Rattle.std.proofs.lemmas.Bool.{cases_lt, true≢false}
+use Rattle.std.specs.Prelude.{◌&&◌}
 use Rattle.z_regs.specs.Absolute.{absolute_range, absolute_ranges}
 use Rattle.z_regs.specs.declared.ranges.Range.{Range}
 use Rattle.tx_program.specs.Shapes.{touched_by}
 use Rattle.tx_program.specs.declared.ready.Shape.{Shape}
 use Rattle.tx_program.specs.declared.ready.Touch.{Touch}
 use Rattle.tx_program.specs.declared.ready.Touch.TheVariants as touch
-use Rattle.tx_program.specs.Shapes.{is_in_line, is_open, is_reached}
+use Rattle.tx_program.specs.Shapes.{is_in_line, is_nothing, is_open, is_placed, is_reached}
 use Rattle.tx_lines.proofs.Plainly.{in-line}
 use Rattle.std.proofs.lemmas.Bool.{and_parts}
 use Rattle.tx_needs.proofs.OneLine.{one, mode_of, needs-one, needs-none}
@@ -84,6 +86,85 @@ is-there i s first text k bare reached held = record {
   goes_on = by-touch s.touch i k first s.size text bare (and_parts _ _ reached).1 held;
 }
 
+-- ---- what an operand needs
+
+in-its-line : (t : Touch) (first size : ℕ) (text : List ℕ) → is_open t first size text ≡ true
+    → is_open t first size [] ≡ true
+in-its-line touch.Nothing first size text opened = refl
+in-its-line touch.Fetch first size text opened = opened
+in-its-line touch.Store first size text opened = ap (λ b. b && true) (and_parts (is_in_line first size) _ opened).0
+in-its-line touch.Other first size text opened = opened
+
+-- an operand that is reached lies in a line, whatever the text pages are
+pub reached-placed : (s : Shape) (first : ℕ) (text : List ℕ) → is_reached s first text ≡ true
+    → is_placed s first ≡ true
+reached-placed s first text reached = in-its-line s.touch first s.size text (and_parts _ _ reached).1
+
+-- who needs nothing asks nobody
+pub nothing-needed : (m : Setting) (i : ℕ) (k : Kept) (needs : List Need) → needs ≡ []
+    → ◌≡◌ {A = KAsked} (record { kept = k; reject = None }) (k_get_lines m i needs k)
+unfolding asking.k_get_each
+nothing-needed m i k needs e = ap (λ (ns : List Need). k_get_lines m i ns k) (sym e)
+
+-- some bytes of one line need that line
+pub one-need : (first size : ℕ) (store : Bool) (prefix : Option ℕ) → prefix ≡ None → 0 < size
+    → is_in_line first size ≡ true
+    → operand_needs prefix (one first size store ∷ []) ≡ record { line = first / 256; mode = mode_of store } ∷ []
+one-need first size store prefix bare some inside =
+    bare-needs prefix (one first size store) bare ∙ needs-one first size store some (in-line first size inside).line
+
+-- so it is of an operand that is fetched, and it stands in storage
+pub fetched-need : (t : Touch) (first size : ℕ) (prefix : Option ℕ) → t ≡ touch.Fetch → prefix ≡ None → 0 < size
+    → is_open t first size [] ≡ true
+    → operand_needs prefix (touched_by t first size) ≡ record { line = first / 256; mode = Shared } ∷ []
+fetched-need t first size prefix is bare some opened =
+    ap (λ (u : Touch). operand_needs prefix (touched_by u first size)) is
+    ∙ one-need first size false prefix bare some (subst (λ (u : Touch). is_open u first size [] ≡ true) is opened)
+
+pub fetched-below : (t : Touch) (first size : ℕ) → t ≡ touch.Fetch → is_open t first size [] ≡ true → first < 1048576
+fetched-below t first size is opened =
+    (in-line first size (subst (λ (u : Touch). is_open u first size [] ≡ true) is opened)).below
+
+-- and of one that is stored
+pub stored-need : (t : Touch) (first size : ℕ) (prefix : Option ℕ) → t ≡ touch.Store → prefix ≡ None → 0 < size
+    → is_open t first size [] ≡ true
+    → operand_needs prefix (touched_by t first size) ≡ record { line = first / 256; mode = Exclusive } ∷ []
+stored-need t first size prefix is bare some opened =
+    ap (λ (u : Touch). operand_needs prefix (touched_by u first size)) is
+    ∙ one-need first size true prefix bare some
+    (and_parts (is_in_line first size) _ (subst (λ (u : Touch). is_open u first size [] ≡ true) is opened)).0
+
+pub stored-below : (t : Touch) (first size : ℕ) → t ≡ touch.Store → is_open t first size [] ≡ true → first < 1048576
+stored-below t first size is opened =
+    (in-line first size
+    (and_parts (is_in_line first size) _ (subst (λ (u : Touch). is_open u first size [] ≡ true) is opened)).0).below
+
+abbrev pub is_untouched : Touch → Bool
+is_untouched touch.Nothing = true
+is_untouched touch.Fetch = false
+is_untouched touch.Store = false
+is_untouched touch.Other = true
+
+-- what touches no storage needs nothing
+pub untouched-need : (t : Touch) (first size : ℕ) (prefix : Option ℕ) → is_untouched t ≡ true
+    → operand_needs prefix (touched_by t first size) ≡ []
+unfolding needs_of
+untouched-need touch.Nothing first size prefix h = refl
+untouched-need touch.Fetch first size prefix h = absurd (true≢false (sym h))
+untouched-need touch.Store first size prefix h = absurd (true≢false (sym h))
+untouched-need touch.Other first size prefix h = refl
+
+-- no bytes need none
+pub no-need : (t : Touch) (first size : ℕ) (prefix : Option ℕ) → prefix ≡ None → size ≤ 0
+    → operand_needs prefix (touched_by t first size) ≡ []
+unfolding needs_of
+no-need touch.Nothing first size prefix bare none = refl
+no-need touch.Fetch first size prefix bare none =
+    bare-needs prefix (one first size false) bare ∙ needs-none first size false none
+no-need touch.Store first size prefix bare none =
+    bare-needs prefix (one first size true) bare ∙ needs-none first size true none
+no-need touch.Other first size prefix bare none = refl
+
 -- without a prefix the operand stands where its address says
 pub touched-places : (t : Touch) (first size : ℕ) (prefix : Option ℕ) → prefix ≡ None
     → touched_by t first size ≡ absolute_ranges prefix (touched_by t first size)
@@ -94,3 +175,10 @@ touched-places touch.Fetch first size prefix bare =
 touched-places touch.Store first size prefix bare =
     sym (ap (λ p. absolute_ranges p (touched_by touch.Store first size)) bare)
 touched-places touch.Other first size prefix bare = refl
+
+-- nothing is touched where the shape says so
+pub nothing-touched : (t : Touch) (first size : ℕ) → is_nothing t ≡ true → touched_by t first size ≡ []
+nothing-touched touch.Nothing first size h = refl
+nothing-touched touch.Fetch first size h = absurd (true≢false (sym h))
+nothing-touched touch.Store first size h = absurd (true≢false (sym h))
+nothing-touched touch.Other first size h = absurd (true≢false (sym h))

@@ -66,18 +66,18 @@ impl Works {
 
     /// The live attempt of the CPU itself ends by this cause.
     #[inline(never)]
-    pub(crate) fn end_by(&mut self, cpu: u32, why: Why, at: u64) -> Turned
+    pub(crate) fn end_by(&mut self, cpu: u32, why: Why, at: u64, turned: &mut Turned)
         requires cpu { cpu < length self.old.slots }
         requires live { (rest : Seat) → is_live (kept_by rest self.old).state cpu ≡ true }
         requires code { HasRoom why }
         requires climbs { (rest : Seat) → MayEndBy why (kept_by rest self.old) cpu }
         requires room { length self.old.history < self.old.room }
-        ensures value { (rest : Seat) → turned_as (kept_by rest self.new) result ≡
+        ensures value { (rest : Seat) → turned_as (kept_by rest self.new) turned.new ≡
             k_ends_by cpu why at (kept_by rest self.old) }
         ensures size { IsSameSize self.old self.new }
     {
         self.abort(cpu, why, at);
-        without_reject(outcome_of_abort(why))
+        *turned = without_reject(outcome_of_abort(why));
     }
 
     /// The block that is pending for the CPU is stored.

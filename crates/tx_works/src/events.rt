@@ -39,8 +39,7 @@ impl Works {
     {
         let turns = self.turns(cpu);
         if is_tick(limits, turns) {
-            *turned = self.external(cpu);
-            return;
+            return self.tick(cpu, turned);
         }
         if self.delay_of(cpu) > 0 {
             self.wait(cpu);

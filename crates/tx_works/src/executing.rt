@@ -2,6 +2,7 @@
 ghost use Rattle.std.specs.Prelude.{◌≡◌, ◌<◌, true, false, is_some, length};
 ghost use Rattle.tx_journal.specs.declared.entries.Entry.TheVariants as entry;
 ghost use Rattle.tx_lines.specs.Plans.{HasDoneRoom, IsPrepared};
+ghost use Rattle.tx_program.specs.Shapes.{touched_by, is_nothing};
 ghost use Rattle.tx_progress.specs.Doing.{executed};
 ghost use Rattle.tx_progress.specs.Progress.{resting};
 ghost use Rattle.tx_meaning.specs.State.{is_live};
@@ -14,9 +15,11 @@ ghost use Rattle.tx_works.specs.Works.{Seat, kept_by, IsSameSize, KeepsBooks};
 use crate::acting::{Turned, without_reject};
 use crate::works::Works;
 use tx_journal::Entry;
-use tx_lines::Done;
+use tx_lines::{Done, Plain, Touch, operands_at};
 use tx_meaning::Outcome;
 use z_instr::instr::Instr;
+use z_instr::kind::Kind;
+use z_instr::lookup::kind_of;
 use z_regs::Touches;
 
 impl Works {
@@ -95,7 +98,7 @@ impl Works {
                 self.commit(cpu, count);
                 *turned = without_reject(Outcome::Executed);
             }
-            Done::Ended(why) => *turned = self.end_by(cpu, why, at),
+            Done::Ended(why) => self.end_by(cpu, why, at, turned),
             Done::Began => *turned = without_reject(Outcome::Executed),
             Done::Paused(_) => *turned = without_reject(Outcome::Executed),
             Done::Interrupted(_) => *turned = without_reject(Outcome::Executed),
@@ -169,9 +172,10 @@ impl Works {
             self.execute_outside(cpu, instr, need, turned);
         }
     }
+
     /// The CPU executes an instruction that is prepared, and whose lines are there.
     #[inline(never)]
-    pub(crate) fn execute(&mut self, cpu: u32, instr: &Instr, need: &Touches) -> Turned
+    pub(crate) fn execute(&mut self, cpu: u32, instr: &Instr, need: &Touches, turned: &mut Turned)
         requires cpu { cpu < length self.old.slots }
         requires prepared { (rest : Seat) →
             IsPrepared ((kept_by rest self.old).locals cpu).attempt instr.now need.now }
@@ -182,12 +186,134 @@ impl Works {
         requires begins { (rest : Seat) → let n = (kept_by rest self.old).state.numbers cpu in
             n.attempts < n.turns }
         requires room { length self.old.history < self.old.room }
-        ensures value { (rest : Seat) → turned_as (kept_by rest self.new) result ≡
+        ensures value { (rest : Seat) → turned_as (kept_by rest self.new) turned.new ≡
             k_executing cpu instr.now need.now (kept_by rest self.old) }
         ensures size { IsSameSize self.old self.new }
     {
-        let mut turned = without_reject(Outcome::Executed);
-        self.perform(cpu, instr, need, &mut turned);
-        turned
+        self.perform(cpu, instr, need, turned);
+    }
+
+    /// The CPU executes a plain instruction that is prepared, and whose line is there. Its operand is made here, so that a
+    /// way which does not read it makes none.
+    #[inline(always)]
+    fn execute_plainly(&mut self, cpu: u32, plain: &Plain, turned: &mut Turned)
+        requires cpu { cpu < length self.old.slots }
+        requires prepared { (rest : Seat) →
+            IsPrepared ((kept_by rest self.old).locals cpu).attempt plain.now.ready.now.instr
+            (touched_by plain.now.ready.now.shape.touch plain.now.first plain.now.ready.now.shape.size) }
+        requires rested { (rest : Seat) → let k = kept_by rest self.old in is_live k.state cpu ≡ false
+            → (k.locals cpu).attempt ≡ resting (k.locals cpu).cpu }
+        requires counts { (rest : Seat) → let n = (kept_by rest self.old).state.numbers cpu in
+            n.completed < n.turns }
+        requires begins { (rest : Seat) → let n = (kept_by rest self.old).state.numbers cpu in
+            n.attempts < n.turns }
+        requires room { length self.old.history < self.old.room }
+        ensures value { (rest : Seat) → turned_as (kept_by rest self.new) turned.new ≡
+            k_executing cpu plain.now.ready.now.instr (touched_by plain.now.ready.now.shape.touch plain.now.first
+            plain.now.ready.now.shape.size) (kept_by rest self.old) }
+        ensures size { IsSameSize self.old self.new }
+    {
+        let need = operands_at(plain.ready.shape, plain.first);
+        self.perform(cpu, &plain.ready.instr, &need, turned);
+    }
+
+    /// The same, of an instruction that has no operand.
+    #[inline(always)]
+    fn execute_untouching(&mut self, cpu: u32, plain: &Plain, turned: &mut Turned)
+        requires cpu { cpu < length self.old.slots }
+        requires nothing { is_nothing plain.now.ready.now.shape.touch ≡ true }
+        requires prepared { (rest : Seat) →
+            IsPrepared ((kept_by rest self.old).locals cpu).attempt plain.now.ready.now.instr
+            (touched_by plain.now.ready.now.shape.touch plain.now.first plain.now.ready.now.shape.size) }
+        requires rested { (rest : Seat) → let k = kept_by rest self.old in is_live k.state cpu ≡ false
+            → (k.locals cpu).attempt ≡ resting (k.locals cpu).cpu }
+        requires counts { (rest : Seat) → let n = (kept_by rest self.old).state.numbers cpu in
+            n.completed < n.turns }
+        requires begins { (rest : Seat) → let n = (kept_by rest self.old).state.numbers cpu in
+            n.attempts < n.turns }
+        requires room { length self.old.history < self.old.room }
+        ensures value { (rest : Seat) → turned_as (kept_by rest self.new) turned.new ≡
+            k_executing cpu plain.now.ready.now.instr (touched_by plain.now.ready.now.shape.touch plain.now.first
+            plain.now.ready.now.shape.size) (kept_by rest self.old) }
+        ensures size { IsSameSize self.old self.new }
+    {
+        let need = Touches::none();
+        self.perform(cpu, &plain.ready.instr, &need, turned);
+    }
+
+    /// The same, inside a transaction mostly: of an instruction without an operand no more is asked.
+    #[inline(always)]
+    fn execute_by_touch(&mut self, cpu: u32, plain: &Plain, turned: &mut Turned)
+        requires cpu { cpu < length self.old.slots }
+        requires prepared { (rest : Seat) →
+            IsPrepared ((kept_by rest self.old).locals cpu).attempt plain.now.ready.now.instr
+            (touched_by plain.now.ready.now.shape.touch plain.now.first plain.now.ready.now.shape.size) }
+        requires rested { (rest : Seat) → let k = kept_by rest self.old in is_live k.state cpu ≡ false
+            → (k.locals cpu).attempt ≡ resting (k.locals cpu).cpu }
+        requires counts { (rest : Seat) → let n = (kept_by rest self.old).state.numbers cpu in
+            n.completed < n.turns }
+        requires begins { (rest : Seat) → let n = (kept_by rest self.old).state.numbers cpu in
+            n.attempts < n.turns }
+        requires room { length self.old.history < self.old.room }
+        ensures value { (rest : Seat) → turned_as (kept_by rest self.new) turned.new ≡
+            k_executing cpu plain.now.ready.now.instr (touched_by plain.now.ready.now.shape.touch plain.now.first
+            plain.now.ready.now.shape.size) (kept_by rest self.old) }
+        ensures size { IsSameSize self.old self.new }
+    {
+        match plain.ready.shape.touch {
+            Touch::Nothing => self.execute_untouching(cpu, plain, turned),
+            _ => self.execute_plainly(cpu, plain, turned),
+        }
+    }
+
+    /// The same, of an instruction that may be about transactions, outside them.
+    #[inline(never)]
+    pub(crate) fn execute_apart(&mut self, cpu: u32, plain: &Plain, turned: &mut Turned)
+        requires cpu { cpu < length self.old.slots }
+        requires prepared { (rest : Seat) →
+            IsPrepared ((kept_by rest self.old).locals cpu).attempt plain.now.ready.now.instr
+            (touched_by plain.now.ready.now.shape.touch plain.now.first plain.now.ready.now.shape.size) }
+        requires rested { (rest : Seat) → let k = kept_by rest self.old in is_live k.state cpu ≡ false
+            → (k.locals cpu).attempt ≡ resting (k.locals cpu).cpu }
+        requires counts { (rest : Seat) → let n = (kept_by rest self.old).state.numbers cpu in
+            n.completed < n.turns }
+        requires begins { (rest : Seat) → let n = (kept_by rest self.old).state.numbers cpu in
+            n.attempts < n.turns }
+        requires room { length self.old.history < self.old.room }
+        ensures value { (rest : Seat) → turned_as (kept_by rest self.new) turned.new ≡
+            k_executing cpu plain.now.ready.now.instr (touched_by plain.now.ready.now.shape.touch plain.now.first
+            plain.now.ready.now.shape.size) (kept_by rest self.old) }
+        ensures size { IsSameSize self.old self.new }
+    {
+        self.execute_plainly(cpu, plain, turned);
+    }
+
+    /// The CPU executes a plain instruction that is prepared, and whose line is there. Each case goes its own way, so that what
+    /// is known of it is not asked again.
+    #[inline(always)]
+    pub(crate) fn perform_plainly(&mut self, cpu: u32, plain: &Plain, turned: &mut Turned)
+        requires cpu { cpu < length self.old.slots }
+        requires prepared { (rest : Seat) →
+            IsPrepared ((kept_by rest self.old).locals cpu).attempt plain.now.ready.now.instr
+            (touched_by plain.now.ready.now.shape.touch plain.now.first plain.now.ready.now.shape.size) }
+        requires rested { (rest : Seat) → let k = kept_by rest self.old in is_live k.state cpu ≡ false
+            → (k.locals cpu).attempt ≡ resting (k.locals cpu).cpu }
+        requires counts { (rest : Seat) → let n = (kept_by rest self.old).state.numbers cpu in
+            n.completed < n.turns }
+        requires begins { (rest : Seat) → let n = (kept_by rest self.old).state.numbers cpu in
+            n.attempts < n.turns }
+        requires room { length self.old.history < self.old.room }
+        ensures value { (rest : Seat) → turned_as (kept_by rest self.new) turned.new ≡
+            k_executing cpu plain.now.ready.now.instr (touched_by plain.now.ready.now.shape.touch plain.now.first
+            plain.now.ready.now.shape.size) (kept_by rest self.old) }
+        ensures size { IsSameSize self.old self.new }
+    {
+        if self.is_live(cpu) {
+            return self.execute_by_touch(cpu, plain, turned);
+        }
+        match kind_of(plain.ready.instr.op) {
+            Kind::Transaction(_) => self.execute_apart(cpu, plain, turned),
+            _ => self.execute_plainly(cpu, plain, turned),
+        }
     }
 }

@@ -1,6 +1,6 @@
 //! How a CPU gets the lines that a turn needs.
 ghost use Rattle.std.specs.Prelude.{◌≡◌, ℕ, ◌+◌, ◌<◌, ◌≤◌, true, false, [], All, List, length, map, is_some};
-ghost use Rattle.std.specs.Prelude.{IfSome, ◌==◌, ◌∷◌, if◌then◌else◌};
+ghost use Rattle.std.specs.Prelude.{IfSome, IfNone, Option, None, ◌==◌, ◌∷◌, if◌then◌else◌};
 ghost use Rattle.std.specs.List.{list_any};
 ghost use Rattle.z_regs.specs.Prefix.{storage_size};
 ghost use Rattle.line_table.specs.Sizes.{storage_lines};
@@ -11,7 +11,8 @@ ghost use Rattle.tx_needs.specs.Needs.{need_at};
 ghost use Rattle.tx_meaning.specs.declared.asking.Need.{Need};
 ghost use Rattle.tx_meaning.specs.Limits.{Setting};
 ghost use Rattle.tx_meaning.specs.State.{cpus_of, is_head};
-ghost use Rattle.tx_meaning.specs.Needs.{needs_of};
+ghost use Rattle.tx_meaning.specs.Needs.{needs_of, operand_needs};
+ghost use Rattle.tx_program.specs.Shapes.{touched_by, is_placed};
 ghost use Rattle.tx_meaning.specs.Asking.{is_there};
 ghost use Rattle.tx_keeping.specs.Asking.{k_granting, k_get_line, k_get_lines};
 ghost use Rattle.tx_works.specs.Works.{Seat, IsSameSize, kept_by, seats_of};
@@ -21,6 +22,7 @@ ghost use Rattle.tx_works.specs.Asks.{IsReady, IsFew, AskLeaves, asked_by, rejec
 use crate::asking::Refused;
 use crate::works::Works;
 use line_table::Mode;
+use tx_lines::{Shape, Touch};
 use tx_meaning::Need;
 use tx_needs::{MOST_NEEDS, lines_needed, need_for};
 use z_regs::Touches;
@@ -52,6 +54,32 @@ fn only_need(ranges: &Touches) -> Option<Need>
     let line = (range.first / LINE_SIZE) as u32;
     let mode = mode_for(range.store);
     Some(Need { line, mode })
+}
+
+/// What an operand that lies in one line needs, where it stands where its address says; nothing where it has no bytes.
+fn operand_need(shape: Shape, first: u64) -> Option<Need>
+    requires { is_placed shape first ≡ true }
+    ensures some { IfSome result (λ need. (prefix : Option ℕ) → prefix ≡ None
+        → operand_needs prefix (touched_by shape.touch first shape.size) ≡ need ∷ []) }
+    ensures none { IfNone result ((prefix : Option ℕ) → prefix ≡ None
+        → operand_needs prefix (touched_by shape.touch first shape.size) ≡ []) }
+    ensures in_storage { IfSome result (λ need. need.line < storage_lines) }
+{
+    if shape.size == 0 {
+        return None;
+    }
+    match shape.touch {
+        Touch::Fetch => Some(Need {
+            line: (first / LINE_SIZE) as u32,
+            mode: Mode::Shared,
+        }),
+        Touch::Store => Some(Need {
+            line: (first / LINE_SIZE) as u32,
+            mode: Mode::Exclusive,
+        }),
+        Touch::Nothing => None,
+        Touch::Other => None,
+    }
 }
 
 impl Works {
@@ -134,6 +162,40 @@ impl Works {
             (λ r. r.starved ≡ is_cpu_starved (kept_by rest self.new) cpu) }
     {
         self.get_line(cpu, need, &[need.line])
+    }
+
+    /// The CPU gets the line of an operand that stands where its address says. The reject, if its request is rejected; else the
+    /// line is there.
+    #[inline(always)]
+    pub(crate) fn get_operand(&mut self, cpu: u32, shape: Shape, first: u64) -> Option<Refused>
+        requires cpu { cpu < length self.old.slots }
+        requires bare { (rest : Seat) → ((kept_by rest self.old).locals cpu).attempt.cpu.prefix ≡ None }
+        requires placed { is_placed shape first ≡ true }
+        requires holds { (rest : Seat) → let k = kept_by rest self.old in MayHold cpu
+            (operand_needs (k.locals cpu).attempt.cpu.prefix (touched_by shape.touch first shape.size)) k }
+        requires asks { (rest : Seat) → MayAsk (length self.old.slots) cpu (kept_by rest self.old) }
+        requires room { (rest : Seat) → owed self.old (kept_by rest self.old) ≤ self.old.room }
+        requires turn { (rest : Seat) → HasTurn (seats_of rest self.old.slots cpu) 128 }
+        ensures kept { (rest : Seat) (m : Setting) → cpus_of m ≡ length self.old.slots
+            → let k = kept_by rest self.old in asked_by rest self.new (rejected_in result) ≡ k_get_lines m cpu
+            (operand_needs (k.locals cpu).attempt.cpu.prefix (touched_by shape.touch first shape.size)) k }
+        ensures size { IsSameSize self.old self.new }
+        ensures own { (rest : Seat)
+            → (kept_by rest self.new).locals cpu ≡ (kept_by rest self.old).locals cpu }
+        ensures asks { (rest : Seat) → MayAsk (length self.new.slots) cpu (kept_by rest self.new) }
+        ensures room { (rest : Seat) → owed self.new (kept_by rest self.new) ≤ self.new.room }
+        ensures owed_no_more { (rest : Seat)
+            → owed self.new (kept_by rest self.new) ≤ owed self.old (kept_by rest self.old) }
+        ensures turn { (rest : Seat) → HasTurn (seats_of rest self.new.slots cpu) 0 }
+        ensures refused { (rest : Seat) → is_some result ≡ true
+            → is_head (kept_by rest self.new).state cpu ≡ false }
+        ensures starved { (rest : Seat) → IfSome result
+            (λ r. r.starved ≡ is_cpu_starved (kept_by rest self.new) cpu) }
+    {
+        if let Some(need) = operand_need(shape, first) {
+            return self.get_only(cpu, need);
+        }
+        None
     }
 
     /// The CPU gets these lines one after the other, as the ranges need them.

@@ -1,10 +1,10 @@
 //! What a CPU does in its turn: the lines first.
-ghost use Rattle.std.specs.Prelude.{◌≡◌, ◌+◌, ◌<◌, ◌≤◌, ◌∷◌, [], All, IsTrue, ℕ, List, Option, true, false, IfSome, is_some, length};
+ghost use Rattle.std.specs.Prelude.{◌≡◌, ◌+◌, ◌<◌, ◌≤◌, ◌∷◌, [], All, IsTrue, ℕ, List, Option, true, false, IfSome, is_some, None, length};
 ghost use Rattle.z_regs.specs.Absolute.{absolute_ranges};
 ghost use Rattle.z_regs.specs.Prefix.{is_prefix, storage_size};
 ghost use Rattle.tx_lines.specs.Plans.{IsPrepared, HasPlanRoom, fate_of};
 ghost use Rattle.tx_lines.specs.Quiet.{IsQuiet};
-ghost use Rattle.tx_program.specs.Shapes.{touched_by, is_reached};
+ghost use Rattle.tx_program.specs.Shapes.{touched_by, is_placed, is_reached};
 ghost use Rattle.tx_serial.specs.Fate.{Goes};
 ghost use Rattle.std.specs.FinSet.{items};
 ghost use Rattle.tx_serial.specs.Flat.{address_of};
@@ -40,48 +40,45 @@ impl Works {
     /// A request of the CPU was rejected, and its attempt is starved by that: it is aborted.
     #[cold]
     #[inline(never)]
-    fn starve(&mut self, cpu: u32, reject: Reject) -> Turned
+    fn starve(&mut self, cpu: u32, reject: Reject, turned: &mut Turned)
         requires cpu { cpu < length self.old.slots }
         requires asks { (rest : Seat) → MayAsk (length self.old.slots) cpu (kept_by rest self.old) }
         requires behind { (rest : Seat) → is_head (kept_by rest self.old).state cpu ≡ false }
         requires starved { (rest : Seat) → is_cpu_starved (kept_by rest self.old) cpu ≡ true }
         requires room { length self.old.history < self.old.room }
         ensures value { (rest : Seat) → let k = kept_by rest self.old in
-            turned_as (kept_by rest self.new) result ≡ k_refused_turn (is_cpu_starved k cpu) cpu reject k }
+            turned_as (kept_by rest self.new) turned.new ≡ k_refused_turn (is_cpu_starved k cpu) cpu reject k }
         ensures size { IsSameSize self.old self.new }
     {
         let at = self.next_address(cpu);
-        let ended = self.end_by(cpu, Why::Starved, at);
-        Turned {
-            outcome: ended.outcome,
-            reject: Some(reject),
-        }
+        self.end_by(cpu, Why::Starved, at, turned);
+        turned.reject = Some(reject);
     }
 
     /// A request of the CPU was rejected: its turn is at its end, and a starved attempt is aborted.
     #[inline(always)]
-    fn refuse(&mut self, cpu: u32, refused: Refused) -> Turned
+    fn refuse(&mut self, cpu: u32, refused: Refused, turned: &mut Turned)
         requires cpu { cpu < length self.old.slots }
         requires asks { (rest : Seat) → MayAsk (length self.old.slots) cpu (kept_by rest self.old) }
         requires behind { (rest : Seat) → is_head (kept_by rest self.old).state cpu ≡ false }
         requires starved { (rest : Seat) → refused.starved ≡ is_cpu_starved (kept_by rest self.old) cpu }
         requires room { length self.old.history < self.old.room }
         ensures value { (rest : Seat) → let k = kept_by rest self.old in
-            turned_as (kept_by rest self.new) result ≡
+            turned_as (kept_by rest self.new) turned.new ≡
             k_refused_turn (is_cpu_starved k cpu) cpu refused.reject k }
         ensures size { IsSameSize self.old self.new }
     {
         let reject = refused.reject;
         if refused.starved {
-            return self.starve(cpu, reject);
+            return self.starve(cpu, reject, turned);
         }
-        Turned {
+        *turned = Turned {
             outcome: Outcome::Rejected {
                 by: reject.by,
                 line: reject.line,
             },
             reject: Some(reject),
-        }
+        };
     }
 
     /// The prefix of the CPU.
@@ -91,6 +88,36 @@ impl Works {
         ensures prefix_in { IsTrue (is_prefix result) }
     {
         self.slots[cpu as usize].cpu.image().prefix
+    }
+
+    /// The CPU gets the lines of operands, by absolute addresses.
+    #[inline(never)]
+    fn get_places(&mut self, cpu: u32, need: &Touches, prefix: Option<u32>) -> Option<Refused>
+        requires cpu { cpu < length self.old.slots }
+        requires own { (rest : Seat) → prefix ≡ ((kept_by rest self.old).locals cpu).attempt.cpu.prefix }
+        requires prefix_in { IsTrue (is_prefix prefix) }
+        requires reach { (rest : Seat) →
+            IsInReach ((kept_by rest self.old).locals cpu).attempt.cpu.prefix need.now }
+        requires holds { (rest : Seat) → let k = kept_by rest self.old in
+            MayHold cpu (operand_needs (k.locals cpu).attempt.cpu.prefix need.now) k }
+        requires acts { (rest : Seat) → MayAct cpu self.old rest }
+        ensures kept { (rest : Seat) (m : Setting) → cpus_of m ≡ length self.old.slots
+            → let k = kept_by rest self.old in asked_by rest self.new (rejected_in result)
+            ≡ k_get_lines m cpu (operand_needs (k.locals cpu).attempt.cpu.prefix need.now) k }
+        ensures size { IsSameSize self.old self.new }
+        ensures own { (rest : Seat)
+            → (kept_by rest self.new).locals cpu ≡ (kept_by rest self.old).locals cpu }
+        ensures asks { (rest : Seat) → MayAsk (length self.new.slots) cpu (kept_by rest self.new) }
+        ensures owed_no_more { (rest : Seat)
+            → owed self.new (kept_by rest self.new) ≤ owed self.old (kept_by rest self.old) }
+        ensures turn { (rest : Seat) → HasTurn (seats_of rest self.new.slots cpu) 0 }
+        ensures refused { (rest : Seat) → is_some result ≡ true
+            → is_head (kept_by rest self.new).state cpu ≡ false }
+        ensures starved { (rest : Seat) → IfSome result
+            (λ r. r.starved ≡ is_cpu_starved (kept_by rest self.new) cpu) }
+    {
+        let places = operand_places(need, prefix);
+        self.get_lines(cpu, &places)
     }
 
     /// The CPU gets the lines of operands. Without a prefix these stand where their addresses say. The reject, if one of
@@ -124,16 +151,13 @@ impl Works {
         let prefix = self.prefix(cpu);
         match prefix {
             None => self.get_lines(cpu, need),
-            Some(_) => {
-                let places = operand_places(need, prefix);
-                self.get_lines(cpu, &places)
-            }
+            Some(_) => self.get_places(cpu, need, prefix),
         }
     }
 
     /// An instruction that goes: it is executed where the lines of its operands are there.
-    #[inline(never)]
-    fn go(&mut self, cpu: u32, instr: &Instr, need: &Touches) -> Turned
+    #[inline(always)]
+    fn go(&mut self, cpu: u32, instr: &Instr, need: &Touches, turned: &mut Turned)
         requires cpu { cpu < length self.old.slots }
         requires prepared { (rest : Seat) →
             IsPrepared ((kept_by rest self.old).locals cpu).attempt instr.now need.now }
@@ -145,14 +169,42 @@ impl Works {
             → (k.locals cpu).attempt ≡ resting (k.locals cpu).cpu }
         requires acts { (rest : Seat) → MayAct cpu self.old rest }
         ensures value { (rest : Seat) (m : Setting) → cpus_of m ≡ length self.old.slots
-            → let k = kept_by rest self.old in turned_as (kept_by rest self.new) result ≡
+            → let k = kept_by rest self.old in turned_as (kept_by rest self.new) turned.new ≡
             k_with_lines m cpu (operand_needs (k.locals cpu).attempt.cpu.prefix need.now) k
             (k_executing cpu instr.now need.now) }
         ensures size { IsSameSize self.old self.new }
     {
         match self.get_operands(cpu, need) {
-            Some(refused) => self.refuse(cpu, refused),
-            None => self.execute(cpu, instr, need),
+            Some(refused) => self.refuse(cpu, refused, turned),
+            None => self.execute(cpu, instr, need, turned),
+        }
+    }
+
+    /// A plain instruction that goes, and whose line may have to be asked for.
+    #[inline(never)]
+    fn go_asking(&mut self, cpu: u32, plain: &Plain, turned: &mut Turned)
+        requires cpu { cpu < length self.old.slots }
+        requires prepared { (rest : Seat) →
+            IsPrepared ((kept_by rest self.old).locals cpu).attempt plain.now.ready.now.instr
+            (touched_by plain.now.ready.now.shape.touch plain.now.first plain.now.ready.now.shape.size) }
+        requires bare { (rest : Seat) → ((kept_by rest self.old).locals cpu).attempt.cpu.prefix ≡ None }
+        requires placed { is_placed plain.now.ready.now.shape plain.now.first ≡ true }
+        requires holds { (rest : Seat) → let k = kept_by rest self.old in
+            MayHold cpu (operand_needs (k.locals cpu).attempt.cpu.prefix (touched_by plain.now.ready.now.shape.touch
+            plain.now.first plain.now.ready.now.shape.size)) k }
+        requires rested { (rest : Seat) → let k = kept_by rest self.old in is_live k.state cpu ≡ false
+            → (k.locals cpu).attempt ≡ resting (k.locals cpu).cpu }
+        requires acts { (rest : Seat) → MayAct cpu self.old rest }
+        ensures value { (rest : Seat) (m : Setting) → cpus_of m ≡ length self.old.slots
+            → let k = kept_by rest self.old in let need = touched_by plain.now.ready.now.shape.touch plain.now.first
+            plain.now.ready.now.shape.size in turned_as (kept_by rest self.new) turned.new ≡
+            k_with_lines m cpu (operand_needs (k.locals cpu).attempt.cpu.prefix need) k
+            (k_executing cpu plain.now.ready.now.instr need) }
+        ensures size { IsSameSize self.old self.new }
+    {
+        match self.get_operand(cpu, plain.ready.shape, plain.first) {
+            Some(refused) => self.refuse(cpu, refused, turned),
+            None => self.execute_apart(cpu, plain, turned),
         }
     }
 
@@ -176,24 +228,22 @@ impl Works {
             k_attempting m cpu k (fate_by_progress (text_of m) k.storage (k.locals cpu).attempt) }
         ensures size { IsSameSize self.old self.new }
     {
-        let ready = plain.ready;
-        let need = operands_at(ready.shape, plain.first);
-        if self.holds_operand(cpu, ready.shape, plain.first) {
-            return self.perform(cpu, &ready.instr, &need, turned);
+        if self.holds_operand(cpu, plain.ready.shape, plain.first) {
+            return self.perform_plainly(cpu, plain, turned);
         }
-        *turned = self.go(cpu, &ready.instr, &need);
+        self.go_asking(cpu, plain, turned);
     }
 
     /// The block that is pending for the CPU is stored, where its lines are there.
     #[inline(never)]
-    fn store_pending(&mut self, cpu: u32, address: u64) -> Turned
+    fn store_pending(&mut self, cpu: u32, address: u64, turned: &mut Turned)
         requires cpu { cpu < length self.old.slots }
         requires inside { address + 256 ≤ storage_size }
         requires holds { (rest : Seat) → let k = kept_by rest self.old in
             MayHold cpu (operand_needs (k.locals cpu).attempt.cpu.prefix (stored address 256 ∷ [])) k }
         requires acts { (rest : Seat) → MayAct cpu self.old rest }
         ensures value { (rest : Seat) (m : Setting) → cpus_of m ≡ length self.old.slots
-            → let k = kept_by rest self.old in turned_as (kept_by rest self.new) result ≡
+            → let k = kept_by rest self.old in turned_as (kept_by rest self.new) turned.new ≡
             k_with_lines m cpu (operand_needs (k.locals cpu).attempt.cpu.prefix (stored address 256 ∷ [])) k
             (λ t. k_turned (k_storing cpu t) Executed) }
         ensures size { IsSameSize self.old self.new }
@@ -201,15 +251,15 @@ impl Works {
         let prefix = self.prefix(cpu);
         let places = block_places(address, prefix);
         match self.get_lines(cpu, &places) {
-            Some(refused) => self.refuse(cpu, refused),
-            None => self.store_block(cpu),
+            Some(refused) => self.refuse(cpu, refused, turned),
+            None => *turned = self.store_block(cpu),
         }
     }
 
     /// The interruption that waits for the CPU is taken, where its lines are there. `block` says whether it
     /// has a diagnostic block.
     #[inline(never)]
-    fn take_waiting(&mut self, cpu: u32, block: bool) -> Turned
+    fn take_waiting(&mut self, cpu: u32, block: bool, turned: &mut Turned)
         requires cpu { cpu < length self.old.slots }
         requires rests { (rest : Seat) → is_live (kept_by rest self.old).state cpu ≡ false }
         requires holds { (rest : Seat) (bytes : Option (List ℕ)) → is_some bytes ≡ block
@@ -218,7 +268,7 @@ impl Works {
         requires acts { (rest : Seat) → MayAct cpu self.old rest }
         ensures value { (rest : Seat) (m : Setting) (bytes : Option (List ℕ)) → is_some bytes ≡ block
             → cpus_of m ≡ length self.old.slots
-            → let k = kept_by rest self.old in turned_as (kept_by rest self.new) result ≡
+            → let k = kept_by rest self.old in turned_as (kept_by rest self.new) turned.new ≡
             k_with_lines m cpu (operand_needs (k.locals cpu).attempt.cpu.prefix (interruption_ranges bytes)) k
             (λ t. k_turned (k_taking cpu t) Executed) }
         ensures size { IsSameSize self.old self.new }
@@ -226,8 +276,8 @@ impl Works {
         let prefix = self.prefix(cpu);
         let places = interruption_places(block, prefix);
         match self.get_lines(cpu, &places) {
-            Some(refused) => self.refuse(cpu, refused),
-            None => self.take(cpu),
+            Some(refused) => self.refuse(cpu, refused, turned),
+            None => *turned = self.take(cpu),
         }
     }
 
@@ -246,31 +296,7 @@ impl Works {
 
     /// The next instruction of the CPU, which is planned first.
     #[inline(never)]
-    fn attempt_planned(&mut self, cpu: u32, program: &Program) -> Turned
-        requires cpu { cpu < length self.old.slots }
-        requires turns { (rest : Seat) (limits : RunLimits) →
-            MayTurn (record { image = program.now; limits = limits }) cpu (kept_by rest self.old) }
-        requires acts { (rest : Seat) → MayAct cpu self.old rest }
-        requires cpus { length program.now.cpus ≡ length self.old.slots }
-        ensures value { (rest : Seat) (limits : RunLimits) →
-            let m : Setting = record { image = program.now; limits = limits } in let k = kept_by rest self.old in
-            turned_as (kept_by rest self.new) result ≡
-            k_attempting m cpu k (fate_by_progress (text_of m) k.storage (k.locals cpu).attempt) }
-        ensures size { IsSameSize self.old self.new }
-    {
-        let plan = self.plan(cpu, program);
-        match &plan {
-            Plan::Go { instr, need } => self.go(cpu, instr, need),
-            Plan::Ends(why) => {
-                let at = self.next_address(cpu);
-                self.end_by(cpu, *why, at)
-            }
-            Plan::Stops(e) => self.stop(cpu, *e),
-        }
-    }
-
-    /// The next instruction of the CPU.
-    fn attempt(&mut self, cpu: u32, program: &Program, turned: &mut Turned)
+    fn attempt_planned(&mut self, cpu: u32, program: &Program, turned: &mut Turned)
         requires cpu { cpu < length self.old.slots }
         requires turns { (rest : Seat) (limits : RunLimits) →
             MayTurn (record { image = program.now; limits = limits }) cpu (kept_by rest self.old) }
@@ -282,9 +308,14 @@ impl Works {
             k_attempting m cpu k (fate_by_progress (text_of m) k.storage (k.locals cpu).attempt) }
         ensures size { IsSameSize self.old self.new }
     {
-        match self.plain(cpu, program) {
-            Some(plain) => self.go_plainly(cpu, &plain, program, turned),
-            None => *turned = self.attempt_planned(cpu, program),
+        let plan = self.plan(cpu, program);
+        match &plan {
+            Plan::Go { instr, need } => self.go(cpu, instr, need, turned),
+            Plan::Ends(why) => {
+                let at = self.next_address(cpu);
+                self.end_by(cpu, *why, at, turned);
+            }
+            Plan::Stops(e) => *turned = self.stop(cpu, *e),
         }
     }
 
@@ -300,12 +331,25 @@ impl Works {
     {
         if self.is_live(cpu) {
             let at = self.next_address(cpu);
-            let ended = self.end_by(cpu, Why::External, at);
+            let mut ended = without_reject(Outcome::External);
+            self.end_by(cpu, Why::External, at, &mut ended);
             self.to_tail(cpu);
             return ended;
         }
         self.to_tail(cpu);
         without_reject(Outcome::External)
+    }
+
+    /// A tick comes with the turn of the CPU.
+    #[inline(never)]
+    pub(crate) fn tick(&mut self, cpu: u32, turned: &mut Turned)
+        requires cpu { cpu < length self.old.slots }
+        requires room { length self.old.history < self.old.room }
+        ensures value { (rest : Seat) → turned_as (kept_by rest self.new) turned.new ≡
+            k_external cpu (kept_by rest self.old) }
+        ensures size { IsSameSize self.old self.new }
+    {
+        *turned = self.external(cpu);
     }
 
     /// The real address of the block that is pending for the CPU.
@@ -326,7 +370,8 @@ impl Works {
     }
 
     /// What is left to do comes before the next instruction: a block that is pending, then an interruption.
-    pub(crate) fn act(&mut self, cpu: u32, program: &Program, turned: &mut Turned)
+    #[inline(never)]
+    fn act_in_order(&mut self, cpu: u32, program: &Program, turned: &mut Turned)
         requires cpu { cpu < length self.old.slots }
         requires turns { (rest : Seat) (limits : RunLimits) →
             MayTurn (record { image = program.now; limits = limits }) cpu (kept_by rest self.old) }
@@ -339,14 +384,32 @@ impl Works {
         ensures size { IsSameSize self.old self.new }
     {
         if let Some(address) = self.pending(cpu) {
-            *turned = self.store_pending(cpu, address);
-            return;
+            return self.store_pending(cpu, address, turned);
         }
         if let Some(block) = self.awaited(cpu) {
-            *turned = self.take_waiting(cpu, block);
-            return;
+            return self.take_waiting(cpu, block, turned);
         }
-        self.attempt(cpu, program, turned);
+        self.attempt_planned(cpu, program, turned);
+    }
+
+    /// A turn that is neither a tick nor waits. Mostly nothing is left to do before the next instruction, and that is plain, which
+    /// is seen at once.
+    pub(crate) fn act(&mut self, cpu: u32, program: &Program, turned: &mut Turned)
+        requires cpu { cpu < length self.old.slots }
+        requires turns { (rest : Seat) (limits : RunLimits) →
+            MayTurn (record { image = program.now; limits = limits }) cpu (kept_by rest self.old) }
+        requires acts { (rest : Seat) → MayAct cpu self.old rest }
+        requires cpus { length program.now.cpus ≡ length self.old.slots }
+        ensures value { (rest : Seat) (limits : RunLimits) →
+            let m : Setting = record { image = program.now; limits = limits } in
+            let k = kept_by rest self.old in turned_as (kept_by rest self.new) turned.new ≡
+            k_acting m cpu k (k.locals cpu).pending (k.locals cpu).waiting }
+        ensures size { IsSameSize self.old self.new }
+    {
+        match self.plain(cpu, program) {
+            Some(plain) => self.go_plainly(cpu, &plain, program, turned),
+            None => self.act_in_order(cpu, program, turned),
+        }
     }
 
     /// The bytes that the next instruction of the CPU touches, by absolute addresses; none where it does not

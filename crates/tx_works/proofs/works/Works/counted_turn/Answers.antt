@@ -8,17 +8,17 @@ use Rattle.tx_works.specs.Works.{kept_by}
 use Rattle.tx_works.proofs.Lined.{room-now, ticked-is, waited-is, acted-is}
 use Rattle.tx_works.proofs.works.Works.counted_turn.Goals as goal
 
-pub external-requires-clause-room : goal.external-requires-clause-room
-external-requires-clause-room c = room-now c.args.self.now (c.requires.acts no_seat).room
+pub tick-requires-clause-room : goal.tick-requires-clause-room
+tick-requires-clause-room c = room-now c.args.self.now (c.requires.acts no_seat).room
 
 pub returns-then-is_tick-clause-value : goal.returns-then-is_tick-clause-value
 returns-then-is_tick-clause-value c rest =
     let m : Setting = record { image = c.args.program.now; limits = c.args.limits } in
     let k = kept_by rest c.args.self.now in
-    ticked-is m k c.args.cpu (turned_as (kept_by rest c.external.new.self) c.external.result)
+    ticked-is m k c.args.cpu (turned_as (kept_by rest c.tick.new.self) c.tick.new.turned)
     (sym (ap (is_tick c.args.limits) (c.turns-turns.ensures rest)) ∙ sym c.is_tick.ensures ∙
     c.if-is_tick.true)
-    (c.external.ensures.value rest)
+    (c.tick.ensures.value rest)
 
 pub returns-then-delay_of-gt0-clause-value : goal.returns-then-delay_of-gt0-clause-value
 returns-then-delay_of-gt0-clause-value c rest =

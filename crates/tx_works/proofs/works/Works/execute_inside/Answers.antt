@@ -49,7 +49,7 @@ returns-in-Ended-clause-value c rest =
     let k = kept_by rest c.args.self.now in
     let e = executed c.args.instr.now c.args.need.now (beside k c.args.cpu) in
     ended-inside c.args.cpu c.next_address-at.result c.in-Ended.why k (kept_by rest c.run.new.self)
-    c.args.instr.now c.args.need.now (turned_as (kept_by rest c.end_by.new.self) c.end_by.result)
+    c.args.instr.now c.args.need.now (turned_as (kept_by rest c.end_by.new.self) c.end_by.new.turned)
     (sym c.in-Ended.is ∙ c.run.ensures.told rest) (c.run.ensures.value rest) (c.end_by.ensures.value rest)
     ∙ ap (λ at. k_inside c.args.cpu at e.after k e.told) (c.next_address-at.ensures rest)
 

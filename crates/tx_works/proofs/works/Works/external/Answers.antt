@@ -10,9 +10,9 @@ pub returns-then-is_live-clause-value : goal.returns-then-is_live-clause-value
 unfolding k_external k_ends_by
 returns-then-is_live-clause-value c rest =
     let k = kept_by rest c.args.self.now in
-    ap (λ (w : Works). turned_as (kept_by rest w) c.end_by-ended.result) c.to_tail.ensures
+    ap (λ (w : Works). turned_as (kept_by rest w) c.end_by.new.turned) c.to_tail.ensures
     ∙ ap (λ (q : KTurned). record q { kept = k_to_tail c.args.cpu q.kept })
-    (c.end_by-ended.ensures.value rest
+    (c.end_by.ensures.value rest
     ∙ ap (λ at. k_ends_by c.args.cpu External at k) (c.next_address-at.ensures rest))
     ∙ ap (λ b. k_interrupting b c.args.cpu k) (sym c.if-is_live.true ∙ c.is_live.ensures rest)
 

@@ -1,7 +1,6 @@
 -- Without a prefix operands stand where their addresses say; else they are needed by absolute addresses.
 use Rattle.std.proofs.Common.{◌≡◌, ℕ, sym, ap, subst, ◌∙◌, List, Option}
-use Rattle.std.specs.Prelude.{All}
-use Rattle.z_regs.specs.Absolute.{absolute_ranges, IsAccessible}
+use Rattle.z_regs.specs.Absolute.{absolute_ranges}
 use Rattle.z_regs.specs.declared.ranges.Range.{Range}
 use Rattle.tx_meaning.specs.Needs.{needs_of}
 use Rattle.tx_keeping.specs.Asking.{k_get_lines}
@@ -44,34 +43,4 @@ returns-in-None-clause-kept c rest m cpus =
     bare-ranges c.prefix-prefix.result c.args.need.now c.in-None.is
     ∙ ap (λ (p : Option ℕ). absolute_ranges p c.args.need.now) (c.prefix-prefix.ensures.value rest) in
     c.get_lines.ensures.kept rest m cpus
-    ∙ ap (λ (rs : List Range). k_get_lines m c.args.cpu (needs_of rs) k) places
-
--- ---- with one
-
-pub operand_places-places-requires-clause-few : goal.operand_places-places-requires-clause-few
-operand_places-places-requires-clause-few c = (c.requires.reach no_seat).few
-
-pub operand_places-places-requires-clause-accessible : goal.operand_places-places-requires-clause-accessible
-operand_places-places-requires-clause-accessible c =
-    subst (λ (p : Option ℕ). All (IsAccessible p) c.args.need.now)
-    (sym (c.prefix-prefix.ensures.value no_seat))
-    (c.requires.reach no_seat).accessible
-
-pub get_lines-requires-in-Some-clause-holds : goal.get_lines-requires-in-Some-clause-holds
-get_lines-requires-in-Some-clause-holds c rest =
-    let k = kept_by rest c.args.self.now in
-    let places : c.operand_places-places.result
-    ≡ absolute_ranges (k.locals c.args.cpu).attempt.cpu.prefix c.args.need.now =
-    c.operand_places-places.ensures.value
-    ∙ ap (λ (p : Option ℕ). absolute_ranges p c.args.need.now) (c.prefix-prefix.ensures.value rest) in
-    subst (λ (rs : List Range). MayHold c.args.cpu (needs_of rs) k) (sym places) (c.requires.holds rest)
-
-pub returns-in-Some-clause-kept : goal.returns-in-Some-clause-kept
-returns-in-Some-clause-kept c rest m cpus =
-    let k = kept_by rest c.args.self.now in
-    let places : c.operand_places-places.result
-    ≡ absolute_ranges (k.locals c.args.cpu).attempt.cpu.prefix c.args.need.now =
-    c.operand_places-places.ensures.value
-    ∙ ap (λ (p : Option ℕ). absolute_ranges p c.args.need.now) (c.prefix-prefix.ensures.value rest) in
-    c.get_lines-in-Some.ensures.kept rest m cpus
     ∙ ap (λ (rs : List Range). k_get_lines m c.args.cpu (needs_of rs) k) places

@@ -29,7 +29,7 @@ returns-in-Some-clause-value c rest m e =
     let places = absolute_ranges (k.locals c.args.cpu).attempt.cpu.prefix c.args.need.now in
     given-is m c.args.cpu places places k (kept_by rest c.get_operands.new.self) (Some c.in-Some.refused.reject)
     (k_executing c.args.cpu c.args.instr.now c.args.need.now)
-    (turned_as (kept_by rest c.refuse.new.self) c.refuse.result) refl ((c.in-Some.ensures).kept rest m e)
+    (turned_as (kept_by rest c.refuse.new.self) c.refuse.new.turned) refl ((c.in-Some.ensures).kept rest m e)
     (c.refuse.ensures.value rest)
 
 pub returns-in-None-clause-value : goal.returns-in-None-clause-value
@@ -38,5 +38,5 @@ returns-in-None-clause-value c rest m e =
     let places = absolute_ranges (k.locals c.args.cpu).attempt.cpu.prefix c.args.need.now in
     given-is m c.args.cpu places places k (kept_by rest c.get_operands.new.self) None
     (k_executing c.args.cpu c.args.instr.now c.args.need.now)
-    (turned_as (kept_by rest c.execute.new.self) c.execute.result) refl ((c.in-None.ensures).kept rest m e)
+    (turned_as (kept_by rest c.execute.new.self) c.execute.new.turned) refl ((c.in-None.ensures).kept rest m e)
     (c.execute.ensures.value rest)

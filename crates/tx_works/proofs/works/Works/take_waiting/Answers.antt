@@ -52,7 +52,7 @@ returns-in-Some-clause-value c rest m bytes is e =
     (absolute_ranges (k.locals c.args.cpu).attempt.cpu.prefix (interruption_ranges bytes)) k
     (kept_by rest c.get_lines.new.self) (Some c.in-Some.refused.reject)
     (λ (t : Kept). k_turned (k_taking c.args.cpu t) Executed)
-    (turned_as (kept_by rest c.refuse.new.self) c.refuse.result) places ((c.in-Some.ensures).kept rest m e)
+    (turned_as (kept_by rest c.refuse.new.self) c.refuse.new.turned) places ((c.in-Some.ensures).kept rest m e)
     (c.refuse.ensures.value rest)
 
 pub returns-in-None-clause-value : goal.returns-in-None-clause-value
