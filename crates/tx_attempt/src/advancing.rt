@@ -59,6 +59,7 @@ fn opening(instr: &Instr, image: &CpuImage) -> Option<Begin>
 
 /// Opens one more begin, or closes the last one, where the instruction does. None closes the only one that is
 /// open.
+#[inline(always)]
 pub fn change_nest(nest: &mut Nest, instr: &Instr, opens: Option<Begin>)
     requires begins { is_some opens ≡ is_begun (entry_at instr.now.op.number) }
     requires depth { is_begun (entry_at instr.now.op.number) ≡ true → length nest.old < 16 }

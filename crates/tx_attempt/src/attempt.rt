@@ -476,6 +476,7 @@ impl Attempt {
 
     /// One instruction more is completed in a live attempt, which has stored these bytes and leaves a begin
     /// open; this is known of the CPU as it was before it.
+    #[inline(always)]
     pub fn advance(&mut self, instr: &Instr, need: &Touches, stored: &[u8], before: &Before)
         requires live { 0 < self.old.count }
         requires count { self.old.count + 1 < 2 ^ 32 }

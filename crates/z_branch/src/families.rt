@@ -49,6 +49,7 @@ fn count_down(w: Width, instr: &Instr, image: &CpuImage) -> u64
 }
 
 /// Branches where the mask selects the code.
+#[inline(always)]
 #[tactic(auto, unfolding(z_effect::specs::BranchEffect::branch_effect))]
 pub fn on_condition(place: Place, n: u8, instr: &Instr, image: &mut CpuImage)
     ensures { Sets (branch_effect (OnCondition place) n instr.now (cpu_of image.old)) n (cpu_of image.old)
@@ -60,6 +61,7 @@ pub fn on_condition(place: Place, n: u8, instr: &Instr, image: &mut CpuImage)
 }
 
 /// Counts R1 down and branches where it is not zero.
+#[inline(always)]
 #[tactic(auto, unfolding(z_effect::specs::BranchEffect::branch_effect))]
 pub fn on_count(place: Place, w: Width, n: u8, instr: &Instr, image: &mut CpuImage)
     ensures { Sets (branch_effect (OnCount place w) n instr.now (cpu_of image.old)) n (cpu_of image.old)

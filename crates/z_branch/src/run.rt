@@ -8,9 +8,10 @@ ghost use Rattle.z_effect.specs.After.{Sets, Executes};
 
 use crate::families;
 use tx_control::Exception;
+use z_arith::Width;
 use z_instr::format::length_in;
 use z_instr::instr::Instr;
-use z_instr::kind::{Branch, Kind};
+use z_instr::kind::{Branch, Kind, Place};
 use z_instr::lookup::{kind_of, line};
 use z_instr::op::Op;
 use z_regs::{Bytes, CpuImage};
@@ -23,7 +24,8 @@ pub fn is_mine(op: Op) -> bool
 }
 
 /// Does what the kind says.
-fn run(branch: Branch, n: u8, instr: &Instr, image: &mut CpuImage)
+#[inline(never)]
+fn run_any(branch: Branch, n: u8, instr: &Instr, image: &mut CpuImage)
     ensures { Sets (branch_effect branch n instr.now (cpu_of image.old)) n (cpu_of image.old)
         (cpu_of image.new) (Ok tt) }
 {
@@ -37,11 +39,30 @@ fn run(branch: Branch, n: u8, instr: &Instr, image: &mut CpuImage)
     }
 }
 
+/// The same, where relative branches on the code and on the count of a doubleword, which are frequent, have a way of their
+/// own.
+#[inline(always)]
+fn run(branch: Branch, n: u8, instr: &Instr, image: &mut CpuImage)
+    ensures { Sets (branch_effect branch n instr.now (cpu_of image.old)) n (cpu_of image.old)
+        (cpu_of image.new) (Ok tt) }
+{
+    match branch {
+        Branch::OnCondition(Place::Relative) => {
+            families::on_condition(Place::Relative, n, instr, image)
+        }
+        Branch::OnCount(Place::Relative, Width::Double) => {
+            families::on_count(Place::Relative, Width::Double, n, instr, image)
+        }
+        _ => run_any(branch, n, instr, image),
+    }
+}
+
 /// Executes an instruction whose operation has this kind, and which says where to go on. It touches no storage
 /// and raises no exception.
 ///
 /// Registers, condition code, program mask, state and the address of the next instruction become those that
 /// the definition of one instruction gives, at any nesting depth.
+#[inline(always)]
 pub fn execute_kind<V: Bytes>(
     kind: Branch,
     instr: &Instr,

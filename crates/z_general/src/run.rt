@@ -8,11 +8,13 @@ ghost use Rattle.z_effect.specs.After.{Sets, Executes};
 
 use crate::{controls, halfwords, pairs, results};
 use tx_control::Exception;
+use z_arith::Width;
 use z_instr::format::length_in;
 use z_instr::instr::Instr;
-use z_instr::kind::{General, Kind};
+use z_instr::kind::{General, Kind, Operation, Part, Source};
 use z_instr::lookup::{kind_of, line};
 use z_instr::op::Op;
+use z_instr::operand::Size;
 use z_regs::{Bytes, CpuImage};
 
 /// Whether an operation has no operand in storage, does not branch and is not about transactions: whether
@@ -24,11 +26,13 @@ pub fn is_mine(op: Op) -> bool
 }
 
 /// Does what a kind says to an instruction's registers.
-fn run(kind: General, n: u8, instr: &Instr, image: &mut CpuImage) -> Result<(), Exception>
+#[inline(never)]
+fn run_any(kind: General, n: u8, instr: &Instr, image: &mut CpuImage) -> Result<(), Exception>
     ensures { Sets (general_effect kind n instr.now (cpu_of image.old)) n (cpu_of image.old)
         (cpu_of image.new) result }
 {
     match kind {
+        General::Compute(Operation::Load, w, source) => results::load(w, source, n, instr, image),
         General::Compute(operation, w, source) => {
             results::compute(operation, w, source, n, instr, image)
         }
@@ -51,6 +55,28 @@ fn run(kind: General, n: u8, instr: &Instr, image: &mut CpuImage) -> Result<(), 
         General::SetProgramMask => controls::set_mask(n, instr, image),
         General::ExtractAccess => controls::extract_access(n, instr, image),
         General::SetAccess => controls::set_access(n, instr, image),
+    }
+}
+
+/// The same, where loading a register and adding an immediate to one, which are frequent, have a way of their own.
+#[inline(always)]
+fn run(kind: General, n: u8, instr: &Instr, image: &mut CpuImage) -> Result<(), Exception>
+    ensures { Sets (general_effect kind n instr.now (cpu_of image.old)) n (cpu_of image.old)
+        (cpu_of image.new) result }
+{
+    match kind {
+        General::Compute(
+            Operation::Load,
+            Width::Double,
+            Source::Second(Part::Plain(Size::Doubleword)),
+        ) => {
+            let source = Source::Second(Part::Plain(Size::Doubleword));
+            results::load(Width::Double, source, n, instr, image)
+        }
+        General::Compute(Operation::Add, Width::Double, Source::Immediate) => {
+            results::add_immediate(n, instr, image)
+        }
+        _ => run_any(kind, n, instr, image),
     }
 }
 

@@ -209,3 +209,9 @@ order_of_words n x y xs ys e f g h =
     (ap length (sym f) ∙ length-bytes_high_first n y)
     (subst (λ (l : List ℕ). (k : ℕ) → slice_index l k < 256) e (small_bytes n x))
     (subst (λ (l : List ℕ). (k : ℕ) → slice_index l k < 256) f (small_bytes n y)))
+
+-- two ranges of which the same number was read
+pub order_of_equal : (n x y : ℕ) (xs ys : List ℕ) → big_bytes n x ≡ xs → big_bytes n y ≡ ys
+    → x ≡ big_number n xs → y ≡ big_number n ys → x ≡ y → 0 ≡ order_of_bytes xs ys
+order_of_equal n x y xs ys e f g h same =
+    sym (code_equal x y same) ∙ order_of_words n x y xs ys e f g h

@@ -42,6 +42,7 @@ pub fn compute<V: Bytes>(
 }
 
 /// Puts the operand into R1.
+#[inline(always)]
 #[tactic(auto, using(crate::proofs::Ranges::fetched_stays), unfolding(z_effect::specs::StorageEffect::storage_effect, z_effect::specs::Operations::combined, z_instr::specs::Operands::spans_in))]
 pub fn load<V: Bytes>(
     w: Width,

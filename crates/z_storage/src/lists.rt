@@ -190,6 +190,9 @@ fn order_of_item(first: &[u8], second: &[u8], at: usize, count: u8) -> u8
 {
     let a = number_in(first, at, count);
     let b = number_in(second, at, count);
+    if a == b {
+        return 0;
+    }
     compare(Order::Logical, Width::Double, a, b)
 }
 

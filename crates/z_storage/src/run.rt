@@ -12,11 +12,13 @@ ghost use Rattle.z_storage.specs.Performs.{ranges, Performs};
 
 use crate::{fetched, lists, registers, stored};
 use tx_control::Exception;
+use z_arith::Width;
 use z_instr::format::length_in;
 use z_instr::instr::Instr;
-use z_instr::kind::{Kind, Operation, Storage};
+use z_instr::kind::{Kind, Operation, Part, Storage};
 use z_instr::lookup::{kind_of, line};
 use z_instr::op::Op;
+use z_instr::operand::Size;
 use z_regs::{Bytes, CpuImage};
 
 /// Whether an operation has an operand in storage and is not about transactions: whether [`execute`] is for
@@ -28,7 +30,8 @@ pub fn is_mine(op: Op) -> bool
 }
 
 /// Does what a kind says to an instruction's registers and storage.
-fn run<V: Bytes>(
+#[inline(never)]
+fn run_any<V: Bytes>(
     kind: Storage,
     n: u8,
     instr: &Instr,
@@ -69,6 +72,40 @@ fn run<V: Bytes>(
             lists::byte_by_byte(combination, n, instr, image, view)
         }
         Storage::CompareBytes => lists::compare_bytes(n, instr, image, view),
+    }
+}
+
+/// The same, where loading and storing a doubleword, which are frequent, have a way of their own.
+#[inline(always)]
+fn run<V: Bytes>(
+    kind: Storage,
+    n: u8,
+    instr: &Instr,
+    image: &mut CpuImage,
+    view: &mut V,
+) -> Result<(), Exception>
+    requires size { length (V.bytes view.old) ≡ storage_size }
+    requires lists { has_two_lists (storage_operands kind) ≡ true → is_within (bounds 0 256) instr.now.imm ≡
+        true }
+    requires inside { AreInside (ranges kind instr.now (cpu_of image.old)) (V.bytes view.old) }
+    ensures { Performs kind n instr.now (cpu_of image.old) (cpu_of image.new) (V.bytes view.old)
+        (V.bytes view.new) result }
+{
+    match kind {
+        Storage::Compute(Operation::Load, Width::Double, Part::Plain(Size::Doubleword)) => {
+            fetched::load(
+                Width::Double,
+                Part::Plain(Size::Doubleword),
+                n,
+                instr,
+                image,
+                view,
+            )
+        }
+        Storage::Store(Size::Doubleword) => {
+            stored::store_register(Size::Doubleword, n, instr, image, view)
+        }
+        _ => run_any(kind, n, instr, image, view),
     }
 }
 

@@ -19,6 +19,7 @@ use z_instr::operand::Size;
 use z_regs::{Bytes, CpuImage};
 
 /// Stores the rightmost bytes of R1.
+#[inline(always)]
 #[tactic(auto, using(crate::proofs::Ranges::whole_item), unfolding(z_effect::specs::StorageEffect::storage_effect, z_instr::specs::Operands::spans_in))]
 pub fn store_register<V: Bytes>(
     size: Size,
