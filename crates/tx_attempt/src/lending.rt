@@ -56,6 +56,7 @@ pub fn are_bare(attempt: &Attempt, need: &Touches, prefix: Option<u32>) -> bool
 }
 
 /// The bytes of storage from an address on, at most 256.
+#[inline(always)]
 pub fn fetch<V: Bytes>(bytes: &mut [u8], first: u64, base: &V)
     requires few { length bytes.old ≤ 256 }
     requires end { first + length bytes.old ≤ length (V.bytes base.now) }
@@ -67,6 +68,7 @@ pub fn fetch<V: Bytes>(bytes: &mut [u8], first: u64, base: &V)
 }
 
 /// The bytes that the attempt sees from a real address on, looked up one by one.
+#[inline(always)]
 fn see_bytes<V: Bytes>(
     attempt: &Attempt,
     bytes: &mut [u8],
@@ -102,6 +104,7 @@ pub fn see<V: Bytes>(attempt: &Attempt, bytes: &mut [u8], first: u64, prefix: Op
 }
 
 /// The bytes, at most 256, change places with those of storage from an address on.
+#[inline(always)]
 pub fn exchange<V: Bytes>(bytes: &mut [u8], first: u64, base: &mut V)
     requires few { length bytes.old ≤ 256 }
     requires end { first + length bytes.old ≤ length (V.bytes base.old) }
