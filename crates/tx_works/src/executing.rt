@@ -241,7 +241,7 @@ impl Works {
         self.perform(cpu, &plain.ready.instr, &need, turned);
     }
 
-    /// The same, inside a transaction mostly: of an instruction without an operand no more is asked.
+    /// The same, with a way of its own for an instruction that has no operand.
     #[inline(always)]
     fn execute_by_touch(&mut self, cpu: u32, plain: &Plain, turned: &mut Turned)
         requires cpu { cpu < length self.old.slots }
@@ -266,7 +266,7 @@ impl Works {
         }
     }
 
-    /// The same, of an instruction that may be about transactions, outside them.
+    /// The same, away from the shorter ways: of an instruction about transactions, or once a line has been asked for.
     #[inline(never)]
     pub(crate) fn execute_apart(&mut self, cpu: u32, plain: &Plain, turned: &mut Turned)
         requires cpu { cpu < length self.old.slots }
@@ -288,8 +288,8 @@ impl Works {
         self.execute_plainly(cpu, plain, turned);
     }
 
-    /// The CPU executes a plain instruction that is prepared, and whose line is there. Each case goes its own way, so that what
-    /// is known of it is not asked again.
+    /// The CPU executes a plain instruction that is prepared, and whose line is there. Each case goes its own way, so that
+    /// what is known of it is not asked again.
     #[inline(always)]
     pub(crate) fn perform_plainly(&mut self, cpu: u32, plain: &Plain, turned: &mut Turned)
         requires cpu { cpu < length self.old.slots }
