@@ -1,6 +1,6 @@
 //! Reports and summaries of machines against those of an independent model.
 
-use crate::machines::{Way, ran};
+use crate::machines::{Case, Look, Way, is_shown};
 use std::alloc::Global;
 use std::test::Fail;
 use tx_gen::generate;
@@ -8,7 +8,7 @@ use tx_meaning::limits::MOST_TURNS;
 use tx_report::{Machine, NoMemory, report, status, summary};
 
 /// One CPU has committed and is rejected now, one has a block to store, and one is in a transaction.
-static UNFINISHED: &str = " CPU ADDS
+const UNFINISHED: &str = " CPU ADDS
  CPU FAILS
  CPU NESTS
 ADDS LGHI 1,5
@@ -31,7 +31,7 @@ NESTS TBEGIN 0,X'FF00'
 ";
 
 /// The report of the independent model.
-static UNFINISHED_REPORT: &str = "\
+const UNFINISHED_REPORT: &str = "\
 ZTX REPORT
 STATUS 6
 CPU 0 RUNNING
@@ -80,7 +80,7 @@ END
 ";
 
 /// The short summary of the independent model for the number 0.
-static FIRST_SUMMARY: &str = "\
+const FIRST_SUMMARY: &str = "\
 SUMMARY 0
 CPUS 4
 STATUS 0
@@ -99,41 +99,41 @@ fn is_text(written: Result<Vec<u8>, NoMemory>, text: &str) -> bool {
 }
 
 /// Whether a machine has this report and this status.
-fn has_report(alloc: Global, machine: &Machine, text: &str, number: u8) -> bool {
-    let number_too = status(machine) == number;
-    is_text(report(alloc, machine), text) && number_too
-}
-
-/// Whether the run of a listing by its own schedule has this report and this status.
-fn is_reported(alloc: Global, listing: &str, text: &str, number: u8) -> Result<bool, Fail> {
-    let machine = ran(alloc, listing.as_bytes(), MOST_TURNS, Way::Given)?;
-    Ok(has_report(alloc, &machine, text, number))
+pub fn has_report(alloc: Global, machine: &Machine, text: &str, number: u8) -> bool {
+    status(machine) == number && is_text(report(alloc, machine), text)
 }
 
 /// Whether a machine of the generator's listing for a number has this summary and this status.
-fn has_summary(alloc: Global, of: u64, machine: &Machine, text: &str, number: u8) -> bool {
-    let number_too = status(machine) == number;
-    is_text(summary(alloc, of, machine), text) && number_too
+pub fn has_summary(alloc: Global, of: u64, machine: &Machine, text: &str, number: u8) -> bool {
+    status(machine) == number && is_text(summary(alloc, of, machine), text)
 }
 
-/// The machine of the generator's listing for a number behind its run in the round.
-fn ran_round(alloc: Global, of: u64) -> Result<Machine, Fail> {
-    let listing = generate(alloc, of)?;
-    ran(alloc, listing.as_slice(), MOST_TURNS, Way::Round)
-}
+/// By its own schedule.
+const UNFINISHED_CASE: Case = Case {
+    turns: MOST_TURNS,
+    way: Way::Given,
+    look: Look::Report(UNFINISHED_REPORT, 6),
+};
 
-/// Whether that machine has this summary and this status.
-fn is_summed(alloc: Global, of: u64, text: &str, number: u8) -> Result<bool, Fail> {
-    let machine = ran_round(alloc, of)?;
-    Ok(has_summary(alloc, of, &machine, text, number))
+/// In the round.
+const FIRST_CASE: Case = Case {
+    turns: MOST_TURNS,
+    way: Way::Round,
+    look: Look::Summary(0, FIRST_SUMMARY, 0),
+};
+
+/// Whether the machine of the generator's listing for 0 has its summary.
+fn is_summed(alloc: Global) -> Option<bool> {
+    let listing = generate(alloc, 0).ok()?;
+    is_shown(alloc, listing.as_slice(), FIRST_CASE)
 }
 
 #[test]
 fn reports_and_summaries(rt: HostRuntime) -> Result<(), Fail> {
     let right = [
-        is_reported(rt.alloc(), UNFINISHED, UNFINISHED_REPORT, 6)?,
-        is_summed(rt.alloc(), 0, FIRST_SUMMARY, 0)?,
+        is_shown(rt.alloc(), UNFINISHED.as_bytes(), UNFINISHED_CASE),
+        is_summed(rt.alloc()),
     ];
-    assert_eq!(rt; right, [true; 2]);
+    assert_eq!(rt; right, [Some(true); 2]);
     Ok(())
 }
