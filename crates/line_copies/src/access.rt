@@ -185,9 +185,24 @@ impl CoherentLines {
         ensures cpus { self.new.cpus ≡ self.old.cpus }
         ensures modes { self.new.modes ≡ self.old.modes }
     {
+        if count == 8 {
+            return self.store_across(address, &value.to_be_bytes());
+        }
+        self.store_part(address, count, value);
+    }
+
+    /// The same, away from the way of whole doublewords.
+    #[inline(never)]
+    fn store_part(&mut self, address: u32, count: u8, value: u64)
+        requires low { 1 ≤ count }
+        requires high { count ≤ 8 }
+        requires inside { address + count ≤ storage_size }
+        ensures bytes { self.new.bytes ≡ written self.old.bytes address (big_bytes count value) }
+        ensures cpus { self.new.cpus ≡ self.old.cpus }
+        ensures modes { self.new.modes ≡ self.old.modes }
+    {
         let item = value.to_be_bytes();
         match count {
-            8 => self.store_across(address, &item),
             4 => self.store_across(address, &item[4..]),
             2 => self.store_across(address, &item[6..]),
             1 => self.store_across(address, &item[7..]),

@@ -451,6 +451,22 @@ impl Cpu {
         self.execute_with(instr, need, &mut [0; MOST_BYTES], base)
     }
 
+    /// Executes an instruction as `execute` does, where an attempt is known to be live.
+    #[inline(always)]
+    pub fn execute_live<V: Bytes>(&mut self, instr: &Instr, need: &Touches, base: &mut V) -> Done
+        requires live { is_live (local_of self.old).attempt ≡ true }
+        requires prepared { IsPrepared (local_of self.old).attempt instr.now need.now }
+        requires count { (local_of self.old).attempt.count + 1 < 2 ^ 32 }
+        requires size { length (V.bytes base.old) ≡ storage_size }
+        ensures value { record { after = beside self.new (V.bytes base.new); told = result } ≡
+            executed instr.now need.now (beside self.old (V.bytes base.old)) }
+        ensures code { HasDoneRoom result }
+        ensures size { length (V.bytes base.new) ≡ storage_size }
+    {
+        self.attempt.is_sound();
+        self.execute_inside(instr, need, base)
+    }
+
     /// Executes an instruction that `prepare` has found to go, with its operands, and tells what came of it.
     /// Where it ends its transaction by a cause, nothing is aborted yet, and a program exception among these
     /// leaves room for the bit that an abort adds to its code.
@@ -466,7 +482,7 @@ impl Cpu {
     {
         self.attempt.is_sound();
         if self.attempt.is_live() {
-            return self.execute_inside(instr, need, base);
+            return self.execute_live(instr, need, base);
         }
         if begins(instr.op) {
             return self.execute_begin(instr, need, base);

@@ -16,7 +16,7 @@ ghost use Rattle.tx_lines.specs.Owned.{Owned, holders_in, with_lines};
 ghost use Rattle.tx_lines.specs.Spare.{is_unused, lowest_spare, granted};
 ghost use Rattle.tx_lines.specs.Next.{next_against, stands_against};
 
-use crate::windows::{abort_in, execute_in, store_block_in, take_in};
+use crate::windows::{abort_in, execute_in, execute_live_in, store_block_in, take_in};
 use line_copies::{CoherentLines, Handback};
 use line_table::{MOST_HELD, Mode};
 use std::alloc::Global;
@@ -219,6 +219,35 @@ impl Lines {
         ensures held { holders_in self.new ≡ holders_in self.old }
     {
         let Handback { value, .. } = execute_in::<Brand>(&mut self.lines, number, cpu, instr, need);
+        value
+    }
+
+    /// Executes an instruction as `execute` does, where an attempt of the CPU is known to be live.
+    #[inline(always)]
+    pub fn execute_live(
+        &mut self,
+        number: u32,
+        cpu: &mut Cpu,
+        instr: &Instr,
+        need: &Touches,
+    ) -> Done
+        requires number { number < self.old.cpus }
+        requires live { is_live (local_of cpu.old).attempt ≡ true }
+        requires prepared { IsPrepared (local_of cpu.old).attempt instr.now need.now }
+        requires count { (local_of cpu.old).attempt.count + 1 < 2 ^ 32 }
+        ensures value { record { after = with_lines cpu.new self.new; told = result } ≡
+            executed instr.now need.now (with_lines cpu.old self.old) }
+        ensures code { HasDoneRoom result }
+        ensures cpus { self.new.cpus ≡ self.old.cpus }
+        ensures held { holders_in self.new ≡ holders_in self.old }
+    {
+        let Handback { value, .. } = execute_live_in::<Brand>(
+            &mut self.lines,
+            number,
+            cpu,
+            instr,
+            need,
+        );
         value
     }
 

@@ -169,6 +169,7 @@ fn advance(
 }
 
 /// One turn more, of a CPU that is ready.
+#[inline(always)]
 fn advance_ready(
     program: &Program,
     limits: Limits,
@@ -271,6 +272,7 @@ impl Machine {
 
     /// One turn more, of a CPU that is ready: what `event` makes of it, and whether it is ready is not asked again. It takes no
     /// memory, and no run leaves or comes home by it. Behind it holds what holds behind every event.
+    #[inline(always)]
     pub fn turn(&mut self, cpu: u32) -> Outcome
         requires known { cpu < length self.old.image.cpus }
         requires ready { is_ready (setting_of self.old) (state_of self.old) cpu ≡ true }

@@ -45,6 +45,7 @@ impl Runnable for Machine {
         let _outcome = self.event(e);
     }
 
+    #[inline(always)]
     fn take_turn(&mut self, cpu: u32) {
         let _outcome = self.turn(cpu);
     }

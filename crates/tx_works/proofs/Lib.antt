@@ -5,6 +5,7 @@ pub mod Changed
 pub mod Leaves
 pub mod Against
 pub mod Questions
+pub mod Running
 pub mod Granted
 pub mod Made
 pub mod Climbing

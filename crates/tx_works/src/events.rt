@@ -27,6 +27,7 @@ pub fn is_tick(limits: Limits, turns: u32) -> bool
 
 impl Works {
     /// A turn that is counted: a tick comes, or the program waits, or the CPU acts.
+    #[inline(always)]
     fn counted_turn(&mut self, cpu: u32, program: &Program, limits: Limits, turned: &mut Turned)
         requires cpu { cpu < length self.old.slots }
         requires turns { (rest : Seat) (limits : RunLimits) →
@@ -50,6 +51,7 @@ impl Works {
     }
 
     /// A turn of a CPU that is not idle: it is recorded and counted.
+    #[inline(always)]
     pub fn turn(&mut self, cpu: u32, program: &Program, limits: Limits) -> Turned
         requires cpu { cpu < length self.old.slots }
         requires cpus { length program.now.cpus ≡ length self.old.slots }

@@ -51,6 +51,26 @@ impl Works {
         self.lines.execute(cpu, &mut slot.cpu, instr, need)
     }
 
+    /// The same, where an attempt of the CPU is known to be live.
+    #[inline(always)]
+    fn run_live(&mut self, cpu: u32, instr: &Instr, need: &Touches) -> Done
+        requires cpu { cpu < length self.old.slots }
+        requires live { (rest : Seat) → is_live (kept_by rest self.old).state cpu ≡ true }
+        requires prepared { (rest : Seat) →
+            IsPrepared ((kept_by rest self.old).locals cpu).attempt instr.now need.now }
+        requires counts { (rest : Seat) → let n = (kept_by rest self.old).state.numbers cpu in
+            n.completed < n.turns }
+        ensures told { (rest : Seat) → let k = kept_by rest self.old in
+            result ≡ (executed instr.now need.now (beside k cpu)).told }
+        ensures value { (rest : Seat) → let k = kept_by rest self.old in
+            kept_by rest self.new ≡ k_left cpu (executed instr.now need.now (beside k cpu)).after k }
+        ensures code { HasDoneRoom result }
+        ensures books { KeepsBooks self.old self.new }
+    {
+        let slot = &mut self.slots[cpu as usize];
+        self.lines.execute_live(cpu, &mut slot.cpu, instr, need)
+    }
+
     /// An attempt of this kind has begun.
     fn count_begin(&mut self, cpu: u32, constrained: bool)
         requires cpu { cpu < length self.old.slots }
@@ -92,7 +112,7 @@ impl Works {
         ensures size { IsSameSize self.old self.new }
     {
         let at = self.next_address(cpu);
-        match self.run(cpu, instr, need) {
+        match self.run_live(cpu, instr, need) {
             Done::Stepped => *turned = without_reject(Outcome::Executed),
             Done::Committed(count) => {
                 self.commit(cpu, count);
@@ -150,8 +170,8 @@ impl Works {
 
     /// The CPU executes an instruction that is prepared, and whose lines are there. What came of the turn is
     /// written where the caller keeps it.
-    #[inline(always)]
-    pub(crate) fn perform(&mut self, cpu: u32, instr: &Instr, need: &Touches, turned: &mut Turned)
+    #[inline(never)]
+    pub(crate) fn execute(&mut self, cpu: u32, instr: &Instr, need: &Touches, turned: &mut Turned)
         requires cpu { cpu < length self.old.slots }
         requires prepared { (rest : Seat) →
             IsPrepared ((kept_by rest self.old).locals cpu).attempt instr.now need.now }
@@ -173,101 +193,100 @@ impl Works {
         }
     }
 
-    /// The CPU executes an instruction that is prepared, and whose lines are there.
-    #[inline(never)]
-    pub(crate) fn execute(&mut self, cpu: u32, instr: &Instr, need: &Touches, turned: &mut Turned)
-        requires cpu { cpu < length self.old.slots }
-        requires prepared { (rest : Seat) →
-            IsPrepared ((kept_by rest self.old).locals cpu).attempt instr.now need.now }
-        requires rested { (rest : Seat) → let k = kept_by rest self.old in is_live k.state cpu ≡ false
-            → (k.locals cpu).attempt ≡ resting (k.locals cpu).cpu }
-        requires counts { (rest : Seat) → let n = (kept_by rest self.old).state.numbers cpu in
-            n.completed < n.turns }
-        requires begins { (rest : Seat) → let n = (kept_by rest self.old).state.numbers cpu in
-            n.attempts < n.turns }
-        requires room { length self.old.history < self.old.room }
-        ensures value { (rest : Seat) → turned_as (kept_by rest self.new) turned.new ≡
-            k_executing cpu instr.now need.now (kept_by rest self.old) }
-        ensures size { IsSameSize self.old self.new }
-    {
-        self.perform(cpu, instr, need, turned);
-    }
-
-    /// The CPU executes a plain instruction that is prepared, and whose line is there. Its operand is made here, so that a
-    /// way which does not read it makes none.
+    /// The CPU executes a plain instruction that is prepared, inside a transaction. Its operand is made here, so that a way which
+    /// does not read it makes none.
     #[inline(always)]
-    fn execute_plainly(&mut self, cpu: u32, plain: &Plain, turned: &mut Turned)
+    fn execute_plainly_inside(&mut self, cpu: u32, plain: &Plain, turned: &mut Turned)
         requires cpu { cpu < length self.old.slots }
+        requires live { (rest : Seat) → is_live (kept_by rest self.old).state cpu ≡ true }
         requires prepared { (rest : Seat) →
             IsPrepared ((kept_by rest self.old).locals cpu).attempt plain.now.ready.now.instr
             (touched_by plain.now.ready.now.shape.touch plain.now.first plain.now.ready.now.shape.size) }
-        requires rested { (rest : Seat) → let k = kept_by rest self.old in is_live k.state cpu ≡ false
-            → (k.locals cpu).attempt ≡ resting (k.locals cpu).cpu }
         requires counts { (rest : Seat) → let n = (kept_by rest self.old).state.numbers cpu in
             n.completed < n.turns }
-        requires begins { (rest : Seat) → let n = (kept_by rest self.old).state.numbers cpu in
-            n.attempts < n.turns }
         requires room { length self.old.history < self.old.room }
-        ensures value { (rest : Seat) → turned_as (kept_by rest self.new) turned.new ≡
-            k_executing cpu plain.now.ready.now.instr (touched_by plain.now.ready.now.shape.touch plain.now.first
-            plain.now.ready.now.shape.size) (kept_by rest self.old) }
+        ensures value { (rest : Seat) → let k = kept_by rest self.old in
+            let e = executed plain.now.ready.now.instr (touched_by plain.now.ready.now.shape.touch plain.now.first
+            plain.now.ready.now.shape.size) (beside k cpu) in
+            turned_as (kept_by rest self.new) turned.new ≡ k_inside cpu (next_address k cpu) e.after k e.told }
         ensures size { IsSameSize self.old self.new }
     {
         let need = operands_at(plain.ready.shape, plain.first);
-        self.perform(cpu, &plain.ready.instr, &need, turned);
+        self.execute_inside(cpu, &plain.ready.instr, &need, turned);
     }
 
     /// The same, of an instruction that has no operand.
     #[inline(always)]
-    fn execute_untouching(&mut self, cpu: u32, plain: &Plain, turned: &mut Turned)
+    fn execute_untouching_inside(&mut self, cpu: u32, plain: &Plain, turned: &mut Turned)
         requires cpu { cpu < length self.old.slots }
         requires nothing { is_nothing plain.now.ready.now.shape.touch ≡ true }
+        requires live { (rest : Seat) → is_live (kept_by rest self.old).state cpu ≡ true }
         requires prepared { (rest : Seat) →
             IsPrepared ((kept_by rest self.old).locals cpu).attempt plain.now.ready.now.instr
             (touched_by plain.now.ready.now.shape.touch plain.now.first plain.now.ready.now.shape.size) }
-        requires rested { (rest : Seat) → let k = kept_by rest self.old in is_live k.state cpu ≡ false
-            → (k.locals cpu).attempt ≡ resting (k.locals cpu).cpu }
         requires counts { (rest : Seat) → let n = (kept_by rest self.old).state.numbers cpu in
             n.completed < n.turns }
-        requires begins { (rest : Seat) → let n = (kept_by rest self.old).state.numbers cpu in
-            n.attempts < n.turns }
         requires room { length self.old.history < self.old.room }
-        ensures value { (rest : Seat) → turned_as (kept_by rest self.new) turned.new ≡
-            k_executing cpu plain.now.ready.now.instr (touched_by plain.now.ready.now.shape.touch plain.now.first
-            plain.now.ready.now.shape.size) (kept_by rest self.old) }
+        ensures value { (rest : Seat) → let k = kept_by rest self.old in
+            let e = executed plain.now.ready.now.instr (touched_by plain.now.ready.now.shape.touch plain.now.first
+            plain.now.ready.now.shape.size) (beside k cpu) in
+            turned_as (kept_by rest self.new) turned.new ≡ k_inside cpu (next_address k cpu) e.after k e.told }
         ensures size { IsSameSize self.old self.new }
     {
         let need = Touches::none();
-        self.perform(cpu, &plain.ready.instr, &need, turned);
+        self.execute_inside(cpu, &plain.ready.instr, &need, turned);
     }
 
     /// The same, with a way of its own for an instruction that has no operand.
     #[inline(always)]
-    fn execute_by_touch(&mut self, cpu: u32, plain: &Plain, turned: &mut Turned)
+    fn execute_inside_by_touch(&mut self, cpu: u32, plain: &Plain, turned: &mut Turned)
         requires cpu { cpu < length self.old.slots }
+        requires live { (rest : Seat) → is_live (kept_by rest self.old).state cpu ≡ true }
         requires prepared { (rest : Seat) →
             IsPrepared ((kept_by rest self.old).locals cpu).attempt plain.now.ready.now.instr
             (touched_by plain.now.ready.now.shape.touch plain.now.first plain.now.ready.now.shape.size) }
-        requires rested { (rest : Seat) → let k = kept_by rest self.old in is_live k.state cpu ≡ false
-            → (k.locals cpu).attempt ≡ resting (k.locals cpu).cpu }
+        requires counts { (rest : Seat) → let n = (kept_by rest self.old).state.numbers cpu in
+            n.completed < n.turns }
+        requires room { length self.old.history < self.old.room }
+        ensures value { (rest : Seat) → let k = kept_by rest self.old in
+            let e = executed plain.now.ready.now.instr (touched_by plain.now.ready.now.shape.touch plain.now.first
+            plain.now.ready.now.shape.size) (beside k cpu) in
+            turned_as (kept_by rest self.new) turned.new ≡ k_inside cpu (next_address k cpu) e.after k e.told }
+        ensures size { IsSameSize self.old self.new }
+    {
+        match plain.ready.shape.touch {
+            Touch::Nothing => self.execute_untouching_inside(cpu, plain, turned),
+            _ => self.execute_plainly_inside(cpu, plain, turned),
+        }
+    }
+
+    /// The CPU executes a plain instruction that is prepared, outside transactions.
+    #[inline(always)]
+    fn execute_plainly_outside(&mut self, cpu: u32, plain: &Plain, turned: &mut Turned)
+        requires cpu { cpu < length self.old.slots }
+        requires live { (rest : Seat) → is_live (kept_by rest self.old).state cpu ≡ false }
+        requires rested { (rest : Seat) → let local = (kept_by rest self.old).locals cpu in
+            local.attempt ≡ resting local.cpu }
+        requires prepared { (rest : Seat) →
+            IsPrepared ((kept_by rest self.old).locals cpu).attempt plain.now.ready.now.instr
+            (touched_by plain.now.ready.now.shape.touch plain.now.first plain.now.ready.now.shape.size) }
         requires counts { (rest : Seat) → let n = (kept_by rest self.old).state.numbers cpu in
             n.completed < n.turns }
         requires begins { (rest : Seat) → let n = (kept_by rest self.old).state.numbers cpu in
             n.attempts < n.turns }
         requires room { length self.old.history < self.old.room }
-        ensures value { (rest : Seat) → turned_as (kept_by rest self.new) turned.new ≡
-            k_executing cpu plain.now.ready.now.instr (touched_by plain.now.ready.now.shape.touch plain.now.first
-            plain.now.ready.now.shape.size) (kept_by rest self.old) }
+        ensures value { (rest : Seat) → let k = kept_by rest self.old in
+            let e = executed plain.now.ready.now.instr (touched_by plain.now.ready.now.shape.touch plain.now.first
+            plain.now.ready.now.shape.size) (beside k cpu) in
+            turned_as (kept_by rest self.new) turned.new ≡ k_outside cpu e.after k e.told }
         ensures size { IsSameSize self.old self.new }
     {
-        match plain.ready.shape.touch {
-            Touch::Nothing => self.execute_untouching(cpu, plain, turned),
-            _ => self.execute_plainly(cpu, plain, turned),
-        }
+        let need = operands_at(plain.ready.shape, plain.first);
+        self.execute_outside(cpu, &plain.ready.instr, &need, turned);
     }
 
-    /// The same, away from the shorter ways: of an instruction about transactions, or once a line has been asked for.
-    #[inline(never)]
+    /// The CPU executes a plain instruction that is prepared, and whose line is there, away from the shorter ways: one about
+    /// transactions, or one whose line has been asked for.
     pub(crate) fn execute_apart(&mut self, cpu: u32, plain: &Plain, turned: &mut Turned)
         requires cpu { cpu < length self.old.slots }
         requires prepared { (rest : Seat) →
@@ -285,7 +304,8 @@ impl Works {
             plain.now.ready.now.shape.size) (kept_by rest self.old) }
         ensures size { IsSameSize self.old self.new }
     {
-        self.execute_plainly(cpu, plain, turned);
+        let need = operands_at(plain.ready.shape, plain.first);
+        self.execute(cpu, &plain.ready.instr, &need, turned);
     }
 
     /// The CPU executes a plain instruction that is prepared, and whose line is there. Each case goes its own way, so that
@@ -309,11 +329,11 @@ impl Works {
         ensures size { IsSameSize self.old self.new }
     {
         if self.is_live(cpu) {
-            return self.execute_by_touch(cpu, plain, turned);
+            return self.execute_inside_by_touch(cpu, plain, turned);
         }
         match kind_of(plain.ready.instr.op) {
             Kind::Transaction(_) => self.execute_apart(cpu, plain, turned),
-            _ => self.execute_plainly(cpu, plain, turned),
+            _ => self.execute_plainly_outside(cpu, plain, turned),
         }
     }
 }

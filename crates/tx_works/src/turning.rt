@@ -209,6 +209,7 @@ impl Works {
     }
 
     /// A plain instruction that goes: it is executed at once where the line of its operand is there.
+    #[inline(always)]
     fn go_plainly(&mut self, cpu: u32, plain: &Plain, program: &Program, turned: &mut Turned)
         requires cpu { cpu < length self.old.slots }
         requires turns { (rest : Seat) (limits : RunLimits) →
@@ -394,6 +395,7 @@ impl Works {
 
     /// A turn that is neither a tick nor waits. Mostly nothing is left to do before the next instruction, and that is plain, which
     /// is seen at once.
+    #[inline(always)]
     pub(crate) fn act(&mut self, cpu: u32, program: &Program, turned: &mut Turned)
         requires cpu { cpu < length self.old.slots }
         requires turns { (rest : Seat) (limits : RunLimits) →

@@ -1,35 +1,13 @@
 -- Each case may be executed, and what it leaves and tells is what the instruction does.
 use Rattle.std.proofs.Common.{◌≡◌, true, false, sym, ap, subst, ◌∙◌}
 use Rattle.std.specs.Prelude.{nat_lt}
-use Rattle.tx_progress.proofs.Moving.{executed_is, executed_live}
-use Rattle.tx_progress.specs.Doing.{Executed}
+use Rattle.tx_progress.proofs.Moving.{executed_is}
 use Rattle.tx_progress.specs.Progress.{Progress}
 use Rattle.tx_cpu.specs.Parts.{Parts, beside}
 use Rattle.tx_attempt.specs.Tracked.{IsSound}
 use Rattle.tx_cpu.proofs.Preparing.{may-go}
-use Rattle.tx_cpu.proofs.SmallCodes.{executed-room}
 use Rattle.tx_progress.proofs.Parts.{not_live}
 use Rattle.tx_cpu.proofs.one.Cpu.execute.Goals as goal
-
-pub execute_inside-requires-clause-goes : goal.execute_inside-requires-clause-goes
-execute_inside-requires-clause-goes g c =
-    may-go c.args.self.now.attempt c.args.self.now.image c.args.instr.now c.args.need.now
-    (subst (λ (p : Parts). IsSound p.attempt) c.self.view_is c.is_sound.ensures.sound) c.requires.prepared
-
-pub returns-then-is_live-clause-value : goal.returns-then-is_live-clause-value
-returns-then-is_live-clause-value g c =
-    let live : nat_lt 0 c.args.self.now.attempt.count ≡ true =
-    sym (ap (λ (p : Parts). nat_lt 0 p.attempt.count) c.self.view_is) ∙ sym c.is_live.ensures
-    ∙ c.if-is_live.true in
-    c.execute_inside.ensures.value
-    ∙ sym (executed_live c.args.instr.now c.args.need.now
-    (beside c.args.self.now (g.V.Bytes.bytes c.args.base.now)) live)
-
-pub returns-then-is_live-clause-code : goal.returns-then-is_live-clause-code
-returns-then-is_live-clause-code g c =
-    executed-room c.args.instr.now c.args.need.now
-    (beside c.args.self.now (g.V.Bytes.bytes c.args.base.now)) c.execute_inside.result
-    (ap (λ (x : Executed). x.told) (returns-then-is_live-clause-value g c))
 
 pub execute_begin-requires-clause-need : goal.execute_begin-requires-clause-need
 execute_begin-requires-clause-need g c =

@@ -1,13 +1,11 @@
 -- What the instruction leaves of the CPU and of storage, and what it tells.
-use Rattle.std.proofs.Common.{◌<◌, ◌≤◌, refl, sym, ap, subst, ◌∙◌, arith}
+use Rattle.std.proofs.Common.{refl, ap, ◌∙◌}
 use Rattle.tx_progress.specs.Local.{Beside}
 use Rattle.tx_progress.specs.Doing.{Executed, executed}
-use Rattle.tx_lines.specs.Parts.{local_of}
-use Rattle.tx_lines.specs.Plans.{IsPrepared}
-use Rattle.tx_works.specs.Works.{Seat}
 use Rattle.tx_works.specs.contracts.slot.Slot.{the_view}
 use Rattle.tx_works.specs.contracts.works.Works as works
-use Rattle.tx_works.proofs.Seats.{IsAt, seat-is, beside-is, left-is, no_seat, executed-counted}
+use Rattle.tx_works.proofs.Seats.{IsAt, beside-is, left-is, no_seat, executed-counted}
+use Rattle.tx_works.proofs.Running.{at-prepared, at-few, at-count}
 use Rattle.tx_works.proofs.works.Works.run.Goals as goal
 
 pub execute-requires-clause-prepared : goal.execute-requires-clause-prepared
@@ -19,10 +17,8 @@ execute-requires-clause-prepared c =
       known = c.requires.cpu;
       is = c.slot.view_is ∙ c.index_mut-slot.ensures.value;
     } in
-    let s = the_view c.slot.inside in
-    subst (λ (s : Seat). IsPrepared (local_of s.cpu).attempt c.args.instr.now c.args.need.now)
-    (sym (seat-is (works.the_view c.self.inside) c.args.self.now c.args.cpu s no_seat at))
-    (c.requires.prepared no_seat)
+    at-prepared (works.the_view c.self.inside) c.args.self.now c.args.cpu (the_view c.slot.inside) at
+    c.args.instr.now c.args.need.now (c.requires.prepared no_seat)
 
 pub execute-requires-clause-count : goal.execute-requires-clause-count
 execute-requires-clause-count c =
@@ -33,13 +29,8 @@ execute-requires-clause-count c =
       known = c.requires.cpu;
       is = c.slot.view_is ∙ c.index_mut-slot.ensures.value;
     } in
-    let s = the_view c.slot.inside in
-    let few : (local_of s.cpu).attempt.count < s.tally.turns =
-    subst (λ (s : Seat). (local_of s.cpu).attempt.count < s.tally.turns)
-    (sym (seat-is (works.the_view c.self.inside) c.args.self.now c.args.cpu s no_seat at))
-    (c.requires.counts no_seat) in
-    let most : s.tally.turns ≤ 200000 = c.slot.invariant.turns in
-    omega arith
+    at-count (works.the_view c.self.inside) c.args.self.now c.args.cpu (the_view c.slot.inside) at
+    (c.requires.counts no_seat) c.slot.invariant.turns
 
 pub invariant_of-slot : goal.invariant_of-slot
 invariant_of-slot c =
@@ -51,10 +42,7 @@ invariant_of-slot c =
       is = c.slot.view_is ∙ c.index_mut-slot.ensures.value;
     } in
     let s = the_view c.slot.inside in
-    let few : (local_of s.cpu).attempt.count < s.tally.turns =
-    subst (λ (s : Seat). (local_of s.cpu).attempt.count < s.tally.turns)
-    (sym (seat-is (works.the_view c.self.inside) c.args.self.now c.args.cpu s no_seat at))
-    (c.requires.counts no_seat) in
+    let few = at-few (works.the_view c.self.inside) c.args.self.now c.args.cpu s at (c.requires.counts no_seat) in
     executed-counted s (record s { cpu = c.execute.new.cpu }) c.args.instr.now c.args.need.now
     c.self.inside.lines c.execute.new.self c.slot.invariant refl few
     (ap (λ (e : Executed). e.after) c.execute.ensures.value)
@@ -68,10 +56,9 @@ returns-clause-told c rest =
       known = c.requires.cpu;
       is = c.slot.view_is ∙ c.index_mut-slot.ensures.value;
     } in
-    let s = the_view c.slot.inside in
     ap (λ (e : Executed). e.told) c.execute.ensures.value
     ∙ ap (λ (b : Beside). (executed c.args.instr.now c.args.need.now b).told)
-    (beside-is rest (works.the_view c.self.inside) c.args.self.now c.args.cpu s at)
+    (beside-is rest (works.the_view c.self.inside) c.args.self.now c.args.cpu (the_view c.slot.inside) at)
 
 pub returns-clause-value : goal.returns-clause-value
 returns-clause-value c rest =

@@ -2,13 +2,15 @@
 use Rattle.std.proofs.Common.{List, sym, ap, subst, ◌∙◌}
 use Rattle.z_regs.specs.declared.ranges.Range.{Range}
 use Rattle.tx_lines.specs.Plans.{IsPrepared}
-use Rattle.tx_keeping.specs.Turn.{k_executing}
+use Rattle.tx_progress.specs.Doing.{executed}
+use Rattle.tx_keeping.specs.Kept.{beside}
+use Rattle.tx_keeping.specs.Turn.{k_inside, next_address}
 use Rattle.tx_works.specs.Works.{kept_by}
 use Rattle.tx_works.proofs.Plainly.{nothing-touched}
-use Rattle.tx_works.proofs.works.Works.execute_untouching.Goals as goal
+use Rattle.tx_works.proofs.works.Works.execute_untouching_inside.Goals as goal
 
-pub perform-requires-clause-prepared : goal.perform-requires-clause-prepared
-perform-requires-clause-prepared c rest =
+pub execute_inside-requires-clause-prepared : goal.execute_inside-requires-clause-prepared
+execute_inside-requires-clause-prepared c rest =
     let k = kept_by rest c.args.self.now in
     let ready = c.args.plain.now.ready.now in
     let none = c.none-need.ensures
@@ -18,8 +20,10 @@ perform-requires-clause-prepared c rest =
 
 pub returns-clause-value : goal.returns-clause-value
 returns-clause-value c rest =
+    let k = kept_by rest c.args.self.now in
     let ready = c.args.plain.now.ready.now in
     let none = c.none-need.ensures
     ∙ sym (nothing-touched ready.shape.touch c.args.plain.now.first ready.shape.size c.requires.nothing) in
-    c.perform.ensures.value rest
-    ∙ ap (λ (need : List Range). k_executing c.args.cpu ready.instr need (kept_by rest c.args.self.now)) none
+    c.execute_inside.ensures.value rest
+    ∙ ap (λ (need : List Range). let e = executed ready.instr need (beside k c.args.cpu) in
+    k_inside c.args.cpu (next_address k c.args.cpu) e.after k e.told) none

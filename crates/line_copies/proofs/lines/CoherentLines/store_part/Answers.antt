@@ -2,7 +2,7 @@ use Rattle.std.proofs.Common.{ap, ◌∙◌, arith}
 use Rattle.byteorder.specs.Endian.{big_bytes}
 use Rattle.z_regs.specs.Written.{written}
 use Rattle.z_regs.proofs.Items.{slice_rightmost}
-use Rattle.line_copies.proofs.lines.CoherentLines.store_word.Goals as goal
+use Rattle.line_copies.proofs.lines.CoherentLines.store_part.Goals as goal
 
 pub returns-in_default-clause-bytes : goal.returns-in_default-clause-bytes
 returns-in_default-clause-bytes c =

@@ -4,16 +4,16 @@ use Rattle.z_regs.specs.declared.ranges.Range.{Range}
 use Rattle.tx_lines.specs.Plans.{IsPrepared}
 use Rattle.tx_keeping.specs.Turn.{k_executing}
 use Rattle.tx_works.specs.Works.{kept_by}
-use Rattle.tx_works.proofs.works.Works.execute_plainly.Goals as goal
+use Rattle.tx_works.proofs.works.Works.execute_apart.Goals as goal
 
-pub perform-requires-clause-prepared : goal.perform-requires-clause-prepared
-perform-requires-clause-prepared c rest =
+pub execute-requires-clause-prepared : goal.execute-requires-clause-prepared
+execute-requires-clause-prepared c rest =
     let k = kept_by rest c.args.self.now in
     subst (λ (need : List Range). IsPrepared (k.locals c.args.cpu).attempt c.args.plain.now.ready.now.instr need)
     (sym c.operands_at-need.ensures) (c.requires.prepared rest)
 
 pub returns-clause-value : goal.returns-clause-value
 returns-clause-value c rest =
-    c.perform.ensures.value rest
+    c.execute.ensures.value rest
     ∙ ap (λ (need : List Range). k_executing c.args.cpu c.args.plain.now.ready.now.instr need
     (kept_by rest c.args.self.now)) c.operands_at-need.ensures

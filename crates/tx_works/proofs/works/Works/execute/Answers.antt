@@ -4,7 +4,7 @@ use Rattle.tx_progress.specs.Doing.{executed}
 use Rattle.tx_keeping.specs.Kept.{beside}
 use Rattle.tx_keeping.specs.Turn.{k_executing, k_done}
 use Rattle.tx_works.specs.Works.{kept_by}
-use Rattle.tx_works.proofs.works.Works.perform.Goals as goal
+use Rattle.tx_works.proofs.works.Works.execute.Goals as goal
 
 pub returns-then-is_live-clause-value : goal.returns-then-is_live-clause-value
 unfolding k_executing
