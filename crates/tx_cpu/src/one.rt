@@ -23,7 +23,7 @@ ghost use Rattle.std.specs.FinSet.{items};
 ghost use Rattle.tx_cpu.specs.Parts.{local_of, beside, goes_on_as};
 ghost use Rattle.store_cache.specs.Overlay.{has_block, with_one};
 ghost use Rattle.tx_attempt.specs.Storages.{storage_of};
-ghost use Rattle.tx_cpu.specs.Going.{MayGo};
+ghost use Rattle.tx_cpu.specs.Going.{MayGo, told_or};
 ghost use Rattle.tx_cpu.specs.Plans.{fate_of, levels_of, HasRoom, HasPlanRoom};
 ghost use Rattle.tx_serial.specs.Flat.{address_of};
 ghost use Rattle.tx_cpu.specs.Plans.{IsPrepared, IsPlanPrepared, HasDoneRoom};
@@ -384,27 +384,30 @@ impl Cpu {
         }
     }
 
-    /// Executes an instruction inside a transaction, with room for the bytes of its first operand. One that is not about
-    /// transactions opens and closes no begin, so nothing is asked of the CPU before it but its prefix.
+    /// Executes an instruction inside a transaction, with room for the bytes of its first operand, and says whether it is simply
+    /// completed; else `aside` has what came of it. One that is not about transactions opens and closes no begin, so nothing is
+    /// asked of the CPU before it but its prefix.
     fn execute_with<V: Bytes>(
         &mut self,
         instr: &Instr,
         need: &Touches,
         stored: &mut [u8],
         base: &mut V,
-    ) -> Done
+        aside: &mut Done,
+    ) -> bool
         requires live { is_live (local_of self.old).attempt ≡ true }
         requires goes { MayGo self.old.attempt self.old.image instr.now need.now }
         requires count { (local_of self.old).attempt.count + 1 < 2 ^ 32 }
         requires room { (get_or need.now 0 no_range).length ≤ length stored.old }
         requires size { length (V.bytes base.old) ≡ storage_size }
-        ensures value { record { after = beside self.new (V.bytes base.new); told = result } ≡
+        ensures value { record { after = beside self.new (V.bytes base.new); told = told_or result aside.new } ≡
             inside instr.now need.now (beside self.old (V.bytes base.old))
             (outcome_by (storage_of (V.bytes base.old)) instr.now need.now (local_of self.old).attempt) }
         ensures size { length (V.bytes base.new) ≡ storage_size }
     {
         if transaction_of(instr.op).is_some() {
-            return self.execute_nested(instr, need, stored, base);
+            *aside = self.execute_nested(instr, need, stored, base);
+            return false;
         }
         self.attempt.is_sound();
         let prefix = self.image.prefix;
@@ -413,23 +416,56 @@ impl Cpu {
             Ended::Completed => {
                 self.attempt.advance_plainly(need, stored, prefix);
                 self.attempt.is_sound();
-                Done::Stepped
+                true
             }
             Ended::Exceeded => {
                 self.attempt.advance_plainly(need, stored, prefix);
                 let overflow = exception(FIXED_POINT_OVERFLOW, length_in(line(instr.op).format));
-                Done::Ended(cause_in(self.attempt.nest(), overflow))
+                *aside = Done::Ended(cause_in(self.attempt.nest(), overflow));
+                false
             }
             Ended::Suppressed => {
                 let divide = exception(FIXED_POINT_DIVIDE, length_in(line(instr.op).format));
-                Done::Ended(cause_in(self.attempt.nest(), divide))
+                *aside = Done::Ended(cause_in(self.attempt.nest(), divide));
+                false
             }
-            Ended::Aborting(code) => Done::Ended(Why::Tabort(code)),
+            Ended::Aborting(code) => {
+                *aside = Done::Ended(Why::Tabort(code));
+                false
+            }
         }
     }
 
-    /// Executes an instruction inside a transaction. Most have no operand in storage, or one of at most eight
-    /// bytes.
+    /// The same, with the room that the first operand needs. Most instructions have no operand in storage, or one of at most
+    /// eight bytes.
+    #[inline(always)]
+    fn execute_sized<V: Bytes>(
+        &mut self,
+        instr: &Instr,
+        need: &Touches,
+        base: &mut V,
+        aside: &mut Done,
+    ) -> bool
+        requires live { is_live (local_of self.old).attempt ≡ true }
+        requires goes { MayGo self.old.attempt self.old.image instr.now need.now }
+        requires count { (local_of self.old).attempt.count + 1 < 2 ^ 32 }
+        requires size { length (V.bytes base.old) ≡ storage_size }
+        ensures value { record { after = beside self.new (V.bytes base.new); told = told_or result aside.new } ≡
+            inside instr.now need.now (beside self.old (V.bytes base.old))
+            (outcome_by (storage_of (V.bytes base.old)) instr.now need.now (local_of self.old).attempt) }
+        ensures size { length (V.bytes base.new) ≡ storage_size }
+    {
+        let most = operand(need, 0).length;
+        if most == 0 {
+            return self.execute_with(instr, need, &mut [0; 0], base, aside);
+        }
+        if most <= 8 {
+            return self.execute_with(instr, need, &mut [0; 8], base, aside);
+        }
+        self.execute_with(instr, need, &mut [0; MOST_BYTES], base, aside)
+    }
+
+    /// Executes an instruction inside a transaction.
     #[inline(always)]
     fn execute_inside<V: Bytes>(&mut self, instr: &Instr, need: &Touches, base: &mut V) -> Done
         requires live { is_live (local_of self.old).attempt ≡ true }
@@ -441,14 +477,11 @@ impl Cpu {
             (outcome_by (storage_of (V.bytes base.old)) instr.now need.now (local_of self.old).attempt) }
         ensures size { length (V.bytes base.new) ≡ storage_size }
     {
-        let most = operand(need, 0).length;
-        if most == 0 {
-            return self.execute_with(instr, need, &mut [0; 0], base);
+        let mut aside = Done::Stepped;
+        if self.execute_sized(instr, need, base, &mut aside) {
+            return Done::Stepped;
         }
-        if most <= 8 {
-            return self.execute_with(instr, need, &mut [0; 8], base);
-        }
-        self.execute_with(instr, need, &mut [0; MOST_BYTES], base)
+        aside
     }
 
     /// Executes an instruction as `execute` does, where an attempt is known to be live.

@@ -187,7 +187,7 @@ fn keeps_limits(attempt: &Attempt, ready: &Ready, at: u64, first: u64) -> bool
 }
 
 /// Whether a live attempt admits the next instruction of its CPU, whose operand is reached.
-#[inline(never)]
+#[inline(always)]
 fn admits_inside(attempt: &Attempt, image: &CpuImage, ready: &Ready, first: u64) -> bool
     requires prefix { image.now.prefix ≡ None }
     requires ends { image.now.address + 6 ≤ storage_size }
