@@ -7,6 +7,3 @@ mod race;
 mod top;
 
 pub use top::{sure_top, ztx_top};
-
-#[cfg(test)]
-mod tests;

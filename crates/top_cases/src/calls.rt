@@ -1,11 +1,9 @@
 //! The top call on its commands, and on sources and sinks that fail.
-use crate::{sure_top, ztx_top};
 use std::alloc::{AllocError, Global};
-use std::sync::Wait;
 use std::test::Fail;
-use std::thread::Threads;
 use tx_race::OpenGate;
 use ztx_io::{MemorySink, MemorySource, SureSink, SureSource};
+use ztx_top::{sure_top, ztx_top};
 
 /// A transaction that stores, and one on another CPU that loads from the same line.
 const CONFLICT: &str = " CPU P
@@ -280,76 +278,44 @@ fn words_of(alloc: Global, line: &str) -> Result<Vec<String>, AllocError> {
     Ok(words)
 }
 
-/// The input in pieces of 16 bytes, where the call of this number fails; 0 for none.
-fn source_of(alloc: Global, input: &str, fails: u64) -> Result<MemorySource, AllocError> {
-    Ok(MemorySource::new(
-        input.as_bytes().to_vec(alloc)?,
-        16,
-        vec![in alloc; fails; 1]?,
-    ))
+/// The words of a case, its input in pieces of 16 bytes, and a sink that takes 16 at most. The read and the write with
+/// these numbers fail; 0 for none.
+#[derive(Drop)]
+struct Trial {
+    words: Vec<String>,
+    source: MemorySource,
+    sink: MemorySink,
 }
 
-/// A sink that takes 16 bytes at most, where the call of this number fails; 0 for none.
-fn sink_of(alloc: Global, fails: u64) -> Result<MemorySink, AllocError> {
-    Ok(MemorySink::new(alloc, 16, vec![in alloc; fails; 1]?))
-}
-
-/// What comes of these words over this source and this sink, beside a text.
-fn called<R: Threads + Wait + Sync>(
-    rt: &R,
-    alloc: Global,
-    words: &[String],
-    source: &mut MemorySource,
-    sink: &mut MemorySink,
-    text: &str,
-) -> Told {
-    let status = ztx_top(rt, alloc, words, source, sink, &OpenGate);
-    told(status, sink.taken(), text)
-}
-
-/// What comes of a case whose read and whose write with these numbers fail; 0 for none.
-fn call<R: Threads + Wait + Sync>(
-    rt: &R,
-    alloc: Global,
-    case: Case,
-    read: u64,
-    write: u64,
-) -> Result<Told, Fail> {
-    let words = words_of(alloc, case.words)?;
-    let mut source = source_of(alloc, case.input, read)?;
-    let mut sink = sink_of(alloc, write)?;
-    Ok(called(
-        rt,
-        alloc,
-        words.as_slice(),
-        &mut source,
-        &mut sink,
-        case.text,
-    ))
-}
-
-/// What comes of a case over a source that gives 7 bytes at most, and a sink that takes 5; they never fail.
-fn sure_call<R: Threads + Wait + Sync>(rt: &R, alloc: Global, case: Case) -> Result<Told, Fail> {
-    let words = words_of(alloc, case.words)?;
-    let mut source = SureSource::new(case.input.as_bytes().to_vec(alloc)?, 7);
-    let mut sink = SureSink::new(alloc, 5);
-    let status = sure_top(
-        rt,
-        alloc,
-        words.as_slice(),
-        &mut source,
-        &mut sink,
-        &OpenGate,
-    );
-    Ok(told(status, sink.taken(), case.text))
+impl Trial {
+    fn of(alloc: Global, case: Case, read: u64, write: u64) -> Result<Trial, AllocError> {
+        Ok(Trial {
+            words: words_of(alloc, case.words)?,
+            source: MemorySource::new(
+                case.input.as_bytes().to_vec(alloc)?,
+                16,
+                vec![in alloc; read; 1]?,
+            ),
+            sink: MemorySink::new(alloc, 16, vec![in alloc; write; 1]?),
+        })
+    }
 }
 
 #[test]
 fn commands_are_answered(rt: HostRuntime) -> Result<(), Fail> {
     for case in &CASES {
-        let answer = call(&rt, rt.alloc(), *case, 0, 0)?;
+        let mut trial = Trial::of(rt.alloc(), *case, 0, 0)?;
+        let words = trial.words.as_slice();
+        let status = ztx_top(
+            &rt,
+            rt.alloc(),
+            words,
+            &mut trial.source,
+            &mut trial.sink,
+            &OpenGate,
+        );
         assert_eq!(rt;
-            answer,
+            told(status, trial.sink.taken(), case.text),
             (case.status, case.text.len(), true),
             "{}",
             case.words
@@ -415,38 +381,50 @@ static FAILING: [Failing; 4] = [
     },
 ];
 
-/// Of how many calls that fail in turn comes what has to: the status, and the bytes of those before it.
-fn right_calls<R: Threads + Wait + Sync>(
-    rt: &R,
-    alloc: Global,
-    failing: Failing,
-) -> Result<u64, Fail> {
-    let mut right = 0u64;
-    for number in 1..=failing.calls {
-        let (read, write) = if failing.is_read {
-            (number, 0)
-        } else {
-            (0, number)
-        };
-        let answer = call(rt, alloc, failing.case, read, write)?;
-        let written = failing.piece.saturating_mul(number - 1) as usize;
-        if answer == (failing.case.status, written, true) {
-            right = right.saturating_add(1);
+impl Failing {
+    /// The case, whose read or write with this number fails.
+    fn trial(self, alloc: Global, number: u64) -> Result<Trial, AllocError> {
+        if self.is_read {
+            return Trial::of(alloc, self.case, number, 0);
         }
+        Trial::of(alloc, self.case, 0, number)
     }
-    Ok(right)
+
+    /// What has to come of it: the status, and the bytes of the calls before.
+    fn due(self, number: u64) -> Told {
+        let written = self.piece.saturating_mul(number.saturating_sub(1)) as usize;
+        (self.case.status, written, true)
+    }
 }
 
 #[test]
 fn each_call_fails_in_turn(rt: HostRuntime) -> Result<(), Fail> {
     for failing in &FAILING {
-        let right = right_calls(&rt, rt.alloc(), *failing)?;
-        assert_eq!(rt; right, failing.calls, "{}", failing.case.words);
+        for number in 1..=failing.calls {
+            let mut trial = failing.trial(rt.alloc(), number)?;
+            let words = trial.words.as_slice();
+            let status = ztx_top(
+                &rt,
+                rt.alloc(),
+                words,
+                &mut trial.source,
+                &mut trial.sink,
+                &OpenGate,
+            );
+            let answer = told(status, trial.sink.taken(), failing.case.text);
+            assert_eq!(rt;
+                answer,
+                failing.due(number),
+                "{} {}",
+                failing.case.words,
+                number
+            );
+        }
     }
     Ok(())
 }
 
-/// A run, over a source and a sink that never fail.
+/// A run, over a source that gives 7 bytes at most and a sink that takes 5; they never fail.
 static SURE: Case = Case {
     words: "run",
     input: CONFLICT,
@@ -456,7 +434,20 @@ static SURE: Case = Case {
 
 #[test]
 fn a_source_and_a_sink_that_never_fail(rt: HostRuntime) -> Result<(), Fail> {
-    let answer = sure_call(&rt, rt.alloc(), SURE)?;
-    assert_eq!(rt; answer, (0, REPORT.len(), true));
+    let words = words_of(rt.alloc(), SURE.words)?;
+    let mut source = SureSource::new(SURE.input.as_bytes().to_vec(rt.alloc())?, 7);
+    let mut sink = SureSink::new(rt.alloc(), 5);
+    let status = sure_top(
+        &rt,
+        rt.alloc(),
+        words.as_slice(),
+        &mut source,
+        &mut sink,
+        &OpenGate,
+    );
+    assert_eq!(rt;
+        told(status, sink.taken(), SURE.text),
+        (0, REPORT.len(), true)
+    );
     Ok(())
 }

@@ -1,0 +1,5 @@
+//! Cases of the top call.
+#![tactic(auto)]
+
+#[cfg(test)]
+mod calls;
