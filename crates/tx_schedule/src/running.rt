@@ -20,6 +20,7 @@ fn turns_of(machine: &Machine) -> u64
 }
 
 /// Makes turns of ready CPUs, as long as there is one, but at most so many.
+#[inline(always)]
 fn run_by<R: Runnable>(runner: &mut R, mut order: Order, most: u64)
     ensures setting { setting_of (R.seen runner.new) ≡ setting_of (R.seen runner.old) }
     ensures state { let m = setting_of (R.seen runner.old) in let s = state_of (R.seen runner.old) in
