@@ -3,8 +3,8 @@
 
 use std::test::Fail;
 use z_instr::addresses::{first_address, is_selected, registers_named, second_address};
-use z_instr::form::has_target;
-use z_instr::format::{Format, Place, length_in, place_of};
+use z_instr::form::{Form, has_target};
+use z_instr::format::{Format, Place, format_of, length_in, place_of};
 use z_instr::instr::{Fields, Instr};
 use z_instr::limits::field_limits;
 use z_instr::lookup::{find, line, row};
@@ -113,8 +113,9 @@ fn lines_have_their_columns(rt: HostRuntime) -> Result<(), Fail> {
 
 #[test]
 fn formats_and_names(rt: HostRuntime) {
-    assert!(rt; place_of(Format::RIL) == Place::FirstHalf);
-    assert_eq!(rt; length_in(Format::SIL), 6);
+    assert!(rt; place_of(Form::RILa) == Place::FirstHalf);
+    assert_eq!(rt; length_in(Form::SILSigned), 6);
+    assert!(rt; format_of(Form::RXb) == Format::RX);
     assert_eq!(rt; Name::new(*b"BCR     ", 3).bytes(), b"BCR".as_slice());
 }
 

@@ -60,7 +60,7 @@ unfolding instruction_line
 instruction_begins row mask s p r h e =
     let l = labelled s.label (pos p.here) p in
     let t = then_ok (started (size_of_row row) l) _ r e in
-    let b = started_begins (size_of_row row) l t.0 (some_size (entry_at row).format) t.1 in
+    let b = started_begins (size_of_row row) l t.0 (some_size (entry_at row).form) t.1 in
     record {
       set_there = begins_from _ r (same_ok _ r t.2) ∙ b.set_there ∙ ap (λ at. set p.begins at true) (sym h);
       room = subst (λ at. at < 1048576) (sym h) b.room;

@@ -1,5 +1,5 @@
 -- An instruction that is performed on the bytes that storage has lent.
-use Rattle.std.proofs.Common.{◌≡◌, ℕ, ◌≤◌, List, [], ◌++◌, Option, ap, subst, sym, ◌∙◌, arith, length, get_or, take}
+use Rattle.std.proofs.Common.{◌≡◌, ℕ, ◌≤◌, List, ◌++◌, Option, ap, subst, sym, ◌∙◌, arith, length, get_or, take}
 use Rattle.std.specs.Prelude.{map, All}
 use Rattle.std.proofs.lemmas.List.{length-map, get_or_past}
 use Rattle.z_regs.specs.Absolute.{IsAccessible}
@@ -31,22 +31,10 @@ at-most-two i c need e =
       count (entry_at i.op.number).operands i c.general c.condition,
     )
 
--- ---- where there is no second operand, no bytes of it are seen or kept
+-- where there is no second operand
 
-no-second : (need : List Range) → length need ≤ 1 → get_or need 1 no_range ≡ no_range
+pub no-second : (need : List Range) → length need ≤ 1 → get_or need 1 no_range ≡ no_range
 no-second need h = get_or_past need 1 no_range h
-
-pub nothing-seen : (prefix : Option ℕ) (seen : Storage) (need : List Range) → length need ≤ 1
-    → [] ≡ bytes_seen prefix seen (get_or need 1 no_range).first (get_or need 1 no_range).length
-nothing-seen prefix seen need h =
-    sym (ap (λ (r : Range). bytes_seen prefix seen r.first r.length) (no-second need h))
-
-pub nothing-kept : (s : List ℕ) (need : List Range) → length need ≤ 1
-    → [] ≡ range_at s (get_or need 1 no_range).first (get_or need 1 no_range).length
-nothing-kept s need h = sym (ap (λ (r : Range). range_at s r.first r.length) (no-second need h))
-
-pub nothing-long : (need : List Range) → length need ≤ 1 → 0 ≡ (get_or need 1 no_range).length
-nothing-long need h = sym (ap (λ (r : Range). r.length) (no-second need h))
 
 -- ---- both operands
 

@@ -10,7 +10,7 @@ pub mod Returning
 pub mod Lent
 pub mod Small
 pub mod Bare
-pub mod Unstored
+pub mod Borrowed
 pub mod Laying
 pub mod GatheredBlocks
 pub mod GatheredRuns

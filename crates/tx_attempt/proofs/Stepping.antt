@@ -2,23 +2,24 @@
 use Rattle.std.proofs.Common.{◌≡◌, ℕ, ◌+◌, ◌-◌, ◌<◌, Bool, true, false, List, [], ◌∷◌, ◌++◌, Option, None, Some, refl}
 use Rattle.std.proofs.Common.{sym, ap, ◌∙◌, arith, length, take}
 use Rattle.std.specs.Prelude.{◌||◌, ◌&&◌, not, nat_lt, if◌then◌else◌}
-use Rattle.std.proofs.lemmas.Bool.{true≢false, and_parts, not-true}
+use Rattle.std.proofs.lemmas.Bool.{and_parts, not-true}
 use Rattle.std.proofs.lemmas.Bool.Decides.{nat_tests}
 use Rattle.z_regs.specs.Absolute.{absolute_ranges}
 use Rattle.z_regs.specs.Cpu.{Cpu}
 use Rattle.z_regs.specs.declared.ranges.Range.{Range}
+use Rattle.z_regs.proofs.Elements.{second_holds}
 use Rattle.z_instr.specs.declared.instr.Instr.{Instr}
 use Rattle.z_instr.specs.Roles.{begins, is_end, stores_lastingly}
 use Rattle.z_instr.specs.Table.{Entry, entry_at, kind_at}
 use Rattle.z_effect.specs.Beginning.{begin_of}
-use Rattle.z_effect.specs.One.{length_of}
 use Rattle.store_cache.specs.Entries.{stores_of}
 use Rattle.store_cache.specs.Overlay.{Overlay, Store}
 use Rattle.store_cache.specs.Stores.{Stores, lasting_bytes}
 use Rattle.tx_constraint.specs.Kept.{Kept}
 use Rattle.tx_footprint.specs.Touched.{sets_of, touching}
+use Rattle.tx_progress.proofs.Parts.{resumes_stays}
 use Rattle.tx_progress.proofs.Rows.{any_row}
-use Rattle.tx_progress.specs.Progress.{advanced, begins_constrained, constraint_after, laying, resumed_after}
+use Rattle.tx_progress.specs.Progress.{advanced, constraint_after, laying, resumed_after}
 use Rattle.tx_serial.specs.Run.{nest_after, lasting_of}
 use Rattle.tx_attempt.specs.Advancing.{grown}
 use Rattle.tx_attempt.specs.Performed.{is_transaction}
@@ -29,11 +30,6 @@ use Rattle.tx_attempt.proofs.GatheredStores.{others-last-not}
 
 abbrev is_plain_row : Entry → Bool
 is_plain_row e = is_transaction e.kind || (not (begins e) && (not (is_end e) && not (stores_lastingly e)))
-
--- where the first test fails, the others hold
-others : (a b : Bool) → (a || b) ≡ true → a ≡ false → b ≡ true
-others true b h e = absurd (true≢false e)
-others false b h e = h
 
 -- it begins nothing, ends nothing, and is no NTSTG
 record IsPlain (e : Entry) : Type 0 where
@@ -47,7 +43,7 @@ unfolding kind_at
 plain-row n h =
     let e = entry_at n in
     let parts = and_parts (not (begins e)) (not (is_end e) && not (stores_lastingly e))
-    (others (is_transaction e.kind) _ (any_row is_plain_row refl refl n) h) in
+    (second_holds (is_transaction e.kind) _ (any_row is_plain_row refl refl n) h) in
     let rest = and_parts (not (is_end e)) (not (stores_lastingly e)) parts.1 in
     record {
       begins_none = not-true (begins e) parts.0;
@@ -82,11 +78,6 @@ constraint-grown : (n at : ℕ) (i : Instr) (need : List Range) (o : Option Kept
 constraint-grown n at i need None h = grind (arith, h)
 constraint-grown n at i need (Some k) h = grind (arith, h)
 
--- and goes on after an abort where it did
-resumes-stays : (n at old : ℕ) (i : Instr) → nat_lt 0 n ≡ true → resumed_after n i at old ≡ old
-resumes-stays n at old i h =
-    ap (λ b. if b then old else (if begins_constrained i then at else at + length_of i)) h
-
 -- it is completed, and all else is as the instruction has left it
 pub stepped : (i : Instr) (need : List Range) (x c : Cpu) (t s : Tracked) (prefix : Option ℕ) (ss : List Store)
     → is_transaction (kind_at i.op.number) ≡ false → x.prefix ≡ prefix → 0 < t.count → s.nest ≡ t.nest
@@ -104,7 +95,7 @@ stepped i need x c t s prefix ss plain ep live en es ef ek ec er =
     let sets = ef ∙ ap (λ (q : Option ℕ). touching (sets_of t.footprint) (absolute_ranges q need)) (sym ep) in
     let kept = ek ∙ sym (constraint-grown t.count x.address i need t.constraint more) in
     let resumes : s.resumes_at ≡ resumed_after t.count i x.address t.resumes_at =
-    er ∙ sym (resumes-stays t.count x.address t.resumes_at i more) in
+    er ∙ sym (resumes_stays t.count x.address t.resumes_at i more) in
     λ j. record {
       cpu = c;
       overlay = overlay j;

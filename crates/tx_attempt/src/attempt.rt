@@ -470,7 +470,7 @@ impl Attempt {
             self.resumes_at = at;
         } else {
             self.constraint = None;
-            self.resumes_at = at + u64::from(length_in(line(instr.op).format));
+            self.resumes_at = at + u64::from(length_in(line(instr.op).form));
         }
     }
 

@@ -35,7 +35,7 @@ pub fn keep_register(instr: &Instr, image: &mut CpuImage, stored: &mut [u8]) -> 
     ensures size { length stored.new ≡ length stored.old }
 {
     let value = register(image, instr.r1);
-    advance(image, length_in(line(instr.op).format));
+    advance(image, length_in(line(instr.op).form));
     BigEndian::write_u64(stored, value);
     Ended::Completed
 }

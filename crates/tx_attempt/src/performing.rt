@@ -111,7 +111,7 @@ fn execute_transaction(
     ensures image { cpu_of image.new ≡ cpu_after (cpu_of image.old)
         (transaction_effect kind (length_of instr.now) instr.now (cpu_of image.old) depth) }
 {
-    let length = length_in(line(instr.op).format);
+    let length = length_in(line(instr.op).form);
     let source = register(image, instr.r1);
     let abort_code = first_address(instr, &image.general);
     transact(kind, instr, image, length, depth);

@@ -25,7 +25,7 @@ pub enum Refusal {
 pub fn breach(instr: &Instr) -> Refusal
     ensures { refusal_of result ≡ Excepts (refused instr.now transaction_constraint_code) }
 {
-    let length = length_in(line(instr.op).format);
+    let length = length_in(line(instr.op).form);
     Refusal::Excepts(exception(TRANSACTION_CONSTRAINT, length))
 }
 

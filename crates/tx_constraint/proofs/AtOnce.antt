@@ -1,6 +1,6 @@
 -- An operand in one doubleword outside the pages of the 256 bytes breaks nothing where there is room for its octoword.
 use Rattle.std.proofs.Common.{◌≡◌, ◌≢◌, ℕ, ◌+◌, ◌-◌, ◌/◌, ◌%◌, ◌<◌, ◌≤◌, Bool, true, false, ◌&&◌, ◌||◌, not, cond}
-use Rattle.std.proofs.Common.{eqb, ltb, leb, List, [], ◌∷◌, length, slice_get, Some, None, refl, ap, ◌∙◌, arith}
+use Rattle.std.proofs.Common.{eqb, ltb, leb, List, [], ◌∷◌, length, None, refl, ap, ◌∙◌, arith}
 use Rattle.std.specs.List.{fold, range_with_len}
 use Rattle.std.proofs.lemmas.Bool.{cases_lt, and_left, and_right, eqb-false, ne_eqb, le-leb, lt-leb, le-ltb, or_parts}
 use borrow.Enum.Arm.{by_way}
@@ -89,14 +89,6 @@ one-breaks k i r some inside other few =
     let away = apart k.begin r some inside other in
     let within = whole i r inside in
     λ j. first_of (room j) 4 (first_of (away j || false) 5 (first_of (within j || false) 7 None))
-
--- ---- lists of one
-
--- a list with one element
-pub one-element : (rs : List Range) (r : Range) → length rs ≡ 1 → slice_get rs 0 ≡ Some r → rs ≡ r ∷ []
-one-element [] r one there = absurd (omega (arith, one))
-one-element (s ∷ []) r one there = ap (λ x. x ∷ []) (cc)
-one-element (s ∷ t ∷ rs) r one there = absurd (omega (arith, one))
 
 -- a list without any
 pub no-element : (rs : List Range) → length rs ≡ 0 → rs ≡ []

@@ -4,7 +4,7 @@ use Rattle.z_instr.specs.declared.instr.Instr.{Instr}
 use Rattle.z_instr.specs.declared.operand.Operands.{Operands}
 use Rattle.z_instr.specs.declared.operand.Operands.TheVariants.{FetchedMany, StoredMany}
 use Rattle.z_instr.specs.Table.{entry_at}
-use Rattle.z_instr.specs.Layout.{format_length}
+use Rattle.z_instr.specs.Layout.{form_length}
 use Rattle.z_instr.specs.Roles.{is_end, is_relative_branch}
 
 -- the instruction is TEND, which ends the transaction
@@ -33,4 +33,4 @@ abbrev pub unit_of : Instr → ℕ
 unit_of i = if is_multiple (entry_at i.op.number).operands then 32 else 8
 
 abbrev pub bytes_of : Instr → ℕ
-bytes_of i = format_length (entry_at i.op.number).format
+bytes_of i = form_length (entry_at i.op.number).form

@@ -19,7 +19,7 @@ pub const DOUBLEWORD_SIZE: u64 = 8;
 pub fn is_permitted(instr: &Instr) -> bool
     ensures { result ≡ permits instr.now }
 {
-    line(instr.op).permitted && (instr.imm > 0 || !is_relative_branch(instr.op))
+    line(instr.op).usage.is_permitted() && (instr.imm > 0 || !is_relative_branch(instr.op))
 }
 
 /// Whether an operation with these operands is one on several registers.
@@ -51,5 +51,5 @@ pub fn instruction_length(instr: &Instr) -> u64
     ensures value { result ≡ bytes_of instr.now }
     ensures small { result ≤ 6 }
 {
-    u64::from(length_in(line(instr.op).format))
+    u64::from(length_in(line(instr.op).form))
 }

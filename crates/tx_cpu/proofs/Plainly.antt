@@ -50,6 +50,7 @@ use Rattle.tx_attempt.specs.Storages.{storage_of}
 use Rattle.tx_attempt.specs.Plain.{IsPlain}
 use Rattle.tx_attempt.specs.Tracked.{Tracked, progress}
 use Rattle.tx_program.specs.Shapes.{shape_in, boundary_size, shape_by, is_other, IsReady, touched_by, is_in_line, is_open}
+use Rattle.tx_program.proofs.Placed.{nothing-touched}
 use Rattle.tx_program.specs.Shapes.{is_reached, is_admitted, is_bare_begin, is_nothing, no_shape}
 use Rattle.tx_cpu.proofs.Goes.{read-touches}
 use Rattle.tx_cpu.proofs.Programs.{plain_length, plain_reading}
@@ -470,12 +471,6 @@ known-nothing touch.Fetch h = refl
 known-nothing touch.Store h = refl
 known-nothing touch.Other h = sym h
 
-touched-nothing : (t : Touch) (first size : ℕ) → is_nothing t ≡ true → touched_by t first size ≡ []
-touched-nothing touch.Nothing first size h = refl
-touched-nothing touch.Fetch first size h = absurd (true≢false (sym h))
-touched-nothing touch.Store first size h = absurd (true≢false (sym h))
-touched-nothing touch.Other first size h = refl
-
 no-operands : (storage text : List ℕ) (place : ℕ) (r : Ready) (c : Cpu) → IsReady storage text place r
     → is_nothing r.shape.touch ≡ true → operands r.instr c ≡ []
 no-operands storage text at r c ready h =
@@ -484,7 +479,7 @@ no-operands storage text at r c ready h =
     let shaped = ready.shape known in
     let known-row = ap (λ (s : Shape). is_other s.touch) (sym shaped) ∙ known in
     sym (ranges-by row.demand row.operands r.instr c.general c.condition known-row)
-    ∙ touched-nothing (shape_by row.demand row.operands r.instr).touch (first_address r.instr c.general)
+    ∙ nothing-touched (shape_by row.demand row.operands r.instr).touch (first_address r.instr c.general)
     (shape_by row.demand row.operands r.instr).size (ap (λ (s : Shape). is_nothing s.touch) (sym shaped) ∙ h)
 
 -- whatever comes of it, where it is the one that the CPU sees

@@ -16,7 +16,7 @@ use Rattle.tx_footprint.proofs.Spans.{address_of}
 use Rattle.tx_program.specs.declared.ready.Shape.{Shape}
 use Rattle.tx_program.specs.declared.ready.Touch.{Touch}
 use Rattle.tx_program.specs.declared.ready.Touch.TheVariants as touch
-use Rattle.tx_program.specs.Shapes.{touched_by, is_in_line, is_open, is_placed, is_reached}
+use Rattle.tx_program.specs.Shapes.{touched_by, is_in_line, is_open, is_placed}
 use Rattle.tx_cpu.proofs.Plainly.{in-line}
 
 -- a number is in a list of numbers
@@ -120,19 +120,6 @@ fits-with-room sets s first h lines blocks = by s.touch s.size h
         one-fits sets (record { first = first; length = n; store = true })
         (in-line first n (and_parts (is_in_line first n) _ h).0).line lines blocks
     by touch.Other n h = absurd (true≢false (sym h))
-
--- an operand that is open lies in a line, whatever the text pages are
-open-placed : (t : Touch) (first n : ℕ) (text : List ℕ) → is_open t first n text ≡ true → is_open t first n [] ≡ true
-open-placed touch.Nothing first n text h = refl
-open-placed touch.Fetch first n text h = h
-open-placed touch.Store first n text h =
-    ap (λ b. b && true) (and_parts (is_in_line first n) _ h).0
-open-placed touch.Other first n text h = h
-
--- one that is reached lies so
-pub reached-placed : (s : Shape) (first : ℕ) (text : List ℕ) → is_reached s first text ≡ true
-    → is_placed s first ≡ true
-reached-placed s first text h = open-placed s.touch first s.size text (and_parts _ _ h).1
 
 -- ---- operands of a shape
 

@@ -293,7 +293,7 @@ impl Cpu {
     {
         self.attempt.is_sound();
         let turns = delay_after(instr, &self.image);
-        let length = length_in(line(instr.op).format);
+        let length = length_in(line(instr.op).form);
         let ended = perform_outside(&self.attempt, instr, need, &mut self.image, base);
         end_outside(&mut self.image, ended, length);
         wait_outside(&mut self.waiting, self.image.prefix, length, ended);
@@ -373,11 +373,11 @@ impl Cpu {
             }
             Ended::Exceeded => {
                 self.attempt.advance(instr, need, stored, &before);
-                let overflow = exception(FIXED_POINT_OVERFLOW, length_in(line(instr.op).format));
+                let overflow = exception(FIXED_POINT_OVERFLOW, length_in(line(instr.op).form));
                 Done::Ended(cause_in(self.attempt.nest(), overflow))
             }
             Ended::Suppressed => {
-                let divide = exception(FIXED_POINT_DIVIDE, length_in(line(instr.op).format));
+                let divide = exception(FIXED_POINT_DIVIDE, length_in(line(instr.op).form));
                 Done::Ended(cause_in(self.attempt.nest(), divide))
             }
             Ended::Aborting(code) => Done::Ended(Why::Tabort(code)),
@@ -420,12 +420,12 @@ impl Cpu {
             }
             Ended::Exceeded => {
                 self.attempt.advance_plainly(need, stored, prefix);
-                let overflow = exception(FIXED_POINT_OVERFLOW, length_in(line(instr.op).format));
+                let overflow = exception(FIXED_POINT_OVERFLOW, length_in(line(instr.op).form));
                 *aside = Done::Ended(cause_in(self.attempt.nest(), overflow));
                 false
             }
             Ended::Suppressed => {
-                let divide = exception(FIXED_POINT_DIVIDE, length_in(line(instr.op).format));
+                let divide = exception(FIXED_POINT_DIVIDE, length_in(line(instr.op).form));
                 *aside = Done::Ended(cause_in(self.attempt.nest(), divide));
                 false
             }

@@ -81,7 +81,7 @@ fn allowed(nest: &Nest, op: Op) -> Result<(), Refusal>
     if nest.depth() == 0 {
         return Ok(());
     }
-    if line(op).restricted {
+    if line(op).usage.is_restricted() {
         return Err(Refusal::Because(Why::Restricted));
     }
     if sets_access_register(op) && !nest.effective_a() {

@@ -92,7 +92,7 @@ fn perform(
     let completion = execute(instr, &mut work.image, &mut work.seen, 0);
     let image = work.image;
     keep_ranges(work, storage, &admitted.absolute);
-    end(slot, image, completion, length_in(line(instr.op).format));
+    end(slot, image, completion, length_in(line(instr.op).form));
 }
 
 /// The next instruction of a CPU outside transactions, or the exception that comes there; a begin that goes

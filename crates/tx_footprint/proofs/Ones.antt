@@ -1,8 +1,8 @@
 -- One range that is touched, kind by kind.
-use Rattle.std.proofs.Common.{◌≡◌, ℕ, Bool, false, List, [], ◌∷◌, length, get_or, Some, sym, ap, ◌∙◌}
-use Rattle.std.proofs.Common.{arith, subst, ◌+◌}
+use Rattle.std.proofs.Common.{◌≡◌, ℕ, Bool, false, List, [], ◌∷◌, length, get_or, sym, ap, ◌∙◌}
+use Rattle.std.proofs.Common.{subst, ◌+◌}
 use Rattle.bit_set.specs.Counts.{count_below}
-use Rattle.std.specs.Prelude.{◌||◌, slice_get}
+use Rattle.std.specs.Prelude.{◌||◌}
 use Rattle.z_regs.specs.declared.ranges.Range.{Range}
 use Rattle.tx_footprint.specs.declared.places.Kind.{Kind}
 use Rattle.tx_footprint.specs.Places.{covers, lies_in}
@@ -26,9 +26,3 @@ pub counted_in : (before after : List Bool) (added size : ℕ) → length before
 counted_in before after added size e counted =
     subst (λ n. added + count_below n (λ k. get_or before k false) ≡ count_below n (λ k. get_or after k false)) e
     counted
-
--- a list of one range
-pub only : (ranges : List Range) (r : Range) → length ranges ≡ 1 → slice_get ranges 0 ≡ Some r → ranges ≡ r ∷ []
-only [] r size e = absurd (omega (arith, size))
-only (q ∷ []) r size e = let same : q ≡ r = cc in ap (λ (x : Range). x ∷ []) same
-only (q ∷ (p ∷ rs)) r size e = absurd (omega (arith, size))

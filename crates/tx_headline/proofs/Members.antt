@@ -4,6 +4,7 @@ use Rattle.std.proofs.Common.{length, refl, sym, ap, ◌∙◌, subst, arith}
 use Rattle.std.specs.Prelude.{◌==◌, ◌||◌, if◌then◌else◌}
 use Rattle.std.proofs.lemmas.Bool.{cases_eq, eq-eqb, ne_eqb, eqb-true, or_cases, or_left, or_right}
 use Rattle.std.proofs.lemmas.Bool.{or_parts, true≢false}
+use Rattle.z_regs.proofs.Elements.{second_holds}
 use Rattle.std.proofs.lemmas.List.Elements.{All-head, All-tail}
 use Rattle.std.proofs.lemmas.List.Folds.{list_any-append}
 use borrow.Enum.Arm.{by_way}
@@ -84,16 +85,12 @@ before_by : (b : Bool) (n most : ℕ) → (b ≡ false → n < most) → (if b t
 before_by true n most h = omega arith
 before_by false n most h = let less = h refl in omega (arith, less)
 
-pub rest_waits : (a b : Bool) → (a || b) ≡ true → a ≡ false → b ≡ true
-rest_waits true b h off = absurd (true≢false off)
-rest_waits false b h off = h
-
 -- fewer stand before a CPU than there are in all
 pub before_few : (i : ℕ) (q : List ℕ) → waits_in q i ≡ true → others_before i q < length q
 before_few i [] h = absurd (true≢false (sym h))
 before_few i (x ∷ rest) h =
     before_by (x == i) (others_before i rest) (length rest)
-    (λ off. before_few i rest (rest_waits (x == i) (waits_in rest i) h off))
+    (λ off. before_few i rest (second_holds (x == i) (waits_in rest i) h off))
 
 -- ---- members of the queue
 

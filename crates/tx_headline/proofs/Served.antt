@@ -31,7 +31,8 @@ use Rattle.tx_headline.specs.Queue.{HeadGoes, Stays, Leaves, GoesLast, others_be
 use Rattle.tx_headline.specs.Since.{IsUninterrupted, entries_since, all_turns_after}
 use Rattle.tx_headline.proofs.Lists.{dropped}
 use Rattle.tx_headline.proofs.After.{known_first, known_later, known_moved}
-use Rattle.tx_headline.proofs.Members.{waits_first, rest_waits}
+use Rattle.z_regs.proofs.Elements.{second_holds}
+use Rattle.tx_headline.proofs.Members.{waits_first}
 use Rattle.tx_headline.proofs.Outside.{later_uninterrupted, not_interrupted}
 use Rattle.tx_headline.proofs.Queue.{advances, queue_changes}
 use Rattle.tx_headline.proofs.Runs.{meant_more}
@@ -49,7 +50,7 @@ before_joined : (i : ℕ) (q joined : List ℕ) → waits_in q i ≡ true
 before_joined i [] joined h = absurd (true≢false (sym h))
 before_joined i (x ∷ rest) joined h =
     behind_head (x == i) (others_before i (rest ++ joined)) (others_before i rest)
-    (λ off. before_joined i rest joined (rest_waits (x == i) (waits_in rest i) h off))
+    (λ off. before_joined i rest joined (second_holds (x == i) (waits_in rest i) h off))
 
 -- what the head can still complete
 abbrev head_left : (ℕ → Numbers) → List ℕ → ℕ
@@ -192,7 +193,7 @@ module _ (m : Setting) (s : IsSetting m) (i : ℕ) where
       leaves_nearer : (joined : List ℕ) → t.queue ≡ rest ++ joined → j ≢ i → Waits a t
       leaves_nearer joined queue other =
           let off = ne_eqb j i other in
-          let in_rest = rest_waits (j == i) (waits_in rest i) (ap (λ q. waits_in q i) (sym is) ∙ waits) off in
+          let in_rest = second_holds (j == i) (waits_in rest i) (ap (λ q. waits_in q i) (sym is) ∙ waits) off in
           let old = at_head i a j rest is in
           let place : others_before i (j ∷ rest) ≡ suc (others_before i rest) =
           ap (λ b. if b then 0 else suc (others_before i rest)) off in

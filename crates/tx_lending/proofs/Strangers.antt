@@ -25,9 +25,10 @@ use Rattle.tx_serial.proofs.Copies.{laid_alike}
 use Rattle.tx_serial.proofs.Frame.{in_first, in_second, length_some}
 use Rattle.tx_progress.specs.Doing.{executed, executed_where, closed_by, stores_of}
 use Rattle.tx_progress.specs.Local.{Local, Beside}
-use Rattle.tx_progress.specs.Progress.{Progress, seen_through, is_live, advanced, laying, resumed_after}
+use Rattle.tx_progress.specs.Progress.{Progress, seen_through, is_live, advanced, laying}
 use Rattle.tx_progress.specs.Trial.{at_hand, fetched, fate_by_progress, outcome_by}
 use Rattle.tx_progress.specs.declared.done.Done.TheVariants.{Stepped}
+use Rattle.tx_progress.proofs.Parts.{resumes_stays}
 use Rattle.tx_progress.proofs.SeenStores.{laid_through}
 use Rattle.tx_lending.specs.Away.{is_abort, is_plain, lent_by, lent_turn, ran, GoesAway, GoAway, turn_places}
 use Rattle.tx_lending.specs.Away.{fate_places, touched}
@@ -119,13 +120,6 @@ lasts : (b : Bool) (o : Overlay) (stores : List Store) → b ≡ false → layin
 lasts true o stores h = absurd (true≢false h)
 lasts false o stores h = refl
 
-resumes_so : (count at old : ℕ) (i : Instr) → nat_lt 0 count ≡ true → resumed_after count i at old ≡ old
-resumes_so count at old i h = by (nat_lt 0 count) _ h
-  where
-    by : (b : Bool) (x : ℕ) → b ≡ true → (if b then old else x) ≡ old
-    by true x e = refl
-    by false x e = absurd (true≢false (sym e))
-
 -- ---- one instruction more
 
 -- The same of the other CPU: it has gone on as the first, with the same stores over its own.
@@ -155,7 +149,7 @@ module _ (i : Instr) (ranges : List Range) (l own : Local) (s t : Storage) (wait
     inside_closed c bytes (outermost ∷ inner) told =
         let stores = stores_of ranges bytes q in
         let last = lasts (stores_lastingly (entry_at i.op.number)) own.attempt.lasting stores (no_lasting i plain) in
-        let resumed = resumes_so q.count q.cpu.address own.attempt.resumes_at i live in
+        let resumed = resumes_stays q.count q.cpu.address own.attempt.resumes_at i live in
         record {
           is = λ z. on (record own {
             attempt = record (advanced i ranges c stores q) {

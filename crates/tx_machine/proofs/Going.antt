@@ -13,7 +13,8 @@ use Rattle.tx_machine.proofs.Shown.{shown}
 use Rattle.tx_home.proofs.Turns.{may_turn, may_want}
 use Rattle.tx_home.specs.Wanted.{MayWant}
 use Rattle.tx_machine.proofs.Most.{at_most}
-use Rattle.tx_machine.proofs.Read.{reads_state, reads_idle, none_where}
+use Rattle.z_regs.proofs.Elements.{is_nothing}
+use Rattle.tx_machine.proofs.Read.{reads_state, reads_idle}
 use Rattle.std.specs.Prelude.{◌||◌, ◌&&◌, nat_lt, is_none}
 use Rattle.std.proofs.Common.{List}
 use Rattle.std.proofs.lemmas.List.{get_or_default}
@@ -157,4 +158,4 @@ module _ (m : Setting) (w : Works) (remaining : ℕ) (s : Stands m w remaining) 
       → k_idle m (kept_by rest w) i ≡ None
   has_turn i known ready rest =
       sym (idle_alike i known rest) ∙ sym (reads_idle m w remaining s i)
-      ∙ none_where (idle m (meaning m w.events) i) ready
+      ∙ is_nothing (idle m (meaning m w.events) i) ready

@@ -39,10 +39,6 @@ none_by (Some x) false e = refl
 none_by None false e = let n : false ≡ true = e in absurd (cc)
 none_by (Some x) true e = let n : true ≡ false = e in absurd (cc)
 
-pub none_where : {A : Type 0} (o : Option A) → is_none o ≡ true → o ≡ None
-none_where None e = refl
-none_where (Some x) e = let n : false ≡ true = e in absurd (cc)
-
 module _ (m : Setting) (w : Works) (remaining : ℕ) (s : Stands m w remaining) where
   pub reads_state : meaning m w.events ≡ (kept_by (nobody m) w).state
   reads_state = (shown m w remaining s).is

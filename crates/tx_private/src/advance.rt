@@ -154,7 +154,7 @@ fn go(a: &mut Attempt, instr: &Instr, admitted: &Admitted)
     let depth = a.nest.depth();
     let told = Told {
         at: before.address,
-        length: length_in(line(instr.op).format),
+        length: length_in(line(instr.op).form),
     };
     let completion = execute(instr, &mut a.image, &mut a.seen, depth);
     last(&mut a.lasting, instr, &before, depth);

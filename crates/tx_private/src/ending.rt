@@ -44,7 +44,7 @@ fn tried(nest: &Nest, image: &CpuImage, trial: &mut Storage, instr: &Instr) -> O
         Completion::Completed => None,
         Completion::Overflowed => None,
         Completion::Divides => {
-            let length = length_in(line(instr.op).format);
+            let length = length_in(line(instr.op).form);
             Some(cause_in(nest, exception(FIXED_POINT_DIVIDE, length)))
         }
         Completion::Aborts(code) => Some(Why::Tabort(code)),

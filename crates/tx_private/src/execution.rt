@@ -75,7 +75,7 @@ fn execute_transaction(
     ensures done { IsExecuted depth instr.now (cpu_of image.old) (cpu_of image.new) seen.old seen.new result }
     ensures size { length seen.new ≡ storage_size }
 {
-    let n = length_in(line(instr.op).format);
+    let n = length_in(line(instr.op).form);
     match kind {
         Transaction::Abort => Completion::Aborts(first_address(instr, &image.general)),
         Transaction::StoreLasting => {

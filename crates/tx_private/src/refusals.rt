@@ -41,7 +41,7 @@ fn exception(instr: &Instr, code: u16) -> Exception
     Exception {
         code,
         fetch: false,
-        length: length_in(line(instr.op).format),
+        length: length_in(line(instr.op).form),
     }
 }
 
@@ -72,7 +72,7 @@ fn restricts(nest: &Nest, op: Op) -> bool
     if nest.depth() == 0 {
         return false;
     }
-    line(op).restricted || (sets_access_register(op) && !nest.effective_a())
+    line(op).usage.is_restricted() || (sets_access_register(op) && !nest.effective_a())
 }
 
 /// What every transaction refuses, and a change of access registers that the begins do not allow.

@@ -131,7 +131,7 @@ fn shape_with(demand: Demand, operands: Operands, instr: &Instr) -> Shape
 fn is_admitted(op: Op) -> bool
     ensures { result ≡ goes_inside (entry_at op.number) }
 {
-    !(line(op).restricted || sets_access_register(op) || begins(op))
+    !(line(op).usage.is_restricted() || sets_access_register(op) || begins(op))
 }
 
 /// Whether a CPU without a prefix can fetch so many bytes from an address on.

@@ -1,7 +1,8 @@
 -- Flat states of parts: one CPU has other parts, and a CPU at rest is followed.
 use Rattle.std.proofs.Common.{◌≡◌, ℕ, zero, suc, Bool, true, false, List, [], ◌∷◌}
 use Rattle.std.proofs.Common.{refl, sym, ap, ◌∙◌, arith, length}
-use Rattle.std.specs.Prelude.{if◌then◌else◌, ◌==◌, nat_lt}
+use Rattle.std.specs.Prelude.{if◌then◌else◌, ◌==◌, ◌+◌, nat_lt}
+use Rattle.z_effect.specs.One.{length_of}
 use Rattle.std.proofs.lemmas.Bool.{true≢false}
 use Rattle.z_regs.specs.Cpu.{Cpu}
 use Rattle.z_regs.specs.declared.ranges.Range.{Range}
@@ -15,7 +16,7 @@ use Rattle.tx_serial.specs.Run.{run, may_follow, outcome_of}
 use Rattle.tx_serial.proofs.Entries.{at_put_same}
 use Rattle.tx_progress.specs.Followed.{flat_after}
 use Rattle.tx_progress.specs.Local.{Local, Beside}
-use Rattle.tx_progress.specs.Progress.{resting, is_live}
+use Rattle.tx_progress.specs.Progress.{resting, is_live, resumed_after, begins_constrained}
 use Rattle.tx_progress.specs.Reached.{progress_of, IsFollowed}
 use Rattle.tx_progress.proofs.OneMore.{starts, counts, open_is_there}
 use Rattle.tx_progress.specs.Trial.{fate_by_progress, outcome_by}
@@ -125,3 +126,10 @@ followed_outcome f i local instr ranges is =
 pub quiet_run : (f : FlatState) (i : ℕ) (local : Local) → is_live local.attempt ≡ false
     → run f i 0 ≡ run f i local.attempt.count
 quiet_run f i local h = sym (ap (run f i) (not_live local.attempt.count h))
+
+-- ---- behind an abort
+
+-- a live attempt goes on where it did
+pub resumes_stays : (count at old : ℕ) (i : Instr) → nat_lt 0 count ≡ true → resumed_after count i at old ≡ old
+resumes_stays count at old i h =
+    ap (λ b. if b then old else (if begins_constrained i then at else at + length_of i)) h

@@ -3,14 +3,13 @@ use Rattle.std.proofs.Common.{◌≡◌, ℕ, ◌+◌, ◌/◌, ◌%◌, ◌≤�
 use Rattle.std.proofs.Common.{refl, sym, ap, subst, ◌∙◌, inl, inr}
 use Rattle.line_table.specs.declared.table.Mode.TheVariants.{Shared, Exclusive}
 use Rattle.std.proofs.lemmas.Bool.{cases_lt, true≢false}
-use Rattle.std.specs.Prelude.{◌&&◌}
 use Rattle.z_regs.specs.Absolute.{absolute_range, absolute_ranges}
 use Rattle.z_regs.specs.declared.ranges.Range.{Range}
 use Rattle.tx_program.specs.Shapes.{touched_by}
 use Rattle.tx_program.specs.declared.ready.Shape.{Shape}
 use Rattle.tx_program.specs.declared.ready.Touch.{Touch}
 use Rattle.tx_program.specs.declared.ready.Touch.TheVariants as touch
-use Rattle.tx_program.specs.Shapes.{is_in_line, is_nothing, is_open, is_placed, is_reached}
+use Rattle.tx_program.specs.Shapes.{is_in_line, is_open, is_reached}
 use Rattle.tx_lines.proofs.Plainly.{in-line}
 use Rattle.std.proofs.lemmas.Bool.{and_parts}
 use Rattle.tx_needs.proofs.OneLine.{one, mode_of, needs-one, needs-none}
@@ -88,18 +87,6 @@ is-there i s first text k bare reached held = record {
 
 -- ---- what an operand needs
 
-in-its-line : (t : Touch) (first size : ℕ) (text : List ℕ) → is_open t first size text ≡ true
-    → is_open t first size [] ≡ true
-in-its-line touch.Nothing first size text opened = refl
-in-its-line touch.Fetch first size text opened = opened
-in-its-line touch.Store first size text opened = ap (λ b. b && true) (and_parts (is_in_line first size) _ opened).0
-in-its-line touch.Other first size text opened = opened
-
--- an operand that is reached lies in a line, whatever the text pages are
-pub reached-placed : (s : Shape) (first : ℕ) (text : List ℕ) → is_reached s first text ≡ true
-    → is_placed s first ≡ true
-reached-placed s first text reached = in-its-line s.touch first s.size text (and_parts _ _ reached).1
-
 -- who needs nothing asks nobody
 pub nothing-needed : (m : Setting) (i : ℕ) (k : Kept) (needs : List Need) → needs ≡ []
     → ◌≡◌ {A = KAsked} (record { kept = k; reject = None }) (k_get_lines m i needs k)
@@ -175,10 +162,3 @@ touched-places touch.Fetch first size prefix bare =
 touched-places touch.Store first size prefix bare =
     sym (ap (λ p. absolute_ranges p (touched_by touch.Store first size)) bare)
 touched-places touch.Other first size prefix bare = refl
-
--- nothing is touched where the shape says so
-pub nothing-touched : (t : Touch) (first size : ℕ) → is_nothing t ≡ true → touched_by t first size ≡ []
-nothing-touched touch.Nothing first size h = refl
-nothing-touched touch.Fetch first size h = absurd (true≢false (sym h))
-nothing-touched touch.Store first size h = absurd (true≢false (sym h))
-nothing-touched touch.Other first size h = absurd (true≢false (sym h))

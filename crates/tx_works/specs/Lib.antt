@@ -5,6 +5,7 @@ pub mod Asks
 pub mod Steps
 pub mod Turned
 pub mod InTurn
+pub mod Executing
 pub mod Wanted
 pub mod Plainly
 -- what callers name of crates below

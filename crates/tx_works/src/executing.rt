@@ -2,12 +2,13 @@
 ghost use Rattle.std.specs.Prelude.{◌≡◌, ◌<◌, true, false, is_some, length};
 ghost use Rattle.tx_journal.specs.declared.entries.Entry.TheVariants as entry;
 ghost use Rattle.tx_lines.specs.Plans.{HasDoneRoom, IsPrepared};
-ghost use Rattle.tx_program.specs.Shapes.{touched_by, is_nothing};
+ghost use Rattle.tx_program.specs.Shapes.{is_nothing};
 ghost use Rattle.tx_progress.specs.Doing.{executed};
 ghost use Rattle.tx_progress.specs.Progress.{resting};
 ghost use Rattle.tx_meaning.specs.State.{is_live};
 ghost use Rattle.tx_keeping.specs.Kept.{beside};
-ghost use Rattle.tx_keeping.specs.Turn.{k_executing, k_inside, k_outside, next_address};
+ghost use Rattle.tx_keeping.specs.Turn.{k_executing};
+ghost use Rattle.tx_works.specs.Executing.{MayExecute, operand_by};
 ghost use Rattle.tx_works.specs.Steps.{k_left, k_begun, k_written, k_descended};
 ghost use Rattle.tx_works.specs.Turned.{turned_as};
 ghost use Rattle.tx_works.specs.Works.{Seat, kept_by, IsSameSize, KeepsBooks};
@@ -36,10 +37,7 @@ impl Works {
     #[inline(always)]
     fn run(&mut self, cpu: u32, instr: &Instr, need: &Touches) -> Done
         requires cpu { cpu < length self.old.slots }
-        requires prepared { (rest : Seat) →
-            IsPrepared ((kept_by rest self.old).locals cpu).attempt instr.now need.now }
-        requires counts { (rest : Seat) → let n = (kept_by rest self.old).state.numbers cpu in
-            n.completed < n.turns }
+        requires may { (rest : Seat) → MayExecute cpu instr.now need.now (kept_by rest self.old) }
         ensures told { (rest : Seat) → let k = kept_by rest self.old in
             result ≡ (executed instr.now need.now (beside k cpu)).told }
         ensures value { (rest : Seat) → let k = kept_by rest self.old in
@@ -56,10 +54,7 @@ impl Works {
     fn run_live(&mut self, cpu: u32, instr: &Instr, need: &Touches) -> Done
         requires cpu { cpu < length self.old.slots }
         requires live { (rest : Seat) → is_live (kept_by rest self.old).state cpu ≡ true }
-        requires prepared { (rest : Seat) →
-            IsPrepared ((kept_by rest self.old).locals cpu).attempt instr.now need.now }
-        requires counts { (rest : Seat) → let n = (kept_by rest self.old).state.numbers cpu in
-            n.completed < n.turns }
+        requires may { (rest : Seat) → MayExecute cpu instr.now need.now (kept_by rest self.old) }
         ensures told { (rest : Seat) → let k = kept_by rest self.old in
             result ≡ (executed instr.now need.now (beside k cpu)).told }
         ensures value { (rest : Seat) → let k = kept_by rest self.old in
@@ -101,14 +96,10 @@ impl Works {
     fn execute_inside(&mut self, cpu: u32, instr: &Instr, need: &Touches, turned: &mut Turned)
         requires cpu { cpu < length self.old.slots }
         requires live { (rest : Seat) → is_live (kept_by rest self.old).state cpu ≡ true }
-        requires prepared { (rest : Seat) →
-            IsPrepared ((kept_by rest self.old).locals cpu).attempt instr.now need.now }
-        requires counts { (rest : Seat) → let n = (kept_by rest self.old).state.numbers cpu in
-            n.completed < n.turns }
+        requires may { (rest : Seat) → MayExecute cpu instr.now need.now (kept_by rest self.old) }
         requires room { length self.old.history < self.old.room }
-        ensures value { (rest : Seat) → let k = kept_by rest self.old in
-            let e = executed instr.now need.now (beside k cpu) in
-            turned_as (kept_by rest self.new) turned.new ≡ k_inside cpu (next_address k cpu) e.after k e.told }
+        ensures value { (rest : Seat) → turned_as (kept_by rest self.new) turned.new ≡
+            k_executing cpu instr.now need.now (kept_by rest self.old) }
         ensures size { IsSameSize self.old self.new }
     {
         let at = self.next_address(cpu);
@@ -130,18 +121,10 @@ impl Works {
     fn execute_outside(&mut self, cpu: u32, instr: &Instr, need: &Touches, turned: &mut Turned)
         requires cpu { cpu < length self.old.slots }
         requires live { (rest : Seat) → is_live (kept_by rest self.old).state cpu ≡ false }
-        requires rested { (rest : Seat) → let local = (kept_by rest self.old).locals cpu in
-            local.attempt ≡ resting local.cpu }
-        requires prepared { (rest : Seat) →
-            IsPrepared ((kept_by rest self.old).locals cpu).attempt instr.now need.now }
-        requires counts { (rest : Seat) → let n = (kept_by rest self.old).state.numbers cpu in
-            n.completed < n.turns }
-        requires begins { (rest : Seat) → let n = (kept_by rest self.old).state.numbers cpu in
-            n.attempts < n.turns }
+        requires may { (rest : Seat) → MayExecute cpu instr.now need.now (kept_by rest self.old) }
         requires room { length self.old.history < self.old.room }
-        ensures value { (rest : Seat) → let k = kept_by rest self.old in
-            let e = executed instr.now need.now (beside k cpu) in
-            turned_as (kept_by rest self.new) turned.new ≡ k_outside cpu e.after k e.told }
+        ensures value { (rest : Seat) → turned_as (kept_by rest self.new) turned.new ≡
+            k_executing cpu instr.now need.now (kept_by rest self.old) }
         ensures size { IsSameSize self.old self.new }
     {
         match self.run(cpu, instr, need) {
@@ -199,16 +182,12 @@ impl Works {
     fn execute_plainly_inside(&mut self, cpu: u32, plain: &Plain, turned: &mut Turned)
         requires cpu { cpu < length self.old.slots }
         requires live { (rest : Seat) → is_live (kept_by rest self.old).state cpu ≡ true }
-        requires prepared { (rest : Seat) →
-            IsPrepared ((kept_by rest self.old).locals cpu).attempt plain.now.ready.now.instr
-            (touched_by plain.now.ready.now.shape.touch plain.now.first plain.now.ready.now.shape.size) }
-        requires counts { (rest : Seat) → let n = (kept_by rest self.old).state.numbers cpu in
-            n.completed < n.turns }
+        requires may { (rest : Seat) → MayExecute cpu plain.now.ready.now.instr
+            (operand_by plain.now.ready.now.shape plain.now.first) (kept_by rest self.old) }
         requires room { length self.old.history < self.old.room }
-        ensures value { (rest : Seat) → let k = kept_by rest self.old in
-            let e = executed plain.now.ready.now.instr (touched_by plain.now.ready.now.shape.touch plain.now.first
-            plain.now.ready.now.shape.size) (beside k cpu) in
-            turned_as (kept_by rest self.new) turned.new ≡ k_inside cpu (next_address k cpu) e.after k e.told }
+        ensures value { (rest : Seat) → turned_as (kept_by rest self.new) turned.new ≡
+            k_executing cpu plain.now.ready.now.instr (operand_by plain.now.ready.now.shape plain.now.first)
+            (kept_by rest self.old) }
         ensures size { IsSameSize self.old self.new }
     {
         let need = operands_at(plain.ready.shape, plain.first);
@@ -221,16 +200,12 @@ impl Works {
         requires cpu { cpu < length self.old.slots }
         requires nothing { is_nothing plain.now.ready.now.shape.touch ≡ true }
         requires live { (rest : Seat) → is_live (kept_by rest self.old).state cpu ≡ true }
-        requires prepared { (rest : Seat) →
-            IsPrepared ((kept_by rest self.old).locals cpu).attempt plain.now.ready.now.instr
-            (touched_by plain.now.ready.now.shape.touch plain.now.first plain.now.ready.now.shape.size) }
-        requires counts { (rest : Seat) → let n = (kept_by rest self.old).state.numbers cpu in
-            n.completed < n.turns }
+        requires may { (rest : Seat) → MayExecute cpu plain.now.ready.now.instr
+            (operand_by plain.now.ready.now.shape plain.now.first) (kept_by rest self.old) }
         requires room { length self.old.history < self.old.room }
-        ensures value { (rest : Seat) → let k = kept_by rest self.old in
-            let e = executed plain.now.ready.now.instr (touched_by plain.now.ready.now.shape.touch plain.now.first
-            plain.now.ready.now.shape.size) (beside k cpu) in
-            turned_as (kept_by rest self.new) turned.new ≡ k_inside cpu (next_address k cpu) e.after k e.told }
+        ensures value { (rest : Seat) → turned_as (kept_by rest self.new) turned.new ≡
+            k_executing cpu plain.now.ready.now.instr (operand_by plain.now.ready.now.shape plain.now.first)
+            (kept_by rest self.old) }
         ensures size { IsSameSize self.old self.new }
     {
         let need = Touches::none();
@@ -242,16 +217,12 @@ impl Works {
     fn execute_inside_by_touch(&mut self, cpu: u32, plain: &Plain, turned: &mut Turned)
         requires cpu { cpu < length self.old.slots }
         requires live { (rest : Seat) → is_live (kept_by rest self.old).state cpu ≡ true }
-        requires prepared { (rest : Seat) →
-            IsPrepared ((kept_by rest self.old).locals cpu).attempt plain.now.ready.now.instr
-            (touched_by plain.now.ready.now.shape.touch plain.now.first plain.now.ready.now.shape.size) }
-        requires counts { (rest : Seat) → let n = (kept_by rest self.old).state.numbers cpu in
-            n.completed < n.turns }
+        requires may { (rest : Seat) → MayExecute cpu plain.now.ready.now.instr
+            (operand_by plain.now.ready.now.shape plain.now.first) (kept_by rest self.old) }
         requires room { length self.old.history < self.old.room }
-        ensures value { (rest : Seat) → let k = kept_by rest self.old in
-            let e = executed plain.now.ready.now.instr (touched_by plain.now.ready.now.shape.touch plain.now.first
-            plain.now.ready.now.shape.size) (beside k cpu) in
-            turned_as (kept_by rest self.new) turned.new ≡ k_inside cpu (next_address k cpu) e.after k e.told }
+        ensures value { (rest : Seat) → turned_as (kept_by rest self.new) turned.new ≡
+            k_executing cpu plain.now.ready.now.instr (operand_by plain.now.ready.now.shape plain.now.first)
+            (kept_by rest self.old) }
         ensures size { IsSameSize self.old self.new }
     {
         match plain.ready.shape.touch {
@@ -265,20 +236,12 @@ impl Works {
     fn execute_plainly_outside(&mut self, cpu: u32, plain: &Plain, turned: &mut Turned)
         requires cpu { cpu < length self.old.slots }
         requires live { (rest : Seat) → is_live (kept_by rest self.old).state cpu ≡ false }
-        requires rested { (rest : Seat) → let local = (kept_by rest self.old).locals cpu in
-            local.attempt ≡ resting local.cpu }
-        requires prepared { (rest : Seat) →
-            IsPrepared ((kept_by rest self.old).locals cpu).attempt plain.now.ready.now.instr
-            (touched_by plain.now.ready.now.shape.touch plain.now.first plain.now.ready.now.shape.size) }
-        requires counts { (rest : Seat) → let n = (kept_by rest self.old).state.numbers cpu in
-            n.completed < n.turns }
-        requires begins { (rest : Seat) → let n = (kept_by rest self.old).state.numbers cpu in
-            n.attempts < n.turns }
+        requires may { (rest : Seat) → MayExecute cpu plain.now.ready.now.instr
+            (operand_by plain.now.ready.now.shape plain.now.first) (kept_by rest self.old) }
         requires room { length self.old.history < self.old.room }
-        ensures value { (rest : Seat) → let k = kept_by rest self.old in
-            let e = executed plain.now.ready.now.instr (touched_by plain.now.ready.now.shape.touch plain.now.first
-            plain.now.ready.now.shape.size) (beside k cpu) in
-            turned_as (kept_by rest self.new) turned.new ≡ k_outside cpu e.after k e.told }
+        ensures value { (rest : Seat) → turned_as (kept_by rest self.new) turned.new ≡
+            k_executing cpu plain.now.ready.now.instr (operand_by plain.now.ready.now.shape plain.now.first)
+            (kept_by rest self.old) }
         ensures size { IsSameSize self.old self.new }
     {
         let need = operands_at(plain.ready.shape, plain.first);
@@ -291,7 +254,7 @@ impl Works {
         requires cpu { cpu < length self.old.slots }
         requires prepared { (rest : Seat) →
             IsPrepared ((kept_by rest self.old).locals cpu).attempt plain.now.ready.now.instr
-            (touched_by plain.now.ready.now.shape.touch plain.now.first plain.now.ready.now.shape.size) }
+            (operand_by plain.now.ready.now.shape plain.now.first) }
         requires rested { (rest : Seat) → let k = kept_by rest self.old in is_live k.state cpu ≡ false
             → (k.locals cpu).attempt ≡ resting (k.locals cpu).cpu }
         requires counts { (rest : Seat) → let n = (kept_by rest self.old).state.numbers cpu in
@@ -300,8 +263,8 @@ impl Works {
             n.attempts < n.turns }
         requires room { length self.old.history < self.old.room }
         ensures value { (rest : Seat) → turned_as (kept_by rest self.new) turned.new ≡
-            k_executing cpu plain.now.ready.now.instr (touched_by plain.now.ready.now.shape.touch plain.now.first
-            plain.now.ready.now.shape.size) (kept_by rest self.old) }
+            k_executing cpu plain.now.ready.now.instr (operand_by plain.now.ready.now.shape plain.now.first)
+            (kept_by rest self.old) }
         ensures size { IsSameSize self.old self.new }
     {
         let need = operands_at(plain.ready.shape, plain.first);
@@ -315,7 +278,7 @@ impl Works {
         requires cpu { cpu < length self.old.slots }
         requires prepared { (rest : Seat) →
             IsPrepared ((kept_by rest self.old).locals cpu).attempt plain.now.ready.now.instr
-            (touched_by plain.now.ready.now.shape.touch plain.now.first plain.now.ready.now.shape.size) }
+            (operand_by plain.now.ready.now.shape plain.now.first) }
         requires rested { (rest : Seat) → let k = kept_by rest self.old in is_live k.state cpu ≡ false
             → (k.locals cpu).attempt ≡ resting (k.locals cpu).cpu }
         requires counts { (rest : Seat) → let n = (kept_by rest self.old).state.numbers cpu in
@@ -324,8 +287,8 @@ impl Works {
             n.attempts < n.turns }
         requires room { length self.old.history < self.old.room }
         ensures value { (rest : Seat) → turned_as (kept_by rest self.new) turned.new ≡
-            k_executing cpu plain.now.ready.now.instr (touched_by plain.now.ready.now.shape.touch plain.now.first
-            plain.now.ready.now.shape.size) (kept_by rest self.old) }
+            k_executing cpu plain.now.ready.now.instr (operand_by plain.now.ready.now.shape plain.now.first)
+            (kept_by rest self.old) }
         ensures size { IsSameSize self.old self.new }
     {
         if self.is_live(cpu) {

@@ -12,9 +12,10 @@ ghost use Rattle.tx_meaning.specs.declared.asking.Need.{Need};
 ghost use Rattle.tx_meaning.specs.Limits.{Setting};
 ghost use Rattle.tx_meaning.specs.State.{cpus_of, is_head};
 ghost use Rattle.tx_meaning.specs.Needs.{needs_of, operand_needs};
-ghost use Rattle.tx_program.specs.Shapes.{touched_by, is_placed};
+ghost use Rattle.tx_program.specs.Shapes.{is_placed};
 ghost use Rattle.tx_meaning.specs.Asking.{is_there};
 ghost use Rattle.tx_keeping.specs.Asking.{k_granting, k_get_line, k_get_lines};
+ghost use Rattle.tx_works.specs.Executing.{operand_by};
 ghost use Rattle.tx_works.specs.Works.{Seat, IsSameSize, kept_by, seats_of};
 ghost use Rattle.tx_works.specs.Ready.{MayAsk, MayHold, HasTurn, owed};
 ghost use Rattle.tx_works.specs.Asks.{IsReady, IsFew, AskLeaves, asked_by, rejected_in, is_cpu_starved};
@@ -60,9 +61,9 @@ fn only_need(ranges: &Touches) -> Option<Need>
 fn operand_need(shape: Shape, first: u64) -> Option<Need>
     requires { is_placed shape first ≡ true }
     ensures some { IfSome result (λ need. (prefix : Option ℕ) → prefix ≡ None
-        → operand_needs prefix (touched_by shape.touch first shape.size) ≡ need ∷ []) }
+        → operand_needs prefix (operand_by shape first) ≡ need ∷ []) }
     ensures none { IfNone result ((prefix : Option ℕ) → prefix ≡ None
-        → operand_needs prefix (touched_by shape.touch first shape.size) ≡ []) }
+        → operand_needs prefix (operand_by shape first) ≡ []) }
     ensures in_storage { IfSome result (λ need. need.line < storage_lines) }
 {
     if shape.size == 0 {
@@ -172,13 +173,13 @@ impl Works {
         requires bare { (rest : Seat) → ((kept_by rest self.old).locals cpu).attempt.cpu.prefix ≡ None }
         requires placed { is_placed shape first ≡ true }
         requires holds { (rest : Seat) → let k = kept_by rest self.old in MayHold cpu
-            (operand_needs (k.locals cpu).attempt.cpu.prefix (touched_by shape.touch first shape.size)) k }
+            (operand_needs (k.locals cpu).attempt.cpu.prefix (operand_by shape first)) k }
         requires asks { (rest : Seat) → MayAsk (length self.old.slots) cpu (kept_by rest self.old) }
         requires room { (rest : Seat) → owed self.old (kept_by rest self.old) ≤ self.old.room }
         requires turn { (rest : Seat) → HasTurn (seats_of rest self.old.slots cpu) 128 }
         ensures kept { (rest : Seat) (m : Setting) → cpus_of m ≡ length self.old.slots
             → let k = kept_by rest self.old in asked_by rest self.new (rejected_in result) ≡ k_get_lines m cpu
-            (operand_needs (k.locals cpu).attempt.cpu.prefix (touched_by shape.touch first shape.size)) k }
+            (operand_needs (k.locals cpu).attempt.cpu.prefix (operand_by shape first)) k }
         ensures size { IsSameSize self.old self.new }
         ensures own { (rest : Seat)
             → (kept_by rest self.new).locals cpu ≡ (kept_by rest self.old).locals cpu }

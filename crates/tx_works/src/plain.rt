@@ -7,11 +7,12 @@ ghost use Rattle.tx_serial.specs.Fate.{Goes};
 ghost use Rattle.tx_serial.specs.History.{start_of};
 ghost use Rattle.tx_progress.specs.Trial.{fate_by_progress};
 ghost use Rattle.tx_lines.specs.Quiet.{IsQuiet};
-ghost use Rattle.tx_program.specs.Shapes.{touched_by, is_reached};
+ghost use Rattle.tx_program.specs.Shapes.{is_reached};
 ghost use Rattle.tx_lines.specs.Owned.{holders_in};
 ghost use Rattle.tx_meaning.specs.Asking.{is_there};
 ghost use Rattle.tx_meaning.specs.Limits.{Setting, RunLimits};
 ghost use Rattle.tx_keeping.specs.Kept.{text_of};
+ghost use Rattle.tx_works.specs.Executing.{operand_by};
 ghost use Rattle.tx_works.specs.Plainly.{IsThere, is_held};
 ghost use Rattle.tx_works.specs.Ready.{image_storage};
 ghost use Rattle.tx_works.specs.Works.{Seat, kept_by};
@@ -61,7 +62,7 @@ impl Works {
             let m : Setting = record { image = program.now; limits = limits } in
             IfSome result (λ p. fate_by_progress (text_of m) (image_storage m)
             ((kept_by rest self.now).locals cpu).attempt ≡ Goes p.ready.now.instr
-            (touched_by p.ready.now.shape.touch p.first p.ready.now.shape.size)) }
+            (operand_by p.ready.now.shape p.first)) }
         ensures reached { IfSome result (λ p. is_reached p.ready.now.shape p.first (items program.now.guard)
             ≡ true) }
     {

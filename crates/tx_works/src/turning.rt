@@ -4,7 +4,7 @@ ghost use Rattle.z_regs.specs.Absolute.{absolute_ranges};
 ghost use Rattle.z_regs.specs.Prefix.{is_prefix, storage_size};
 ghost use Rattle.tx_lines.specs.Plans.{IsPrepared, HasPlanRoom, fate_of};
 ghost use Rattle.tx_lines.specs.Quiet.{IsQuiet};
-ghost use Rattle.tx_program.specs.Shapes.{touched_by, is_placed, is_reached};
+ghost use Rattle.tx_program.specs.Shapes.{is_placed, is_reached};
 ghost use Rattle.tx_serial.specs.Fate.{Goes};
 ghost use Rattle.std.specs.FinSet.{items};
 ghost use Rattle.tx_serial.specs.Flat.{address_of};
@@ -20,6 +20,7 @@ ghost use Rattle.tx_keeping.specs.Turn.{k_refused_turn, k_with_lines, k_executin
 ghost use Rattle.tx_keeping.specs.Turn.{k_external, k_acting};
 ghost use Rattle.tx_keeping.specs.Asking.{k_get_lines};
 ghost use Rattle.tx_works.specs.Asks.{is_cpu_starved, asked_by, rejected_in};
+ghost use Rattle.tx_works.specs.Executing.{operand_by};
 ghost use Rattle.tx_works.specs.InTurn.{MayAct, block_awaited};
 ghost use Rattle.tx_works.specs.Ready.{MayAsk, MayHold, MayTurn, HasTurn, IsInReach, image_storage, owed};
 ghost use Rattle.tx_works.specs.Turned.{turned_as};
@@ -186,18 +187,17 @@ impl Works {
         requires cpu { cpu < length self.old.slots }
         requires prepared { (rest : Seat) →
             IsPrepared ((kept_by rest self.old).locals cpu).attempt plain.now.ready.now.instr
-            (touched_by plain.now.ready.now.shape.touch plain.now.first plain.now.ready.now.shape.size) }
+            (operand_by plain.now.ready.now.shape plain.now.first) }
         requires bare { (rest : Seat) → ((kept_by rest self.old).locals cpu).attempt.cpu.prefix ≡ None }
         requires placed { is_placed plain.now.ready.now.shape plain.now.first ≡ true }
         requires holds { (rest : Seat) → let k = kept_by rest self.old in
-            MayHold cpu (operand_needs (k.locals cpu).attempt.cpu.prefix (touched_by plain.now.ready.now.shape.touch
-            plain.now.first plain.now.ready.now.shape.size)) k }
+            MayHold cpu (operand_needs (k.locals cpu).attempt.cpu.prefix (operand_by
+            plain.now.ready.now.shape plain.now.first)) k }
         requires rested { (rest : Seat) → let k = kept_by rest self.old in is_live k.state cpu ≡ false
             → (k.locals cpu).attempt ≡ resting (k.locals cpu).cpu }
         requires acts { (rest : Seat) → MayAct cpu self.old rest }
         ensures value { (rest : Seat) (m : Setting) → cpus_of m ≡ length self.old.slots
-            → let k = kept_by rest self.old in let need = touched_by plain.now.ready.now.shape.touch plain.now.first
-            plain.now.ready.now.shape.size in turned_as (kept_by rest self.new) turned.new ≡
+            → let k = kept_by rest self.old in let need = operand_by plain.now.ready.now.shape plain.now.first in turned_as (kept_by rest self.new) turned.new ≡
             k_with_lines m cpu (operand_needs (k.locals cpu).attempt.cpu.prefix need) k
             (k_executing cpu plain.now.ready.now.instr need) }
         ensures size { IsSameSize self.old self.new }
@@ -221,7 +221,7 @@ impl Works {
             let m : Setting = record { image = program.now; limits = limits } in
             fate_by_progress (text_of m) (image_storage m) ((kept_by rest self.old).locals cpu).attempt ≡
             Goes plain.now.ready.now.instr
-            (touched_by plain.now.ready.now.shape.touch plain.now.first plain.now.ready.now.shape.size) }
+            (operand_by plain.now.ready.now.shape plain.now.first) }
         requires reached { is_reached plain.now.ready.now.shape plain.now.first (items program.now.guard) ≡ true }
         ensures value { (rest : Seat) (limits : RunLimits) →
             let m : Setting = record { image = program.now; limits = limits } in let k = kept_by rest self.old in

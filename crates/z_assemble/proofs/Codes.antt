@@ -1,18 +1,13 @@
 -- What the second reading writes: the code of each instruction, which later lines leave.
-use Rattle.std.proofs.Common.{◌≡◌, ℕ, suc, ◌+◌, ◌<◌, ◌≤◌, inl, inr, Bool, true, not, List, [], ◌∷◌, length, get_or, drop}
+use Rattle.std.proofs.Common.{◌≡◌, ℕ, suc, ◌+◌, ◌<◌, Bool, true, not, List, [], ◌∷◌, length, get_or, drop}
 use Rattle.std.proofs.Common.{Option, Some, None, Ok, Err, refl, sym, ap, ◌∙◌, subst, arith}
 use Rattle.std.specs.Prelude.{All, AllPairs, if◌then◌else◌}
 use Rattle.std.specs.List.{list_any}
-use Rattle.std.proofs.lemmas.Bool.{cases_lt}
-use Rattle.std.proofs.lemmas.List.{get_or_past}
 use Rattle.std.proofs.lemmas.List.Elements.{All-cons, All-head, All-tail, All-nil}
-use Rattle.z_instr.proofs.TableFacts.{same_table}
 use Rattle.z_instr.proofs.Within.{below_sixteen}
-use Rattle.z_instr.specs.Forms.{format_of}
-use Rattle.z_instr.specs.Layout.{format_length}
 use Rattle.z_instr.specs.Ranges.{limits_of}
 use Rattle.z_instr.specs.Reading.{Reads, code, number_of}
-use Rattle.z_instr.specs.Table.{Entry, table, entry_at, no_entry}
+use Rattle.z_instr.specs.Table.{Entry, entry_at}
 use Rattle.z_instr.specs.declared.instr.Fields.{Fields}
 use Rattle.z_instr.specs.declared.instr.Instr.{Instr}
 use Rattle.z_instr.specs.declared.table.TheConstants.{ROWS}
@@ -39,24 +34,14 @@ use Rattle.z_setup.specs.declared.parameter.Parameter.{Parameter}
 use Rattle.z_assemble.proofs.Over.{write_size, write_other, write_inside}
 use Rattle.z_assemble.proofs.Passed.{then_ok, where_ok, unless_ok, same_ok, is_true}
 use Rattle.z_assemble.proofs.Plans.{Places, PlacesAt, AreApart, IsWithin, IsInTable, IsInRoom}
-use Rattle.z_instr.proofs.Wholes.{format_at, length_spelled}
+use Rattle.z_instr.proofs.Wholes.{length_spelled}
 
 -- ---- the code of an instruction
-
--- the format is that of the form, past the last row too
-format_of_row : (row : ℕ) → format_of (entry_at row).form ≡ (entry_at row).format
-unfolding entry_at
-format_of_row row = elim (cases_lt row ROWS) [
-  | inl known ↦ format_at row known
-  | inr past ↦
-      subst (λ (e : Entry). format_of e.form ≡ e.format)
-      (sym (get_or_past table row no_entry (subst (λ n. n ≤ row) (ap length same_table) past))) refl
-]
 
 pub size_in : (row : ℕ) (f : Fields) → length (code (entry_at row) f) ≡ size_of_row row
 size_in row f =
     let e = entry_at row in
-    length_spelled e.form (number_of e.opcode f) ∙ ap format_length (format_of_row row)
+    length_spelled e.form (number_of e.opcode f)
 
 -- the bytes read as an instruction, and have the row's size
 pub record IsCode (row : ℕ) (bytes : List ℕ) : Type 0 where

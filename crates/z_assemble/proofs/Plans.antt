@@ -14,10 +14,10 @@ use Rattle.std.proofs.lemmas.List.Elements.{Contains-push}
 use Rattle.std.proofs.lemmas.List.Quantifiers.{all_pairs_push}
 use Rattle.std.proofs.lemmas.List.Folds.{list_any_at}
 use Rattle.z_instr.proofs.TableFacts.{same_table}
-use Rattle.z_instr.specs.Layout.{format_length}
+use Rattle.z_instr.specs.Layout.{form_length}
 use Rattle.z_instr.specs.Table.{Entry, table, entry_at}
-use Rattle.z_instr.specs.declared.format.Format.{Format}
-use Rattle.z_instr.specs.declared.format.Format.TheVariants.{RR, I}
+use Rattle.z_instr.specs.declared.form.Form.{Form}
+use Rattle.z_instr.specs.declared.form.Form.TheVariants.{RR}
 use Rattle.z_instr.specs.declared.table.TheConstants.{ROWS}
 use Rattle.z_fields.specs.Chain.{◌>>=◌}
 use Rattle.z_fields.specs.Data.{data_of}
@@ -46,9 +46,8 @@ use Rattle.tx_ladder.proofs.Kept.{marked_below}
 
 -- ---- what instructions place
 
-pub some_size : (f : Format) → 0 < format_length f
+pub some_size : (f : Form) → 0 < form_length f
 some_size RR = omega arith
-some_size I = omega arith
 some_size _ = omega arith
 
 -- the operation places the byte
@@ -230,7 +229,7 @@ begin_fits : (n row : ℕ) (mask : Option ℕ) (line : List ℕ) (p q : Plan) �
 begin_fits n row mask line p q known h i =
     let j = placed_fits (size_of_row row) p q h i in
     let t : Task = record { line = n; here = p.here; text = line; operation = Instruction row mask } in
-    let some : 0 < size_of_row row = some_size (entry_at row).format in
+    let some : 0 < size_of_row row = some_size (entry_at row).form in
     let room = mark_room p.here (size_of_row row) p.taken i.taken_size h.room in
     let mine : IsTaken q.taken t =
     λ k at. subst (λ (x : Plan). get_or x.taken k false ≡ true) h.is

@@ -138,7 +138,7 @@ text_at : (storage : List ℕ) (tasks : List Task) (here : ℕ) (op : Operation)
     BeginsAt here op k → IsText storage tasks k
 text_at storage tasks here (operations.Instruction row mask) room code size among k begins =
     subst (IsText storage tasks) begins (instruction_text storage tasks here row mask code room.1
-    (some_size (entry_at row).format) size among)
+    (some_size (entry_at row).form) size among)
 text_at storage tasks here _ room code size among k begins = absurd begins
 
 pub begun_text : (storage : List ℕ) (tasks : List Task) (k : ℕ) → All IsWithin tasks →

@@ -74,7 +74,7 @@ pub fn execute_kind<V: Bytes>(
         (V.bytes _view.old) (V.bytes _view.new) result }
     ensures view { V.bytes _view.new ≡ V.bytes _view.old }
 {
-    let n = length_in(line(instr.op).format);
+    let n = length_in(line(instr.op).form);
     run(kind, n, instr, image);
     Ok(())
 }

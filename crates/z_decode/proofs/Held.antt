@@ -8,20 +8,19 @@ use Rattle.std.proofs.Common.{lit<}
 use Rattle.std.proofs.lemmas.Bool.{leb-true}
 use Rattle.z_instr.specs.declared.instr.Fields.{Fields}
 use Rattle.z_instr.specs.declared.instr.Instr.{Instr}
-use Rattle.z_instr.specs.declared.limits.Limits.{Limits}
 use Rattle.z_instr.specs.declared.op.Op.{Op}
 use Rattle.z_instr.specs.declared.table.TheConstants.{ROWS}
 use Rattle.z_instr.specs.Computing.{fields_in, number, signed_number}
-use Rattle.z_instr.specs.Layout.{place, format_length}
+use Rattle.z_instr.specs.Layout.{form_length}
 use Rattle.z_instr.specs.Layouts.{layout_of, width, taken, has_signed_immediate, has_signed_displacement}
 use Rattle.z_instr.specs.Made.{Has, fields_of}
-use Rattle.z_instr.specs.Places.{opcode_at, HasOpcode}
+use Rattle.z_instr.specs.Places.{HasOpcode}
 use Rattle.z_instr.specs.Ranges.{bounds_by, limits_of}
 use Rattle.z_instr.specs.Reading.{AreBytes, Reads, modulo, number_of, code}
 use Rattle.z_instr.specs.Table.{Entry, entry_at}
 use Rattle.z_instr.proofs.Passing.{and_left, and_right}
 use Rattle.z_instr.proofs.TableFacts.{passes_row}
-use Rattle.z_instr.proofs.Wholes.{whole, limits_at, length_at, format_at, is_known, known_at, place_holds}
+use Rattle.z_instr.proofs.Wholes.{whole, length_at, is_known, known_at, place_holds}
 use Rattle.z_decode.specs.Code.{among, fields_by, AreSmall}
 use Rattle.z_decode.proofs.Again.{spelled_again}
 use Rattle.z_decode.proofs.Rows.{row_below}
@@ -157,16 +156,10 @@ module _ (n : ℕ) (bytes : List ℕ) (known : n < ROWS) (b : AreBytes bytes) wh
         r3 = one_digit (digits 3) (held 3) (and_left (nat_le (digits 3) 1) _ m2) (below 3);
         x = one_digit (digits 4) (held 4) (and_left (nat_le (digits 4) 1) _ m3) (below 4);
         b = one_digit (digits 5) (held 5) (and_left (nat_le (digits 5) 1) _ m4) (below 5);
-        d =
-            subst (λ (l : Limits). held 6 < l.d.above + l.d.below) (sym (limits_at n known))
-            (inside signed_d (digits 6) (held 6) d_known (below 6));
+        d = inside signed_d (digits 6) (held 6) d_known (below 6);
         b2 = one_digit (digits 7) (held 7) (and_left (nat_le (digits 7) 1) _ m5) (below 7);
-        d2 =
-            subst (λ (l : Limits). held 8 < l.d2.above + l.d2.below) (sym (limits_at n known))
-            (inside signed_d2 (digits 8) (held 8) d2_known (below 8));
-        imm =
-            subst (λ (l : Limits). held 9 < l.imm.above + l.imm.below) (sym (limits_at n known))
-            (inside (has_signed_immediate e) (digits 9) (held 9) imm_known (below 9));
+        d2 = inside signed_d2 (digits 8) (held 8) d2_known (below 8);
+        imm = inside (has_signed_immediate e) (digits 9) (held 9) imm_known (below 9);
         mask = one_digit (digits 10) (held 10) (and_right (nat_le (digits 7) 1) _ m5) (below 10);
       }
 
@@ -174,19 +167,13 @@ module _ (n : ℕ) (bytes : List ℕ) (known : n < ROWS) (b : AreBytes bytes) wh
   apart = fields_in (layout_of e) (has_signed_immediate e) bytes
 
   d_is : among (limits_of e).d (held 6) ≡ apart.d
-  d_is =
-      ap (λ (l : Limits). among l.d (held 6)) (limits_at n known)
-      ∙ among_is signed_d (digits 6) (held 6) d_known (below 6)
+  d_is = among_is signed_d (digits 6) (held 6) d_known (below 6)
 
   d2_is : among (limits_of e).d2 (held 8) ≡ apart.d2
-  d2_is =
-      ap (λ (l : Limits). among l.d2 (held 8)) (limits_at n known)
-      ∙ among_is signed_d2 (digits 8) (held 8) d2_known (below 8)
+  d2_is = among_is signed_d2 (digits 8) (held 8) d2_known (below 8)
 
   imm_is : among (limits_of e).imm (held 9) ≡ apart.imm
-  imm_is =
-      ap (λ (l : Limits). among l.imm (held 9)) (limits_at n known)
-      ∙ among_is (has_signed_immediate e) (digits 9) (held 9) imm_known (below 9)
+  imm_is = among_is (has_signed_immediate e) (digits 9) (held 9) imm_known (below 9)
 
   -- the fields that they make are those that the bytes hold
   pub fields_are : fields_by e held ≡ apart
@@ -207,8 +194,7 @@ module _ (n : ℕ) (bytes : List ℕ) (known : n < ROWS) (b : AreBytes bytes) wh
   -- the last bits of each are what was read
   numbers_again : HasOpcode e bytes → held 11 ≡ 0 → (r : ℕ) → r < 12 → held r ≡ number_of e.opcode apart r % 16 ^ digits r
   numbers_again o z zero h =
-      let opcode : held 0 ≡ e.opcode =
-      sym (place_holds e.form bytes) ∙ ap (λ f. opcode_at (place f) bytes) (format_at n known) ∙ o in
+      let opcode : held 0 ≡ e.opcode = sym (place_holds e.form bytes) ∙ o in
       sym (mod-eq_of_lt (below 0)) ∙ ap (λ m. m % 16 ^ digits 0) opcode
   numbers_again o z (suc zero) h = sym (mod-eq_of_lt (below 1))
   numbers_again o z (suc (suc zero)) h = sym (mod-eq_of_lt (below 2))
@@ -244,7 +230,7 @@ made_of o f i h =
 
 -- bytes with the opcode of a row, in which the bits that no field uses are zero, read as the instruction of their fields
 pub reads_again : (o : Op) (bytes : List ℕ) (i : Instr) → AreBytes bytes → HasOpcode (entry_at o.number) bytes →
-    length bytes ≡ format_length (entry_at o.number).format → taken (layout_of (entry_at o.number)) bytes 11 ≡ 0 →
+    length bytes ≡ form_length (entry_at o.number).form → taken (layout_of (entry_at o.number)) bytes 11 ≡ 0 →
     Has o (fields_in (layout_of (entry_at o.number)) (has_signed_immediate (entry_at o.number)) bytes) i → Reads bytes i
 reads_again o bytes i b has l z h =
     subst (λ n. bytes ≡ code (entry_at n) (fields_of i)) (sym h.op)

@@ -1,5 +1,5 @@
 -- The rows stand in the order of their keys, so a binary search finds the row of a key.
-use Rattle.std.proofs.Common.{◌≡◌, ℕ, ◌<◌, ◌≤◌, ◌/◌, zero, suc, true, false, refl, List, [], ◌∷◌, length}
+use Rattle.std.proofs.Common.{◌≡◌, ℕ, ◌<◌, ◌≤◌, ◌/◌, zero, suc, true, refl, List, [], ◌∷◌, length}
 use Rattle.std.proofs.Common.{get_or, nat_le, map, arith, sym, ap, ◌∙◌, inl, inr, Ok, Err}
 use Rattle.std.specs.List.{list_all}
 use Rattle.std.specs.List.Sorted.{IsBinarySearchResult}
@@ -11,8 +11,8 @@ use Rattle.std.proofs.lemmas.List.Sorted.{IsNonDecreasingBy-from_default}
 use Rattle.std.proofs.lemmas.Bool.{leb-true, cases_lt}
 use Rattle.z_instr.specs.declared.table.TheConstants.{TABLE, ROWS}
 use Rattle.z_instr.specs.declared.table.Line.{Line}
+use Rattle.z_instr.specs.declared.table.Use.TheVariants.{Free}
 use Rattle.z_instr.specs.declared.form.Form.TheVariants as forms
-use Rattle.z_instr.specs.declared.format.Format.TheVariants.{RR}
 use Rattle.z_instr.specs.declared.kind.Kind.TheVariants.{Branch}
 use Rattle.z_instr.specs.declared.kind.Branch.TheVariants.{ServiceCall}
 use Rattle.z_instr.specs.declared.format.Place.{Place}
@@ -46,9 +46,7 @@ blank = record {
   count = 0;
   opcode = 0;
   form = forms.RR;
-  format = RR;
-  restricted = false;
-  permitted = false;
+  usage = Free;
   kind = Branch ServiceCall;
 }
 
@@ -105,8 +103,8 @@ same_place Ends First h = cc
 same_place Ends FirstTwo h = cc
 same_place Ends FirstHalf h = cc
 
-told_place : (n : ℕ) → n < ROWS → place_by (lead (place (entry_at n).format) (entry_at n).opcode) ≡
-    place (entry_at n).format
+told_place : (n : ℕ) → n < ROWS → place_by (lead (place (entry_at n).form) (entry_at n).opcode) ≡
+    place (entry_at n).form
 told_place n h = same_place _ _ (passes_row has_telling_lead refl n h)
 
 key_of_opcode : (p : Place) (bytes : List ℕ) → AreBytes bytes →
@@ -131,7 +129,7 @@ one_opcode Ends o r e = e
 pub opcode_to_key : (n : ℕ) (bytes : List ℕ) → n < ROWS → AreBytes bytes → HasOpcode (entry_at n) bytes →
     key_of (entry_at n) ≡ key_in bytes
 opcode_to_key n bytes h b f =
-    let p = place (entry_at n).format in
+    let p = place (entry_at n).form in
     let starts : lead p (entry_at n).opcode ≡ get_or bytes 0 0 = ap (lead p) (sym f) ∙ leads p bytes b in
     let told : place_by (get_or bytes 0 0) ≡ p = ap place_by (sym starts) ∙ told_place n h in
     sym (ap (λ q. key_with q bytes) told ∙ key_of_opcode p bytes b ∙ ap (key_at p) f)
@@ -139,7 +137,7 @@ opcode_to_key n bytes h b f =
 pub key_to_opcode : (n : ℕ) (bytes : List ℕ) → n < ROWS → AreBytes bytes →
     key_of (entry_at n) ≡ key_in bytes → HasOpcode (entry_at n) bytes
 key_to_opcode n bytes h b f =
-    let p = place (entry_at n).format in
+    let p = place (entry_at n).form in
     let q = place_by (get_or bytes 0 0) in
     let starts : lead p (entry_at n).opcode ≡ get_or bytes 0 0 =
     sym (lead_of_key p (entry_at n).opcode) ∙ ap (λ k. k / 256) (f ∙ key_of_opcode q bytes b) ∙

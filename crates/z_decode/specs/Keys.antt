@@ -23,7 +23,7 @@ key_at FirstHalf opcode = opcode / 16 * 256 + opcode % 16
 key_at Ends opcode = opcode
 
 abbrev pub key_of : Entry → ℕ
-key_of e = key_at (place e.format) e.opcode
+key_of e = key_at (place e.form) e.opcode
 
 -- the key of the opcode that bytes have in a place
 abbrev pub key_with : Place → List ℕ → ℕ
@@ -44,4 +44,4 @@ is_rising (x ∷ xs) = list_all (nat_le x) xs && is_rising xs
 
 -- the first byte of the opcode tells its place
 abbrev pub has_telling_lead : Entry → Bool
-has_telling_lead e = is_same_place (place_by (lead (place e.format) e.opcode)) (place e.format)
+has_telling_lead e = is_same_place (place_by (lead (place e.form) e.opcode)) (place e.form)

@@ -1,7 +1,7 @@
 //! Bytes from instructions.
 ghost use Rattle.std.specs.Prelude.{◌≡◌, ◌≤◌, take, drop};
 ghost use Rattle.z_instr.specs.Table.{entry_at};
-ghost use Rattle.z_instr.specs.Layout.{format_length};
+ghost use Rattle.z_instr.specs.Layout.{form_length};
 ghost use Rattle.z_instr.specs.Reading.{Reads};
 ghost use Rattle.z_decode.specs.Code.{zeros_after};
 
@@ -21,7 +21,7 @@ pub struct Code {
 /// The only bytes that read as the instruction.
 pub fn encode(instr: &Instr) -> Code
     ensures bytes { Reads (take result.length result.bytes) instr.now }
-    ensures length { result.length ≡ format_length (entry_at instr.now.op.number).format }
+    ensures length { result.length ≡ form_length (entry_at instr.now.op.number).form }
     ensures rest { drop result.length result.bytes ≡ zeros_after result.length }
 {
     let line = line(instr.op);

@@ -1,7 +1,7 @@
 //! The row of an opcode, by a binary search of the instruction table, whose rows stand in the order of their opcodes.
 ghost use Rattle.std.specs.Prelude.{◌≡◌, ℕ, ◌<◌, ◌≤◌, length, slice_index, IfSome, IfNone};
 ghost use Rattle.z_instr.specs.Table.{entry_at};
-ghost use Rattle.z_instr.specs.Layout.{length_by, format_length};
+ghost use Rattle.z_instr.specs.Layout.{length_by, form_length};
 ghost use Rattle.z_instr.specs.Lines.{entry_of};
 ghost use Rattle.z_instr.specs.Places.{HasOpcode};
 ghost use Rattle.z_instr.specs.declared.table.TheConstants.{ROWS};
@@ -42,7 +42,7 @@ fn key_at(place: Place, opcode: u16) -> u32
 fn key_of_line(line: &Line) -> u32
     ensures { result ≡ key_of (entry_of line.now) }
 {
-    key_at(place_of(line.format), line.opcode)
+    key_at(place_of(line.form), line.opcode)
 }
 
 /// The key of the opcode that bytes have.
@@ -74,7 +74,7 @@ fn search(key: u32) -> Option<Op>
 pub fn find_row(bytes: &[u8]) -> Option<Op>
     requires { length bytes.now ≡ length_by (slice_index bytes.now 0) }
     ensures found { IfSome result (λ op. HasOpcode (entry_at op.number) bytes.now) }
-    ensures length { IfSome result (λ op. length bytes.now ≡ format_length (entry_at op.number).format) }
+    ensures length { IfSome result (λ op. length bytes.now ≡ form_length (entry_at op.number).form) }
     ensures none { IfNone result ((n : ℕ) → n < ROWS → HasOpcode (entry_at n) bytes.now → ⊥) }
 {
     search(key_for(bytes))

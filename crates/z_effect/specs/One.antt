@@ -2,7 +2,7 @@
 use Rattle.std.specs.Prelude.{ℕ, List}
 use Rattle.z_instr.specs.declared.instr.Instr.{Instr}
 use Rattle.z_instr.specs.Table.{entry_at}
-use Rattle.z_instr.specs.Layout.{format_length}
+use Rattle.z_instr.specs.Layout.{form_length}
 use Rattle.z_regs.specs.Cpu.{Cpu}
 use Rattle.z_instr.specs.declared.kind.Kind.{Kind}
 use Rattle.z_instr.specs.declared.kind.Kind.TheVariants as kind
@@ -21,7 +21,7 @@ effect (kind.Transaction t) n i c depth bytes = transaction_effect t n i c depth
 
 -- the length of an instruction in bytes
 abbrev pub length_of : Instr → ℕ
-length_of i = format_length (entry_at i.op.number).format
+length_of i = form_length (entry_at i.op.number).form
 
 -- what an instruction does to a CPU at a nesting depth, by the bytes that it touches, operand by operand
 abbrev pub one : Instr → Cpu → ℕ → List ℕ → Outcome

@@ -9,7 +9,7 @@ use Rattle.z_instr.specs.declared.format.Place.{Place}
 use Rattle.z_instr.specs.declared.format.Place.TheVariants.{First, FirstTwo, FirstHalf, Ends}
 use Rattle.z_instr.specs.Table.{Entry, table, entry_at, no_entry}
 use Rattle.z_instr.specs.Lines.{entry_of}
-use Rattle.z_instr.specs.Layout.{place, lead, length_by, format_length}
+use Rattle.z_instr.specs.Layout.{place, lead, length_by, form_length}
 use Rattle.z_instr.specs.Facts.{all_pairs, have_other_names, have_other_opcodes, is_same_place}
 use Rattle.z_instr.specs.Places.{opcode_at, HasOpcode}
 use Rattle.z_instr.specs.Reading.{AreBytes}
@@ -103,8 +103,8 @@ one_lead x y o r false e h = absurd (grind arith)
 never_both : (a b : Entry) (bytes : List ℕ) → AreBytes bytes → have_other_opcodes a b ≡ true →
     HasOpcode a bytes → HasOpcode b bytes → ⊥
 never_both a b bytes y h f g =
-    let p = place a.format in
-    let q = place b.format in
+    let p = place a.form in
+    let q = place b.form in
     let e : lead p a.opcode ≡ lead q b.opcode = ap (lead p) (sym f) ∙ leads p bytes y ∙ sym (leads q bytes y)
     ∙ ap (lead q) g in
     let t = one_lead (lead p a.opcode) (lead q b.opcode) a.opcode b.opcode (is_same_place p q) e h in
@@ -119,9 +119,9 @@ one_row m n bytes h k b f g =
 
 -- the length that the first byte gives is the format's
 pub opcode_gives_length : (n : ℕ) (bytes : List ℕ) → n < ROWS → AreBytes bytes →
-    HasOpcode (entry_at n) bytes → length_by (get_or bytes 0 0) ≡ format_length (entry_at n).format
+    HasOpcode (entry_at n) bytes → length_by (get_or bytes 0 0) ≡ form_length (entry_at n).form
 opcode_gives_length n bytes h b f =
-    let p = place (entry_at n).format in
+    let p = place (entry_at n).form in
     ap length_by (sym (leads p bytes b)) ∙ ap (λ o. length_by (lead p o)) f ∙ opcode_length n h
 
 pub some_length : (first : ℕ) → 0 < length_by first

@@ -3,13 +3,13 @@ use Rattle.std.proofs.Common.{◌≡◌, ℕ, ◌<◌, ◌%◌, ◌^◌, true, r
 use Rattle.std.proofs.Math.Nat.{mod-eq_of_lt}
 use Rattle.z_instr.specs.declared.instr.Instr.{Instr}
 use Rattle.z_instr.specs.Table.{entry_at}
-use Rattle.z_instr.specs.Layout.{format_length, place, length_by}
+use Rattle.z_instr.specs.Layout.{form_length, length_by}
 use Rattle.z_instr.specs.Layouts.{layout_of, width, taken}
 use Rattle.z_instr.specs.Made.{fields_of}
-use Rattle.z_instr.specs.Places.{HasOpcode, opcode_at, is_spare_zero}
+use Rattle.z_instr.specs.Places.{HasOpcode, is_spare_zero}
 use Rattle.z_instr.specs.Reading.{Reads, number_of, spelling}
 use Rattle.z_instr.proofs.TableFacts.{opcode_room}
-use Rattle.z_instr.proofs.Wholes.{whole, format_at, room_at, length_spelled, place_holds, ranks, taken_whole}
+use Rattle.z_instr.proofs.Wholes.{whole, room_at, length_spelled, place_holds, ranks, taken_whole}
 use Rattle.z_instr.proofs.Digits.{power_above}
 use Rattle.z_instr.proofs.Bytes.{reads_bytes}
 use Rattle.z_instr.proofs.Distinct.{opcode_gives_length}
@@ -28,15 +28,14 @@ reads_opcode bytes i r =
     let e = entry_at i.op.number in
     let room : e.opcode < 16 ^ width (layout_of e) 0 =
     subst (λ n. e.opcode < n) (room_at i.op.number i.op.known) (opcode_room i.op.number i.op.known) in
-    ap (λ f. opcode_at (place f) bytes) (sym (format_at i.op.number i.op.known)) ∙ place_holds e.form bytes
+    place_holds e.form bytes
     ∙ ap (λ s. taken (layout_of e) s 0) r ∙ taken_of i 0 (lit< tt) refl ∙ mod-eq_of_lt room
 
 pub reads_length : (bytes : List ℕ) (i : Instr) → Reads bytes i →
-    length bytes ≡ format_length (entry_at i.op.number).format
+    length bytes ≡ form_length (entry_at i.op.number).form
 reads_length bytes i r =
     let e = entry_at i.op.number in
     ap length r ∙ length_spelled e.form (number_of e.opcode (fields_of i))
-    ∙ ap format_length (format_at i.op.number i.op.known)
 
 pub reads_spare : (bytes : List ℕ) (i : Instr) → Reads bytes i →
     is_spare_zero (entry_at i.op.number) bytes ≡ true

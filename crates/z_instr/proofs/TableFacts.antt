@@ -10,7 +10,7 @@ use Rattle.z_instr.specs.declared.table.TheConstants.{TABLE, ROWS}
 use Rattle.z_instr.specs.Kinds.{operands_of, demand_of}
 use Rattle.z_instr.specs.Table.{Entry, table, entry_at, kind_at, no_entry}
 use Rattle.z_instr.specs.Lines.{entry_of}
-use Rattle.z_instr.specs.Layout.{place, room, lead, length_by, format_length}
+use Rattle.z_instr.specs.Layout.{place, room, lead, length_by, form_length}
 use Rattle.z_instr.specs.Facts.{has_fitting_opcode, has_fitting_count, has_fitting_name, is_refused_alike}
 use Rattle.z_instr.proofs.Passing.{passes, and_left, and_right}
 
@@ -48,11 +48,11 @@ passes_row test e n h =
 pub fitting_opcode : (n : ℕ) → n < ROWS → has_fitting_opcode (entry_at n) ≡ true
 fitting_opcode = passes_row has_fitting_opcode refl
 
-pub opcode_room : (n : ℕ) → n < ROWS → (entry_at n).opcode < room (place (entry_at n).format)
+pub opcode_room : (n : ℕ) → n < ROWS → (entry_at n).opcode < room (place (entry_at n).form)
 opcode_room n h = ltb-true _ _ (and_left _ _ (fitting_opcode n h))
 
 pub opcode_length : (n : ℕ) → n < ROWS →
-    length_by (lead (place (entry_at n).format) (entry_at n).opcode) ≡ format_length (entry_at n).format
+    length_by (lead (place (entry_at n).form) (entry_at n).opcode) ≡ form_length (entry_at n).form
 opcode_length n h = eqb-true _ _ (and_right _ _ (fitting_opcode n h))
 
 pub fitting_name : (n : ℕ) → n < ROWS → has_fitting_name (entry_at n) ≡ true

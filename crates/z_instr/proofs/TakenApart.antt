@@ -9,11 +9,11 @@ use Rattle.z_instr.specs.declared.instr.Fields.{Fields}
 use Rattle.z_instr.specs.Table.{Entry, entry_at}
 use Rattle.z_instr.specs.Layouts.{layout_of, width, is_whole, has_signed_immediate, has_signed_displacement}
 use Rattle.z_instr.specs.Made.{fields_of}
-use Rattle.z_instr.specs.Ranges.{is_within, bounds, bounds_by, limits_by}
+use Rattle.z_instr.specs.Ranges.{is_within, bounds, bounds_by, limits_of}
 use Rattle.z_instr.specs.Reading.{modulo, number_of, spelling}
 use Rattle.z_instr.specs.Computing.{fields_in, signed_number, number}
 use Rattle.z_instr.proofs.Passing.{and_left, and_right}
-use Rattle.z_instr.proofs.Wholes.{whole, limits_at, is_known, known_at, taken_whole}
+use Rattle.z_instr.proofs.Wholes.{whole, is_known, known_at, taken_whole}
 use Rattle.z_instr.proofs.Within.{Fits, instr_fits, registers_of, numbers_of}
 use Rattle.z_instr.proofs.OneSpelling.{modulo_below}
 
@@ -133,8 +133,8 @@ module _ (i : Instr) where
   abbrev apart : Fields
   apart = fields_in (layout_of e) (has_signed_immediate e) (spelling e i)
 
-  fits : Fits (limits_by e) i
-  fits = subst (λ l. Fits l i) (limits_at i.op.number i.op.known) (instr_fits i)
+  fits : Fits (limits_of e) i
+  fits = instr_fits i
 
   abbrev value : ℕ → ℕ
   value = number_of e.opcode (fields_of i)
@@ -144,7 +144,7 @@ module _ (i : Instr) where
 
   own_registers : OwnRegisters apart i
   own_registers =
-      let w = registers_of (limits_by e) i fits in
+      let w = registers_of (limits_of e) i fits in
       let ds = layout_of e in
       record {
         r1 = taken_whole ds value 1 is_whole_row (lit< tt) refl ∙ mod-eq_of_lt w.r1_in;
@@ -158,7 +158,7 @@ module _ (i : Instr) where
 
   own_numbers : OwnNumbers apart i
   own_numbers =
-      let w = numbers_of (limits_by e) i fits in
+      let w = numbers_of (limits_of e) i fits in
       let ds = layout_of e in
       let known = known_at i.op.number i.op.known in
       let d_known = and_left (is_known (has_signed_displacement (width ds 6)) (width ds 6)) _ known in

@@ -3,15 +3,13 @@ use Rattle.std.proofs.Common.{◌≡◌, ℕ, zero, suc, ◌*◌, ◌/◌, ◌%�
 use Rattle.std.proofs.Common.{List, [], ◌∷◌, length, get_or, refl, subst, arith}
 use Rattle.std.specs.List.{list_all}
 use Rattle.z_instr.specs.declared.form.Form.{Form}
-use Rattle.z_instr.specs.declared.form.Form.TheVariants.{RR, RRMask, RRSingle, I, RXa, RXb, RRE, RRESingle, RRFa, RRFc, RXYa, RIa, RIaSigned, RIb, RIc, RILa, RILaSigned, RILb, RILc, RSa, RSaSingle, RSYa, RSYb, SI, SIY, SIL, SILSigned, S, SAlone, SSa, RIEb, RIEc}
+use Rattle.z_instr.specs.declared.form.Form.TheVariants.{RR}
 use Rattle.z_instr.specs.declared.layout.Digit.{Digit}
 use Rattle.z_instr.specs.declared.table.TheConstants.{ROWS}
 use Rattle.z_instr.specs.Table.{Entry, entry_at}
-use Rattle.z_instr.specs.Forms.{format_of}
-use Rattle.z_instr.specs.Layout.{place, room, format_length}
+use Rattle.z_instr.specs.Layout.{place, room, form_length}
 use Rattle.z_instr.specs.Layouts.{layout, layout_of, width, spelled, digits_from, taken, is_once, has_last, is_low, is_whole, has_signed_immediate, has_signed_displacement}
 use Rattle.z_instr.specs.Places.{opcode_at}
-use Rattle.z_instr.specs.Ranges.{limits_of, limits_by}
 use Rattle.z_instr.proofs.Digits.{taken_spelled, number_below, digits_of_bytes}
 use Rattle.z_instr.proofs.Passing.{passes, and_left, and_right}
 use Rattle.z_instr.proofs.TableFacts.{passes_row, at_row}
@@ -19,21 +17,13 @@ use Rattle.z_instr.proofs.TableFacts.{passes_row, at_row}
 pub whole : (n : ℕ) → n < ROWS → is_whole (layout_of (entry_at n)) ≡ true
 whole = passes_row (λ e. is_whole (layout_of e)) refl
 
--- the limits are those that the layout gives
-pub limits_at : (n : ℕ) → n < ROWS → limits_of (entry_at n) ≡ limits_by (entry_at n)
-limits_at = at_row limits_of limits_by refl
-
--- the format is that of the form
-pub format_at : (n : ℕ) → n < ROWS → format_of (entry_at n).form ≡ (entry_at n).format
-format_at = at_row (λ e. format_of e.form) (λ (e : Entry). e.format) refl
-
 -- the opcode has as many values as its place has room for
-pub room_at : (n : ℕ) → n < ROWS → room (place (entry_at n).format) ≡ 16 ^ width (layout_of (entry_at n)) 0
-room_at = at_row (λ e. room (place e.format)) (λ e. 16 ^ width (layout_of e) 0) refl
+pub room_at : (n : ℕ) → n < ROWS → room (place (entry_at n).form) ≡ 16 ^ width (layout_of (entry_at n)) 0
+room_at = at_row (λ e. room (place e.form)) (λ e. 16 ^ width (layout_of e) 0) refl
 
--- the length is two digits a byte
-pub length_at : (n : ℕ) → n < ROWS → length (layout_of (entry_at n)) ≡ 2 * format_length (entry_at n).format
-length_at = at_row (λ e. length (layout_of e)) (λ e. 2 * format_length e.format) refl
+-- the digits are two a byte
+pub length_at : (n : ℕ) → n < ROWS → length (layout_of (entry_at n)) ≡ 2 * form_length (entry_at n).form
+length_at = at_row (λ e. length (layout_of e)) (λ e. 2 * form_length e.form) refl
 
 -- a number with or without a sign has so many digits as rows have
 abbrev pub is_known : Bool → ℕ → Bool
@@ -49,74 +39,14 @@ pub known_at : (n : ℕ) → n < ROWS → are_known (entry_at n) ≡ true
 known_at = passes_row are_known refl
 
 -- the length, for every form
-pub length_spelled : (f : Form) (v : ℕ → ℕ) → length (spelled (layout f) v) ≡ format_length (format_of f)
+pub length_spelled : (f : Form) (v : ℕ → ℕ) → length (spelled (layout f) v) ≡ form_length f
 length_spelled RR v = refl
-length_spelled RRMask v = refl
-length_spelled RRSingle v = refl
-length_spelled I v = refl
-length_spelled RXa v = refl
-length_spelled RXb v = refl
-length_spelled RRE v = refl
-length_spelled RRESingle v = refl
-length_spelled RRFa v = refl
-length_spelled RRFc v = refl
-length_spelled RXYa v = refl
-length_spelled RIa v = refl
-length_spelled RIaSigned v = refl
-length_spelled RIb v = refl
-length_spelled RIc v = refl
-length_spelled RILa v = refl
-length_spelled RILaSigned v = refl
-length_spelled RILb v = refl
-length_spelled RILc v = refl
-length_spelled RSa v = refl
-length_spelled RSaSingle v = refl
-length_spelled RSYa v = refl
-length_spelled RSYb v = refl
-length_spelled SI v = refl
-length_spelled SIY v = refl
-length_spelled SIL v = refl
-length_spelled SILSigned v = refl
-length_spelled S v = refl
-length_spelled SAlone v = refl
-length_spelled SSa v = refl
-length_spelled RIEb v = refl
-length_spelled RIEc v = refl
+length_spelled _ v = refl
 
 -- the opcode in its place is the one that the digits hold, for every form
-pub place_holds : (f : Form) (bytes : List ℕ) → opcode_at (place (format_of f)) bytes ≡ taken (layout f) bytes 0
+pub place_holds : (f : Form) (bytes : List ℕ) → opcode_at (place f) bytes ≡ taken (layout f) bytes 0
 place_holds RR bytes = omega arith
-place_holds RRMask bytes = omega arith
-place_holds RRSingle bytes = omega arith
-place_holds I bytes = omega arith
-place_holds RXa bytes = omega arith
-place_holds RXb bytes = omega arith
-place_holds RRE bytes = omega arith
-place_holds RRESingle bytes = omega arith
-place_holds RRFa bytes = omega arith
-place_holds RRFc bytes = omega arith
-place_holds RXYa bytes = omega arith
-place_holds RIa bytes = omega arith
-place_holds RIaSigned bytes = omega arith
-place_holds RIb bytes = omega arith
-place_holds RIc bytes = omega arith
-place_holds RILa bytes = omega arith
-place_holds RILaSigned bytes = omega arith
-place_holds RILb bytes = omega arith
-place_holds RILc bytes = omega arith
-place_holds RSa bytes = omega arith
-place_holds RSaSingle bytes = omega arith
-place_holds RSYa bytes = omega arith
-place_holds RSYb bytes = omega arith
-place_holds SI bytes = omega arith
-place_holds SIY bytes = omega arith
-place_holds SIL bytes = omega arith
-place_holds SILSigned bytes = omega arith
-place_holds S bytes = omega arith
-place_holds SAlone bytes = omega arith
-place_holds SSa bytes = omega arith
-place_holds RIEb bytes = omega arith
-place_holds RIEc bytes = omega arith
+place_holds _ bytes = omega arith
 
 -- ---- what a whole layout has
 

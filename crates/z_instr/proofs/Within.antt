@@ -4,7 +4,7 @@ use Rattle.std.specs.Prelude.{ℤ}
 use Rattle.std.proofs.lemmas.Bool.{ltb-true}
 use Rattle.z_instr.specs.declared.limits.Limits.{Limits}
 use Rattle.z_instr.specs.declared.form.Form.{Form}
-use Rattle.z_instr.specs.declared.form.Form.TheVariants.{RR, RRMask, RRSingle, I, RXa, RXb, RRE, RRESingle, RRFa, RRFc, RXYa, RIa, RIaSigned, RIb, RIc, RILa, RILaSigned, RILb, RILc, RSa, RSaSingle, RSYa, RSYb, SI, SIY, SIL, SILSigned, S, SAlone, SSa, RIEb, RIEc}
+use Rattle.z_instr.specs.declared.form.Form.TheVariants.{RR}
 use Rattle.z_instr.specs.Ranges.{are_within, are_registers_within, are_numbers_within, is_within, limits_in, limits_of, AreBelowSixteen}
 use Rattle.z_instr.specs.Table.{Entry, entry_at}
 use Rattle.z_instr.specs.declared.instr.Instr.{Instr}
@@ -62,38 +62,8 @@ narrow l r1 r2 r3 x b b2 mask =
     }
 
 pub limits_are_narrow : (f : Form) → IsNarrow (limits_in f)
-limits_are_narrow RR = narrow (limits_in RR) (lit≤ tt) (lit≤ tt) (lit≤ tt) (lit≤ tt) (lit≤ tt) (lit≤ tt) (lit≤ tt)
-limits_are_narrow RRMask = narrow (limits_in RRMask) (lit≤ tt) (lit≤ tt) (lit≤ tt) (lit≤ tt) (lit≤ tt) (lit≤ tt) (lit≤ tt)
-limits_are_narrow RRSingle = narrow (limits_in RRSingle) (lit≤ tt) (lit≤ tt) (lit≤ tt) (lit≤ tt) (lit≤ tt) (lit≤ tt) (lit≤ tt)
-limits_are_narrow I = narrow (limits_in I) (lit≤ tt) (lit≤ tt) (lit≤ tt) (lit≤ tt) (lit≤ tt) (lit≤ tt) (lit≤ tt)
-limits_are_narrow RXa = narrow (limits_in RXa) (lit≤ tt) (lit≤ tt) (lit≤ tt) (lit≤ tt) (lit≤ tt) (lit≤ tt) (lit≤ tt)
-limits_are_narrow RXb = narrow (limits_in RXb) (lit≤ tt) (lit≤ tt) (lit≤ tt) (lit≤ tt) (lit≤ tt) (lit≤ tt) (lit≤ tt)
-limits_are_narrow RRE = narrow (limits_in RRE) (lit≤ tt) (lit≤ tt) (lit≤ tt) (lit≤ tt) (lit≤ tt) (lit≤ tt) (lit≤ tt)
-limits_are_narrow RRESingle = narrow (limits_in RRESingle) (lit≤ tt) (lit≤ tt) (lit≤ tt) (lit≤ tt) (lit≤ tt) (lit≤ tt) (lit≤ tt)
-limits_are_narrow RRFa = narrow (limits_in RRFa) (lit≤ tt) (lit≤ tt) (lit≤ tt) (lit≤ tt) (lit≤ tt) (lit≤ tt) (lit≤ tt)
-limits_are_narrow RRFc = narrow (limits_in RRFc) (lit≤ tt) (lit≤ tt) (lit≤ tt) (lit≤ tt) (lit≤ tt) (lit≤ tt) (lit≤ tt)
-limits_are_narrow RXYa = narrow (limits_in RXYa) (lit≤ tt) (lit≤ tt) (lit≤ tt) (lit≤ tt) (lit≤ tt) (lit≤ tt) (lit≤ tt)
-limits_are_narrow RIa = narrow (limits_in RIa) (lit≤ tt) (lit≤ tt) (lit≤ tt) (lit≤ tt) (lit≤ tt) (lit≤ tt) (lit≤ tt)
-limits_are_narrow RIaSigned = narrow (limits_in RIaSigned) (lit≤ tt) (lit≤ tt) (lit≤ tt) (lit≤ tt) (lit≤ tt) (lit≤ tt) (lit≤ tt)
-limits_are_narrow RIb = narrow (limits_in RIb) (lit≤ tt) (lit≤ tt) (lit≤ tt) (lit≤ tt) (lit≤ tt) (lit≤ tt) (lit≤ tt)
-limits_are_narrow RIc = narrow (limits_in RIc) (lit≤ tt) (lit≤ tt) (lit≤ tt) (lit≤ tt) (lit≤ tt) (lit≤ tt) (lit≤ tt)
-limits_are_narrow RILa = narrow (limits_in RILa) (lit≤ tt) (lit≤ tt) (lit≤ tt) (lit≤ tt) (lit≤ tt) (lit≤ tt) (lit≤ tt)
-limits_are_narrow RILaSigned = narrow (limits_in RILaSigned) (lit≤ tt) (lit≤ tt) (lit≤ tt) (lit≤ tt) (lit≤ tt) (lit≤ tt) (lit≤ tt)
-limits_are_narrow RILb = narrow (limits_in RILb) (lit≤ tt) (lit≤ tt) (lit≤ tt) (lit≤ tt) (lit≤ tt) (lit≤ tt) (lit≤ tt)
-limits_are_narrow RILc = narrow (limits_in RILc) (lit≤ tt) (lit≤ tt) (lit≤ tt) (lit≤ tt) (lit≤ tt) (lit≤ tt) (lit≤ tt)
-limits_are_narrow RSa = narrow (limits_in RSa) (lit≤ tt) (lit≤ tt) (lit≤ tt) (lit≤ tt) (lit≤ tt) (lit≤ tt) (lit≤ tt)
-limits_are_narrow RSaSingle = narrow (limits_in RSaSingle) (lit≤ tt) (lit≤ tt) (lit≤ tt) (lit≤ tt) (lit≤ tt) (lit≤ tt) (lit≤ tt)
-limits_are_narrow RSYa = narrow (limits_in RSYa) (lit≤ tt) (lit≤ tt) (lit≤ tt) (lit≤ tt) (lit≤ tt) (lit≤ tt) (lit≤ tt)
-limits_are_narrow RSYb = narrow (limits_in RSYb) (lit≤ tt) (lit≤ tt) (lit≤ tt) (lit≤ tt) (lit≤ tt) (lit≤ tt) (lit≤ tt)
-limits_are_narrow SI = narrow (limits_in SI) (lit≤ tt) (lit≤ tt) (lit≤ tt) (lit≤ tt) (lit≤ tt) (lit≤ tt) (lit≤ tt)
-limits_are_narrow SIY = narrow (limits_in SIY) (lit≤ tt) (lit≤ tt) (lit≤ tt) (lit≤ tt) (lit≤ tt) (lit≤ tt) (lit≤ tt)
-limits_are_narrow SIL = narrow (limits_in SIL) (lit≤ tt) (lit≤ tt) (lit≤ tt) (lit≤ tt) (lit≤ tt) (lit≤ tt) (lit≤ tt)
-limits_are_narrow SILSigned = narrow (limits_in SILSigned) (lit≤ tt) (lit≤ tt) (lit≤ tt) (lit≤ tt) (lit≤ tt) (lit≤ tt) (lit≤ tt)
-limits_are_narrow S = narrow (limits_in S) (lit≤ tt) (lit≤ tt) (lit≤ tt) (lit≤ tt) (lit≤ tt) (lit≤ tt) (lit≤ tt)
-limits_are_narrow SAlone = narrow (limits_in SAlone) (lit≤ tt) (lit≤ tt) (lit≤ tt) (lit≤ tt) (lit≤ tt) (lit≤ tt) (lit≤ tt)
-limits_are_narrow SSa = narrow (limits_in SSa) (lit≤ tt) (lit≤ tt) (lit≤ tt) (lit≤ tt) (lit≤ tt) (lit≤ tt) (lit≤ tt)
-limits_are_narrow RIEb = narrow (limits_in RIEb) (lit≤ tt) (lit≤ tt) (lit≤ tt) (lit≤ tt) (lit≤ tt) (lit≤ tt) (lit≤ tt)
-limits_are_narrow RIEc = narrow (limits_in RIEc) (lit≤ tt) (lit≤ tt) (lit≤ tt) (lit≤ tt) (lit≤ tt) (lit≤ tt) (lit≤ tt)
+limits_are_narrow RR = narrow _ (lit≤ tt) (lit≤ tt) (lit≤ tt) (lit≤ tt) (lit≤ tt) (lit≤ tt) (lit≤ tt)
+limits_are_narrow _ = narrow _ (lit≤ tt) (lit≤ tt) (lit≤ tt) (lit≤ tt) (lit≤ tt) (lit≤ tt) (lit≤ tt)
 
 -- so registers and masks are below 16
 pub below_sixteen : (l : Limits) (e : Entry) (r1 r2 r3 x b : ℕ) (d : ℤ) (b2 : ℕ) (d2 imm : ℤ) (mask : ℕ) →

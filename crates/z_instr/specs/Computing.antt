@@ -19,7 +19,7 @@ use Rattle.z_instr.specs.Table.{Entry, table, entry_at}
 -- ---- the row
 
 abbrev pub has_opcode_of : List ℕ → Entry → Bool
-has_opcode_of bytes e = nat_eq (opcode_at (place e.format) bytes) e.opcode
+has_opcode_of bytes e = nat_eq (opcode_at (place e.form) bytes) e.opcode
 
 -- the number of the first row whose opcode the bytes have in its place; past the last row where there is none
 unfoldable pub row_number : List ℕ → ℕ

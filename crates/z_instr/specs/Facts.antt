@@ -11,7 +11,7 @@ use Rattle.z_instr.specs.declared.operand.Demand.{Demand}
 use Rattle.z_instr.specs.declared.operand.Demand.TheVariants.{Begin, BeginConstrained, ServiceZero}
 use Rattle.z_instr.specs.Table.{Entry}
 use Rattle.z_instr.specs.Ranges.{limits_of}
-use Rattle.z_instr.specs.Layout.{place, room, lead, length_by, format_length}
+use Rattle.z_instr.specs.Layout.{place, room, lead, length_by, form_length}
 
 abbrev pub is_same_place : Place → Place → Bool
 is_same_place First First = true
@@ -23,8 +23,8 @@ is_same_place _ _ = false
 -- no bytes can have both opcodes: they begin with other bytes, or they stand in one place and differ
 abbrev pub have_other_opcodes : Entry → Entry → Bool
 have_other_opcodes a b =
-    not (nat_eq (lead (place a.format) a.opcode) (lead (place b.format) b.opcode))
-    || (is_same_place (place a.format) (place b.format) && not (nat_eq a.opcode b.opcode))
+    not (nat_eq (lead (place a.form) a.opcode) (lead (place b.form) b.opcode))
+    || (is_same_place (place a.form) (place b.form) && not (nat_eq a.opcode b.opcode))
 
 abbrev pub have_other_names : Entry → Entry → Bool
 have_other_names a b = not (bytes_eq a.name b.name)
@@ -37,8 +37,8 @@ all_pairs test (e ∷ es) = list_all (test e) es && all_pairs test es
 -- the opcode fits its place, and its first byte gives the format's length
 abbrev pub has_fitting_opcode : Entry → Bool
 has_fitting_opcode e =
-    nat_lt e.opcode (room (place e.format)) &&
-    nat_eq (length_by (lead (place e.format) e.opcode)) (format_length e.format)
+    nat_lt e.opcode (room (place e.form)) &&
+    nat_eq (length_by (lead (place e.form) e.opcode)) (form_length e.form)
 
 -- the name has one to eight letters, each of them ASCII
 abbrev pub has_fitting_name : Entry → Bool

@@ -1,29 +1,21 @@
--- Where an instruction has its opcode, and how long it is.
-use Rattle.std.specs.Prelude.{ℕ, ◌/◌, ◌^◌, nat_lt, if◌then◌else◌}
-use Rattle.z_instr.specs.declared.format.Format.{Format}
-use Rattle.z_instr.specs.declared.format.Format.TheVariants.{RR, I, RX, RRE, RRFa, RRFc, RXY, RI, RIL, RS, RSY, SI, SIY, SIL, S, SS, RIEb, RIEc}
+-- Where an instruction has its opcode, and how long it is: both follow from its layout.
+use Rattle.std.specs.Prelude.{ℕ, ◌/◌, ◌^◌, List, length, take, nat_eq, nat_lt, if◌then◌else◌}
+use Rattle.z_instr.specs.declared.form.Form.{Form}
 use Rattle.z_instr.specs.declared.format.Place.{Place}
 use Rattle.z_instr.specs.declared.format.Place.TheVariants.{First, FirstTwo, FirstHalf, Ends}
+use Rattle.z_instr.specs.declared.layout.Digit.{Digit}
+use Rattle.z_instr.specs.Layouts.{layout, width}
 
-abbrev pub place : Format → Place
-place RR = First
-place I = First
-place RX = First
-place RRE = FirstTwo
-place RRFa = FirstTwo
-place RRFc = FirstTwo
-place RXY = Ends
-place RI = FirstHalf
-place RIL = FirstHalf
-place RS = First
-place RSY = Ends
-place SI = First
-place SIY = Ends
-place SIL = FirstTwo
-place S = FirstTwo
-place SS = First
-place RIEb = Ends
-place RIEc = Ends
+-- where the digits of the opcode stand, by how many of the first four there are, and how many of all
+abbrev pub place_in : List Digit → Place
+place_in ds =
+    if nat_eq (width (take 4 ds) 0) 4 then FirstTwo
+    else if nat_eq (width (take 4 ds) 0) 3 then FirstHalf
+    else if nat_eq (width ds 0) 4 then Ends
+    else First
+
+abbrev pub place : Form → Place
+place form = place_in (layout form)
 
 -- how many opcodes a place has room for
 abbrev pub room : Place → ℕ
@@ -43,22 +35,6 @@ lead Ends opcode = opcode / 256
 abbrev pub length_by : ℕ → ℕ
 length_by first = if nat_lt first 64 then 2 else if nat_lt first 192 then 4 else 6
 
-abbrev pub format_length : Format → ℕ
-format_length RR = 2
-format_length I = 2
-format_length RX = 4
-format_length RRE = 4
-format_length RRFa = 4
-format_length RRFc = 4
-format_length RXY = 6
-format_length RI = 4
-format_length RIL = 6
-format_length RS = 4
-format_length RSY = 6
-format_length SI = 4
-format_length SIY = 6
-format_length SIL = 6
-format_length S = 4
-format_length SS = 6
-format_length RIEb = 6
-format_length RIEc = 6
+-- the bytes of a form's instructions: two digits make one
+abbrev pub form_length : Form → ℕ
+form_length form = length (layout form) / 2

@@ -3,7 +3,8 @@ use Rattle.std.specs.Prelude.{take}
 use Rattle.z_instr.specs.declared.table.Line.{Line}
 use Rattle.z_instr.specs.declared.row.Row.{Row}
 use Rattle.z_instr.specs.Kinds.{operands_of, demand_of}
-use Rattle.z_instr.specs.Table.{Entry}
+use Rattle.z_instr.specs.Forms.{format_of}
+use Rattle.z_instr.specs.Table.{Entry, is_restricted, is_permitted}
 
 abbrev pub entry_of : Line → Entry
 entry_of l =
@@ -11,9 +12,8 @@ entry_of l =
       name = take l.count l.letters;
       opcode = l.opcode;
       form = l.form;
-      format = l.format;
-      restricted = l.restricted;
-      permitted = l.permitted;
+      restricted = is_restricted l.usage;
+      permitted = is_permitted l.usage;
       kind = l.kind;
       operands = operands_of l.kind;
       demand = demand_of l.kind;
@@ -23,7 +23,7 @@ abbrev pub row_of : Entry → Row
 row_of e = record {
   name = e.name;
   opcode = e.opcode;
-  format = e.format;
+  format = format_of e.form;
   restricted = e.restricted;
   permitted = e.permitted;
 }

@@ -15,7 +15,7 @@ opcode_at Ends bytes = get_or bytes 0 0 * 256 + get_or bytes 5 0
 
 -- the bytes have the row's opcode in its place
 abbrev pub HasOpcode : Entry → List ℕ → Type 0
-HasOpcode e bytes = opcode_at (place e.format) bytes ≡ e.opcode
+HasOpcode e bytes = opcode_at (place e.form) bytes ≡ e.opcode
 
 -- the bits that no field uses are zero
 abbrev pub is_spare_zero : Entry → List ℕ → Bool

@@ -4,9 +4,9 @@ use Rattle.std.specs.Prelude.{ℕ, ◌<◌, ◌/◌, ◌^◌, ℤ, pos, negsuc, 
 use Rattle.z_instr.specs.declared.limits.Bounds.{Bounds}
 use Rattle.z_instr.specs.declared.limits.Limits.{Limits}
 use Rattle.z_instr.specs.declared.form.Form.{Form}
-use Rattle.z_instr.specs.declared.form.Form.TheVariants.{RR, RRMask, RRSingle, I, RXa, RXb, RRE, RRESingle, RRFa, RRFc, RXYa, RIa, RIaSigned, RIb, RIc, RILa, RILaSigned, RILb, RILc, RSa, RSaSingle, RSYa, RSYb, SI, SIY, SIL, SILSigned, S, SAlone, SSa, RIEb, RIEc}
 use Rattle.z_instr.specs.Table.{Entry}
-use Rattle.z_instr.specs.Layouts.{layout_of, width, has_signed_immediate, has_signed_displacement}
+use Rattle.z_instr.specs.Forms.{is_signed}
+use Rattle.z_instr.specs.Layouts.{layout, width, has_signed_displacement}
 
 -- from -below up to above, which is not among them
 abbrev pub bounds : ℕ → ℕ → Bounds
@@ -51,57 +51,21 @@ abbrev pub limit : ℕ → ℕ → ℕ → ℕ → ℕ → Bounds → ℕ → Bo
 limit r1 r2 r3 x b d b2 d2 imm mask =
     record { r1 = r1; r2 = r2; r3 = r3; x = x; b = b; d = d; b2 = b2; d2 = d2; imm = imm; mask = mask }
 
--- how many values each field has from 0 up, 1 where it is 0 alone, and the bounds of those that may have a
--- sign
-abbrev pub limits_in : Form → Limits
-limits_in RR = limit 16 16 1 1 1 zero_alone 1 zero_alone zero_alone 1
-limits_in RRMask = limit 1 16 1 1 1 zero_alone 1 zero_alone zero_alone 16
-limits_in RRSingle = limit 16 1 1 1 1 zero_alone 1 zero_alone zero_alone 1
-limits_in I = limit 1 1 1 1 1 zero_alone 1 zero_alone byte 1
-limits_in RXa = limit 16 1 1 16 16 short 1 zero_alone zero_alone 1
-limits_in RXb = limit 1 1 1 16 16 short 1 zero_alone zero_alone 16
-limits_in RRE = limit 16 16 1 1 1 zero_alone 1 zero_alone zero_alone 1
-limits_in RRESingle = limit 16 1 1 1 1 zero_alone 1 zero_alone zero_alone 1
-limits_in RRFa = limit 16 16 16 1 1 zero_alone 1 zero_alone zero_alone 1
-limits_in RRFc = limit 16 16 1 1 1 zero_alone 1 zero_alone zero_alone 16
-limits_in RXYa = limit 16 1 1 16 16 long 1 zero_alone zero_alone 1
-limits_in RIa = limit 16 1 1 1 1 zero_alone 1 zero_alone half 1
-limits_in RIaSigned = limit 16 1 1 1 1 zero_alone 1 zero_alone signed_half 1
-limits_in RIb = limit 16 1 1 1 1 zero_alone 1 zero_alone signed_half 1
-limits_in RIc = limit 1 1 1 1 1 zero_alone 1 zero_alone signed_half 16
-limits_in RILa = limit 16 1 1 1 1 zero_alone 1 zero_alone full 1
-limits_in RILaSigned = limit 16 1 1 1 1 zero_alone 1 zero_alone signed_full 1
-limits_in RILb = limit 16 1 1 1 1 zero_alone 1 zero_alone signed_full 1
-limits_in RILc = limit 1 1 1 1 1 zero_alone 1 zero_alone signed_full 16
-limits_in RSa = limit 16 1 16 1 16 short 1 zero_alone zero_alone 1
-limits_in RSaSingle = limit 16 1 1 1 16 short 1 zero_alone zero_alone 1
-limits_in RSYa = limit 16 1 16 1 16 long 1 zero_alone zero_alone 1
-limits_in RSYb = limit 16 1 1 1 16 long 1 zero_alone zero_alone 16
-limits_in SI = limit 1 1 1 1 16 short 1 zero_alone byte 1
-limits_in SIY = limit 1 1 1 1 16 long 1 zero_alone signed_byte 1
-limits_in SIL = limit 1 1 1 1 16 short 1 zero_alone half 1
-limits_in SILSigned = limit 1 1 1 1 16 short 1 zero_alone signed_half 1
-limits_in S = limit 1 1 1 1 16 short 1 zero_alone zero_alone 1
-limits_in SAlone = limit 1 1 1 1 1 zero_alone 1 zero_alone zero_alone 1
-limits_in SSa = limit 1 1 1 1 16 short 16 short byte 1
-limits_in RIEb = limit 16 16 1 1 1 zero_alone 1 zero_alone signed_half 16
-limits_in RIEc = limit 16 1 1 1 1 zero_alone 1 signed_byte signed_half 16
-
-abbrev pub limits_of : Entry → Limits
-limits_of e = limits_in e.form
-
--- as many digits, with a sign or without
+-- as many numbers as so many digits hold, with a sign or without
 abbrev pub bounds_by : Bool → ℕ → Bounds
 bounds_by signed n = cond signed (bounds (16 ^ n / 2) (16 ^ n / 2)) (bounds 0 (16 ^ n))
 
--- the limits that the layout of a row gives: all numbers that its digits can hold
-abbrev pub limits_by : Entry → Limits
-limits_by e =
-    let n = width (layout_of e) in
+-- all numbers that the digits of a form hold: how many values each field has from 0 up, 1 where it is 0 alone, and
+-- the bounds of those that may have a sign
+abbrev pub limits_in : Form → Limits
+limits_in form =
+    let n = width (layout form) in
     limit (16 ^ n 1) (16 ^ n 2) (16 ^ n 3) (16 ^ n 4) (16 ^ n 5)
     (bounds_by (has_signed_displacement (n 6)) (n 6)) (16 ^ n 7)
-    (bounds_by (has_signed_displacement (n 8)) (n 8))
-    (bounds_by (has_signed_immediate e) (n 9)) (16 ^ n 10)
+    (bounds_by (has_signed_displacement (n 8)) (n 8)) (bounds_by (is_signed form) (n 9)) (16 ^ n 10)
+
+abbrev pub limits_of : Entry → Limits
+limits_of e = limits_in e.form
 
 -- the registers and the mask are among their values
 abbrev pub are_registers_within : Limits → ℕ → ℕ → ℕ → ℕ → ℕ → ℕ → ℕ → Bool

@@ -2,9 +2,10 @@
 use Rattle.std.specs.Prelude.{ℕ, Bool, true, false, List, [], ◌∷◌, get_or, codes}
 use Rattle.z_arith.specs.declared.Width.TheVariants as width
 use Rattle.z_arith.specs.declared.Shift.TheVariants as shift
-use Rattle.z_instr.specs.declared.format.Format.{Format}
 use Rattle.z_instr.specs.declared.form.Form.{Form}
 use Rattle.z_instr.specs.declared.form.Form.TheVariants as form
+use Rattle.z_instr.specs.declared.table.Use.{Use}
+use Rattle.z_instr.specs.declared.table.Use.TheVariants.{Free, Barred, Restricted}
 use Rattle.z_instr.specs.declared.operand.Size.TheVariants as size
 use Rattle.z_instr.specs.declared.operand.Operands.{Operands}
 use Rattle.z_instr.specs.declared.operand.Demand.{Demand}
@@ -23,17 +24,11 @@ use Rattle.z_instr.specs.declared.kind.Source.{Source}
 use Rattle.z_instr.specs.declared.kind.Source.TheVariants as source
 use Rattle.z_instr.specs.declared.kind.Combination.TheVariants as combination
 use Rattle.z_instr.specs.declared.kind.Place.TheVariants as place
-use Rattle.z_instr.specs.Forms.{format_of}
 use Rattle.z_instr.specs.Kinds.{operands_of, demand_of}
 
 -- ---- the columns
 
--- Who may have an operation: all, all but constrained transactions, or no transaction.
-pub data Use : Type 0 where
-  Free : Use
-  Barred : Use
-  Restricted : Use
-
+-- every transaction refuses the operation; and constrained ones may have it
 abbrev pub is_restricted : Use → Bool
 is_restricted Restricted = true
 is_restricted _ = false
@@ -42,14 +37,13 @@ abbrev pub is_permitted : Use → Bool
 is_permitted Free = true
 is_permitted _ = false
 
--- A row: the letters of its name, its opcode, its form and the format that this has, whether every transaction
--- refuses it and whether constrained ones may have it, and what it does. Which operands in storage it touches
--- and what it demands of its fields follow from what it does.
+-- A row: the letters of its name, its opcode, its form, whether every transaction refuses it and whether
+-- constrained ones may have it, and what it does. Which operands in storage it touches and what it demands of its
+-- fields follow from what it does.
 pub record Entry : Type 0 where
   pub name : List ℕ
   pub opcode : ℕ
   pub form : Form
-  pub format : Format
   pub restricted : Bool
   pub permitted : Bool
   pub kind : Kind
@@ -62,7 +56,6 @@ row name opcode shape who kind =
       name = name;
       opcode = opcode;
       form = shape;
-      format = format_of shape;
       restricted = is_restricted who;
       permitted = is_permitted who;
       kind = kind;

@@ -1,6 +1,10 @@
 //! The formats of instructions.
 ghost use Rattle.std.specs.Prelude.{◌≡◌};
-ghost use Rattle.z_instr.specs.Layout.{place, format_length};
+ghost use Rattle.z_instr.specs.Forms.{format_of as without_letter};
+ghost use Rattle.z_instr.specs.Layout.{place, form_length};
+
+use crate::form::Form;
+use crate::layout::layout_in;
 
 /// How the bits of an instruction are shared out among its opcode and its fields.
 #[derive(Clone, Copy, PartialEq, Eq)]
@@ -38,11 +42,37 @@ pub enum Place {
     Ends,
 }
 
-/// Where the instructions of a format have their opcodes.
-pub fn place_of(format: Format) -> Place
-    ensures { result ≡ place format }
+/// The format of a form, without its letter.
+pub fn format_of(form: Form) -> Format
+    ensures { result ≡ without_letter form }
 {
-    match format {
+    match form {
+        Form::RR | Form::RRMask | Form::RRSingle => Format::RR,
+        Form::I => Format::I,
+        Form::RXa | Form::RXb => Format::RX,
+        Form::RRE | Form::RRESingle => Format::RRE,
+        Form::RRFa => Format::RRFa,
+        Form::RRFc => Format::RRFc,
+        Form::RXYa => Format::RXY,
+        Form::RIa | Form::RIaSigned | Form::RIb | Form::RIc => Format::RI,
+        Form::RILa | Form::RILaSigned | Form::RILb | Form::RILc => Format::RIL,
+        Form::RSa | Form::RSaSingle => Format::RS,
+        Form::RSYa | Form::RSYb => Format::RSY,
+        Form::SI => Format::SI,
+        Form::SIY => Format::SIY,
+        Form::SIL | Form::SILSigned => Format::SIL,
+        Form::S | Form::SAlone => Format::S,
+        Form::SSa => Format::SS,
+        Form::RIEb => Format::RIEb,
+        Form::RIEc => Format::RIEc,
+    }
+}
+
+/// Where the instructions of a form have their opcodes.
+pub fn place_of(form: Form) -> Place
+    ensures { result ≡ place form }
+{
+    match format_of(form) {
         Format::RR | Format::I | Format::RX | Format::RS | Format::SI | Format::SS => Place::First,
         Format::RRE | Format::RRFa | Format::RRFc | Format::SIL | Format::S => Place::FirstTwo,
         Format::RI | Format::RIL => Place::FirstHalf,
@@ -50,15 +80,9 @@ pub fn place_of(format: Format) -> Place
     }
 }
 
-/// How many bytes the instructions of a format have: 2, 4 or 6.
-pub fn length_in(format: Format) -> u8
-    ensures { result ≡ format_length format }
+/// How many bytes the instructions of a form have: 2, 4 or 6.
+pub fn length_in(form: Form) -> u8
+    ensures { result ≡ form_length form }
 {
-    match format {
-        Format::RR | Format::I => 2,
-        Format::RX | Format::RRE | Format::RRFa | Format::RRFc => 4,
-        Format::RI | Format::RS | Format::SI | Format::S => 4,
-        Format::RXY | Format::RIL | Format::RSY | Format::SIY => 6,
-        Format::SIL | Format::SS | Format::RIEb | Format::RIEc => 6,
-    }
+    (layout_in(form).len() / 2) as u8
 }

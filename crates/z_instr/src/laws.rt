@@ -6,10 +6,10 @@ ghost use Rattle.std.specs.List.{list_any};
 ghost use Rattle.z_instr.specs.Operands.{Span, IsSmall, pieces, spans, HoldsByteOf};
 ghost use Rattle.z_instr.specs.Kinds.{operands_of, demand_of};
 ghost use Rattle.z_instr.specs.Table.{table, row_count, entry_at, kind_at};
-ghost use Rattle.z_instr.specs.Layout.{length_by, format_length, place, room};
+ghost use Rattle.z_instr.specs.Layout.{length_by, form_length, place, room};
 ghost use Rattle.z_instr.specs.Facts.{has_fitting_name, is_refused_alike, has_two_lists, is_service, is_begin};
 ghost use Rattle.z_instr.specs.Layouts.{layout_of, is_whole, taken, spelled, width};
-ghost use Rattle.z_instr.specs.Ranges.{is_within, byte, half, limits_of, limits_by};
+ghost use Rattle.z_instr.specs.Ranges.{is_within, byte, half};
 ghost use Rattle.z_instr.specs.Places.{HasOpcode, opcode_at};
 ghost use Rattle.z_instr.specs.Reading.{AreBytes, AreSame, Reads};
 ghost use Rattle.z_instr.specs.Computing.{reading_of};
@@ -34,7 +34,7 @@ pub fn rows_are_distinct()
 /// is not permitted in constrained ones.
 pub fn rows_are_sound()
     ensures names { (n : ℕ) → n < ROWS → has_fitting_name (entry_at n) ≡ true }
-    ensures opcodes { (n : ℕ) → n < ROWS → (entry_at n).opcode < room (place (entry_at n).format) }
+    ensures opcodes { (n : ℕ) → n < ROWS → (entry_at n).opcode < room (place (entry_at n).form) }
     ensures refused { (n : ℕ) → n < ROWS → is_refused_alike (entry_at n) ≡ true }
 {}
 
@@ -92,15 +92,14 @@ pub fn reading_computes()
     ensures none { (bytes : List ℕ) → (reading_of bytes ≡ None) ↔ ((i : Instr) → Reads bytes i → ⊥) }
 {}
 
-/// Each field stands whole and once in the layout of a row, and the layout gives the length of the row's
-/// instructions, the place of their opcode and which numbers their fields may have.
+/// Each field stands whole and once in the layout of a row, two digits of it make a byte, and the opcode that bytes
+/// have in its place is the one that these digits hold.
 pub fn layouts_are_whole()
     ensures whole { (n : ℕ) → n < ROWS → is_whole (layout_of (entry_at n)) ≡ true }
     ensures length { (n : ℕ) → n < ROWS →
-        length (layout_of (entry_at n)) ≡ 2 * format_length (entry_at n).format }
+        length (layout_of (entry_at n)) ≡ 2 * form_length (entry_at n).form }
     ensures opcodes { (n : ℕ) (bytes : List ℕ) → n < ROWS →
-        opcode_at (place (entry_at n).format) bytes ≡ taken (layout_of (entry_at n)) bytes 0 }
-    ensures limits { (n : ℕ) → n < ROWS → limits_of (entry_at n) ≡ limits_by (entry_at n) }
+        opcode_at (place (entry_at n).form) bytes ≡ taken (layout_of (entry_at n)) bytes 0 }
 {}
 
 /// What is spelled by a whole layout holds each field's number, as many bits of it as the layout has.

@@ -6,6 +6,7 @@ ghost use Rattle.z_instr.specs.Layout.{place, room};
 ghost use Rattle.z_instr.specs.declared.table.TheConstants.{ROWS};
 ghost use Rattle.z_instr.specs.Lines.{entry_of, row_of};
 
+use crate::format::format_of;
 use crate::kind::Kind;
 use crate::name::Name;
 use crate::op::Op;
@@ -17,7 +18,7 @@ pub fn line(op: Op) -> Line
     ensures row { entry_of result ≡ entry_at op.number }
     ensures count { result.count ≤ 8 }
     ensures ascii { IsAscii (take result.count result.letters) }
-    ensures room { result.opcode < room (place result.format) }
+    ensures room { result.opcode < room (place result.form) }
 {
     TABLE[op.number as usize]
 }
@@ -37,9 +38,9 @@ pub fn row(op: Op) -> Row
     Row {
         name: Name::new(line.letters, line.count),
         opcode: line.opcode,
-        format: line.format,
-        restricted: line.restricted,
-        permitted: line.permitted,
+        format: format_of(line.form),
+        restricted: line.usage.is_restricted(),
+        permitted: line.usage.is_permitted(),
     }
 }
 

@@ -1,13 +1,25 @@
 //! The instruction table: one row for each instruction, in the order of the opcodes.
 
+ghost use Rattle.std.specs.Prelude.{◌≡◌};
+
 use crate::form::Form;
-use crate::format::Format;
 use crate::kind::{
     Branch, Combination, General, Kind, Logic, Operation, Order, Part, Place, Source, Storage,
     Transaction,
 };
 use crate::operand::Size;
 use z_arith::{Shift, Width};
+
+/// Who may have an operation.
+#[derive(Clone, Copy, PartialEq, Eq)]
+pub enum Use {
+    /// Every transaction.
+    Free,
+    /// Those alone that are not constrained.
+    Barred,
+    /// No transaction.
+    Restricted,
+}
 
 /// A row as the table keeps it. The name is the first `count` of the letters, and blanks follow it.
 #[derive(Clone, Copy)]
@@ -17,36 +29,10 @@ pub struct Line {
     pub opcode: u16,
     /// The manual's name of the format; the format without its letter follows from it.
     pub form: Form,
-    pub format: Format,
-    /// Every transaction refuses the operation.
-    pub restricted: bool,
-    /// Constrained transactions may have it.
-    pub permitted: bool,
+    pub usage: Use,
     /// What the operation does; the operands in storage that it touches and what it demands follow from this.
     pub kind: Kind,
 }
-
-/// Who may have an operation: no transaction, only unconstrained ones, or all.
-#[derive(Clone, Copy)]
-struct Use {
-    restricted: bool,
-    permitted: bool,
-}
-
-const FREE: Use = Use {
-    restricted: false,
-    permitted: true,
-};
-
-const BARRED: Use = Use {
-    restricted: false,
-    permitted: false,
-};
-
-const RESTRICTED: Use = Use {
-    restricted: true,
-    permitted: false,
-};
 
 const BYTE: Part = Part::Plain(Size::Byte);
 
@@ -78,6 +64,24 @@ const OR: Operation = Operation::Logic(Logic::Or);
 
 const EXCLUSIVE_OR: Operation = Operation::Logic(Logic::ExclusiveOr);
 
+impl Use {
+    ghost use Rattle.z_instr.specs.Table.{is_restricted, is_permitted};
+
+    /// Whether every transaction refuses the operation.
+    pub fn is_restricted(self) -> bool
+        ensures { result ≡ is_restricted self }
+    {
+        self == Use::Restricted
+    }
+
+    /// Whether constrained transactions may have it.
+    pub fn is_permitted(self) -> bool
+        ensures { result ≡ is_permitted self }
+    {
+        self == Use::Free
+    }
+}
+
 /// A kind: who executes the operation, and what it does.
 macro_rules! kind {
     (general $kind:ident $(($($argument:expr),+))?) => {
@@ -94,106 +98,6 @@ macro_rules! kind {
     };
 }
 
-/// The format of a form.
-macro_rules! format_without_letter {
-    (RR) => {
-        Format::RR
-    };
-    (RRMask) => {
-        Format::RR
-    };
-    (RRSingle) => {
-        Format::RR
-    };
-    (I) => {
-        Format::I
-    };
-    (RXa) => {
-        Format::RX
-    };
-    (RXb) => {
-        Format::RX
-    };
-    (RRE) => {
-        Format::RRE
-    };
-    (RRESingle) => {
-        Format::RRE
-    };
-    (RRFa) => {
-        Format::RRFa
-    };
-    (RRFc) => {
-        Format::RRFc
-    };
-    (RXYa) => {
-        Format::RXY
-    };
-    (RIa) => {
-        Format::RI
-    };
-    (RIaSigned) => {
-        Format::RI
-    };
-    (RIb) => {
-        Format::RI
-    };
-    (RIc) => {
-        Format::RI
-    };
-    (RILa) => {
-        Format::RIL
-    };
-    (RILaSigned) => {
-        Format::RIL
-    };
-    (RILb) => {
-        Format::RIL
-    };
-    (RILc) => {
-        Format::RIL
-    };
-    (RSa) => {
-        Format::RS
-    };
-    (RSaSingle) => {
-        Format::RS
-    };
-    (RSYa) => {
-        Format::RSY
-    };
-    (RSYb) => {
-        Format::RSY
-    };
-    (SI) => {
-        Format::SI
-    };
-    (SIY) => {
-        Format::SIY
-    };
-    (SIL) => {
-        Format::SIL
-    };
-    (SILSigned) => {
-        Format::SIL
-    };
-    (S) => {
-        Format::S
-    };
-    (SAlone) => {
-        Format::S
-    };
-    (SSa) => {
-        Format::SS
-    };
-    (RIEb) => {
-        Format::RIEb
-    };
-    (RIEc) => {
-        Format::RIEc
-    };
-}
-
 /// A row: its name and how many letters that has, its opcode and form, who may have it, and its kind.
 macro_rules! line {
     ($letters:literal $count:literal => $opcode:literal $form:ident, $use:ident, $($kind:tt)+) => {
@@ -202,9 +106,7 @@ macro_rules! line {
             count: $count,
             opcode: $opcode,
             form: Form::$form,
-            format: format_without_letter!($form),
-            restricted: $use.restricted,
-            permitted: $use.permitted,
+            usage: Use::$use,
             kind: kind!($($kind)+),
         }
     };
@@ -215,194 +117,194 @@ pub const ROWS: u16 = 188;
 
 /// The rows.
 pub static TABLE: [Line; ROWS as usize] = [
-    line!(b"SPM     " 3 => 0x04 RRSingle, RESTRICTED, general SetProgramMask),
-    line!(b"BCTR    " 4 => 0x06 RR, BARRED, branch OnCount(Place::Register, Width::Word)),
-    line!(b"BCR     " 3 => 0x07 RRMask, BARRED, branch OnCondition(Place::Register)),
-    line!(b"SVC     " 3 => 0x0A I, RESTRICTED, branch ServiceCall),
-    line!(b"BASR    " 4 => 0x0D RR, BARRED, branch AndSave(Place::Register)),
-    line!(b"LPR     " 3 => 0x10 RR, FREE, general Compute(Operation::LoadPositive, Width::Word, WORD_OF_R2)),
-    line!(b"LNR     " 3 => 0x11 RR, FREE, general Compute(Operation::LoadNegative, Width::Word, WORD_OF_R2)),
-    line!(b"LTR     " 3 => 0x12 RR, FREE, general Compute(Operation::LoadAndTest, Width::Word, WORD_OF_R2)),
-    line!(b"LCR     " 3 => 0x13 RR, FREE, general Compute(Operation::LoadComplement, Width::Word, WORD_OF_R2)),
-    line!(b"NR      " 2 => 0x14 RR, FREE, general Compute(AND, Width::Word, WORD_OF_R2)),
-    line!(b"CLR     " 3 => 0x15 RR, FREE, general Compare(Order::Logical, Width::Word, WORD_OF_R2)),
-    line!(b"OR      " 2 => 0x16 RR, FREE, general Compute(OR, Width::Word, WORD_OF_R2)),
-    line!(b"XR      " 2 => 0x17 RR, FREE, general Compute(EXCLUSIVE_OR, Width::Word, WORD_OF_R2)),
-    line!(b"LR      " 2 => 0x18 RR, FREE, general Compute(Operation::Load, Width::Word, WORD_OF_R2)),
-    line!(b"CR      " 2 => 0x19 RR, FREE, general Compare(Order::Signed, Width::Word, WORD_OF_R2)),
-    line!(b"AR      " 2 => 0x1A RR, FREE, general Compute(Operation::Add, Width::Word, WORD_OF_R2)),
-    line!(b"SR      " 2 => 0x1B RR, FREE, general Compute(Operation::Subtract, Width::Word, WORD_OF_R2)),
-    line!(b"MR      " 2 => 0x1C RR, BARRED, general MultiplyWord),
-    line!(b"DR      " 2 => 0x1D RR, BARRED, general DivideWord),
-    line!(b"ALR     " 3 => 0x1E RR, FREE, general Compute(Operation::AddLogical, Width::Word, WORD_OF_R2)),
-    line!(b"SLR     " 3 => 0x1F RR, FREE, general Compute(Operation::SubtractLogical, Width::Word, WORD_OF_R2)),
-    line!(b"STH     " 3 => 0x40 RXa, FREE, storage Store(Size::Halfword)),
-    line!(b"LA      " 2 => 0x41 RXa, FREE, general Address),
-    line!(b"STC     " 3 => 0x42 RXa, FREE, storage Store(Size::Byte)),
-    line!(b"IC      " 2 => 0x43 RXa, FREE, storage InsertByte),
-    line!(b"BCT     " 3 => 0x46 RXa, BARRED, branch OnCount(Place::Address, Width::Word)),
-    line!(b"BC      " 2 => 0x47 RXb, BARRED, branch OnCondition(Place::Address)),
-    line!(b"LH      " 2 => 0x48 RXa, FREE, storage Compute(Operation::Load, Width::Word, SIGNED_HALFWORD)),
-    line!(b"CH      " 2 => 0x49 RXa, FREE, storage Compare(Order::Signed, Width::Word, SIGNED_HALFWORD)),
-    line!(b"AH      " 2 => 0x4A RXa, FREE, storage Compute(Operation::Add, Width::Word, SIGNED_HALFWORD)),
-    line!(b"SH      " 2 => 0x4B RXa, FREE, storage Compute(Operation::Subtract, Width::Word, SIGNED_HALFWORD)),
-    line!(b"ST      " 2 => 0x50 RXa, FREE, storage Store(Size::Word)),
-    line!(b"N       " 1 => 0x54 RXa, FREE, storage Compute(AND, Width::Word, WORD)),
-    line!(b"CL      " 2 => 0x55 RXa, FREE, storage Compare(Order::Logical, Width::Word, WORD)),
-    line!(b"O       " 1 => 0x56 RXa, FREE, storage Compute(OR, Width::Word, WORD)),
-    line!(b"X       " 1 => 0x57 RXa, FREE, storage Compute(EXCLUSIVE_OR, Width::Word, WORD)),
-    line!(b"L       " 1 => 0x58 RXa, FREE, storage Compute(Operation::Load, Width::Word, WORD)),
-    line!(b"C       " 1 => 0x59 RXa, FREE, storage Compare(Order::Signed, Width::Word, WORD)),
-    line!(b"A       " 1 => 0x5A RXa, FREE, storage Compute(Operation::Add, Width::Word, WORD)),
-    line!(b"S       " 1 => 0x5B RXa, FREE, storage Compute(Operation::Subtract, Width::Word, WORD)),
-    line!(b"AL      " 2 => 0x5E RXa, FREE, storage Compute(Operation::AddLogical, Width::Word, WORD)),
-    line!(b"SL      " 2 => 0x5F RXa, FREE, storage Compute(Operation::SubtractLogical, Width::Word, WORD)),
-    line!(b"MS      " 2 => 0x71 RXa, BARRED, storage Compute(Operation::Multiply, Width::Word, WORD)),
-    line!(b"SRL     " 3 => 0x88 RSaSingle, FREE, general ShiftFirst(Shift::RightLogical)),
-    line!(b"SLL     " 3 => 0x89 RSaSingle, FREE, general ShiftFirst(Shift::LeftLogical)),
-    line!(b"SRA     " 3 => 0x8A RSaSingle, FREE, general ShiftFirst(Shift::RightSigned)),
-    line!(b"SLA     " 3 => 0x8B RSaSingle, FREE, general ShiftFirst(Shift::LeftSigned)),
-    line!(b"STM     " 3 => 0x90 RSa, FREE, storage StoreMany(Width::Word)),
-    line!(b"TM      " 2 => 0x91 SI, FREE, storage TestUnderMask),
-    line!(b"MVI     " 3 => 0x92 SI, FREE, storage StoreImmediate(Size::Byte)),
-    line!(b"NI      " 2 => 0x94 SI, FREE, storage ByteLogic(Logic::And)),
-    line!(b"CLI     " 3 => 0x95 SI, FREE, storage CompareImmediate(Order::Logical, Width::Word, BYTE)),
-    line!(b"OI      " 2 => 0x96 SI, FREE, storage ByteLogic(Logic::Or)),
-    line!(b"XI      " 2 => 0x97 SI, FREE, storage ByteLogic(Logic::ExclusiveOr)),
-    line!(b"LM      " 2 => 0x98 RSa, FREE, storage LoadMany(Width::Word)),
-    line!(b"IILL    " 4 => 0xA53 RIa, FREE, general InsertHalfword),
-    line!(b"NILL    " 4 => 0xA57 RIa, FREE, general LowHalfword(Logic::And)),
-    line!(b"OILL    " 4 => 0xA5B RIa, FREE, general LowHalfword(Logic::Or)),
-    line!(b"LLILL   " 5 => 0xA5F RIa, FREE, general Compute(Operation::Load, Width::Double, Source::Immediate)),
-    line!(b"TMLL    " 4 => 0xA71 RIa, FREE, general TestHalfword),
-    line!(b"BRC     " 3 => 0xA74 RIc, FREE, branch OnCondition(Place::Relative)),
-    line!(b"BRAS    " 4 => 0xA75 RIb, BARRED, branch AndSave(Place::Relative)),
-    line!(b"BRCT    " 4 => 0xA76 RIb, FREE, branch OnCount(Place::Relative, Width::Word)),
-    line!(b"BRCTG   " 5 => 0xA77 RIb, FREE, branch OnCount(Place::Relative, Width::Double)),
-    line!(b"LHI     " 3 => 0xA78 RIaSigned, FREE, general Compute(Operation::Load, Width::Word, Source::Immediate)),
-    line!(b"LGHI    " 4 => 0xA79 RIaSigned, FREE, general Compute(Operation::Load, Width::Double, Source::Immediate)),
-    line!(b"AHI     " 3 => 0xA7A RIaSigned, FREE, general Compute(Operation::Add, Width::Word, Source::Immediate)),
-    line!(b"AGHI    " 4 => 0xA7B RIaSigned, FREE, general Compute(Operation::Add, Width::Double, Source::Immediate)),
-    line!(b"MHI     " 3 => 0xA7C RIaSigned, BARRED, general Compute(Operation::Multiply, Width::Word, Source::Immediate)),
-    line!(b"MGHI    " 4 => 0xA7D RIaSigned, BARRED, general Compute(Operation::Multiply, Width::Double, Source::Immediate)),
-    line!(b"CHI     " 3 => 0xA7E RIaSigned, FREE, general Compare(Order::Signed, Width::Word, Source::Immediate)),
-    line!(b"CGHI    " 4 => 0xA7F RIaSigned, FREE, general Compare(Order::Signed, Width::Double, Source::Immediate)),
-    line!(b"IPM     " 3 => 0xB222 RRESingle, FREE, general InsertProgramMask),
-    line!(b"SAR     " 3 => 0xB24E RRE, BARRED, general SetAccess),
-    line!(b"EAR     " 3 => 0xB24F RRE, FREE, general ExtractAccess),
-    line!(b"MSR     " 3 => 0xB252 RRE, BARRED, general Compute(Operation::Multiply, Width::Word, WORD_OF_R2)),
-    line!(b"PPA     " 3 => 0xB2E8 RRFc, RESTRICTED, transaction Assist),
-    line!(b"ETND    " 4 => 0xB2EC RRESingle, BARRED, transaction ExtractDepth),
-    line!(b"TEND    " 4 => 0xB2F8 SAlone, FREE, transaction End),
-    line!(b"TABORT  " 6 => 0xB2FC S, BARRED, transaction Abort),
-    line!(b"LPGR    " 4 => 0xB900 RRE, FREE, general Compute(Operation::LoadPositive, Width::Double, R2)),
-    line!(b"LNGR    " 4 => 0xB901 RRE, FREE, general Compute(Operation::LoadNegative, Width::Double, R2)),
-    line!(b"LTGR    " 4 => 0xB902 RRE, FREE, general Compute(Operation::LoadAndTest, Width::Double, R2)),
-    line!(b"LCGR    " 4 => 0xB903 RRE, FREE, general Compute(Operation::LoadComplement, Width::Double, R2)),
-    line!(b"LGR     " 3 => 0xB904 RRE, FREE, general Compute(Operation::Load, Width::Double, R2)),
-    line!(b"LGHR    " 4 => 0xB907 RRE, FREE, general Compute(Operation::Load, Width::Double, SIGNED_HALFWORD_OF_R2)),
-    line!(b"AGR     " 3 => 0xB908 RRE, FREE, general Compute(Operation::Add, Width::Double, R2)),
-    line!(b"SGR     " 3 => 0xB909 RRE, FREE, general Compute(Operation::Subtract, Width::Double, R2)),
-    line!(b"ALGR    " 4 => 0xB90A RRE, FREE, general Compute(Operation::AddLogical, Width::Double, R2)),
-    line!(b"SLGR    " 4 => 0xB90B RRE, FREE, general Compute(Operation::SubtractLogical, Width::Double, R2)),
-    line!(b"MSGR    " 4 => 0xB90C RRE, BARRED, general Compute(Operation::Multiply, Width::Double, R2)),
-    line!(b"DSGR    " 4 => 0xB90D RRE, BARRED, general DivideDouble),
-    line!(b"LGFR    " 4 => 0xB914 RRE, FREE, general Compute(Operation::Load, Width::Double, SIGNED_WORD_OF_R2)),
-    line!(b"LLGFR   " 5 => 0xB916 RRE, FREE, general Compute(Operation::Load, Width::Double, WORD_OF_R2)),
-    line!(b"AGFR    " 4 => 0xB918 RRE, FREE, general Compute(Operation::Add, Width::Double, SIGNED_WORD_OF_R2)),
-    line!(b"SGFR    " 4 => 0xB919 RRE, FREE, general Compute(Operation::Subtract, Width::Double, SIGNED_WORD_OF_R2)),
-    line!(b"CGR     " 3 => 0xB920 RRE, FREE, general Compare(Order::Signed, Width::Double, R2)),
-    line!(b"CLGR    " 4 => 0xB921 RRE, FREE, general Compare(Order::Logical, Width::Double, R2)),
-    line!(b"BCTGR   " 5 => 0xB946 RRE, BARRED, branch OnCount(Place::Register, Width::Double)),
-    line!(b"NGR     " 3 => 0xB980 RRE, FREE, general Compute(AND, Width::Double, R2)),
-    line!(b"OGR     " 3 => 0xB981 RRE, FREE, general Compute(OR, Width::Double, R2)),
-    line!(b"XGR     " 3 => 0xB982 RRE, FREE, general Compute(EXCLUSIVE_OR, Width::Double, R2)),
-    line!(b"FLOGR   " 5 => 0xB983 RRE, BARRED, general FindLeftmostOne),
-    line!(b"LLGCR   " 5 => 0xB984 RRE, FREE, general Compute(Operation::Load, Width::Double, BYTE_OF_R2)),
-    line!(b"LLGHR   " 5 => 0xB985 RRE, FREE, general Compute(Operation::Load, Width::Double, HALFWORD_OF_R2)),
-    line!(b"MLGR    " 4 => 0xB986 RRE, BARRED, general MultiplyLogical),
-    line!(b"DLGR    " 4 => 0xB987 RRE, BARRED, general DivideLogical),
-    line!(b"ALCGR   " 5 => 0xB988 RRE, FREE, general Compute(Operation::AddWithCarry, Width::Double, R2)),
-    line!(b"SLBGR   " 5 => 0xB989 RRE, FREE, general Compute(Operation::SubtractWithBorrow, Width::Double, R2)),
-    line!(b"LOCGR   " 5 => 0xB9E2 RRFc, FREE, general LoadSelected),
-    line!(b"NGRK    " 4 => 0xB9E4 RRFa, FREE, general Compute(AND, Width::Double, Source::Third)),
-    line!(b"OGRK    " 4 => 0xB9E6 RRFa, FREE, general Compute(OR, Width::Double, Source::Third)),
-    line!(b"XGRK    " 4 => 0xB9E7 RRFa, FREE, general Compute(EXCLUSIVE_OR, Width::Double, Source::Third)),
-    line!(b"AGRK    " 4 => 0xB9E8 RRFa, FREE, general Compute(Operation::Add, Width::Double, Source::Third)),
-    line!(b"SGRK    " 4 => 0xB9E9 RRFa, FREE, general Compute(Operation::Subtract, Width::Double, Source::Third)),
-    line!(b"ARK     " 3 => 0xB9F8 RRFa, FREE, general Compute(Operation::Add, Width::Word, Source::Third)),
-    line!(b"SRK     " 3 => 0xB9F9 RRFa, FREE, general Compute(Operation::Subtract, Width::Word, Source::Third)),
-    line!(b"CS      " 2 => 0xBA RSa, BARRED, storage CompareAndSwap(Width::Word)),
-    line!(b"LARL    " 4 => 0xC00 RILb, FREE, general Target),
-    line!(b"LGFI    " 4 => 0xC01 RILaSigned, FREE, general Compute(Operation::Load, Width::Double, Source::Immediate)),
-    line!(b"BRCL    " 4 => 0xC04 RILc, FREE, branch OnCondition(Place::Relative)),
-    line!(b"BRASL   " 5 => 0xC05 RILb, BARRED, branch AndSave(Place::Relative)),
-    line!(b"XILF    " 4 => 0xC07 RILa, FREE, general Compute(EXCLUSIVE_OR, Width::Word, Source::Immediate)),
-    line!(b"NILF    " 4 => 0xC0B RILa, FREE, general Compute(AND, Width::Word, Source::Immediate)),
-    line!(b"OILF    " 4 => 0xC0D RILa, FREE, general Compute(OR, Width::Word, Source::Immediate)),
-    line!(b"LLILF   " 5 => 0xC0F RILa, FREE, general Compute(Operation::Load, Width::Double, Source::Immediate)),
-    line!(b"AGFI    " 4 => 0xC28 RILaSigned, FREE, general Compute(Operation::Add, Width::Double, Source::Immediate)),
-    line!(b"AFI     " 3 => 0xC29 RILaSigned, FREE, general Compute(Operation::Add, Width::Word, Source::Immediate)),
-    line!(b"CGFI    " 4 => 0xC2C RILaSigned, FREE, general Compare(Order::Signed, Width::Double, Source::Immediate)),
-    line!(b"CFI     " 3 => 0xC2D RILaSigned, FREE, general Compare(Order::Signed, Width::Word, Source::Immediate)),
-    line!(b"CLGFI   " 5 => 0xC2E RILa, FREE, general Compare(Order::Logical, Width::Double, Source::Immediate)),
-    line!(b"MVC     " 3 => 0xD2 SSa, BARRED, storage ByteByByte(Combination::Move)),
-    line!(b"NC      " 2 => 0xD4 SSa, BARRED, storage ByteByByte(Combination::Logic(Logic::And))),
-    line!(b"CLC     " 3 => 0xD5 SSa, BARRED, storage CompareBytes),
-    line!(b"OC      " 2 => 0xD6 SSa, BARRED, storage ByteByByte(Combination::Logic(Logic::Or))),
-    line!(b"XC      " 2 => 0xD7 SSa, BARRED, storage ByteByByte(Combination::Logic(Logic::ExclusiveOr))),
-    line!(b"LTG     " 3 => 0xE302 RXYa, FREE, storage Compute(Operation::LoadAndTest, Width::Double, DOUBLEWORD)),
-    line!(b"LG      " 2 => 0xE304 RXYa, FREE, storage Compute(Operation::Load, Width::Double, DOUBLEWORD)),
-    line!(b"AG      " 2 => 0xE308 RXYa, FREE, storage Compute(Operation::Add, Width::Double, DOUBLEWORD)),
-    line!(b"SG      " 2 => 0xE309 RXYa, FREE, storage Compute(Operation::Subtract, Width::Double, DOUBLEWORD)),
-    line!(b"ALG     " 3 => 0xE30A RXYa, FREE, storage Compute(Operation::AddLogical, Width::Double, DOUBLEWORD)),
-    line!(b"SLG     " 3 => 0xE30B RXYa, FREE, storage Compute(Operation::SubtractLogical, Width::Double, DOUBLEWORD)),
-    line!(b"MSG     " 3 => 0xE30C RXYa, BARRED, storage Compute(Operation::Multiply, Width::Double, DOUBLEWORD)),
-    line!(b"LGF     " 3 => 0xE314 RXYa, FREE, storage Compute(Operation::Load, Width::Double, SIGNED_WORD)),
-    line!(b"LGH     " 3 => 0xE315 RXYa, FREE, storage Compute(Operation::Load, Width::Double, SIGNED_HALFWORD)),
-    line!(b"LLGF    " 4 => 0xE316 RXYa, FREE, storage Compute(Operation::Load, Width::Double, WORD)),
-    line!(b"AGF     " 3 => 0xE318 RXYa, FREE, storage Compute(Operation::Add, Width::Double, SIGNED_WORD)),
-    line!(b"CG      " 2 => 0xE320 RXYa, FREE, storage Compare(Order::Signed, Width::Double, DOUBLEWORD)),
-    line!(b"CLG     " 3 => 0xE321 RXYa, FREE, storage Compare(Order::Logical, Width::Double, DOUBLEWORD)),
-    line!(b"STG     " 3 => 0xE324 RXYa, FREE, storage Store(Size::Doubleword)),
-    line!(b"NTSTG   " 5 => 0xE325 RXYa, BARRED, transaction StoreLasting),
-    line!(b"STY     " 3 => 0xE350 RXYa, FREE, storage Store(Size::Word)),
-    line!(b"LY      " 2 => 0xE358 RXYa, FREE, storage Compute(Operation::Load, Width::Word, WORD)),
-    line!(b"LAY     " 3 => 0xE371 RXYa, FREE, general Address),
-    line!(b"NG      " 2 => 0xE380 RXYa, FREE, storage Compute(AND, Width::Double, DOUBLEWORD)),
-    line!(b"OG      " 2 => 0xE381 RXYa, FREE, storage Compute(OR, Width::Double, DOUBLEWORD)),
-    line!(b"XG      " 2 => 0xE382 RXYa, FREE, storage Compute(EXCLUSIVE_OR, Width::Double, DOUBLEWORD)),
-    line!(b"LLGC    " 4 => 0xE390 RXYa, FREE, storage Compute(Operation::Load, Width::Double, BYTE)),
-    line!(b"LLGH    " 4 => 0xE391 RXYa, FREE, storage Compute(Operation::Load, Width::Double, HALFWORD)),
-    line!(b"MVHHI   " 5 => 0xE544 SILSigned, FREE, storage StoreImmediate(Size::Halfword)),
-    line!(b"MVGHI   " 5 => 0xE548 SILSigned, FREE, storage StoreImmediate(Size::Doubleword)),
-    line!(b"MVHI    " 4 => 0xE54C SILSigned, FREE, storage StoreImmediate(Size::Word)),
-    line!(b"CGHSI   " 5 => 0xE558 SILSigned, FREE, storage CompareImmediate(Order::Signed, Width::Double, DOUBLEWORD)),
-    line!(b"CHSI    " 4 => 0xE55C SILSigned, FREE, storage CompareImmediate(Order::Signed, Width::Word, WORD)),
-    line!(b"TBEGIN  " 6 => 0xE560 SIL, BARRED, transaction Begin),
-    line!(b"TBEGINC " 7 => 0xE561 SIL, BARRED, transaction BeginConstrained),
-    line!(b"LMG     " 3 => 0xEB04 RSYa, FREE, storage LoadMany(Width::Double)),
-    line!(b"SRAG    " 4 => 0xEB0A RSYa, FREE, general ShiftThird(Shift::RightSigned, Width::Double)),
-    line!(b"SLAG    " 4 => 0xEB0B RSYa, FREE, general ShiftThird(Shift::LeftSigned, Width::Double)),
-    line!(b"SRLG    " 4 => 0xEB0C RSYa, FREE, general ShiftThird(Shift::RightLogical, Width::Double)),
-    line!(b"SLLG    " 4 => 0xEB0D RSYa, FREE, general ShiftThird(Shift::LeftLogical, Width::Double)),
-    line!(b"RLLG    " 4 => 0xEB1C RSYa, FREE, general ShiftThird(Shift::Rotate, Width::Double)),
-    line!(b"RLL     " 3 => 0xEB1D RSYa, FREE, general ShiftThird(Shift::Rotate, Width::Word)),
-    line!(b"STMG    " 4 => 0xEB24 RSYa, FREE, storage StoreMany(Width::Double)),
-    line!(b"CSG     " 3 => 0xEB30 RSYa, BARRED, storage CompareAndSwap(Width::Double)),
-    line!(b"ASI     " 3 => 0xEB6A SIY, BARRED, storage AddImmediate(Width::Word)),
-    line!(b"AGSI    " 4 => 0xEB7A SIY, BARRED, storage AddImmediate(Width::Double)),
-    line!(b"LOCG    " 4 => 0xEBE2 RSYb, FREE, storage LoadSelected),
-    line!(b"STOCG   " 5 => 0xEBE3 RSYb, FREE, storage StoreSelected),
-    line!(b"LANG    " 4 => 0xEBE4 RSYa, BARRED, storage LoadAnd(AND, Width::Double)),
-    line!(b"LAOG    " 4 => 0xEBE6 RSYa, BARRED, storage LoadAnd(OR, Width::Double)),
-    line!(b"LAXG    " 4 => 0xEBE7 RSYa, BARRED, storage LoadAnd(EXCLUSIVE_OR, Width::Double)),
-    line!(b"LAAG    " 4 => 0xEBE8 RSYa, BARRED, storage LoadAnd(Operation::Add, Width::Double)),
-    line!(b"LAA     " 3 => 0xEBF8 RSYa, BARRED, storage LoadAnd(Operation::Add, Width::Word)),
-    line!(b"CGRJ    " 4 => 0xEC64 RIEb, FREE, branch OnCompare(Order::Signed, Width::Double)),
-    line!(b"CLGRJ   " 5 => 0xEC65 RIEb, FREE, branch OnCompare(Order::Logical, Width::Double)),
-    line!(b"CRJ     " 3 => 0xEC76 RIEb, FREE, branch OnCompare(Order::Signed, Width::Word)),
-    line!(b"CGIJ    " 4 => 0xEC7C RIEc, FREE, branch OnCompareImmediate),
+    line!(b"SPM     " 3 => 0x04 RRSingle, Restricted, general SetProgramMask),
+    line!(b"BCTR    " 4 => 0x06 RR, Barred, branch OnCount(Place::Register, Width::Word)),
+    line!(b"BCR     " 3 => 0x07 RRMask, Barred, branch OnCondition(Place::Register)),
+    line!(b"SVC     " 3 => 0x0A I, Restricted, branch ServiceCall),
+    line!(b"BASR    " 4 => 0x0D RR, Barred, branch AndSave(Place::Register)),
+    line!(b"LPR     " 3 => 0x10 RR, Free, general Compute(Operation::LoadPositive, Width::Word, WORD_OF_R2)),
+    line!(b"LNR     " 3 => 0x11 RR, Free, general Compute(Operation::LoadNegative, Width::Word, WORD_OF_R2)),
+    line!(b"LTR     " 3 => 0x12 RR, Free, general Compute(Operation::LoadAndTest, Width::Word, WORD_OF_R2)),
+    line!(b"LCR     " 3 => 0x13 RR, Free, general Compute(Operation::LoadComplement, Width::Word, WORD_OF_R2)),
+    line!(b"NR      " 2 => 0x14 RR, Free, general Compute(AND, Width::Word, WORD_OF_R2)),
+    line!(b"CLR     " 3 => 0x15 RR, Free, general Compare(Order::Logical, Width::Word, WORD_OF_R2)),
+    line!(b"OR      " 2 => 0x16 RR, Free, general Compute(OR, Width::Word, WORD_OF_R2)),
+    line!(b"XR      " 2 => 0x17 RR, Free, general Compute(EXCLUSIVE_OR, Width::Word, WORD_OF_R2)),
+    line!(b"LR      " 2 => 0x18 RR, Free, general Compute(Operation::Load, Width::Word, WORD_OF_R2)),
+    line!(b"CR      " 2 => 0x19 RR, Free, general Compare(Order::Signed, Width::Word, WORD_OF_R2)),
+    line!(b"AR      " 2 => 0x1A RR, Free, general Compute(Operation::Add, Width::Word, WORD_OF_R2)),
+    line!(b"SR      " 2 => 0x1B RR, Free, general Compute(Operation::Subtract, Width::Word, WORD_OF_R2)),
+    line!(b"MR      " 2 => 0x1C RR, Barred, general MultiplyWord),
+    line!(b"DR      " 2 => 0x1D RR, Barred, general DivideWord),
+    line!(b"ALR     " 3 => 0x1E RR, Free, general Compute(Operation::AddLogical, Width::Word, WORD_OF_R2)),
+    line!(b"SLR     " 3 => 0x1F RR, Free, general Compute(Operation::SubtractLogical, Width::Word, WORD_OF_R2)),
+    line!(b"STH     " 3 => 0x40 RXa, Free, storage Store(Size::Halfword)),
+    line!(b"LA      " 2 => 0x41 RXa, Free, general Address),
+    line!(b"STC     " 3 => 0x42 RXa, Free, storage Store(Size::Byte)),
+    line!(b"IC      " 2 => 0x43 RXa, Free, storage InsertByte),
+    line!(b"BCT     " 3 => 0x46 RXa, Barred, branch OnCount(Place::Address, Width::Word)),
+    line!(b"BC      " 2 => 0x47 RXb, Barred, branch OnCondition(Place::Address)),
+    line!(b"LH      " 2 => 0x48 RXa, Free, storage Compute(Operation::Load, Width::Word, SIGNED_HALFWORD)),
+    line!(b"CH      " 2 => 0x49 RXa, Free, storage Compare(Order::Signed, Width::Word, SIGNED_HALFWORD)),
+    line!(b"AH      " 2 => 0x4A RXa, Free, storage Compute(Operation::Add, Width::Word, SIGNED_HALFWORD)),
+    line!(b"SH      " 2 => 0x4B RXa, Free, storage Compute(Operation::Subtract, Width::Word, SIGNED_HALFWORD)),
+    line!(b"ST      " 2 => 0x50 RXa, Free, storage Store(Size::Word)),
+    line!(b"N       " 1 => 0x54 RXa, Free, storage Compute(AND, Width::Word, WORD)),
+    line!(b"CL      " 2 => 0x55 RXa, Free, storage Compare(Order::Logical, Width::Word, WORD)),
+    line!(b"O       " 1 => 0x56 RXa, Free, storage Compute(OR, Width::Word, WORD)),
+    line!(b"X       " 1 => 0x57 RXa, Free, storage Compute(EXCLUSIVE_OR, Width::Word, WORD)),
+    line!(b"L       " 1 => 0x58 RXa, Free, storage Compute(Operation::Load, Width::Word, WORD)),
+    line!(b"C       " 1 => 0x59 RXa, Free, storage Compare(Order::Signed, Width::Word, WORD)),
+    line!(b"A       " 1 => 0x5A RXa, Free, storage Compute(Operation::Add, Width::Word, WORD)),
+    line!(b"S       " 1 => 0x5B RXa, Free, storage Compute(Operation::Subtract, Width::Word, WORD)),
+    line!(b"AL      " 2 => 0x5E RXa, Free, storage Compute(Operation::AddLogical, Width::Word, WORD)),
+    line!(b"SL      " 2 => 0x5F RXa, Free, storage Compute(Operation::SubtractLogical, Width::Word, WORD)),
+    line!(b"MS      " 2 => 0x71 RXa, Barred, storage Compute(Operation::Multiply, Width::Word, WORD)),
+    line!(b"SRL     " 3 => 0x88 RSaSingle, Free, general ShiftFirst(Shift::RightLogical)),
+    line!(b"SLL     " 3 => 0x89 RSaSingle, Free, general ShiftFirst(Shift::LeftLogical)),
+    line!(b"SRA     " 3 => 0x8A RSaSingle, Free, general ShiftFirst(Shift::RightSigned)),
+    line!(b"SLA     " 3 => 0x8B RSaSingle, Free, general ShiftFirst(Shift::LeftSigned)),
+    line!(b"STM     " 3 => 0x90 RSa, Free, storage StoreMany(Width::Word)),
+    line!(b"TM      " 2 => 0x91 SI, Free, storage TestUnderMask),
+    line!(b"MVI     " 3 => 0x92 SI, Free, storage StoreImmediate(Size::Byte)),
+    line!(b"NI      " 2 => 0x94 SI, Free, storage ByteLogic(Logic::And)),
+    line!(b"CLI     " 3 => 0x95 SI, Free, storage CompareImmediate(Order::Logical, Width::Word, BYTE)),
+    line!(b"OI      " 2 => 0x96 SI, Free, storage ByteLogic(Logic::Or)),
+    line!(b"XI      " 2 => 0x97 SI, Free, storage ByteLogic(Logic::ExclusiveOr)),
+    line!(b"LM      " 2 => 0x98 RSa, Free, storage LoadMany(Width::Word)),
+    line!(b"IILL    " 4 => 0xA53 RIa, Free, general InsertHalfword),
+    line!(b"NILL    " 4 => 0xA57 RIa, Free, general LowHalfword(Logic::And)),
+    line!(b"OILL    " 4 => 0xA5B RIa, Free, general LowHalfword(Logic::Or)),
+    line!(b"LLILL   " 5 => 0xA5F RIa, Free, general Compute(Operation::Load, Width::Double, Source::Immediate)),
+    line!(b"TMLL    " 4 => 0xA71 RIa, Free, general TestHalfword),
+    line!(b"BRC     " 3 => 0xA74 RIc, Free, branch OnCondition(Place::Relative)),
+    line!(b"BRAS    " 4 => 0xA75 RIb, Barred, branch AndSave(Place::Relative)),
+    line!(b"BRCT    " 4 => 0xA76 RIb, Free, branch OnCount(Place::Relative, Width::Word)),
+    line!(b"BRCTG   " 5 => 0xA77 RIb, Free, branch OnCount(Place::Relative, Width::Double)),
+    line!(b"LHI     " 3 => 0xA78 RIaSigned, Free, general Compute(Operation::Load, Width::Word, Source::Immediate)),
+    line!(b"LGHI    " 4 => 0xA79 RIaSigned, Free, general Compute(Operation::Load, Width::Double, Source::Immediate)),
+    line!(b"AHI     " 3 => 0xA7A RIaSigned, Free, general Compute(Operation::Add, Width::Word, Source::Immediate)),
+    line!(b"AGHI    " 4 => 0xA7B RIaSigned, Free, general Compute(Operation::Add, Width::Double, Source::Immediate)),
+    line!(b"MHI     " 3 => 0xA7C RIaSigned, Barred, general Compute(Operation::Multiply, Width::Word, Source::Immediate)),
+    line!(b"MGHI    " 4 => 0xA7D RIaSigned, Barred, general Compute(Operation::Multiply, Width::Double, Source::Immediate)),
+    line!(b"CHI     " 3 => 0xA7E RIaSigned, Free, general Compare(Order::Signed, Width::Word, Source::Immediate)),
+    line!(b"CGHI    " 4 => 0xA7F RIaSigned, Free, general Compare(Order::Signed, Width::Double, Source::Immediate)),
+    line!(b"IPM     " 3 => 0xB222 RRESingle, Free, general InsertProgramMask),
+    line!(b"SAR     " 3 => 0xB24E RRE, Barred, general SetAccess),
+    line!(b"EAR     " 3 => 0xB24F RRE, Free, general ExtractAccess),
+    line!(b"MSR     " 3 => 0xB252 RRE, Barred, general Compute(Operation::Multiply, Width::Word, WORD_OF_R2)),
+    line!(b"PPA     " 3 => 0xB2E8 RRFc, Restricted, transaction Assist),
+    line!(b"ETND    " 4 => 0xB2EC RRESingle, Barred, transaction ExtractDepth),
+    line!(b"TEND    " 4 => 0xB2F8 SAlone, Free, transaction End),
+    line!(b"TABORT  " 6 => 0xB2FC S, Barred, transaction Abort),
+    line!(b"LPGR    " 4 => 0xB900 RRE, Free, general Compute(Operation::LoadPositive, Width::Double, R2)),
+    line!(b"LNGR    " 4 => 0xB901 RRE, Free, general Compute(Operation::LoadNegative, Width::Double, R2)),
+    line!(b"LTGR    " 4 => 0xB902 RRE, Free, general Compute(Operation::LoadAndTest, Width::Double, R2)),
+    line!(b"LCGR    " 4 => 0xB903 RRE, Free, general Compute(Operation::LoadComplement, Width::Double, R2)),
+    line!(b"LGR     " 3 => 0xB904 RRE, Free, general Compute(Operation::Load, Width::Double, R2)),
+    line!(b"LGHR    " 4 => 0xB907 RRE, Free, general Compute(Operation::Load, Width::Double, SIGNED_HALFWORD_OF_R2)),
+    line!(b"AGR     " 3 => 0xB908 RRE, Free, general Compute(Operation::Add, Width::Double, R2)),
+    line!(b"SGR     " 3 => 0xB909 RRE, Free, general Compute(Operation::Subtract, Width::Double, R2)),
+    line!(b"ALGR    " 4 => 0xB90A RRE, Free, general Compute(Operation::AddLogical, Width::Double, R2)),
+    line!(b"SLGR    " 4 => 0xB90B RRE, Free, general Compute(Operation::SubtractLogical, Width::Double, R2)),
+    line!(b"MSGR    " 4 => 0xB90C RRE, Barred, general Compute(Operation::Multiply, Width::Double, R2)),
+    line!(b"DSGR    " 4 => 0xB90D RRE, Barred, general DivideDouble),
+    line!(b"LGFR    " 4 => 0xB914 RRE, Free, general Compute(Operation::Load, Width::Double, SIGNED_WORD_OF_R2)),
+    line!(b"LLGFR   " 5 => 0xB916 RRE, Free, general Compute(Operation::Load, Width::Double, WORD_OF_R2)),
+    line!(b"AGFR    " 4 => 0xB918 RRE, Free, general Compute(Operation::Add, Width::Double, SIGNED_WORD_OF_R2)),
+    line!(b"SGFR    " 4 => 0xB919 RRE, Free, general Compute(Operation::Subtract, Width::Double, SIGNED_WORD_OF_R2)),
+    line!(b"CGR     " 3 => 0xB920 RRE, Free, general Compare(Order::Signed, Width::Double, R2)),
+    line!(b"CLGR    " 4 => 0xB921 RRE, Free, general Compare(Order::Logical, Width::Double, R2)),
+    line!(b"BCTGR   " 5 => 0xB946 RRE, Barred, branch OnCount(Place::Register, Width::Double)),
+    line!(b"NGR     " 3 => 0xB980 RRE, Free, general Compute(AND, Width::Double, R2)),
+    line!(b"OGR     " 3 => 0xB981 RRE, Free, general Compute(OR, Width::Double, R2)),
+    line!(b"XGR     " 3 => 0xB982 RRE, Free, general Compute(EXCLUSIVE_OR, Width::Double, R2)),
+    line!(b"FLOGR   " 5 => 0xB983 RRE, Barred, general FindLeftmostOne),
+    line!(b"LLGCR   " 5 => 0xB984 RRE, Free, general Compute(Operation::Load, Width::Double, BYTE_OF_R2)),
+    line!(b"LLGHR   " 5 => 0xB985 RRE, Free, general Compute(Operation::Load, Width::Double, HALFWORD_OF_R2)),
+    line!(b"MLGR    " 4 => 0xB986 RRE, Barred, general MultiplyLogical),
+    line!(b"DLGR    " 4 => 0xB987 RRE, Barred, general DivideLogical),
+    line!(b"ALCGR   " 5 => 0xB988 RRE, Free, general Compute(Operation::AddWithCarry, Width::Double, R2)),
+    line!(b"SLBGR   " 5 => 0xB989 RRE, Free, general Compute(Operation::SubtractWithBorrow, Width::Double, R2)),
+    line!(b"LOCGR   " 5 => 0xB9E2 RRFc, Free, general LoadSelected),
+    line!(b"NGRK    " 4 => 0xB9E4 RRFa, Free, general Compute(AND, Width::Double, Source::Third)),
+    line!(b"OGRK    " 4 => 0xB9E6 RRFa, Free, general Compute(OR, Width::Double, Source::Third)),
+    line!(b"XGRK    " 4 => 0xB9E7 RRFa, Free, general Compute(EXCLUSIVE_OR, Width::Double, Source::Third)),
+    line!(b"AGRK    " 4 => 0xB9E8 RRFa, Free, general Compute(Operation::Add, Width::Double, Source::Third)),
+    line!(b"SGRK    " 4 => 0xB9E9 RRFa, Free, general Compute(Operation::Subtract, Width::Double, Source::Third)),
+    line!(b"ARK     " 3 => 0xB9F8 RRFa, Free, general Compute(Operation::Add, Width::Word, Source::Third)),
+    line!(b"SRK     " 3 => 0xB9F9 RRFa, Free, general Compute(Operation::Subtract, Width::Word, Source::Third)),
+    line!(b"CS      " 2 => 0xBA RSa, Barred, storage CompareAndSwap(Width::Word)),
+    line!(b"LARL    " 4 => 0xC00 RILb, Free, general Target),
+    line!(b"LGFI    " 4 => 0xC01 RILaSigned, Free, general Compute(Operation::Load, Width::Double, Source::Immediate)),
+    line!(b"BRCL    " 4 => 0xC04 RILc, Free, branch OnCondition(Place::Relative)),
+    line!(b"BRASL   " 5 => 0xC05 RILb, Barred, branch AndSave(Place::Relative)),
+    line!(b"XILF    " 4 => 0xC07 RILa, Free, general Compute(EXCLUSIVE_OR, Width::Word, Source::Immediate)),
+    line!(b"NILF    " 4 => 0xC0B RILa, Free, general Compute(AND, Width::Word, Source::Immediate)),
+    line!(b"OILF    " 4 => 0xC0D RILa, Free, general Compute(OR, Width::Word, Source::Immediate)),
+    line!(b"LLILF   " 5 => 0xC0F RILa, Free, general Compute(Operation::Load, Width::Double, Source::Immediate)),
+    line!(b"AGFI    " 4 => 0xC28 RILaSigned, Free, general Compute(Operation::Add, Width::Double, Source::Immediate)),
+    line!(b"AFI     " 3 => 0xC29 RILaSigned, Free, general Compute(Operation::Add, Width::Word, Source::Immediate)),
+    line!(b"CGFI    " 4 => 0xC2C RILaSigned, Free, general Compare(Order::Signed, Width::Double, Source::Immediate)),
+    line!(b"CFI     " 3 => 0xC2D RILaSigned, Free, general Compare(Order::Signed, Width::Word, Source::Immediate)),
+    line!(b"CLGFI   " 5 => 0xC2E RILa, Free, general Compare(Order::Logical, Width::Double, Source::Immediate)),
+    line!(b"MVC     " 3 => 0xD2 SSa, Barred, storage ByteByByte(Combination::Move)),
+    line!(b"NC      " 2 => 0xD4 SSa, Barred, storage ByteByByte(Combination::Logic(Logic::And))),
+    line!(b"CLC     " 3 => 0xD5 SSa, Barred, storage CompareBytes),
+    line!(b"OC      " 2 => 0xD6 SSa, Barred, storage ByteByByte(Combination::Logic(Logic::Or))),
+    line!(b"XC      " 2 => 0xD7 SSa, Barred, storage ByteByByte(Combination::Logic(Logic::ExclusiveOr))),
+    line!(b"LTG     " 3 => 0xE302 RXYa, Free, storage Compute(Operation::LoadAndTest, Width::Double, DOUBLEWORD)),
+    line!(b"LG      " 2 => 0xE304 RXYa, Free, storage Compute(Operation::Load, Width::Double, DOUBLEWORD)),
+    line!(b"AG      " 2 => 0xE308 RXYa, Free, storage Compute(Operation::Add, Width::Double, DOUBLEWORD)),
+    line!(b"SG      " 2 => 0xE309 RXYa, Free, storage Compute(Operation::Subtract, Width::Double, DOUBLEWORD)),
+    line!(b"ALG     " 3 => 0xE30A RXYa, Free, storage Compute(Operation::AddLogical, Width::Double, DOUBLEWORD)),
+    line!(b"SLG     " 3 => 0xE30B RXYa, Free, storage Compute(Operation::SubtractLogical, Width::Double, DOUBLEWORD)),
+    line!(b"MSG     " 3 => 0xE30C RXYa, Barred, storage Compute(Operation::Multiply, Width::Double, DOUBLEWORD)),
+    line!(b"LGF     " 3 => 0xE314 RXYa, Free, storage Compute(Operation::Load, Width::Double, SIGNED_WORD)),
+    line!(b"LGH     " 3 => 0xE315 RXYa, Free, storage Compute(Operation::Load, Width::Double, SIGNED_HALFWORD)),
+    line!(b"LLGF    " 4 => 0xE316 RXYa, Free, storage Compute(Operation::Load, Width::Double, WORD)),
+    line!(b"AGF     " 3 => 0xE318 RXYa, Free, storage Compute(Operation::Add, Width::Double, SIGNED_WORD)),
+    line!(b"CG      " 2 => 0xE320 RXYa, Free, storage Compare(Order::Signed, Width::Double, DOUBLEWORD)),
+    line!(b"CLG     " 3 => 0xE321 RXYa, Free, storage Compare(Order::Logical, Width::Double, DOUBLEWORD)),
+    line!(b"STG     " 3 => 0xE324 RXYa, Free, storage Store(Size::Doubleword)),
+    line!(b"NTSTG   " 5 => 0xE325 RXYa, Barred, transaction StoreLasting),
+    line!(b"STY     " 3 => 0xE350 RXYa, Free, storage Store(Size::Word)),
+    line!(b"LY      " 2 => 0xE358 RXYa, Free, storage Compute(Operation::Load, Width::Word, WORD)),
+    line!(b"LAY     " 3 => 0xE371 RXYa, Free, general Address),
+    line!(b"NG      " 2 => 0xE380 RXYa, Free, storage Compute(AND, Width::Double, DOUBLEWORD)),
+    line!(b"OG      " 2 => 0xE381 RXYa, Free, storage Compute(OR, Width::Double, DOUBLEWORD)),
+    line!(b"XG      " 2 => 0xE382 RXYa, Free, storage Compute(EXCLUSIVE_OR, Width::Double, DOUBLEWORD)),
+    line!(b"LLGC    " 4 => 0xE390 RXYa, Free, storage Compute(Operation::Load, Width::Double, BYTE)),
+    line!(b"LLGH    " 4 => 0xE391 RXYa, Free, storage Compute(Operation::Load, Width::Double, HALFWORD)),
+    line!(b"MVHHI   " 5 => 0xE544 SILSigned, Free, storage StoreImmediate(Size::Halfword)),
+    line!(b"MVGHI   " 5 => 0xE548 SILSigned, Free, storage StoreImmediate(Size::Doubleword)),
+    line!(b"MVHI    " 4 => 0xE54C SILSigned, Free, storage StoreImmediate(Size::Word)),
+    line!(b"CGHSI   " 5 => 0xE558 SILSigned, Free, storage CompareImmediate(Order::Signed, Width::Double, DOUBLEWORD)),
+    line!(b"CHSI    " 4 => 0xE55C SILSigned, Free, storage CompareImmediate(Order::Signed, Width::Word, WORD)),
+    line!(b"TBEGIN  " 6 => 0xE560 SIL, Barred, transaction Begin),
+    line!(b"TBEGINC " 7 => 0xE561 SIL, Barred, transaction BeginConstrained),
+    line!(b"LMG     " 3 => 0xEB04 RSYa, Free, storage LoadMany(Width::Double)),
+    line!(b"SRAG    " 4 => 0xEB0A RSYa, Free, general ShiftThird(Shift::RightSigned, Width::Double)),
+    line!(b"SLAG    " 4 => 0xEB0B RSYa, Free, general ShiftThird(Shift::LeftSigned, Width::Double)),
+    line!(b"SRLG    " 4 => 0xEB0C RSYa, Free, general ShiftThird(Shift::RightLogical, Width::Double)),
+    line!(b"SLLG    " 4 => 0xEB0D RSYa, Free, general ShiftThird(Shift::LeftLogical, Width::Double)),
+    line!(b"RLLG    " 4 => 0xEB1C RSYa, Free, general ShiftThird(Shift::Rotate, Width::Double)),
+    line!(b"RLL     " 3 => 0xEB1D RSYa, Free, general ShiftThird(Shift::Rotate, Width::Word)),
+    line!(b"STMG    " 4 => 0xEB24 RSYa, Free, storage StoreMany(Width::Double)),
+    line!(b"CSG     " 3 => 0xEB30 RSYa, Barred, storage CompareAndSwap(Width::Double)),
+    line!(b"ASI     " 3 => 0xEB6A SIY, Barred, storage AddImmediate(Width::Word)),
+    line!(b"AGSI    " 4 => 0xEB7A SIY, Barred, storage AddImmediate(Width::Double)),
+    line!(b"LOCG    " 4 => 0xEBE2 RSYb, Free, storage LoadSelected),
+    line!(b"STOCG   " 5 => 0xEBE3 RSYb, Free, storage StoreSelected),
+    line!(b"LANG    " 4 => 0xEBE4 RSYa, Barred, storage LoadAnd(AND, Width::Double)),
+    line!(b"LAOG    " 4 => 0xEBE6 RSYa, Barred, storage LoadAnd(OR, Width::Double)),
+    line!(b"LAXG    " 4 => 0xEBE7 RSYa, Barred, storage LoadAnd(EXCLUSIVE_OR, Width::Double)),
+    line!(b"LAAG    " 4 => 0xEBE8 RSYa, Barred, storage LoadAnd(Operation::Add, Width::Double)),
+    line!(b"LAA     " 3 => 0xEBF8 RSYa, Barred, storage LoadAnd(Operation::Add, Width::Word)),
+    line!(b"CGRJ    " 4 => 0xEC64 RIEb, Free, branch OnCompare(Order::Signed, Width::Double)),
+    line!(b"CLGRJ   " 5 => 0xEC65 RIEb, Free, branch OnCompare(Order::Logical, Width::Double)),
+    line!(b"CRJ     " 3 => 0xEC76 RIEb, Free, branch OnCompare(Order::Signed, Width::Word)),
+    line!(b"CGIJ    " 4 => 0xEC7C RIEc, Free, branch OnCompareImmediate),
 ];
 
 /// A name, with blanks behind it, and the number of its row.

@@ -1,7 +1,7 @@
 -- Which operation a name is.
 use Rattle.std.specs.Prelude.{ℕ, suc, List, [], ◌∷◌, Option, Some, None, codes, if◌then◌else◌}
 use Rattle.std.specs.Str.{bytes_eq}
-use Rattle.z_instr.specs.Layout.{format_length}
+use Rattle.z_instr.specs.Layout.{form_length}
 use Rattle.z_instr.specs.Table.{Entry, table, entry_at}
 use Rattle.z_operands.specs.declared.operation.Operation.{Operation}
 use Rattle.z_operands.specs.declared.operation.Operation.TheVariants.{Instruction, Org, Equ, Ds, Dc, Cpu, Reg}
@@ -89,4 +89,4 @@ operation_named name =
 
 -- how many bytes a row's instructions have
 abbrev pub size_of_row : ℕ → ℕ
-size_of_row row = format_length (entry_at row).format
+size_of_row row = form_length (entry_at row).form

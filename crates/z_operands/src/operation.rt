@@ -167,5 +167,5 @@ pub fn size_of_row(row: u16) -> usize
     ensures some { 0 < result }
     ensures few { result ≤ 6 }
 {
-    usize::from(length_in(line(Op { number: row }).format))
+    usize::from(length_in(line(Op { number: row }).form))
 }

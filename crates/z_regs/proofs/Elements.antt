@@ -1,5 +1,5 @@
 -- Elements of lists, one after the other, tests together, and numbers beside one another.
-use Rattle.std.proofs.Common.{◌≡◌, ℕ, ◌+◌, ◌<◌, ◌&&◌, ◌||◌, Bool, true, false, List, length, set, take, Option, None, Some}
+use Rattle.std.proofs.Common.{◌≡◌, ℕ, ◌+◌, ◌<◌, ◌&&◌, ◌||◌, Bool, true, false, List, [], ◌∷◌, length, set, take, Option, None, Some}
 use Rattle.std.proofs.Common.{refl, ap, ◌∙◌, arith}
 use Rattle.std.specs.Prelude.{nat_lt}
 use Rattle.std.specs.List.{list_any, list_all, slice_get}
@@ -46,7 +46,18 @@ pub is_nothing : {X : Type 0} (o : Option X) → is_none o ≡ true → o ≡ No
 is_nothing None is = refl
 is_nothing (Some x) is = let no : false ≡ true = is in cc
 
+-- a list of one element
+pub one_element : {X : Type 0} (xs : List X) (x : X) → length xs ≡ 1 → slice_get xs 0 ≡ Some x → xs ≡ x ∷ []
+one_element [] x one there = absurd (omega (arith, one))
+one_element (y ∷ []) x one there = ap (λ z. z ∷ []) (cc)
+one_element (y ∷ z ∷ xs) x one there = absurd (omega (arith, one))
+
 -- ---- tests together
+
+-- where the first of two fails, the second holds
+pub second_holds : (a b : Bool) → (a || b) ≡ true → a ≡ false → b ≡ true
+second_holds true b h fails = let no : true ≡ false = fails in cc
+second_holds false b h fails = h
 
 -- four of them, two by two
 pub or_across : (a b c d : Bool) → ((a || b) || (c || d)) ≡ ((a || c) || (b || d))

@@ -131,7 +131,7 @@ pub fn execute_kind<V: Bytes>(
         slice_index (V.bytes view.new) k ≡ slice_index (V.bytes view.old) k }
     ensures size { length (V.bytes view.new) ≡ storage_size }
 {
-    let n = length_in(line(instr.op).format);
+    let n = length_in(line(instr.op).form);
     run(kind, n, instr, image, view)
 }
 

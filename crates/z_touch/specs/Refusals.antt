@@ -4,7 +4,7 @@ use Rattle.std.specs.List.{list_any, list_all}
 use Rattle.z_instr.specs.declared.instr.Instr.{Instr}
 use Rattle.z_instr.specs.declared.operand.Demand.{Demand}
 use Rattle.z_instr.specs.Table.{entry_at}
-use Rattle.z_instr.specs.Layout.{format_length}
+use Rattle.z_instr.specs.Layout.{form_length}
 use Rattle.z_instr.specs.Access.{accessible_pages, text_pages}
 use Rattle.z_instr.specs.Operands.{Span, unspecified, inaccessible, is_inside, is_stored_into, where_wrong, addressing, protection, operation, tested_spans, is_refused_service}
 use Rattle.z_regs.specs.Cpu.{Cpu}
@@ -20,7 +20,7 @@ span_of r = record { first = r.first; length = r.length; store = r.store }
 
 -- the exception of an instruction that does not come at its fetch
 abbrev pub refused : Instr → ℕ → Exception
-refused i code = record { code = code; fetch = false; length = format_length (entry_at i.op.number).format }
+refused i code = record { code = code; fetch = false; length = form_length (entry_at i.op.number).form }
 
 -- a value, or the exception where there is one
 abbrev pub answer : {A : Type 0} → Option ℕ → Instr → A → Result A Exception

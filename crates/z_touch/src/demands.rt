@@ -32,7 +32,7 @@ pub fn exception(instr: &Instr, code: u16) -> Exception
     Exception {
         code,
         fetch: false,
-        length: length_in(line(instr.op).format),
+        length: length_in(line(instr.op).form),
     }
 }
 

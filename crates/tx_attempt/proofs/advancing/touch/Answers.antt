@@ -4,7 +4,7 @@ use Rattle.z_regs.specs.Absolute.{absolute_range, absolute_ranges}
 use Rattle.z_regs.specs.declared.ranges.Range.{Range}
 use Rattle.tx_footprint.specs.Touched.{touching, sets_of, fit_of}
 use Rattle.tx_footprint.proofs.Limits.{nothing_more}
-use Rattle.tx_footprint.proofs.Ones.{only}
+use Rattle.z_regs.proofs.Elements.{one_element}
 use Rattle.tx_attempt.proofs.Bare.{none-so}
 use Rattle.tx_attempt.proofs.advancing.touch.Goals as goal
 
@@ -30,7 +30,7 @@ add_one-requires-clause-fits c =
     let single : length c.args.need.now ≡ 1 = omega arith in
     let one = one-range c.args.prefix c.args.need.now c.at.result
     (none-so c.args.prefix (sym c.is_some.ensures ∙ c.if-is_some.false))
-    (only c.args.need.now c.at.result single c.at.ensures) in
+    (one_element c.args.need.now c.at.result single c.at.ensures) in
     ap (λ (rs : List Range). fit_of (touching (sets_of c.args.footprint.now) rs)) (sym one) ∙ c.requires.fits
 
 pub returns : goal.returns
@@ -38,5 +38,5 @@ returns c =
     let single : length c.args.need.now ≡ 1 = omega arith in
     let one = one-range c.args.prefix c.args.need.now c.at.result
     (none-so c.args.prefix (sym c.is_some.ensures ∙ c.if-is_some.false))
-    (only c.args.need.now c.at.result single c.at.ensures) in
+    (one_element c.args.need.now c.at.result single c.at.ensures) in
     c.add_one.ensures ∙ ap (touching (sets_of c.args.footprint.now)) (sym one)

@@ -3,7 +3,7 @@ use Rattle.std.proofs.Common.{◌≡◌, ap, ◌∙◌, arith, take, List, ℕ}
 use Rattle.z_regs.specs.Cpu.{cpu_of}
 use Rattle.z_effect.specs.One.{length_of}
 use Rattle.z_effect.specs.Outcome.{Did}
-use Rattle.z_instr.specs.Layout.{format_length}
+use Rattle.z_instr.specs.Layout.{form_length}
 use Rattle.z_instr.specs.Table.{Entry}
 use Rattle.z_effect.specs.After.{cpu_after}
 use Rattle.z_effect.specs.TransactionEffect.{transaction_effect}
@@ -26,7 +26,7 @@ returns-in-StoreLasting-clause-value c =
     let i = c.args.instr.now in
     let cpu = cpu_of c.args.image.now in
     let length : c.length_in-length.result ≡ length_of i =
-    c.length_in-length.ensures ∙ ap (λ (e : Entry). format_length e.format) c.line.ensures.row in
+    c.length_in-length.ensures ∙ ap (λ (e : Entry). form_length e.form) c.line.ensures.row in
     let left : cpu_of c.transact.new.image ≡ cpu_after cpu
     (transaction_effect c.args.kind (length_of i) i cpu c.args.depth) =
     c.transact.ensures ∙ ap (λ n. cpu_after cpu (transaction_effect c.args.kind n i cpu c.args.depth)) length
@@ -42,7 +42,7 @@ returns-in-Begin-clause-value c =
     let i = c.args.instr.now in
     let cpu = cpu_of c.args.image.now in
     let length : c.length_in-length.result ≡ length_of i =
-    c.length_in-length.ensures ∙ ap (λ (e : Entry). format_length e.format) c.line.ensures.row in
+    c.length_in-length.ensures ∙ ap (λ (e : Entry). form_length e.form) c.line.ensures.row in
     let left : cpu_of c.transact.new.image ≡ cpu_after cpu
     (transaction_effect c.args.kind (length_of i) i cpu c.args.depth) =
     c.transact.ensures ∙ ap (λ n. cpu_after cpu (transaction_effect c.args.kind n i cpu c.args.depth)) length
@@ -55,7 +55,7 @@ returns-in-BeginConstrained-clause-value c =
     let i = c.args.instr.now in
     let cpu = cpu_of c.args.image.now in
     let length : c.length_in-length.result ≡ length_of i =
-    c.length_in-length.ensures ∙ ap (λ (e : Entry). format_length e.format) c.line.ensures.row in
+    c.length_in-length.ensures ∙ ap (λ (e : Entry). form_length e.form) c.line.ensures.row in
     let left : cpu_of c.transact.new.image ≡ cpu_after cpu
     (transaction_effect c.args.kind (length_of i) i cpu c.args.depth) =
     c.transact.ensures ∙ ap (λ n. cpu_after cpu (transaction_effect c.args.kind n i cpu c.args.depth)) length
@@ -69,7 +69,7 @@ returns-in-End-clause-value c =
     let i = c.args.instr.now in
     let cpu = cpu_of c.args.image.now in
     let length : c.length_in-length.result ≡ length_of i =
-    c.length_in-length.ensures ∙ ap (λ (e : Entry). format_length e.format) c.line.ensures.row in
+    c.length_in-length.ensures ∙ ap (λ (e : Entry). form_length e.form) c.line.ensures.row in
     let left : cpu_of c.transact.new.image ≡ cpu_after cpu
     (transaction_effect c.args.kind (length_of i) i cpu c.args.depth) =
     c.transact.ensures ∙ ap (λ n. cpu_after cpu (transaction_effect c.args.kind n i cpu c.args.depth)) length
@@ -82,7 +82,7 @@ returns-in-ExtractDepth-clause-value c =
     let i = c.args.instr.now in
     let cpu = cpu_of c.args.image.now in
     let length : c.length_in-length.result ≡ length_of i =
-    c.length_in-length.ensures ∙ ap (λ (e : Entry). format_length e.format) c.line.ensures.row in
+    c.length_in-length.ensures ∙ ap (λ (e : Entry). form_length e.form) c.line.ensures.row in
     let left : cpu_of c.transact.new.image ≡ cpu_after cpu
     (transaction_effect c.args.kind (length_of i) i cpu c.args.depth) =
     c.transact.ensures ∙ ap (λ n. cpu_after cpu (transaction_effect c.args.kind n i cpu c.args.depth)) length
@@ -95,7 +95,7 @@ returns-in-Assist-clause-value c =
     let i = c.args.instr.now in
     let cpu = cpu_of c.args.image.now in
     let length : c.length_in-length.result ≡ length_of i =
-    c.length_in-length.ensures ∙ ap (λ (e : Entry). format_length e.format) c.line.ensures.row in
+    c.length_in-length.ensures ∙ ap (λ (e : Entry). form_length e.form) c.line.ensures.row in
     let left : cpu_of c.transact.new.image ≡ cpu_after cpu
     (transaction_effect c.args.kind (length_of i) i cpu c.args.depth) =
     c.transact.ensures ∙ ap (λ n. cpu_after cpu (transaction_effect c.args.kind n i cpu c.args.depth)) length

@@ -5,7 +5,7 @@ use Rattle.z_regs.specs.Cpu.{cpu_of}
 use Rattle.tx_program.specs.Shapes.{is_reached}
 use Rattle.tx_attempt.specs.Tracked.{progress}
 use Rattle.tx_cpu.proofs.Plainly.{goes-at}
-use Rattle.tx_cpu.proofs.Room.{reached-placed}
+use Rattle.tx_program.proofs.Placed.{reached-placed}
 use Rattle.tx_cpu.proofs.plain.plain_next.Goals as goal
 
 pub admits-requires-clause-placed : goal.admits-requires-clause-placed

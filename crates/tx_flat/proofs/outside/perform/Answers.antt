@@ -1,5 +1,5 @@
 use Rattle.std.proofs.Common.{◌∙◌, ap}
-use Rattle.z_instr.specs.Layout.{format_length}
+use Rattle.z_instr.specs.Layout.{form_length}
 use Rattle.z_instr.specs.Table.{Entry}
 use Rattle.z_regs.specs.Cpu.{cpu_of}
 use Rattle.z_regs.specs.Prefix.{is_prefix}
@@ -55,6 +55,6 @@ returns-clause-performed c = λ f k text holds.
     (performed i c.args.storage.now c.keep_ranges.new.storage old c.end.new.slot a _ _ c.execute-completion.result
     c.length_in.result c.requires.size c.requires.shown inside c.execute-completion.ensures.done
     (c.keep_ranges.ensures.kept
-    ∙ ap (λ p. seen_by p c.execute-completion.new.seen) c.requires.turned) (c.length_in.ensures ∙ ap (λ (e : Entry). format_length e.format) c.line.ensures.row)
+    ∙ ap (λ p. seen_by p c.execute-completion.new.seen) c.requires.turned) (c.length_in.ensures ∙ ap (λ (e : Entry). form_length e.form) c.line.ensures.row)
     c.end.ensures)
     f k text holds

@@ -2,7 +2,7 @@
 use Rattle.std.proofs.Common.{◌≡◌, ◌+◌, ◌<◌, ◌≤◌, ◌/◌, ◌%◌, ℕ, List, [], ◌∷◌, length, sym, ap, subst, ◌∙◌, arith}
 use Rattle.z_regs.specs.declared.ranges.Range.{Range}
 use Rattle.line_table.specs.declared.table.Mode.{Mode}
-use Rattle.tx_footprint.proofs.Ones.{only}
+use Rattle.z_regs.proofs.Elements.{one_element}
 use Rattle.tx_meaning.specs.declared.asking.Need.{Need}
 use Rattle.tx_meaning.specs.Needs.{needs_of}
 use Rattle.tx_needs.proofs.OneLine.{needs-one}
@@ -22,4 +22,4 @@ returns-clause-needs c =
     needs-one r.first r.length r.store some line
     ∙ ap (alone (r.first / 256)) (sym c.mode_for-mode.ensures) in
     subst (λ (rs : List Range). needs_of rs ≡ record { line = r.first / 256; mode = c.mode_for-mode.result } ∷ [])
-    (sym (only c.args.ranges.now r counted c.at-range.ensures)) one
+    (sym (one_element c.args.ranges.now r counted c.at-range.ensures)) one

@@ -13,7 +13,7 @@ returns-clause-count c = count_is c.args.op.number _ c.args.op.known
 
 pub returns-clause-room : goal.returns-clause-room
 returns-clause-room c =
-    subst (λ (e : Entry). e.opcode < room (place e.format))
+    subst (λ (e : Entry). e.opcode < room (place e.form))
     (sym (line_is c.args.op.number _ c.args.op.known)) (opcode_room c.args.op.number c.args.op.known)
 
 pub returns-clause-ascii : goal.returns-clause-ascii

@@ -1,7 +1,7 @@
 use Rattle.std.proofs.Common.{List, ◌∙◌, subst, ap}
 use Rattle.z_instr.specs.Operands.{Span}
 use Rattle.z_instr.specs.Table.{Entry}
-use Rattle.z_instr.specs.Layout.{format_length}
+use Rattle.z_instr.specs.Layout.{form_length}
 use Rattle.z_regs.specs.Cpu.{cpu_of}
 use Rattle.z_effect.specs.After.{AreInside, ranges_of}
 use Rattle.z_storage.proofs.Executing.{ranges_are, length_code, executes, leaves_size, leaves_elsewhere}
@@ -21,7 +21,7 @@ pub returns-clause-does : goal.returns-clause-does
 returns-clause-does g c depth =
     executes depth c.length_in-n.result c.args.instr.now c.args.kind _ _ _ _ _ c.args.instr.now.op.known
     c.requires.kind
-    (c.length_in-n.ensures ∙ ap (λ (e : Entry). format_length e.format) c.line.ensures.row) c.run.ensures
+    (c.length_in-n.ensures ∙ ap (λ (e : Entry). form_length e.form) c.line.ensures.row) c.run.ensures
 
 pub returns-clause-beside : goal.returns-clause-beside
 returns-clause-beside g c k beside =

@@ -1,6 +1,6 @@
 -- What the outermost begin leaves.
 use Rattle.std.proofs.Common.{◌≡◌, ap, sym, ◌∙◌, ◌+◌, Some, true, false, refl}
-use Rattle.z_instr.specs.Layout.{format_length}
+use Rattle.z_instr.specs.Layout.{form_length}
 use Rattle.z_instr.specs.Table.{Entry}
 use Rattle.z_regs.specs.Cpu.{cpu_of}
 use Rattle.tx_control.specs.declared.begins.Begin.{Begin}
@@ -23,7 +23,7 @@ returns-else-level-clause-value c x =
     let constrained : begins_constrained c.args.instr.now ≡ false =
     sym (ap (λ (b : Begin). b.constrained) c.opened-level.ensures) ∙ c.if-level.false in
     let length = c.from.ensures ∙ c.length_in.ensures
-    ∙ ap (λ (e : Entry). format_length e.format) c.line.ensures.row in
+    ∙ ap (λ (e : Entry). form_length e.form) c.line.ensures.row in
     begun-is (the_view c.self.inside) _ c.args.instr.now x (cpu_of c.args.before.now) c.opened-level.result _ _
     false (c.self.invariant.rests (ap (λ (t : Tracked). t.count) c.self.view_is ∙ c.requires.rests)) c.requires.begins c.enter.ensures c.opened-level.ensures constrained
     refl (ap (λ n. c.args.before.now.address + n) length)

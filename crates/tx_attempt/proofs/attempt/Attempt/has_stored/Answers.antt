@@ -1,7 +1,7 @@
 -- Where no block is stored, there is nothing.
 use Rattle.std.proofs.Common.{◌+◌, sym, ◌∙◌, arith}
 use Rattle.store_cache.specs.Entries.{stores_of}
-use Rattle.tx_attempt.proofs.Unstored.{none-stored}
+use Rattle.tx_attempt.proofs.Bare.{none-stored}
 use Rattle.tx_attempt.proofs.attempt.Attempt.has_stored.Goals as goal
 
 pub returns-then-blocks-eq0 : goal.returns-then-blocks-eq0

@@ -1,6 +1,5 @@
 -- What it leaves and tells is what the instruction does inside a transaction.
-use Rattle.std.proofs.Common.{◌≡◌, true, sym, ap, subst, ◌∙◌}
-use Rattle.std.specs.Prelude.{nat_lt}
+use Rattle.std.proofs.Common.{sym, ap, subst, ◌∙◌}
 use Rattle.tx_progress.proofs.Moving.{executed_live}
 use Rattle.tx_progress.specs.Doing.{Executed}
 use Rattle.tx_cpu.specs.Parts.{Parts, beside}

@@ -5,7 +5,7 @@ use Rattle.std.specs.Prelude.{◌&&◌, nat_lt, nat_eq}
 use Rattle.std.proofs.lemmas.Bool.{and_parts, eqb-true}
 use Rattle.std.proofs.lemmas.Bool.Decides.{nat_tests}
 use Rattle.z_regs.specs.Cpu.{cpu_of}
-use Rattle.z_instr.specs.Layout.{format_length}
+use Rattle.z_instr.specs.Layout.{form_length}
 use Rattle.z_instr.specs.Roles.{is_end}
 use Rattle.z_instr.specs.Table.{Entry, entry_at}
 use Rattle.z_effect.specs.After.{exception}
@@ -103,7 +103,7 @@ returns-in-Exceeded-clause-value g c =
     ap (λ (q : Parts). nat_lt 0 q.attempt.count) c.self.view_is ∙ c.requires.live in
     let first : StoresFirst need =
     subst StoresFirst (sym c.requires.goes.operands_are) (operands-first i c.args.self.now.image) in
-    let length = c.length_in.ensures ∙ ap (λ (e : Entry). format_length e.format) c.line.ensures.row in
+    let length = c.length_in.ensures ∙ ap (λ (e : Entry). form_length e.form) c.line.ensures.row in
     let raised = c.exception-overflow.ensures ∙ ap (exception fixed_point_overflow_code) length in
     rw (← c.self.view_is, c.perform-ended.ensures.same)
     (exceeded-is p i need
@@ -123,7 +123,7 @@ returns-in-Suppressed-clause-value g c =
     ap (λ (q : Parts). nat_lt 0 q.attempt.count) c.self.view_is ∙ c.requires.live in
     let length =
     c.length_in-in-Suppressed.ensures
-    ∙ ap (λ (e : Entry). format_length e.format) c.line-in-Suppressed.ensures.row in
+    ∙ ap (λ (e : Entry). form_length e.form) c.line-in-Suppressed.ensures.row in
     let raised = c.exception-divide.ensures ∙ ap (exception fixed_point_divide_code) length in
     rw (← c.self.view_is, c.perform-ended.ensures.same)
     (suppressed-is p i need

@@ -1,7 +1,7 @@
 -- What an instruction outside transactions leaves and tells.
 use Rattle.std.proofs.Common.{◌≡◌, List, ℕ, ap, sym, subst, ◌∙◌}
 use Rattle.std.specs.Prelude.{nat_lt, false}
-use Rattle.z_instr.specs.Layout.{format_length}
+use Rattle.z_instr.specs.Layout.{form_length}
 use Rattle.z_instr.specs.Table.{Entry}
 use Rattle.z_regs.specs.Cpu.{cpu_of}
 use Rattle.tx_progress.specs.Progress.{Progress}
@@ -27,7 +27,7 @@ returns-clause-value g c =
     let live : nat_lt 0 c.self.inside.attempt.count ≡ false =
     ap (λ (q : Parts). nat_lt 0 q.attempt.count) c.self.view_is ∙ c.requires.rests in
     let rests = c.is_sound.ensures.rests (not_live _ live) in
-    let length = c.length_in-length.ensures ∙ ap (λ (e : Entry). format_length e.format) c.line.ensures.row in
+    let length = c.length_in-length.ensures ∙ ap (λ (e : Entry). form_length e.form) c.line.ensures.row in
     let need = c.args.need.now in
     let old : List ℕ = g.V.Bytes.bytes c.args.base.now in
     let next : List ℕ = g.V.Bytes.bytes c.perform_outside-ended.new.base in

@@ -2,7 +2,7 @@ use Rattle.std.proofs.Common.{List, sym, ap, ◌∙◌, arith}
 use Rattle.z_regs.specs.declared.ranges.Range.{Range}
 use Rattle.tx_footprint.specs.Touched.{Sets, touching, sets_of, fit_of}
 use Rattle.tx_footprint.proofs.Marking.{storage_at}
-use Rattle.tx_footprint.proofs.Ones.{only}
+use Rattle.z_regs.proofs.Elements.{one_element}
 use Rattle.tx_footprint.proofs.Limits.{lines_marked, blocks_marked, fits_from, added_kept, nothing_more}
 use Rattle.tx_footprint.proofs.footprint.Footprint.add.Goals as goal
 
@@ -17,13 +17,13 @@ add_one-requires-clause-in_storage c =
 
 pub add_one-requires-clause-fits : goal.add_one-requires-clause-fits
 add_one-requires-clause-fits c =
-    let one = only c.args.touches.now c.at.result (sym c.count-2.ensures.value ∙ c.if-count-eq1.true)
+    let one = one_element c.args.touches.now c.at.result (sym c.count-2.ensures.value ∙ c.if-count-eq1.true)
     c.at.ensures in
     ap (λ (rs : List Range). fit_of (touching (sets_of c.args.self.now) rs)) (sym one) ∙ c.requires.fits
 
 pub returns-then-count-eq1 : goal.returns-then-count-eq1
 returns-then-count-eq1 c =
-    let one = only c.args.touches.now c.at.result (sym c.count-2.ensures.value ∙ c.if-count-eq1.true)
+    let one = one_element c.args.touches.now c.at.result (sym c.count-2.ensures.value ∙ c.if-count-eq1.true)
     c.at.ensures in
     c.add_one.ensures ∙ ap (touching (sets_of c.args.self.now)) (sym one)
 

@@ -14,6 +14,7 @@ use Rattle.tx_works.proofs.Acts.{
   ended-may,
   inside_so,
 }
+use Rattle.tx_works.proofs.Running.{inside-done}
 use Rattle.tx_works.proofs.works.Works.execute_inside.Goals as goal
 
 pub returns-in-Stepped-clause-value : goal.returns-in-Stepped-clause-value
@@ -22,6 +23,7 @@ returns-in-Stepped-clause-value c rest =
     stepped-inside c.args.cpu (next_address k c.args.cpu) k (kept_by rest c.run_live.new.self) c.args.instr.now
     c.args.need.now c.without_reject.result (record { counted = refl; live_is = c.requires.live rest })
     (sym c.in-Stepped.is ∙ c.run_live.ensures.told rest) (c.run_live.ensures.value rest) c.without_reject.ensures
+    ∙ inside-done c.args.cpu c.args.instr.now c.args.need.now k (c.requires.live rest)
 
 pub returns-in-Committed-clause-value : goal.returns-in-Committed-clause-value
 returns-in-Committed-clause-value c rest =
@@ -32,6 +34,7 @@ returns-in-Committed-clause-value c rest =
     (record { counted = refl; live_is = c.requires.live rest })
     (sym c.in-Committed.is ∙ c.run_live.ensures.told rest)
     (c.run_live.ensures.value rest) (c.commit.ensures.value rest) c.without_reject-in-Committed.ensures
+    ∙ inside-done c.args.cpu c.args.instr.now c.args.need.now k (c.requires.live rest)
 
 pub end_by-requires-clause-live : goal.end_by-requires-clause-live
 end_by-requires-clause-live c rest =
@@ -52,6 +55,7 @@ returns-in-Ended-clause-value c rest =
     c.args.instr.now c.args.need.now (turned_as (kept_by rest c.end_by.new.self) c.end_by.new.turned)
     (sym c.in-Ended.is ∙ c.run_live.ensures.told rest) (c.run_live.ensures.value rest) (c.end_by.ensures.value rest)
     ∙ ap (λ at. k_inside c.args.cpu at e.after k e.told) (c.next_address-at.ensures rest)
+    ∙ inside-done c.args.cpu c.args.instr.now c.args.need.now k (c.requires.live rest)
 
 pub returns-in-Began-clause-value : goal.returns-in-Began-clause-value
 returns-in-Began-clause-value c rest =

@@ -9,7 +9,7 @@ use Rattle.tx_works.specs.Ready.{image_storage}
 use Rattle.tx_works.specs.Works.{kept_by}
 use Rattle.tx_works.proofs.Seats.{no_seat}
 use Rattle.tx_works.proofs.Lined.{no_limits, room-now}
-use Rattle.tx_works.proofs.Plainly.{reached-placed}
+use Rattle.tx_program.proofs.Placed.{reached-placed}
 use Rattle.tx_works.proofs.works.Works.go_plainly.Goals as goal
 
 pub perform_plainly-requires-clause-prepared : goal.perform_plainly-requires-clause-prepared
