@@ -25,6 +25,12 @@ unfolding bits_of
 get_or-bits_of words k d lt =
     get_or-map-range_with_len (bit_in words) 0 (64 * length words) k k d lt (omega arith)
 
+-- a mark is a bit of its word
+pub mark_in_word : (words : List ℕ) (at k : ℕ) → at < length words → k / 64 ≡ at
+    → get_or (bits_of words) k false ≡ bit (get_or words at 0) (k % 64)
+mark_in_word words at k lt e =
+    get_or-bits_of words k false (omega (arith, lt, e)) ∙ ap (λ w. bit (get_or words w 0) (k % 64)) e
+
 -- one bit of one word is written
 pub bits_of-set : (words : List ℕ) (word at : ℕ) (mark : Bool) → at < 64 * length words
     → bit word (at % 64) ≡ mark

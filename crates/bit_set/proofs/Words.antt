@@ -3,11 +3,11 @@ use Rattle.std.proofs.Common.{◌≡◌, ◌≢◌, ℕ, ◌-◌, ◌*◌, ◌%�
 use Rattle.std.proofs.Common.{refl, sym, ap, ◌∙◌, arith, w64, bit_and, bit_or}
 use Rattle.std.proofs.Common.{◌/◌, max, ltb, leb}
 use Rattle.std.specs.Prelude.{not, ◌||◌, ◌&&◌}
-use Rattle.std.specs.Int.{bit_at, trailing_zeros}
+use Rattle.std.specs.Int.{bit_at, bit_not, trailing_zeros}
 use Rattle.std.proofs.lemmas.Bool.{cases_lt, cases_eq, eq-eqb, ne_eqb, eqb-true, eqb-false, lt-ltb, le-ltb}
 use Rattle.std.proofs.lemmas.Bool.{le-leb, lt-leb}
 use Rattle.std.proofs.lemmas.Nat.Bits.{bit_at-lt, bit_at_and, bit_at_mask_inside, bit_at_mask_below}
-use Rattle.std.proofs.lemmas.Nat.Bits.{bit_at-trailing_zeros, bit_at-zero, ones_shl, and_pow}
+use Rattle.std.proofs.lemmas.Nat.Bits.{bit_at_not, bit_at-trailing_zeros, bit_at-zero, ones_shl, and_pow}
 use Rattle.std.proofs.lemmas.Nat.Bits.{same_from_bits_below, bit_at_or, bit_at_ones, bit_at_ones_above, ones_shr}
 use Rattle.std.proofs.lemmas.Nat.{one_shl, pow_pos, and_le_l}
 use borrow.Enum.Arm.{by_way}
@@ -150,3 +150,18 @@ run_set word from end i some within lt =
     either true false = refl
     either false true = refl
     either false false = refl
+
+-- ---- the other word, whose bits are one where those of the word are zero
+
+other_bit : (word i : ℕ) → word < 2 ^ 64 → i < 64 → bit_at (bit_not w64 word) i ≡ 1 - bit_at word i
+other_bit word i fits lt = bit_at_not w64 word i fits lt
+
+pub one_where_none : (word i : ℕ) → word < 2 ^ 64 → i < 64 → bit (bit_not w64 word) i ≡ false → bit word i ≡ true
+one_where_none word i fits lt none =
+    bit_of_one word i
+    (omega (arith, other_bit word i fits lt, bit_at-lt word i, bit_at_is (bit_not w64 word) i ∙ ap (λ b. cond b 1 0) none))
+
+pub none_where_one : (word i : ℕ) → word < 2 ^ 64 → i < 64 → bit (bit_not w64 word) i ≡ true → bit word i ≡ false
+none_where_one word i fits lt one =
+    bit_of_zero word i
+    (omega (arith, other_bit word i fits lt, bit_at-lt word i, bit_at_is (bit_not w64 word) i ∙ ap (λ b. cond b 1 0) one))

@@ -1,11 +1,11 @@
 //! The set, over its words.
 ghost use Rattle.std.specs.Prelude.{◌≡◌, ℕ, ◌*◌, ◌<◌, ◌≤◌, ◌↔◌, Bool, true, false, List, length, replicate};
 ghost use Rattle.std.specs.Prelude.{slice_set, slice_index_or, nat_lt, if◌then◌else◌, IsTrue, IfOk, IfSome};
-ghost use Rattle.std.specs.Prelude.{IfNone, ◌+◌, ◌/◌, ◌||◌};
+ghost use Rattle.std.specs.Prelude.{IfNone, ◌+◌, ◌/◌, ◌%◌, ◌||◌};
 ghost use Rattle.bit_set.specs.Bits.{bits_of, lies_in, IsNext, NoneMarked};
 ghost use Rattle.bit_set.specs.Used.{IsZeroOutside};
 
-use crate::word::{has_bit, lowest_from, with_bit, with_run, without_bit};
+use crate::word::{has_bit, lowest_from, ones_from, with_bit, with_run, without_bit};
 use std::alloc::{AllocError, Global};
 use std::marker::Model;
 
@@ -182,6 +182,16 @@ impl BitSet {
             at = stop;
         }
         true
+    }
+
+    /// How many numbers of the set follow one another from `at` on, as far as they stand in the word of `at`.
+    pub fn run_from(&self, at: usize) -> usize
+        requires { at < length self.now }
+        ensures word { at % 64 + result ≤ 64 }
+        ensures run { (k : ℕ) → at ≤ k → k < at + result → slice_index_or self.now k false ≡ true }
+        ensures end { at % 64 + result < 64 → slice_index_or self.now (at + result) false ≡ false }
+    {
+        ones_from(self.words[at / 64], (at % 64) as u32) as usize
     }
 
     /// Whether all numbers of one word from `from` on and below `end` are in the set.

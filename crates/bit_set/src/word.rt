@@ -1,6 +1,6 @@
 //! One word of 64 bits.
 
-ghost use Rattle.std.specs.Prelude.{◌≡◌, ◌≢◌, ℕ, ◌<◌, ◌≤◌, true, false, ◌||◌, IfSome, IfNone};
+ghost use Rattle.std.specs.Prelude.{◌≡◌, ◌≢◌, ℕ, ◌+◌, ◌<◌, ◌≤◌, true, false, ◌||◌, IfSome, IfNone};
 ghost use Rattle.bit_set.specs.Bits.{bit, lies_in, IsLowestBit};
 
 /// Whether bit `at` of the word is one.
@@ -50,5 +50,18 @@ pub fn lowest_from(word: u64, from: u32) -> Option<u32>
         None
     } else {
         Some(high.trailing_zeros())
+    }
+}
+
+/// How many bits of the word from `from` on are one, one after another.
+pub fn ones_from(word: u64, from: u32) -> u32
+    requires { from < 64 }
+    ensures within { from + result ≤ 64 }
+    ensures ones { (i : ℕ) → from ≤ i → i < from + result → bit word i ≡ true }
+    ensures end { from + result < 64 → bit word (from + result) ≡ false }
+{
+    match lowest_from(!word, from) {
+        Some(at) => at - from,
+        None => 64 - from,
     }
 }

@@ -5,8 +5,8 @@ use bit_set::BitSet;
 use std::alloc::{AllocError, Global};
 use std::test::Fail;
 
-/// The next numbers from four places on, and whether five runs are there.
-type Found = ([Option<usize>; 4], [bool; 5]);
+/// The next numbers from four places on, whether five runs are there, and how long those from five places on are in their words.
+type Found = ([Option<usize>; 4], [bool; 5], [usize; 5]);
 
 /// What is found in a set of two numbers and a run.
 fn find(set: &mut BitSet) -> Found
@@ -28,7 +28,14 @@ fn find(set: &mut BitSet) -> Found
         set.has_run(62, 67),
         set.has_run(191, 192),
     ];
-    (found, whole)
+    let long = [
+        set.run_from(5),
+        set.run_from(62),
+        set.run_from(64),
+        set.run_from(66),
+        set.run_from(191),
+    ];
+    (found, whole, long)
 }
 
 /// The same in a set that is opened.
@@ -41,7 +48,8 @@ fn found(alloc: Global) -> Result<Found, AllocError> {
 fn finds_what_was_added(rt: HostRuntime) -> Result<(), Fail> {
     let told = found(rt.alloc())?;
     let next = [Some(62), Some(65), None, Some(191)];
-    assert_eq!(rt; told, (next, [true, true, false, false, true]));
+    let whole = [true, true, false, false, true];
+    assert_eq!(rt; told, (next, whole, [1, 2, 2, 0, 1]));
     Ok(())
 }
 

@@ -136,6 +136,35 @@ fn a_commit_leaves_the_last_store(rt: HostRuntime) -> Result<(), Fail> {
     Ok(())
 }
 
+/// The first byte and the last of a run that a cache has.
+fn ends_of(cache: &StoreCache, address: u64, count: usize) -> Option<(u8, u8)> {
+    if count == 0 {
+        return None;
+    }
+    let run = cache.run(address, count)?;
+    Some((*run.first()?, *run.last()?))
+}
+
+/// What a cache has of the doubleword 3 by NTSTG with 4 stored over it, of a part of it, and of one byte more; and whether these
+/// were stored.
+fn runs(alloc: Global) -> Result<(bool, [Option<(u8, u8)>; 3]), Fail> {
+    let mut cache = StoreCache::open(alloc)?;
+    let stored = store_both(&mut cache);
+    let runs = [
+        ends_of(&cache, PLACE, 8),
+        ends_of(&cache, PLACE + 7, 1),
+        ends_of(&cache, PLACE, 9),
+    ];
+    Ok((stored, runs))
+}
+
+#[test]
+fn a_run_has_the_last_bytes(rt: HostRuntime) -> Result<(), Fail> {
+    let answer = runs(rt.alloc())?;
+    assert_eq!(rt; answer, (true, [Some((0, 4)), Some((4, 4)), None]));
+    Ok(())
+}
+
 /// Stores a byte into every 128th block, and answers how many could be stored.
 fn fill(cache: &mut StoreCache) -> u64 {
     let mut stored = 0u64;

@@ -1,9 +1,9 @@
 -- Marked items laid one after the other, by the marks below a place.
-use Rattle.std.proofs.Common.{◌≡◌, ◌≢◌, ℕ, ◌+◌, ◌*◌, ◌/◌, ◌%◌, ◌<◌, ◌≤◌, Bool, true, false, cond}
+use Rattle.std.proofs.Common.{◌≡◌, ◌≢◌, ℕ, zero, suc, ◌+◌, ◌*◌, ◌/◌, ◌%◌, ◌<◌, ◌≤◌, Bool, true, false, cond}
 use Rattle.std.proofs.Common.{List, length, get_or, take, Some, None, refl, sym, ap}
 use Rattle.std.proofs.Common.{◌∙◌, arith}
 use Rattle.std.specs.Prelude.{◌||◌}
-use Rattle.std.proofs.lemmas.Bool.{cases_lt, cond-true, or_right}
+use Rattle.std.proofs.lemmas.Bool.{cases_lt, cond-true, or_right, true≢false}
 use Rattle.std.proofs.lemmas.List.{get_or-take, get_or_past, length-take}
 use Rattle.std.proofs.lemmas.Nat.{mul-add-lt}
 use Rattle.std.proofs.Math.Nat.{mod-lt, mul_comm}
@@ -38,6 +38,14 @@ none_below size blocks items marks i place = at_place i
         by_way (slot_cases blocks (place / size))
         (λ at. items_of-at size blocks items (take 0 marks) place at.0 at.1)
         (λ absent. items_of-none size blocks items (take 0 marks) place absent)
+
+-- a run from a marked place on has one at least
+pub some_run : (marks : List Bool) (cell n : ℕ) → get_or marks cell false ≡ true
+    → (cell % 64 + n < 64 → get_or marks (cell + n) false ≡ false) → 1 ≤ n
+some_run marks cell zero on end =
+    let same : cell ≡ cell + 0 = omega arith in
+    absurd (true≢false (sym on ∙ ap (λ k. get_or marks k false) same ∙ end (omega arith)))
+some_run marks cell (suc n) on end = omega arith
 
 -- the next marked item
 pub one_below : (size : ℕ) → 0 < size → (blocks items : List ℕ) (marks : List Bool)

@@ -1,5 +1,5 @@
 //! The store cache.
-ghost use Rattle.std.specs.Prelude.{◌≡◌, ℕ, ◌+◌, ◌*◌, ◌/◌, ◌%◌, ◌<◌, ◌≤◌, true, is_some, None, Some, IfOk, length};
+ghost use Rattle.std.specs.Prelude.{◌≡◌, ℕ, ◌+◌, ◌*◌, ◌/◌, ◌%◌, ◌<◌, ◌≤◌, true, is_some, None, Some, IfOk, IfSome, IfNone, length};
 ghost use Rattle.std.specs.Prelude.{false, if◌then◌else◌, ◌++◌, ◌∷◌, [], slice_index, take};
 ghost use Rattle.bit_set.specs.Counts.{count_below};
 ghost use Rattle.slot_index.specs.Slots.{slot_in, is_key};
@@ -110,6 +110,29 @@ impl StoreCache {
             return None;
         }
         Some(self.bytes[cell])
+    }
+
+    /// The bytes stored last from the address on, `count` of them, one at least; None exactly where one of them was not stored,
+    /// or they lie in more than one block.
+    pub fn run(&self, address: u64, count: usize) -> Option<&[u8]>
+        requires { 0 < count }
+        ensures size { IfSome result (λ bytes. length bytes.now ≡ count) }
+        ensures bytes { IfSome result (λ bytes. (k : ℕ) → k < count
+            → (stores_of self.now).overlay (address + k) ≡ Some (slice_index bytes.now k)) }
+        ensures none { IfNone result (address % BLOCK_SIZE + count ≤ BLOCK_SIZE
+            → ((k : ℕ) → k < count → is_some ((stores_of self.now).overlay (address + k)) ≡ true) → ⊥) }
+    {
+        let address = address as usize;
+        let block = address / BLOCK_SIZE;
+        if count > BLOCK_SIZE - address % BLOCK_SIZE {
+            return None;
+        }
+        let slot = self.index.slot_of(block)?;
+        let cell = slot * BLOCK_SIZE + address % BLOCK_SIZE;
+        if !self.marks.has_run(cell, cell + count) {
+            return None;
+        }
+        Some(&self.bytes[cell..cell + count])
     }
 
     /// Stores a byte. Its block must have room.

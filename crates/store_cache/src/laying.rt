@@ -10,49 +10,7 @@ use bit_set::BitSet;
 use slot_index::SlotIndex;
 use z_regs::{Bytes, STORAGE_SIZE};
 
-/// How many bytes from a marked one on are stored together: as many doublewords as are marked up to the end of the
-/// block, or a word, and else one.
-fn marked_from(marks: &BitSet, cell: usize, end: usize) -> usize
-    requires within { end ≤ length marks.now }
-    requires whole { end % BLOCK_SIZE ≡ 0 }
-    requires cell { cell < end }
-    requires marked { slice_index_or marks.now cell false ≡ true }
-    ensures low { 1 ≤ result }
-    ensures within { cell + result ≤ end }
-    ensures block { cell % BLOCK_SIZE + result ≤ BLOCK_SIZE }
-    ensures marked { (k : ℕ) → cell ≤ k → k < cell + result → slice_index_or marks.now k false ≡ true }
-{
-    if cell % 8 == 0 && marks.has_run(cell, cell + 8) {
-        return doublewords_from(marks, cell, end);
-    }
-    if cell % 4 == 0 && marks.has_run(cell, cell + 4) {
-        return 4;
-    }
-    1
-}
-
-/// How many bytes the marked doublewords have that follow one another up to the end of the block, the first of which is
-/// marked.
-fn doublewords_from(marks: &BitSet, cell: usize, end: usize) -> usize
-    requires within { end ≤ length marks.now }
-    requires whole { end % BLOCK_SIZE ≡ 0 }
-    requires cell { cell < end }
-    requires boundary { cell % 8 ≡ 0 }
-    requires marked { (k : ℕ) → cell ≤ k → k < cell + 8 → slice_index_or marks.now k false ≡ true }
-    ensures low { 1 ≤ result }
-    ensures within { cell + result ≤ end }
-    ensures block { cell % BLOCK_SIZE + result ≤ BLOCK_SIZE }
-    ensures marked { (k : ℕ) → cell ≤ k → k < cell + result → slice_index_or marks.now k false ≡ true }
-{
-    let most = BLOCK_SIZE - cell % BLOCK_SIZE;
-    let mut count = 8;
-    while count < most && marks.has_run(cell + count, cell + count + 8) {
-        count += 8;
-    }
-    count
-}
-
-/// Stores the marked bytes of the entries.
+/// Stores the marked bytes of the entries, as many at a time as follow one another in half a block.
 pub fn lay_bytes<V: Bytes>(index: &SlotIndex, bytes: &[u8], marks: &BitSet, into: &mut V)
     requires storage { length (V.bytes into.old) ≡ STORAGE_SIZE }
     requires limit { index.now.limit * BLOCK_SIZE ≤ STORAGE_SIZE }
@@ -65,7 +23,7 @@ pub fn lay_bytes<V: Bytes>(index: &SlotIndex, bytes: &[u8], marks: &BitSet, into
     let mut from = 0;
     while let Some(cell) = marks.next(from, end) {
         let address = index.key_at(cell / BLOCK_SIZE) * BLOCK_SIZE + cell % BLOCK_SIZE;
-        let count = marked_from(marks, cell, end);
+        let count = marks.run_from(cell);
         into.put_all(address as u64, &bytes[cell..cell + count]);
         from = cell + count;
     }

@@ -35,7 +35,7 @@ ghost use Rattle.tx_serial.specs.Fate.{overflow_in};
 ghost use Rattle.tx_progress.specs.Trial.{constraint_refusal};
 ghost use Rattle.tx_attempt.specs.Refused.{found};
 ghost use Rattle.tx_attempt.specs.Plain.{IsPlain};
-ghost use Rattle.std.specs.Prelude.{IfSome, None, false, Bool, ◌∷◌};
+ghost use Rattle.std.specs.Prelude.{IfSome, IfNone, None, false, Bool, ◌∷◌, ◌%◌};
 
 use crate::advancing::{Before, add_operands, change_nest, touch};
 use crate::gathering::{gather_first, gather_stores};
@@ -377,6 +377,19 @@ impl Attempt {
             Some(byte) => byte,
             None => base.get(address),
         }
+    }
+
+    /// The bytes that the attempt stored last from an absolute address on, `count` of them, one at least; None exactly where one
+    /// of them was not stored, or they lie in more than one block.
+    pub fn stored_run(&self, address: u64, count: usize) -> Option<&[u8]>
+        requires { 0 < count }
+        ensures size { IfSome result (λ bytes. length bytes.now ≡ count) }
+        ensures bytes { IfSome result (λ bytes. (k : ℕ) → k < count
+            → (stores_of self.now.stores).overlay (address + k) ≡ Some (slice_index bytes.now k)) }
+        ensures none { IfNone result (address % BLOCK_SIZE + count ≤ BLOCK_SIZE
+            → ((k : ℕ) → k < count → is_some ((stores_of self.now.stores).overlay (address + k)) ≡ true) → ⊥) }
+    {
+        self.stores.run(address, count)
     }
 
     /// Whether the same begins are open, the same was touched, and the same is asked by constraints.

@@ -13,16 +13,15 @@ use z_effect::{advance, register};
 use z_instr::format::length_in;
 use z_instr::instr::Instr;
 use z_instr::kind::{Kind, Storage};
-use z_instr::lookup::{kind_of, line};
-use z_instr::op::Op;
+use z_instr::lookup::line;
 use z_instr::operand::Size;
 use z_regs::CpuImage;
 
-/// Whether the operation stores the doubleword of R1, and does no more.
-pub fn stores_register(op: Op) -> bool
-    ensures { result ≡ true → kind_at op.number ≡ Kind.Storage (Store Doubleword) }
+/// Whether an operation of this kind stores the doubleword of R1, and does no more.
+pub fn stores_register(kind: &Kind) -> bool
+    ensures { result ≡ true → kind.now ≡ Kind.Storage (Store Doubleword) }
 {
-    matches!(kind_of(op), Kind::Storage(Storage::Store(Size::Doubleword)))
+    matches!(kind, Kind::Storage(Storage::Store(Size::Doubleword)))
 }
 
 /// Executes an instruction that stores the doubleword of R1, whatever storage has: what it stores is kept apart.

@@ -1,7 +1,7 @@
 //! Storage lends the places of operands to an attempt: while an instruction is performed, the bytes that the attempt
 //! sees there stand in storage, and then those of storage come back.
 ghost use Rattle.std.specs.Prelude.{List, ℕ, true, ◌≡◌, ◌≤◌, ◌+◌, length, slice_get, get_or};
-ghost use Rattle.std.specs.Prelude.{IsTrue, All};
+ghost use Rattle.std.specs.Prelude.{IsTrue, All, None};
 ghost use Rattle.z_regs.specs.Prefix.{is_prefix, storage_size};
 ghost use Rattle.z_regs.specs.Absolute.{IsAccessible};
 ghost use Rattle.z_effect.specs.After.{range_at, written};
@@ -87,6 +87,30 @@ fn see_bytes<V: Bytes>(
     }
 }
 
+/// The bytes that the attempt of a CPU without a prefix sees from a real address on: those that it stored last where it has
+/// stored each of them, and they lie in one block.
+fn see_stored<V: Bytes>(
+    attempt: &Attempt,
+    bytes: &mut [u8],
+    first: u64,
+    prefix: Option<u32>,
+    base: &V,
+)
+    requires none { prefix ≡ None }
+    requires end { first + length bytes.old ≤ storage_size }
+    requires size { length (V.bytes base.now) ≡ storage_size }
+    ensures { bytes.new ≡ bytes_seen prefix (seen_through (stores_of attempt.now.stores).overlay
+        (storage_of (V.bytes base.now))) first (length bytes.old) }
+{
+    if bytes.is_empty() {
+        return;
+    }
+    match attempt.stored_run(first, bytes.len()) {
+        Some(stored) => bytes.copy_from_slice(stored),
+        None => see_bytes(attempt, bytes, first, prefix, base),
+    }
+}
+
 /// The bytes that the attempt sees from a real address on, at most 256: those of storage where it has stored nothing
 /// in their blocks.
 pub fn see<V: Bytes>(attempt: &Attempt, bytes: &mut [u8], first: u64, prefix: Option<u32>, base: &V)
@@ -97,8 +121,11 @@ pub fn see<V: Bytes>(attempt: &Attempt, bytes: &mut [u8], first: u64, prefix: Op
     ensures { bytes.new ≡ bytes_seen prefix (seen_through (stores_of attempt.now.stores).overlay
         (storage_of (V.bytes base.now))) first (length bytes.old) }
 {
-    if prefix.is_some() || !attempt.is_bare(first, bytes.len() as u32) {
+    if prefix.is_some() {
         return see_bytes(attempt, bytes, first, prefix, base);
+    }
+    if !attempt.is_bare(first, bytes.len() as u32) {
+        return see_stored(attempt, bytes, first, prefix, base);
     }
     fetch(bytes, first, base);
 }

@@ -34,8 +34,7 @@ use z_instr::addresses::first_address;
 use z_instr::format::length_in;
 use z_instr::instr::Instr;
 use z_instr::kind::{Kind, Transaction};
-use z_instr::lookup::{kind_of, line};
-use z_instr::op::Op;
+use z_instr::lookup::line;
 use z_regs::{Bytes, CpuImage, Touches};
 
 /// The most bytes that an operand has.
@@ -73,11 +72,13 @@ fn end_of(answer: Result<(), Exception>) -> Ended
 /// Executes an instruction that is not about transactions on storage as it is.
 #[inline(always)]
 pub fn execute_plain<V: Bytes>(
+    kind: &Kind,
     instr: &Instr,
     need: &Touches,
     image: &mut CpuImage,
     base: &mut V,
 ) -> Ended
+    requires kind { kind.now ≡ kind_at instr.now.op.number }
     requires plain { is_transaction (kind_at instr.now.op.number) ≡ false }
     requires need { need.now ≡ operands instr.now (cpu_of image.old) }
     requires inside { AreInside (map span_of need.now) (V.bytes base.old) }
@@ -87,10 +88,10 @@ pub fn execute_plain<V: Bytes>(
         (V.bytes base.old) (V.bytes base.new) result }
     ensures size { length (V.bytes base.new) ≡ storage_size }
 {
-    match kind_of(instr.op) {
-        Kind::Storage(kind) => end_of(z_storage::execute_kind(kind, instr, image, base)),
-        Kind::General(kind) => end_of(z_general::execute_kind(kind, instr, image, base)),
-        Kind::Branch(kind) => end_of(z_branch::execute_kind(kind, instr, image, base)),
+    match kind {
+        Kind::Storage(kind) => end_of(z_storage::execute_kind(*kind, instr, image, base)),
+        Kind::General(kind) => end_of(z_general::execute_kind(*kind, instr, image, base)),
+        Kind::Branch(kind) => end_of(z_branch::execute_kind(*kind, instr, image, base)),
         Kind::Transaction(_) => unreachable!(),
     }
 }
@@ -129,12 +130,12 @@ fn execute_transaction(
     }
 }
 
-/// What a transaction instruction does; None of any other operation.
-pub fn transaction_of(op: Op) -> Option<Transaction>
-    ensures { result ≡ transaction_in (kind_at op.number) }
+/// What a transaction instruction does; None of any other.
+pub fn transaction_of(kind: &Kind) -> Option<Transaction>
+    ensures { result ≡ transaction_in kind.now }
 {
-    match kind_of(op) {
-        Kind::Transaction(kind) => Some(kind),
+    match kind {
+        Kind::Transaction(kind) => Some(*kind),
         Kind::General(_) => None,
         Kind::Storage(_) => None,
         Kind::Branch(_) => None,
@@ -145,12 +146,14 @@ pub fn transaction_of(op: Op) -> Option<Transaction>
 /// is its first operand then, where it stores there. Storage stays.
 #[inline(never)]
 fn execute_doubleword<V: Bytes>(
+    kind: &Kind,
     instr: &Instr,
     need: &Touches,
     image: &mut CpuImage,
     stored: &mut [u8],
     base: &mut V,
 ) -> Ended
+    requires kind { kind.now ≡ kind_at instr.now.op.number }
     requires plain { is_transaction (kind_at instr.now.op.number) ≡ false }
     requires need { need.now ≡ operands instr.now (cpu_of image.old) }
     requires room { (get_or need.now 0 no_range).length ≤ length stored.old }
@@ -166,7 +169,7 @@ fn execute_doubleword<V: Bytes>(
 {
     let first = operand(need, 0);
     let kept = base.word(first.first, 8);
-    let ended = execute_plain(instr, need, image, base);
+    let ended = execute_plain(kind, instr, need, image, base);
     let item = base.word(first.first, 8);
     base.put_word(first.first, 8, kept);
     BigEndian::write_u64(stored, item);
@@ -176,12 +179,14 @@ fn execute_doubleword<V: Bytes>(
 /// The same of an instruction whose first operand has any size.
 #[inline(never)]
 fn execute_apart<V: Bytes>(
+    kind: &Kind,
     instr: &Instr,
     need: &Touches,
     image: &mut CpuImage,
     stored: &mut [u8],
     base: &mut V,
 ) -> Ended
+    requires kind { kind.now ≡ kind_at instr.now.op.number }
     requires plain { is_transaction (kind_at instr.now.op.number) ≡ false }
     requires need { need.now ≡ operands instr.now (cpu_of image.old) }
     requires room { (get_or need.now 0 no_range).length ≤ length stored.old }
@@ -197,7 +202,7 @@ fn execute_apart<V: Bytes>(
     let first = operand(need, 0);
     let here = &mut stored[..first.length as usize];
     fetch(here, first.first, base);
-    let ended = execute_plain(instr, need, image, base);
+    let ended = execute_plain(kind, instr, need, image, base);
     exchange(here, first.first, base);
     ended
 }
@@ -205,12 +210,14 @@ fn execute_apart<V: Bytes>(
 /// The same in the shortest way: of an instruction that stores nothing, nothing is kept apart.
 #[inline(always)]
 fn execute_there<V: Bytes>(
+    kind: &Kind,
     instr: &Instr,
     need: &Touches,
     image: &mut CpuImage,
     stored: &mut [u8],
     base: &mut V,
 ) -> Ended
+    requires kind { kind.now ≡ kind_at instr.now.op.number }
     requires plain { is_transaction (kind_at instr.now.op.number) ≡ false }
     requires need { need.now ≡ operands instr.now (cpu_of image.old) }
     requires room { (get_or need.now 0 no_range).length ≤ length stored.old }
@@ -225,12 +232,12 @@ fn execute_there<V: Bytes>(
 {
     let first = operand(need, 0);
     if !first.store {
-        return execute_plain(instr, need, image, base);
+        return execute_plain(kind, instr, need, image, base);
     }
     if first.length == 8 {
-        return execute_doubleword(instr, need, image, stored, base);
+        return execute_doubleword(kind, instr, need, image, stored, base);
     }
-    execute_apart(instr, need, image, stored, base)
+    execute_apart(kind, instr, need, image, stored, base)
 }
 
 /// Executes an instruction that is not about transactions on the bytes that the attempt sees of its operands,
@@ -238,12 +245,14 @@ fn execute_there<V: Bytes>(
 #[inline(never)]
 fn execute_lent<V: Bytes>(
     attempt: &Attempt,
+    kind: &Kind,
     instr: &Instr,
     need: &Touches,
     image: &mut CpuImage,
     stored: &mut [u8],
     base: &mut V,
 ) -> Ended
+    requires kind { kind.now ≡ kind_at instr.now.op.number }
     requires plain { is_transaction (kind_at instr.now.op.number) ≡ false }
     requires need { need.now ≡ operands instr.now (cpu_of image.old) }
     requires room { (get_or need.now 0 no_range).length ≤ length stored.old }
@@ -267,7 +276,7 @@ fn execute_lent<V: Bytes>(
     see(attempt, there, second.first, prefix, base);
     exchange(there, second.first, base);
     exchange(here, first.first, base);
-    let ended = execute_plain(instr, need, image, base);
+    let ended = execute_plain(kind, instr, need, image, base);
     exchange(here, first.first, base);
     exchange(there, second.first, base);
     ended
@@ -277,12 +286,14 @@ fn execute_lent<V: Bytes>(
 #[inline(never)]
 fn execute_lent_one<V: Bytes>(
     attempt: &Attempt,
+    kind: &Kind,
     instr: &Instr,
     need: &Touches,
     image: &mut CpuImage,
     stored: &mut [u8],
     base: &mut V,
 ) -> Ended
+    requires kind { kind.now ≡ kind_at instr.now.op.number }
     requires plain { is_transaction (kind_at instr.now.op.number) ≡ false }
     requires need { need.now ≡ operands instr.now (cpu_of image.old) }
     requires one { length need.now ≤ 1 }
@@ -302,7 +313,7 @@ fn execute_lent_one<V: Bytes>(
     let here = &mut stored[..first.length as usize];
     see(attempt, here, first.first, prefix, base);
     exchange(here, first.first, base);
-    let ended = execute_plain(instr, need, image, base);
+    let ended = execute_plain(kind, instr, need, image, base);
     exchange(here, first.first, base);
     ended
 }
@@ -311,12 +322,14 @@ fn execute_lent_one<V: Bytes>(
 #[inline(always)]
 pub fn execute_seen<V: Bytes>(
     attempt: &Attempt,
+    kind: &Kind,
     instr: &Instr,
     need: &Touches,
     image: &mut CpuImage,
     stored: &mut [u8],
     base: &mut V,
 ) -> Ended
+    requires kind { kind.now ≡ kind_at instr.now.op.number }
     requires plain { is_transaction (kind_at instr.now.op.number) ≡ false }
     requires need { need.now ≡ operands instr.now (cpu_of image.old) }
     requires room { (get_or need.now 0 no_range).length ≤ length stored.old }
@@ -330,16 +343,16 @@ pub fn execute_seen<V: Bytes>(
     ensures same { V.bytes base.new ≡ V.bytes base.old }
     ensures size { length stored.new ≡ length stored.old }
 {
-    if stores_register(instr.op) {
+    if stores_register(kind) {
         return keep_register(instr, image, stored);
     }
     if are_bare(attempt, need, image.prefix) {
-        return execute_there(instr, need, image, stored, base);
+        return execute_there(kind, instr, need, image, stored, base);
     }
     if need.count() < 2 {
-        return execute_lent_one(attempt, instr, need, image, stored, base);
+        return execute_lent_one(attempt, kind, instr, need, image, stored, base);
     }
-    execute_lent(attempt, instr, need, image, stored, base)
+    execute_lent(attempt, kind, instr, need, image, stored, base)
 }
 
 /// Performs an instruction on the bytes that the attempt sees of its operands, so that only the CPU is
@@ -348,12 +361,14 @@ pub fn execute_seen<V: Bytes>(
 #[inline(always)]
 pub fn perform<V: Bytes>(
     attempt: &Attempt,
+    kind: &Kind,
     instr: &Instr,
     need: &Touches,
     image: &mut CpuImage,
     stored: &mut [u8],
     base: &mut V,
 ) -> Ended
+    requires kind { kind.now ≡ kind_at instr.now.op.number }
     requires need { need.now ≡ operands instr.now (cpu_of image.old) }
     requires room { (get_or need.now 0 no_range).length ≤ length stored.old }
     requires accessible { All (IsAccessible image.old.prefix) need.now }
@@ -369,8 +384,8 @@ pub fn perform<V: Bytes>(
     ensures size { length stored.new ≡ length stored.old }
 {
     let depth = attempt.nest().depth();
-    match transaction_of(instr.op) {
-        Some(kind) => execute_transaction(kind, instr, image, depth, stored),
-        None => execute_seen(attempt, instr, need, image, stored, base),
+    match transaction_of(kind) {
+        Some(transaction) => execute_transaction(transaction, instr, image, depth, stored),
+        None => execute_seen(attempt, kind, instr, need, image, stored, base),
     }
 }

@@ -1,6 +1,6 @@
 //! The CPU.
 ghost use Rattle.z_instr.specs.Roles.{begins as is_begun, is_end as is_ended, block_named};
-ghost use Rattle.z_instr.specs.Table.{entry_at};
+ghost use Rattle.z_instr.specs.Table.{entry_at, kind_at};
 ghost use Rattle.tx_attempt.specs.Performed.{no_range};
 ghost use Rattle.std.specs.Prelude.{get_or, ℕ, List, [], Some, ◌+◌, ◌≤◌, ◌^◌, ◌&&◌, nat_eq};
 ghost use Rattle.std.specs.Prelude.{◌≡◌, ◌<◌, ◌↔◌, IsTrue, IfOk, is_some, length, true, false, All};
@@ -9,7 +9,6 @@ ghost use Rattle.z_regs.specs.Prefix.{storage_size};
 ghost use Rattle.z_regs.specs.declared.ranges.Range.{Range};
 ghost use Rattle.z_instr.specs.declared.instr.Instr.{Instr};
 ghost use Rattle.tx_footprint.specs.Touched.{sets_of};
-ghost use Rattle.tx_serial.specs.Remains.{pending_after as pends_after};
 ghost use Rattle.tx_progress.specs.Progress.{is_live, resting, seen_through};
 ghost use Rattle.tx_progress.specs.Local.{settled, aborted, block_stored, interruption_taken};
 ghost use Rattle.tx_progress.specs.Doing.{stopped, executed, executed_where, inside};
@@ -50,7 +49,8 @@ use tx_progress::done::Done;
 use z_effect::{exception, interrupt};
 use z_instr::format::length_in;
 use z_instr::instr::Instr;
-use z_instr::lookup::line;
+use z_instr::kind::Kind;
+use z_instr::lookup::{kind_in, line};
 use z_instr::roles::{begins, is_end};
 use z_regs::{Bytes, CpuImage, NoMemory, Touches, Waiting};
 
@@ -292,9 +292,10 @@ impl Cpu {
         ensures size { length (V.bytes base.new) ≡ storage_size }
     {
         self.attempt.is_sound();
-        let turns = delay_after(instr, &self.image);
+        let kind = kind_in(instr.op);
+        let turns = delay_after(kind, instr, &self.image);
         let length = length_in(line(instr.op).form);
-        let ended = perform_outside(&self.attempt, instr, need, &mut self.image, base);
+        let ended = perform_outside(&self.attempt, kind, instr, need, &mut self.image, base);
         end_outside(&mut self.image, ended, length);
         wait_outside(&mut self.waiting, self.image.prefix, length, ended);
         told(self.image.state, turns)
@@ -319,6 +320,7 @@ impl Cpu {
         self.saved = self.image;
         perform(
             &self.attempt,
+            kind_in(instr.op),
             instr,
             need,
             &mut self.image,
@@ -342,11 +344,13 @@ impl Cpu {
     #[inline(never)]
     fn execute_nested<V: Bytes>(
         &mut self,
+        kind: &Kind,
         instr: &Instr,
         need: &Touches,
         stored: &mut [u8],
         base: &mut V,
     ) -> Done
+        requires kind { kind.now ≡ kind_at instr.now.op.number }
         requires live { is_live (local_of self.old).attempt ≡ true }
         requires goes { MayGo self.old.attempt self.old.image instr.now need.now }
         requires count { (local_of self.old).attempt.count + 1 < 2 ^ 32 }
@@ -359,7 +363,15 @@ impl Cpu {
     {
         self.attempt.is_sound();
         let before = Before::of(instr, &self.image);
-        let ended = perform(&self.attempt, instr, need, &mut self.image, stored, base);
+        let ended = perform(
+            &self.attempt,
+            kind,
+            instr,
+            need,
+            &mut self.image,
+            stored,
+            base,
+        );
         match ended {
             Ended::Completed => {
                 if self.is_last(instr) {
@@ -405,13 +417,22 @@ impl Cpu {
             (outcome_by (storage_of (V.bytes base.old)) instr.now need.now (local_of self.old).attempt) }
         ensures size { length (V.bytes base.new) ≡ storage_size }
     {
-        if transaction_of(instr.op).is_some() {
-            *aside = self.execute_nested(instr, need, stored, base);
+        let kind = kind_in(instr.op);
+        if transaction_of(kind).is_some() {
+            *aside = self.execute_nested(kind, instr, need, stored, base);
             return false;
         }
         self.attempt.is_sound();
         let prefix = self.image.prefix;
-        let ended = execute_seen(&self.attempt, instr, need, &mut self.image, stored, base);
+        let ended = execute_seen(
+            &self.attempt,
+            kind,
+            instr,
+            need,
+            &mut self.image,
+            stored,
+            base,
+        );
         match ended {
             Ended::Completed => {
                 self.attempt.advance_plainly(need, stored, prefix);

@@ -10,6 +10,8 @@ ghost use Rattle.tx_progress.specs.Progress.{resting};
 ghost use Rattle.tx_progress.specs.Trial.{outcome_by};
 ghost use Rattle.tx_progress.specs.Doing.{told_of};
 ghost use Rattle.z_effect.specs.TransactionEffect.{delay_given};
+ghost use Rattle.z_instr.specs.Roles.{is_assist as asks_for_time};
+ghost use Rattle.z_instr.specs.Table.{kind_at};
 ghost use Rattle.tx_attempt.specs.Storages.{storage_of};
 ghost use Rattle.tx_attempt.specs.Performed.{outcome_from, first_size, StoresFirst};
 ghost use Rattle.tx_attempt.specs.Performed.{waiting_outside as waits_outside, storage_outside, IsLeftOutside};
@@ -22,14 +24,21 @@ use tx_progress::done::Done;
 use z_effect::{delay, exception, interrupt};
 use z_instr::instr::Instr;
 use z_instr::kind::{Kind, Transaction};
-use z_instr::lookup::line;
 use z_regs::{Bytes, CpuImage, RunState, Touches, Waiting};
 
+/// Whether an operation of this kind asks for time between attempts.
+fn is_assist(kind: &Kind) -> bool
+    ensures { result ≡ asks_for_time kind.now }
+{
+    matches!(kind, Kind::Transaction(Transaction::Assist))
+}
+
 /// How many turns the program waits after the instruction.
-pub fn delay_after(instr: &Instr, image: &CpuImage) -> u32
+pub fn delay_after(kind: &Kind, instr: &Instr, image: &CpuImage) -> u32
+    requires { kind.now ≡ kind_at instr.now.op.number }
     ensures { result ≡ delay_given instr.now (cpu_of image.now) }
 {
-    if matches!(line(instr.op).kind, Kind::Transaction(Transaction::Assist)) {
+    if is_assist(kind) {
         delay(instr, image)
     } else {
         0
@@ -132,12 +141,14 @@ fn store_outside<V: Bytes>(
 /// Performs an instruction on the bytes of its operands, and then stores what it stores.
 fn perform_apart<V: Bytes>(
     attempt: &Attempt,
+    kind: &Kind,
     instr: &Instr,
     need: &Touches,
     image: &mut CpuImage,
     base: &mut V,
 ) -> Ended
     requires rests { (c : Cpu) → progress attempt.now c ≡ resting c }
+    requires kind { kind.now ≡ kind_at instr.now.op.number }
     requires need { need.now ≡ operands instr.now (cpu_of image.old) }
     requires accessible { All (IsAccessible image.old.prefix) need.now }
     requires size { length (V.bytes base.old) ≡ storage_size }
@@ -148,7 +159,7 @@ fn perform_apart<V: Bytes>(
 {
     let prefix = image.prefix;
     let mut stored = [0; MOST_BYTES];
-    let ended = perform(attempt, instr, need, image, &mut stored, base);
+    let ended = perform(attempt, kind, instr, need, image, &mut stored, base);
     store_outside(need, ended, &stored, prefix, base);
     ended
 }
@@ -158,12 +169,14 @@ fn perform_apart<V: Bytes>(
 #[inline(always)]
 pub fn perform_outside<V: Bytes>(
     attempt: &Attempt,
+    kind: &Kind,
     instr: &Instr,
     need: &Touches,
     image: &mut CpuImage,
     base: &mut V,
 ) -> Ended
     requires rests { (c : Cpu) → progress attempt.now c ≡ resting c }
+    requires kind { kind.now ≡ kind_at instr.now.op.number }
     requires need { need.now ≡ operands instr.now (cpu_of image.old) }
     requires accessible { All (IsAccessible image.old.prefix) need.now }
     requires size { length (V.bytes base.old) ≡ storage_size }
@@ -172,8 +185,8 @@ pub fn perform_outside<V: Bytes>(
         (resting (cpu_of image.old))) }
     ensures size { length (V.bytes base.new) ≡ storage_size }
 {
-    if image.prefix.is_some() || transaction_of(instr.op).is_some() {
-        return perform_apart(attempt, instr, need, image, base);
+    if image.prefix.is_some() || transaction_of(kind).is_some() {
+        return perform_apart(attempt, kind, instr, need, image, base);
     }
-    execute_plain(instr, need, image, base)
+    execute_plain(kind, instr, need, image, base)
 }

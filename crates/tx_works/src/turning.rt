@@ -197,7 +197,9 @@ impl Works {
             → (k.locals cpu).attempt ≡ resting (k.locals cpu).cpu }
         requires acts { (rest : Seat) → MayAct cpu self.old rest }
         ensures value { (rest : Seat) (m : Setting) → cpus_of m ≡ length self.old.slots
-            → let k = kept_by rest self.old in let need = operand_by plain.now.ready.now.shape plain.now.first in turned_as (kept_by rest self.new) turned.new ≡
+            → let k = kept_by rest self.old in
+            let need = operand_by plain.now.ready.now.shape plain.now.first in
+            turned_as (kept_by rest self.new) turned.new ≡
             k_with_lines m cpu (operand_needs (k.locals cpu).attempt.cpu.prefix need) k
             (k_executing cpu plain.now.ready.now.instr need) }
         ensures size { IsSameSize self.old self.new }

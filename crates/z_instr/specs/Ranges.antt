@@ -12,37 +12,21 @@ use Rattle.z_instr.specs.Layouts.{layout, width, has_signed_displacement}
 abbrev pub bounds : ℕ → ℕ → Bounds
 bounds below above = record { below = below; above = above }
 
--- 0 alone
-abbrev pub zero_alone : Bounds
-zero_alone = bounds 0 1
-
 abbrev pub is_within : Bounds → ℤ → Bool
 is_within r (pos n) = nat_lt n r.above
 is_within r (negsuc n) = nat_lt n r.below
 
--- a displacement without a sign, of 12 bits; and one with a sign, of 20
-abbrev pub short : Bounds
-short = bounds 0 4096
-
+-- a displacement with a sign, of 20 bits
 abbrev pub long : Bounds
 long = bounds 524288 524288
 
--- a byte, and a byte with a sign
+-- a byte
 abbrev pub byte : Bounds
 byte = bounds 0 256
 
-abbrev pub signed_byte : Bounds
-signed_byte = bounds 128 128
-
--- an immediate of 16 or of 32 bits, without a sign and with one
+-- an immediate of 16 bits without a sign, and one of 32 bits with a sign
 abbrev pub half : Bounds
 half = bounds 0 65536
-
-abbrev pub signed_half : Bounds
-signed_half = bounds 32768 32768
-
-abbrev pub full : Bounds
-full = bounds 0 4294967296
 
 abbrev pub signed_full : Bounds
 signed_full = bounds 2147483648 2147483648

@@ -23,11 +23,18 @@ pub fn line(op: Op) -> Line
     TABLE[op.number as usize]
 }
 
+/// What an operation does, where the table has it.
+pub fn kind_in(op: Op) -> &'static Kind
+    ensures { result.now ≡ kind_at op.number }
+{
+    &TABLE[op.number as usize].kind
+}
+
 /// What an operation does.
 pub fn kind_of(op: Op) -> Kind
     ensures { result ≡ kind_at op.number }
 {
-    TABLE[op.number as usize].kind
+    *kind_in(op)
 }
 
 /// The row of an operation.

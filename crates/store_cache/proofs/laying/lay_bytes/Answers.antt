@@ -6,7 +6,7 @@ use Rattle.store_cache.specs.Sizes.{block_size}
 use Rattle.store_cache.specs.Overlay.{Overlay, bytes_through}
 use Rattle.store_cache.specs.Entries.{items_of}
 use Rattle.store_cache.proofs.Overlays.{bytes_through-nothing, bytes_through-with_bytes, length-bytes_through}
-use Rattle.store_cache.proofs.Laid.{none_below, run_below, all_below}
+use Rattle.store_cache.proofs.Laid.{none_below, run_below, all_below, some_run}
 use Rattle.z_regs.proofs.OneArea.{length-range_at}
 use Rattle.store_cache.proofs.laying.lay_bytes.Goals as goal
 
@@ -25,19 +25,23 @@ loop-cell-preserved g c =
     let base = g.V.Bytes.bytes c.args.into.now in
     let keys = c.args.index.now.keys in
     let cell = c.in-Some.cell in
-    let count = c.marked_from-count.result in
+    let count = c.run_from-count.result in
+    let some : 1 ≤ count =
+    some_run c.args.marks.now cell count c.in-Some.ensures.found.marked c.run_from-count.ensures.end in
     let address = c.key_at.result * block_size + cell % block_size in
     let block : address / block_size ≡ c.key_at.result = omega arith in
     let found : slot_in keys (address / block_size) ≡ Some (cell / block_size) = ap (slot_in keys) block
     ∙ c.key_at.ensures.slot in
-    let room : cell + count ≤ length c.args.bytes.now = omega arith in
+    let inside : cell + count ≤ c.count-end.result * block_size =
+    omega (arith, c.in-Some.ensures.found.below, c.run_from-count.ensures.word) in
+    let room : cell + count ≤ length c.args.bytes.now = omega (arith, inside) in
     let stored : List ℕ = range_at c.args.bytes.now cell count in
     let size : length stored ≡ count = length-range_at c.args.bytes.now cell count room in
     let before : Overlay = items_of block_size keys c.args.bytes.now (take c.loop-cell.from c.args.marks.now)
     in
     let step = run_below keys c.args.bytes.now c.args.marks.now c.loop-cell.from
     (c.count-end.result * block_size) cell count address (cell / block_size) c.in-Some.ensures.found
-    c.marked_from-count.ensures.marked room found (omega arith) (omega arith) in
+    c.run_from-count.ensures.run room found (omega arith) (omega (arith, c.run_from-count.ensures.word)) in
     let piece : take (cell + count - cell) (drop cell c.args.bytes.now) ≡ stored =
     ap (λ n. take n (drop cell c.args.bytes.now)) (omega arith) in
     let laid : g.V.Bytes.bytes c.put_all.new.self ≡ bytes_through

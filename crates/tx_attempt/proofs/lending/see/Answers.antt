@@ -4,6 +4,9 @@ use Rattle.store_cache.specs.Entries.{stores_of}
 use Rattle.tx_attempt.proofs.Bare.{none-so, bare-seen}
 use Rattle.tx_attempt.proofs.lending.see.Goals as goal
 
+pub see_stored-requires-clause-none : goal.see_stored-requires-clause-none
+see_stored-requires-clause-none g c = none-so c.args.prefix (sym c.is_some.ensures ∙ c.if-is_some.false)
+
 pub returns : goal.returns
 returns g c =
     let s : List ℕ = g.V.Bytes.bytes c.args.base.now in

@@ -1,5 +1,5 @@
 -- What an attempt sees as it is in storage is executed there.
-use Rattle.std.proofs.Common.{List, ℕ, arith, length}
+use Rattle.std.proofs.Common.{List, ℕ, arith, length, sym, ◌∙◌}
 use Rattle.z_regs.specs.Cpu.{cpu_of}
 use Rattle.store_cache.specs.Entries.{stores_of}
 use Rattle.tx_progress.specs.Progress.{seen_through}
@@ -27,13 +27,13 @@ returns-then-are_bare-clause-image g c =
 pub keep_register-requires-clause-room : goal.keep_register-requires-clause-room
 keep_register-requires-clause-room g c =
     let long = register-long c.args.instr.now (cpu_of c.args.image.now) c.args.need.now c.requires.need
-    (c.stores_register.ensures c.if-stores_register.true) in
+    (sym c.requires.kind ∙ c.stores_register.ensures c.if-stores_register.true) in
     omega (arith, long, c.requires.room)
 
 pub returns-then-stores_register-clause-value : goal.returns-then-stores_register-clause-value
 returns-then-stores_register-clause-value g c =
     register-apart c.args.instr.now (cpu_of c.args.image.now) _ (length c.args.attempt.now.nest) _ _
-    c.args.need.now _ c.requires.need (c.stores_register.ensures c.if-stores_register.true)
+    c.args.need.now _ c.requires.need (sym c.requires.kind ∙ c.stores_register.ensures c.if-stores_register.true)
     (c.keep_register.ensures.done (length c.args.attempt.now.nest) _)
 
 pub returns-then-stores_register-clause-image : goal.returns-then-stores_register-clause-image

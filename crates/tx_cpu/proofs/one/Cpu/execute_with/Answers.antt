@@ -50,13 +50,15 @@ may-step p i need live opens plain goes =
 pub execute_seen-ended-requires-clause-plain : goal.execute_seen-ended-requires-clause-plain
 execute_seen-ended-requires-clause-plain g c =
     plain-kind (kind_at c.args.instr.now.op.number)
-    (ap is_some (sym c.transaction_of.ensures) ∙ sym c.is_some.ensures ∙ c.if-is_some.false)
+    (ap (λ (k : Kind). is_some (transaction_in k)) (sym c.kind_in-kind.ensures) ∙
+    ap is_some (sym c.transaction_of.ensures) ∙ sym c.is_some.ensures ∙ c.if-is_some.false)
 
 pub advance_plainly-requires-clause-goes_on : goal.advance_plainly-requires-clause-goes_on
 advance_plainly-requires-clause-goes_on g c =
     let i = c.args.instr.now in
     let plain = plain-kind (kind_at i.op.number)
-    (ap is_some (sym c.transaction_of.ensures) ∙ sym c.is_some.ensures ∙ c.if-is_some.false) in
+    (ap (λ (k : Kind). is_some (transaction_in k)) (sym c.kind_in-kind.ensures) ∙
+    ap is_some (sym c.transaction_of.ensures) ∙ sym c.is_some.ensures ∙ c.if-is_some.false) in
     may-step (the_view c.self.inside) i c.args.need.now
     (ap (λ (q : Parts). nat_lt 0 q.attempt.count) c.self.view_is ∙ c.requires.live)
     c.is_sound.ensures.opens plain
@@ -66,7 +68,8 @@ pub advance_plainly-requires-in-Exceeded-clause-goes_on : goal.advance_plainly-r
 advance_plainly-requires-in-Exceeded-clause-goes_on g c =
     let i = c.args.instr.now in
     let plain = plain-kind (kind_at i.op.number)
-    (ap is_some (sym c.transaction_of.ensures) ∙ sym c.is_some.ensures ∙ c.if-is_some.false) in
+    (ap (λ (k : Kind). is_some (transaction_in k)) (sym c.kind_in-kind.ensures) ∙
+    ap is_some (sym c.transaction_of.ensures) ∙ sym c.is_some.ensures ∙ c.if-is_some.false) in
     may-step (the_view c.self.inside) i c.args.need.now
     (ap (λ (q : Parts). nat_lt 0 q.attempt.count) c.self.view_is ∙ c.requires.live)
     c.is_sound.ensures.opens plain
@@ -78,7 +81,8 @@ returns-in-Completed-clause-value g c =
     let i = c.args.instr.now in
     let need = c.args.need.now in
     let plain = plain-kind (kind_at i.op.number)
-    (ap is_some (sym c.transaction_of.ensures) ∙ sym c.is_some.ensures ∙ c.if-is_some.false) in
+    (ap (λ (k : Kind). is_some (transaction_in k)) (sym c.kind_in-kind.ensures) ∙
+    ap is_some (sym c.transaction_of.ensures) ∙ sym c.is_some.ensures ∙ c.if-is_some.false) in
     let live : nat_lt 0 c.self.inside.attempt.count ≡ true =
     ap (λ (q : Parts). nat_lt 0 q.attempt.count) c.self.view_is ∙ c.requires.live in
     let first : StoresFirst need =
@@ -96,7 +100,8 @@ returns-in-Exceeded-clause-value g c =
     let i = c.args.instr.now in
     let need = c.args.need.now in
     let plain = plain-kind (kind_at i.op.number)
-    (ap is_some (sym c.transaction_of.ensures) ∙ sym c.is_some.ensures ∙ c.if-is_some.false) in
+    (ap (λ (k : Kind). is_some (transaction_in k)) (sym c.kind_in-kind.ensures) ∙
+    ap is_some (sym c.transaction_of.ensures) ∙ sym c.is_some.ensures ∙ c.if-is_some.false) in
     let live : nat_lt 0 c.self.inside.attempt.count ≡ true =
     ap (λ (q : Parts). nat_lt 0 q.attempt.count) c.self.view_is ∙ c.requires.live in
     let first : StoresFirst need =

@@ -1,7 +1,7 @@
 use Rattle.std.proofs.Common.{ap}
 use Rattle.z_instr.specs.Table.{Entry, kind_at}
 use Rattle.z_instr.proofs.TableFacts.{line_is}
-use Rattle.z_instr.proofs.lookup.kind_of.Goals as goal
+use Rattle.z_instr.proofs.lookup.kind_in.Goals as goal
 
 pub returns : goal.returns
 unfolding kind_at
