@@ -112,8 +112,8 @@ impl StoreCache {
         Some(self.bytes[cell])
     }
 
-    /// The bytes stored last from the address on, `count` of them, one at least; None exactly where one of them was not stored,
-    /// or they lie in more than one block.
+    /// The bytes stored last from the address on, `count` of them, one at least. None where one of them was not stored; of bytes in
+    /// one block it comes nowhere else.
     pub fn run(&self, address: u64, count: usize) -> Option<&[u8]>
         requires { 0 < count }
         ensures size { IfSome result (λ bytes. length bytes.now ≡ count) }

@@ -379,8 +379,8 @@ impl Attempt {
         }
     }
 
-    /// The bytes that the attempt stored last from an absolute address on, `count` of them, one at least; None exactly where one
-    /// of them was not stored, or they lie in more than one block.
+    /// The bytes that the attempt stored last from an absolute address on, `count` of them, one at least. None where one of them
+    /// was not stored; of bytes in one block it comes nowhere else.
     pub fn stored_run(&self, address: u64, count: usize) -> Option<&[u8]>
         requires { 0 < count }
         ensures size { IfSome result (λ bytes. length bytes.now ≡ count) }
