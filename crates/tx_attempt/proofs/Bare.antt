@@ -64,7 +64,7 @@ none-stored o a h lt =
 
 -- ---- bytes over which nothing is stored
 
-bare-one : (o : Overlay) (prefix : Option ℕ) (r : Range) (s : List ℕ) → prefix ≡ None
+pub bare-one : (o : Overlay) (prefix : Option ℕ) (r : Range) (s : List ℕ) → prefix ≡ None
     → ((k : ℕ) → k < r.length → o (r.first + k) ≡ None)
     → IsFetched prefix (seen_through o (storage_of s)) s r
 bare-one o prefix r s none bare k lt =

@@ -51,7 +51,11 @@ plain-row n h =
       lasts_not = not-true (stores_lastingly e) rest.1;
     }
 
--- so it does not end the last begin
+-- so it begins no transaction
+pub begins-none : (i : Instr) → is_transaction (kind_at i.op.number) ≡ false → begins (entry_at i.op.number) ≡ false
+begins-none i h = (plain-row i.op.number h).begins_none
+
+-- nor does it end the last begin
 pub ends-no-last : (i : Instr) (last : Bool) → is_transaction (kind_at i.op.number) ≡ false
     → (is_end (entry_at i.op.number) && last) ≡ false
 ends-no-last i last h = ap (λ b. b && last) (plain-row i.op.number h).ends_none

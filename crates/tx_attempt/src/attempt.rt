@@ -10,7 +10,7 @@ ghost use Rattle.tx_serial.specs.Flat.{operand_stores};
 ghost use Rattle.z_instr.specs.Roles.{stores_lastingly as lasts};
 ghost use Rattle.tx_attempt.specs.Advancing.{MayAdvance, IsBefore, WasBefore, MayStep};
 ghost use Rattle.tx_attempt.specs.Gathered.{IsDoubleword};
-ghost use Rattle.tx_attempt.specs.Performed.{first_size, no_range, is_transaction};
+ghost use Rattle.tx_attempt.specs.Performed.{first_size, no_range, is_transaction, StoresNone};
 ghost use Rattle.z_instr.specs.declared.instr.Instr.{Instr};
 ghost use Rattle.z_regs.specs.Cpu.{Cpu};
 ghost use Rattle.z_regs.specs.Prefix.{storage_size};
@@ -35,7 +35,7 @@ ghost use Rattle.tx_serial.specs.Fate.{overflow_in};
 ghost use Rattle.tx_progress.specs.Trial.{constraint_refusal};
 ghost use Rattle.tx_attempt.specs.Refused.{found};
 ghost use Rattle.tx_attempt.specs.Plain.{IsPlain};
-ghost use Rattle.std.specs.Prelude.{IfSome, IfNone, None, false, Bool, ◌∷◌, ◌%◌};
+ghost use Rattle.std.specs.Prelude.{IfSome, IfNone, None, false, Bool, List, ◌∷◌, ◌%◌};
 
 use crate::advancing::{Before, add_operands, change_nest, touch};
 use crate::gathering::{gather_first, gather_stores};
@@ -536,6 +536,26 @@ impl Attempt {
         ensures live { 0 < self.new.count }
     {
         gather_first(&mut self.stores, need, stored, prefix);
+        touch(&mut self.footprint, need, prefix);
+        add_operands(&mut self.constraint, need);
+        self.count += 1;
+    }
+
+    /// One instruction more, which is not about transactions and stores nothing, is completed in a live attempt; the CPU had
+    /// this prefix before it.
+    #[inline(always)]
+    pub fn advance_without_stores(&mut self, need: &Touches, prefix: Option<u32>)
+        requires live { 0 < self.old.count }
+        requires count { self.old.count + 1 < 2 ^ 32 }
+        requires prefix_in { IsTrue (is_prefix prefix) }
+        requires fetches { StoresNone need.now }
+        requires accessible { All (IsAccessible prefix) need.now }
+        requires goes_on { MayStep self.old prefix need.now }
+        ensures value { (i : Instr) (x c : Cpu) (bytes : List ℕ) → is_transaction (kind_at i.op.number) ≡ false
+            → x.prefix ≡ prefix → progress self.new c ≡ advanced i need.now c (operand_stores prefix need.now bytes)
+            (progress self.old x) }
+        ensures live { 0 < self.new.count }
+    {
         touch(&mut self.footprint, need, prefix);
         add_operands(&mut self.constraint, need);
         self.count += 1;

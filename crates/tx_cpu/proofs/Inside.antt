@@ -11,7 +11,7 @@ use Rattle.z_instr.specs.declared.operand.Operands.{Operands}
 use Rattle.z_instr.specs.declared.operand.Operands.TheVariants.{Absent}
 use Rattle.z_instr.specs.Operands.{spans_in}
 use Rattle.z_instr.specs.Roles.{begins, is_end}
-use Rattle.z_instr.specs.Table.{Entry, entry_at}
+use Rattle.z_instr.specs.Table.{Entry, entry_at, kind_at}
 use Rattle.z_touch.specs.Refusals.{range_of}
 use Rattle.z_effect.specs.After.{cpu_after, exception}
 use Rattle.z_effect.specs.Beginning.{begin_of}
@@ -33,12 +33,15 @@ use Rattle.tx_progress.specs.Trial.{outcome_by}
 use Rattle.tx_progress.specs.declared.done.Done.{Done}
 use Rattle.tx_progress.specs.declared.done.Done.TheVariants as done
 use Rattle.tx_attempt.specs.declared.performing.Ended.TheVariants as ended
-use Rattle.tx_attempt.specs.Performed.{outcome_from, trimmed, first_size, StoresFirst}
+use Rattle.tx_attempt.specs.Advancing.{MayStep}
+use Rattle.tx_attempt.specs.Performed.{outcome_from, trimmed, first_size, is_transaction, StoresFirst}
 use Rattle.tx_attempt.specs.Tracked.{Tracked, progress}
 use Rattle.tx_cpu.specs.Parts.{Parts, local_of, beside}
 use Rattle.tx_attempt.specs.Storages.{storage_of}
 use Rattle.tx_attempt.proofs.Laying.{stored_in}
+use Rattle.tx_attempt.proofs.Stepping.{ends-no-last}
 use Rattle.tx_cpu.proofs.Settling.{local-rests}
+use Rattle.tx_cpu.specs.Going.{MayGo}
 use Rattle.tx_attempt.proofs.Stored.{trimmed-stores}
 use Rattle.tx_serial.proofs.FreeOperands.{is_absent, absent}
 
@@ -149,6 +152,20 @@ stepped-is p i need (Did c bytes) image stored t old live more opens first eo ea
 stepped-is p i need (Overflowed c bytes) image stored t old live more opens first eo ea = absurd (cc)
 stepped-is p i need Divides image stored t old live more opens first eo ea = absurd (cc)
 stepped-is p i need (Aborts code) image stored t old live more opens first eo ea = absurd (cc)
+
+-- an instruction that goes, and is not about transactions, is one more step of a live attempt
+pub may-step : (p : Parts) (i : Instr) (need : List Range) → nat_lt 0 p.attempt.count ≡ true
+    → (0 < p.attempt.count → 0 < length p.attempt.nest) → is_transaction (kind_at i.op.number) ≡ false
+    → MayGo p.attempt p.image i need → MayStep p.attempt p.image.prefix need
+may-step p i need live opens plain goes =
+    let some : 0 < p.attempt.count = grind (arith, nat_tests, live) in
+    record {
+      instr = i;
+      cpu = p.image;
+      plain = plain;
+      operands_are = goes.operands_are;
+      advances = goes.advances (opens some) (ends-no-last i _ plain);
+    }
 
 -- ---- the transaction is committed
 

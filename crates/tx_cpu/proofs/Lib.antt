@@ -11,4 +11,5 @@ pub mod Inside
 pub mod Preparing
 pub mod Programs
 pub mod Plainly
+pub mod There
 mod Room

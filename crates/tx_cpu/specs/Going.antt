@@ -1,18 +1,21 @@
 -- What holds of an instruction that goes.
 use Rattle.std.specs.Prelude.{◌≡◌, ℕ, ◌+◌, ◌<◌, ◌≤◌, Bool, true, false}
-use Rattle.std.specs.Prelude.{◌&&◌, nat_eq, length, All, List, [], Some}
+use Rattle.std.specs.Prelude.{◌&&◌, nat_eq, length, All, List, [], Some, None}
 use Rattle.z_regs.specs.Absolute.{IsAccessible}
 use Rattle.z_regs.specs.Cpu.{Cpu}
 use Rattle.z_regs.specs.Prefix.{storage_size}
 use Rattle.z_regs.specs.declared.ranges.Range.{Range}
 use Rattle.z_instr.specs.declared.instr.Instr.{Instr}
 use Rattle.z_instr.specs.Roles.{is_end, block_named}
-use Rattle.z_instr.specs.Table.{entry_at}
+use Rattle.z_instr.specs.Table.{entry_at, kind_at}
 use Rattle.tx_serial.specs.Fate.{operands}
 use Rattle.z_instr.specs.Roles.{stores_lastingly}
 use Rattle.tx_attempt.specs.Advancing.{MayAdvance}
 use Rattle.tx_attempt.specs.Gathered.{IsStoredDoubleword}
+use Rattle.tx_attempt.specs.Performed.{is_transaction, IsFetched, StoresNone}
+use Rattle.tx_attempt.specs.Storages.{storage_of}
 use Rattle.tx_attempt.specs.Tracked.{Tracked}
+use Rattle.tx_progress.specs.Progress.{Progress, is_live, seen_through}
 use Rattle.tx_progress.specs.declared.done.Done.{Done}
 use Rattle.tx_progress.specs.declared.done.Done.TheVariants.{Stepped}
 
@@ -34,3 +37,15 @@ pub record MayGo (t : Tracked) (c : Cpu) (i : Instr) (need : List Range) : Type 
 abbrev pub told_or : Bool → Done → Done
 told_or true aside = Stepped
 told_or false aside = aside
+
+-- an attempt sees operands as they are in storage, and nothing is stored into any of them
+pub record IsSeenThere (q : Progress) (need : List Range) : Type 0 where
+  pub fetches : StoresNone need
+  pub seen : (s : List ℕ) → All (IsFetched q.cpu.prefix (seen_through q.overlay (storage_of s)) s) need
+
+-- so an instruction may be executed on storage as it is, for a CPU without a prefix: it is not about transactions, and where
+-- an attempt is live, that sees the operands there
+pub record GoesThere (q : Progress) (i : Instr) (need : List Range) : Type 0 where
+  pub plain : is_transaction (kind_at i.op.number) ≡ false
+  pub bare : q.cpu.prefix ≡ None
+  pub there : is_live q ≡ true → IsSeenThere q need

@@ -2,6 +2,7 @@
 //! to take. Each call is one equation with the definitions of tx_progress.
 #![tactic(auto)]
 
+mod executing;
 mod interruption;
 pub mod laws;
 mod one;

@@ -1,9 +1,6 @@
 //! The CPU.
-ghost use Rattle.z_instr.specs.Roles.{begins as is_begun, is_end as is_ended, block_named};
-ghost use Rattle.z_instr.specs.Table.{entry_at, kind_at};
-ghost use Rattle.tx_attempt.specs.Performed.{no_range};
-ghost use Rattle.std.specs.Prelude.{get_or, ℕ, List, [], Some, ◌+◌, ◌≤◌, ◌^◌, ◌&&◌, nat_eq};
-ghost use Rattle.std.specs.Prelude.{◌≡◌, ◌<◌, ◌↔◌, IsTrue, IfOk, is_some, length, true, false, All};
+ghost use Rattle.std.specs.Prelude.{ℕ, List, [], Some, ◌+◌};
+ghost use Rattle.std.specs.Prelude.{◌≡◌, ◌<◌, ◌↔◌, IsTrue, IfOk, is_some, length, true, false};
 ghost use Rattle.z_regs.specs.Cpu.{cpu_of};
 ghost use Rattle.z_regs.specs.Prefix.{storage_size};
 ghost use Rattle.z_regs.specs.declared.ranges.Range.{Range};
@@ -11,58 +8,46 @@ ghost use Rattle.z_instr.specs.declared.instr.Instr.{Instr};
 ghost use Rattle.tx_footprint.specs.Touched.{sets_of};
 ghost use Rattle.tx_progress.specs.Progress.{is_live, resting, seen_through};
 ghost use Rattle.tx_progress.specs.Local.{settled, aborted, block_stored, interruption_taken};
-ghost use Rattle.tx_progress.specs.Doing.{stopped, executed, executed_where, inside};
-ghost use Rattle.tx_progress.specs.Trial.{fate_by_progress, outcome_by};
-ghost use Rattle.tx_serial.specs.Fate.{operands, Goes};
+ghost use Rattle.tx_progress.specs.Doing.{stopped};
+ghost use Rattle.tx_progress.specs.Trial.{fate_by_progress};
+ghost use Rattle.tx_serial.specs.Fate.{Goes};
 ghost use Rattle.tx_cpu.specs.Quiet.{IsQuiet};
 ghost use Rattle.tx_program.specs.Shapes.{touched_by, is_reached};
-ghost use Rattle.std.specs.Prelude.{IfSome, ◌/◌};
-ghost use Rattle.z_regs.specs.Absolute.{IsAccessible};
+ghost use Rattle.std.specs.Prelude.{IfSome, None, ◌/◌};
 ghost use Rattle.std.specs.FinSet.{items};
 ghost use Rattle.tx_cpu.specs.Parts.{local_of, beside, goes_on_as};
 ghost use Rattle.store_cache.specs.Overlay.{has_block, with_one};
 ghost use Rattle.tx_attempt.specs.Storages.{storage_of};
-ghost use Rattle.tx_cpu.specs.Going.{MayGo, told_or};
 ghost use Rattle.tx_cpu.specs.Plans.{fate_of, levels_of, HasRoom, HasPlanRoom};
 ghost use Rattle.tx_serial.specs.Flat.{address_of};
-ghost use Rattle.tx_cpu.specs.Plans.{IsPrepared, IsPlanPrepared, HasDoneRoom};
+ghost use Rattle.tx_cpu.specs.Plans.{IsPlanPrepared};
 ghost use Rattle.tx_attempt.specs.Same.{AreSameAttempts};
 ghost use Rattle.tx_constraint.specs.Kept.{Kept};
 
 use crate::interruption::{leave, load, store, waiting_after, waiting_with};
-use crate::outside::{delay_after, end_outside, perform_outside, told, wait_outside};
 use crate::pending::{Block, pending_after};
 use crate::plain::{Plain, plain_next, touches_nothing};
 use crate::plan::{Plan, next_plan};
 use std::alloc::Global;
 use std::marker::Model;
 use tx_abort::block_of;
-use tx_attempt::{
-    Attempt, Before, Ended, MOST_BYTES, cause_in, execute_seen, operand, perform, put_all,
-    transaction_of,
-};
-use tx_control::codes::{FIXED_POINT_DIVIDE, FIXED_POINT_OVERFLOW};
+use tx_attempt::{Attempt, put_all};
 use tx_control::{Exception, Why};
 use tx_footprint::Footprint;
 use tx_program::Program;
-use tx_progress::done::Done;
-use z_effect::{exception, interrupt};
-use z_instr::format::length_in;
+use z_effect::interrupt;
 use z_instr::instr::Instr;
-use z_instr::kind::Kind;
-use z_instr::lookup::{kind_in, line};
-use z_instr::roles::{begins, is_end};
-use z_regs::{Bytes, CpuImage, NoMemory, Touches, Waiting};
+use z_regs::{Bytes, CpuImage, NoMemory, Waiting};
 
 /// One CPU. Contracts speak of what is kept of it (`local_of`): the CPU as the history leaves it, its
 /// attempt, the block that is pending for it and the interruption that waits.
 #[derive(Drop)]
 pub struct Cpu {
-    image: CpuImage,
-    saved: CpuImage,
-    attempt: Attempt,
+    pub(crate) image: CpuImage,
+    pub(crate) saved: CpuImage,
+    pub(crate) attempt: Attempt,
     pending: Option<Block>,
-    waiting: Option<Waiting>,
+    pub(crate) waiting: Option<Waiting>,
 }
 
 impl Model for Cpu {
@@ -277,271 +262,6 @@ impl Cpu {
         self.attempt.is_sound();
         interrupt(&mut self.image, e);
         self.waiting = waiting_with(self.image.prefix, e.length, None);
-    }
-
-    /// Executes an instruction outside transactions that begins none.
-    #[inline(always)]
-    fn execute_outside<V: Bytes>(&mut self, instr: &Instr, need: &Touches, base: &mut V) -> Done
-        requires rests { is_live (local_of self.old).attempt ≡ false }
-        requires need { need.now ≡ operands instr.now (local_of self.old).attempt.cpu }
-        requires accessible { All (IsAccessible (local_of self.old).attempt.cpu.prefix) need.now }
-        requires size { length (V.bytes base.old) ≡ storage_size }
-        ensures value { record { after = beside self.new (V.bytes base.new); told = result } ≡
-            executed_where false false instr.now need.now (beside self.old (V.bytes base.old))
-            (outcome_by (storage_of (V.bytes base.old)) instr.now need.now (local_of self.old).attempt) }
-        ensures size { length (V.bytes base.new) ≡ storage_size }
-    {
-        self.attempt.is_sound();
-        let kind = kind_in(instr.op);
-        let turns = delay_after(kind, instr, &self.image);
-        let length = length_in(line(instr.op).form);
-        let ended = perform_outside(&self.attempt, kind, instr, need, &mut self.image, base);
-        end_outside(&mut self.image, ended, length);
-        wait_outside(&mut self.waiting, self.image.prefix, length, ended);
-        told(self.image.state, turns)
-    }
-
-    /// Executes the outermost begin.
-    fn execute_begin<V: Bytes>(&mut self, instr: &Instr, need: &Touches, base: &mut V) -> Done
-        requires rests { is_live (local_of self.old).attempt ≡ false }
-        requires begins { is_begun (entry_at instr.now.op.number) ≡ true }
-        requires need { need.now ≡ operands instr.now (local_of self.old).attempt.cpu }
-        requires accessible { All (IsAccessible (local_of self.old).attempt.cpu.prefix) need.now }
-        requires block { (a : ℕ) → block_named instr.now (local_of self.old).attempt.cpu.general ≡ Some a
-            → a + 256 ≤ storage_size }
-        requires place { (local_of self.old).attempt.cpu.address < storage_size }
-        requires size { length (V.bytes base.old) ≡ storage_size }
-        ensures value { record { after = beside self.new (V.bytes base.new); told = result } ≡
-            executed_where false true instr.now need.now (beside self.old (V.bytes base.old))
-            (outcome_by (storage_of (V.bytes base.old)) instr.now need.now (local_of self.old).attempt) }
-        ensures size { length (V.bytes base.new) ≡ storage_size }
-    {
-        self.attempt.is_sound();
-        self.saved = self.image;
-        perform(
-            &self.attempt,
-            kind_in(instr.op),
-            instr,
-            need,
-            &mut self.image,
-            &mut [0; 0],
-            base,
-        );
-        self.attempt.begin(instr, &self.saved);
-        Done::Began
-    }
-
-    /// Whether the instruction ends the last begin that is open.
-    fn is_last(&self, instr: &Instr) -> bool
-        ensures { result ≡
-            (is_ended (entry_at instr.now.op.number) && nat_eq (length self.now.attempt.nest) 1) }
-    {
-        is_end(instr.op) && self.attempt.nest().depth() == 1
-    }
-
-    /// Executes an instruction inside a transaction that may be about transactions, with room for the bytes of its first
-    /// operand.
-    #[inline(never)]
-    fn execute_nested<V: Bytes>(
-        &mut self,
-        kind: &Kind,
-        instr: &Instr,
-        need: &Touches,
-        stored: &mut [u8],
-        base: &mut V,
-    ) -> Done
-        requires kind { kind.now ≡ kind_at instr.now.op.number }
-        requires live { is_live (local_of self.old).attempt ≡ true }
-        requires goes { MayGo self.old.attempt self.old.image instr.now need.now }
-        requires count { (local_of self.old).attempt.count + 1 < 2 ^ 32 }
-        requires room { (get_or need.now 0 no_range).length ≤ length stored.old }
-        requires size { length (V.bytes base.old) ≡ storage_size }
-        ensures value { record { after = beside self.new (V.bytes base.new); told = result } ≡
-            inside instr.now need.now (beside self.old (V.bytes base.old))
-            (outcome_by (storage_of (V.bytes base.old)) instr.now need.now (local_of self.old).attempt) }
-        ensures size { length (V.bytes base.new) ≡ storage_size }
-    {
-        self.attempt.is_sound();
-        let before = Before::of(instr, &self.image);
-        let ended = perform(
-            &self.attempt,
-            kind,
-            instr,
-            need,
-            &mut self.image,
-            stored,
-            base,
-        );
-        match ended {
-            Ended::Completed => {
-                if self.is_last(instr) {
-                    let count = self.attempt.count() + 1;
-                    self.attempt.commit(base);
-                    return Done::Committed(count);
-                }
-                self.attempt.advance(instr, need, stored, &before);
-                self.attempt.is_sound();
-                Done::Stepped
-            }
-            Ended::Exceeded => {
-                self.attempt.advance(instr, need, stored, &before);
-                let overflow = exception(FIXED_POINT_OVERFLOW, length_in(line(instr.op).form));
-                Done::Ended(cause_in(self.attempt.nest(), overflow))
-            }
-            Ended::Suppressed => {
-                let divide = exception(FIXED_POINT_DIVIDE, length_in(line(instr.op).form));
-                Done::Ended(cause_in(self.attempt.nest(), divide))
-            }
-            Ended::Aborting(code) => Done::Ended(Why::Tabort(code)),
-        }
-    }
-
-    /// Executes an instruction inside a transaction, with room for the bytes of its first operand, and says whether it is simply
-    /// completed; else `aside` has what came of it. One that is not about transactions opens and closes no begin, so nothing is
-    /// asked of the CPU before it but its prefix.
-    fn execute_with<V: Bytes>(
-        &mut self,
-        instr: &Instr,
-        need: &Touches,
-        stored: &mut [u8],
-        base: &mut V,
-        aside: &mut Done,
-    ) -> bool
-        requires live { is_live (local_of self.old).attempt ≡ true }
-        requires goes { MayGo self.old.attempt self.old.image instr.now need.now }
-        requires count { (local_of self.old).attempt.count + 1 < 2 ^ 32 }
-        requires room { (get_or need.now 0 no_range).length ≤ length stored.old }
-        requires size { length (V.bytes base.old) ≡ storage_size }
-        ensures value { record { after = beside self.new (V.bytes base.new); told = told_or result aside.new } ≡
-            inside instr.now need.now (beside self.old (V.bytes base.old))
-            (outcome_by (storage_of (V.bytes base.old)) instr.now need.now (local_of self.old).attempt) }
-        ensures size { length (V.bytes base.new) ≡ storage_size }
-    {
-        let kind = kind_in(instr.op);
-        if transaction_of(kind).is_some() {
-            *aside = self.execute_nested(kind, instr, need, stored, base);
-            return false;
-        }
-        self.attempt.is_sound();
-        let prefix = self.image.prefix;
-        let ended = execute_seen(
-            &self.attempt,
-            kind,
-            instr,
-            need,
-            &mut self.image,
-            stored,
-            base,
-        );
-        match ended {
-            Ended::Completed => {
-                self.attempt.advance_plainly(need, stored, prefix);
-                self.attempt.is_sound();
-                true
-            }
-            Ended::Exceeded => {
-                self.attempt.advance_plainly(need, stored, prefix);
-                let overflow = exception(FIXED_POINT_OVERFLOW, length_in(line(instr.op).form));
-                *aside = Done::Ended(cause_in(self.attempt.nest(), overflow));
-                false
-            }
-            Ended::Suppressed => {
-                let divide = exception(FIXED_POINT_DIVIDE, length_in(line(instr.op).form));
-                *aside = Done::Ended(cause_in(self.attempt.nest(), divide));
-                false
-            }
-            Ended::Aborting(code) => {
-                *aside = Done::Ended(Why::Tabort(code));
-                false
-            }
-        }
-    }
-
-    /// The same, with the room that the first operand needs. Most instructions have no operand in storage, or one of at most
-    /// eight bytes.
-    #[inline(always)]
-    fn execute_sized<V: Bytes>(
-        &mut self,
-        instr: &Instr,
-        need: &Touches,
-        base: &mut V,
-        aside: &mut Done,
-    ) -> bool
-        requires live { is_live (local_of self.old).attempt ≡ true }
-        requires goes { MayGo self.old.attempt self.old.image instr.now need.now }
-        requires count { (local_of self.old).attempt.count + 1 < 2 ^ 32 }
-        requires size { length (V.bytes base.old) ≡ storage_size }
-        ensures value { record { after = beside self.new (V.bytes base.new); told = told_or result aside.new } ≡
-            inside instr.now need.now (beside self.old (V.bytes base.old))
-            (outcome_by (storage_of (V.bytes base.old)) instr.now need.now (local_of self.old).attempt) }
-        ensures size { length (V.bytes base.new) ≡ storage_size }
-    {
-        let most = operand(need, 0).length;
-        if most == 0 {
-            return self.execute_with(instr, need, &mut [0; 0], base, aside);
-        }
-        if most <= 8 {
-            return self.execute_with(instr, need, &mut [0; 8], base, aside);
-        }
-        self.execute_with(instr, need, &mut [0; MOST_BYTES], base, aside)
-    }
-
-    /// Executes an instruction inside a transaction.
-    #[inline(always)]
-    fn execute_inside<V: Bytes>(&mut self, instr: &Instr, need: &Touches, base: &mut V) -> Done
-        requires live { is_live (local_of self.old).attempt ≡ true }
-        requires goes { MayGo self.old.attempt self.old.image instr.now need.now }
-        requires count { (local_of self.old).attempt.count + 1 < 2 ^ 32 }
-        requires size { length (V.bytes base.old) ≡ storage_size }
-        ensures value { record { after = beside self.new (V.bytes base.new); told = result } ≡
-            inside instr.now need.now (beside self.old (V.bytes base.old))
-            (outcome_by (storage_of (V.bytes base.old)) instr.now need.now (local_of self.old).attempt) }
-        ensures size { length (V.bytes base.new) ≡ storage_size }
-    {
-        let mut aside = Done::Stepped;
-        if self.execute_sized(instr, need, base, &mut aside) {
-            return Done::Stepped;
-        }
-        aside
-    }
-
-    /// Executes an instruction as `execute` does, where an attempt is known to be live.
-    #[inline(always)]
-    pub fn execute_live<V: Bytes>(&mut self, instr: &Instr, need: &Touches, base: &mut V) -> Done
-        requires live { is_live (local_of self.old).attempt ≡ true }
-        requires prepared { IsPrepared (local_of self.old).attempt instr.now need.now }
-        requires count { (local_of self.old).attempt.count + 1 < 2 ^ 32 }
-        requires size { length (V.bytes base.old) ≡ storage_size }
-        ensures value { record { after = beside self.new (V.bytes base.new); told = result } ≡
-            executed instr.now need.now (beside self.old (V.bytes base.old)) }
-        ensures code { HasDoneRoom result }
-        ensures size { length (V.bytes base.new) ≡ storage_size }
-    {
-        self.attempt.is_sound();
-        self.execute_inside(instr, need, base)
-    }
-
-    /// Executes an instruction that `prepare` has found to go, with its operands, and tells what came of it.
-    /// Where it ends its transaction by a cause, nothing is aborted yet, and a program exception among these
-    /// leaves room for the bit that an abort adds to its code.
-    #[inline(always)]
-    pub fn execute<V: Bytes>(&mut self, instr: &Instr, need: &Touches, base: &mut V) -> Done
-        requires prepared { IsPrepared (local_of self.old).attempt instr.now need.now }
-        requires count { (local_of self.old).attempt.count + 1 < 2 ^ 32 }
-        requires size { length (V.bytes base.old) ≡ storage_size }
-        ensures value { record { after = beside self.new (V.bytes base.new); told = result } ≡
-            executed instr.now need.now (beside self.old (V.bytes base.old)) }
-        ensures code { HasDoneRoom result }
-        ensures size { length (V.bytes base.new) ≡ storage_size }
-    {
-        self.attempt.is_sound();
-        if self.attempt.is_live() {
-            return self.execute_live(instr, need, base);
-        }
-        if begins(instr.op) {
-            return self.execute_begin(instr, need, base);
-        }
-        self.execute_outside(instr, need, base)
     }
 
     /// Aborts the attempt by this cause; `at` is the address that the diagnostic block tells. Gives how many

@@ -1,5 +1,5 @@
 //! What an instruction outside transactions leaves and tells.
-ghost use Rattle.std.specs.Prelude.{◌≡◌, [], take, All, IsTrue, length};
+ghost use Rattle.std.specs.Prelude.{◌≡◌, [], take, All, IsTrue, length, false, None};
 ghost use Rattle.z_regs.specs.Cpu.{Cpu};
 ghost use Rattle.z_regs.specs.Cpu.{cpu_of};
 ghost use Rattle.z_regs.specs.Prefix.{is_prefix, storage_size};
@@ -13,9 +13,10 @@ ghost use Rattle.z_effect.specs.TransactionEffect.{delay_given};
 ghost use Rattle.z_instr.specs.Roles.{is_assist as asks_for_time};
 ghost use Rattle.z_instr.specs.Table.{kind_at};
 ghost use Rattle.tx_attempt.specs.Storages.{storage_of};
-ghost use Rattle.tx_attempt.specs.Performed.{outcome_from, first_size, StoresFirst};
+ghost use Rattle.tx_attempt.specs.Performed.{outcome_from, first_size, is_transaction, StoresFirst, StoresNone, IsKeptApart};
 ghost use Rattle.tx_attempt.specs.Performed.{waiting_outside as waits_outside, storage_outside, IsLeftOutside};
-ghost use Rattle.tx_attempt.specs.Tracked.{progress};
+ghost use Rattle.tx_attempt.specs.Tracked.{Tracked, progress};
+ghost use Rattle.tx_cpu.specs.Going.{IsSeenThere};
 
 use crate::interruption::waiting_with;
 use tx_attempt::{Attempt, Ended, MOST_BYTES, execute_plain, perform, put_stored, transaction_of};
@@ -164,6 +165,34 @@ fn perform_apart<V: Bytes>(
     ended
 }
 
+/// Performs an instruction that is not about transactions on storage as it is, for a CPU without a prefix: outside
+/// transactions, or where its attempt sees the operands so and nothing is stored into them.
+#[inline(always)]
+pub fn perform_there<V: Bytes>(
+    kind: &Kind,
+    instr: &Instr,
+    need: &Touches,
+    image: &mut CpuImage,
+    base: &mut V,
+) -> Ended
+    requires kind { kind.now ≡ kind_at instr.now.op.number }
+    requires plain { is_transaction (kind_at instr.now.op.number) ≡ false }
+    requires none { image.old.prefix ≡ None }
+    requires need { need.now ≡ operands instr.now (cpu_of image.old) }
+    requires accessible { All (IsAccessible image.old.prefix) need.now }
+    requires size { length (V.bytes base.old) ≡ storage_size }
+    ensures outside { IsLeftOutside need.now (cpu_of image.old) (cpu_of image.new) (V.bytes base.old)
+        (V.bytes base.new) result (outcome_by (storage_of (V.bytes base.old)) instr.now need.now
+        (resting (cpu_of image.old))) }
+    ensures inside { (t : Tracked) → IsSeenThere (progress t (cpu_of image.old)) need.now
+        → IsKeptApart (outcome_by (storage_of (V.bytes base.old)) instr.now need.now
+        (progress t (cpu_of image.old))) (first_size need.now) (cpu_of image.old) (cpu_of image.new) [] result }
+    ensures same { StoresNone need.now → V.bytes base.new ≡ V.bytes base.old }
+    ensures size { length (V.bytes base.new) ≡ storage_size }
+{
+    execute_plain(kind, instr, need, image, base)
+}
+
 /// Performs an instruction outside transactions and stores what it stores. A CPU without a prefix sees storage
 /// as it is, so there the instruction is executed on storage itself.
 #[inline(always)]
@@ -188,5 +217,5 @@ pub fn perform_outside<V: Bytes>(
     if image.prefix.is_some() || transaction_of(kind).is_some() {
         return perform_apart(attempt, kind, instr, need, image, base);
     }
-    execute_plain(kind, instr, need, image, base)
+    perform_there(kind, instr, need, image, base)
 }

@@ -1,18 +1,23 @@
 //! The next instruction where nothing unusual is the case.
-ghost use Rattle.std.specs.Prelude.{◌≡◌, ◌<◌, ◌≤◌, ◌+◌, ◌/◌, ◌%◌, IfSome, true, nat_eq, not, None, Ok, List, [], ℕ};
+ghost use Rattle.std.specs.Prelude.{◌≡◌, ◌<◌, ◌≤◌, ◌+◌, ◌^◌, ◌/◌, ◌%◌, IfSome, true, false, nat_eq, not, None, Ok, All, List, [], ℕ};
 ghost use Rattle.std.specs.List.{list_any};
 ghost use Rattle.std.specs.FinSet.{items};
-ghost use Rattle.z_regs.specs.Cpu.{cpu_of};
+ghost use Rattle.z_regs.specs.Absolute.{IsAccessible};
+ghost use Rattle.z_regs.specs.Cpu.{Cpu, cpu_of};
 ghost use Rattle.z_regs.specs.Prefix.{storage_size};
 ghost use Rattle.z_regs.specs.declared.ranges.Range.{Range};
 ghost use Rattle.z_instr.specs.declared.instr.Instr.{Instr};
 ghost use Rattle.z_instr.specs.Operands.{bytes_of};
-ghost use Rattle.z_instr.specs.Table.{entry_at};
+ghost use Rattle.z_instr.specs.Table.{entry_at, kind_at};
 ghost use Rattle.tx_constraint.specs.Kept.{next_text_breach, next_operand_breach};
 ghost use Rattle.tx_footprint.specs.Touched.{sets_of, touching, fit_of};
 ghost use Rattle.tx_serial.specs.Fate.{Goes};
 ghost use Rattle.tx_progress.specs.Trial.{fate_by_progress, constraint_refusal};
 ghost use Rattle.tx_cpu.specs.Admits.{Admits, KeepsLimits};
+ghost use Rattle.tx_serial.specs.Flat.{operand_stores};
+ghost use Rattle.tx_progress.specs.Progress.{advanced};
+ghost use Rattle.tx_attempt.specs.Advancing.{MayStep};
+ghost use Rattle.tx_attempt.specs.Performed.{is_transaction, StoresNone};
 ghost use Rattle.tx_attempt.specs.Tracked.{progress};
 ghost use Rattle.tx_attempt.specs.Storages.{storage_of};
 ghost use Rattle.tx_program.specs.Shapes.{is_in_line as lies_in_line, is_open as lies_open, is_reached as lies_reached};
@@ -276,5 +281,28 @@ pub fn touches_nothing(attempt: &Attempt, image: &CpuImage, program: &Program) -
     match program.known(image.address) {
         None => false,
         Some(ready) => has_no_operand(ready) && sees_instruction(attempt, image),
+    }
+}
+
+/// One plain instruction more, which is not about transactions and stores nothing, is completed in a live attempt of a CPU
+/// without a prefix.
+#[inline(always)]
+pub fn advance_there(attempt: &mut Attempt, shape: Shape, first: u64)
+    requires live { 0 < attempt.old.count }
+    requires count { attempt.old.count + 1 < 2 ^ 32 }
+    requires fetches { StoresNone (touched_by shape.touch first shape.size) }
+    requires accessible { All (IsAccessible None) (touched_by shape.touch first shape.size) }
+    requires goes_on { MayStep attempt.old None (touched_by shape.touch first shape.size) }
+    ensures value { (i : Instr) (x c : Cpu) (bytes : List ℕ) → let need = touched_by shape.touch first shape.size in
+        is_transaction (kind_at i.op.number) ≡ false → x.prefix ≡ None → progress attempt.new c
+        ≡ advanced i need c (operand_stores None need bytes) (progress attempt.old x) }
+    ensures live { 0 < attempt.new.count }
+{
+    match shape.touch {
+        Touch::Nothing => attempt.advance_without_stores(&Touches::none(), None),
+        _ => {
+            let need = operands_at(shape, first);
+            attempt.advance_without_stores(&need, None);
+        }
     }
 }

@@ -14,6 +14,7 @@ pub use Rattle.tx_run.specs.Stranger
 pub use Rattle.tx_run.specs.Turns
 pub use Rattle.tx_run.specs.Parts
 pub use Rattle.tx_run.specs.Plans
+pub use Rattle.tx_run.specs.Going
 pub use Rattle.tx_run.specs.Quiet
 pub use Rattle.tx_run.specs.Same
 pub use Rattle.tx_run.specs.Storages

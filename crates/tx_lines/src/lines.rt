@@ -11,12 +11,14 @@ ghost use Rattle.tx_run.specs.Local.{aborted, block_stored, interruption_taken};
 ghost use Rattle.tx_run.specs.Doing.{executed};
 ghost use Rattle.tx_run.specs.Progress.{is_live};
 ghost use Rattle.tx_run.specs.Parts.{local_of};
+ghost use Rattle.tx_run.specs.Going.{GoesThere, told_or};
+ghost use Rattle.tx_run.specs.Shapes.{touched_by};
 ghost use Rattle.tx_run.specs.Plans.{HasRoom, HasDoneRoom, IsPrepared};
 ghost use Rattle.tx_lines.specs.Owned.{Owned, holders_in, with_lines};
 ghost use Rattle.tx_lines.specs.Spare.{is_unused, lowest_spare, granted};
 ghost use Rattle.tx_lines.specs.Next.{next_against, stands_against};
 
-use crate::windows::{abort_in, execute_in, execute_live_in, store_block_in, take_in};
+use crate::windows::{abort_in, execute_in, execute_live_in, execute_there_in, store_block_in, take_in};
 use line_copies::{CoherentLines, Handback};
 use line_table::{MOST_HELD, Mode};
 use std::alloc::Global;
@@ -24,7 +26,7 @@ use std::marker::{Brand, Model};
 use tx_control::Why;
 use tx_footprint::Footprint;
 use tx_meaning::Need;
-use tx_run::{Cpu, Done};
+use tx_run::{Cpu, Done, Plain};
 use z_instr::instr::Instr;
 use z_regs::{NoMemory, Touches};
 
@@ -248,6 +250,35 @@ impl Lines {
             instr,
             need,
         );
+        value
+    }
+
+    /// Executes a plain instruction as `execute` does, on storage as it is, for a CPU without a prefix: one that is not about
+    /// transactions, and of which an attempt, where one is live, sees the operand there and stores nothing into it. True where
+    /// it is simply completed; else `aside` has what it tells.
+    #[inline(always)]
+    pub fn execute_there(
+        &mut self,
+        number: u32,
+        cpu: &mut Cpu,
+        plain: &Plain,
+        aside: &mut Done,
+    ) -> bool
+        requires number { number < self.old.cpus }
+        requires prepared { IsPrepared (local_of cpu.old).attempt plain.now.ready.now.instr
+            (touched_by plain.now.ready.now.shape.touch plain.now.first plain.now.ready.now.shape.size) }
+        requires there { GoesThere (local_of cpu.old).attempt plain.now.ready.now.instr
+            (touched_by plain.now.ready.now.shape.touch plain.now.first plain.now.ready.now.shape.size) }
+        requires count { (local_of cpu.old).attempt.count + 1 < 2 ^ 32 }
+        ensures value { record { after = with_lines cpu.new self.new; told = told_or result aside.new } ≡
+            executed plain.now.ready.now.instr
+            (touched_by plain.now.ready.now.shape.touch plain.now.first plain.now.ready.now.shape.size)
+            (with_lines cpu.old self.old) }
+        ensures code { HasDoneRoom (told_or result aside.new) }
+        ensures cpus { self.new.cpus ≡ self.old.cpus }
+        ensures held { holders_in self.new ≡ holders_in self.old }
+    {
+        let Handback { value, .. } = execute_there_in::<Brand>(&mut self.lines, number, cpu, plain, aside);
         value
     }
 

@@ -6,6 +6,8 @@ ghost use Rattle.tx_run.specs.Local.{aborted, block_stored, interruption_taken};
 ghost use Rattle.tx_run.specs.Doing.{executed};
 ghost use Rattle.tx_run.specs.Progress.{is_live, seen_through};
 ghost use Rattle.tx_run.specs.Parts.{local_of, beside};
+ghost use Rattle.tx_run.specs.Going.{GoesThere, told_or};
+ghost use Rattle.tx_run.specs.Shapes.{touched_by};
 ghost use Rattle.tx_run.specs.Plans.{HasRoom, HasDoneRoom, IsPrepared};
 ghost use Rattle.tx_run.specs.Away.{GoAway, ran};
 ghost use Rattle.tx_run.specs.Stranger.{GoesOnLike, SeeAlike};
@@ -16,7 +18,7 @@ ghost use Rattle.tx_run.specs.Made.{AgreeOnPages};
 
 use line_copies::{CoherentLines, Handback, Held, Window};
 use tx_control::Why;
-use tx_run::{Cpu, Done, Run};
+use tx_run::{Cpu, Done, Plain, Run};
 use z_instr::instr::Instr;
 use z_regs::Touches;
 
@@ -69,6 +71,37 @@ pub(crate) fn execute_live_in<'a, H: Held>(
     let mut window: Window<'a, H> = Window::open(lines, number);
     let done = cpu.execute_live(instr, need, &mut window);
     window.close(done)
+}
+
+/// Executes a plain instruction that a CPU without a prefix has found to go, on storage as it is. What it does not simply
+/// complete is put aside.
+#[inline(always)]
+pub(crate) fn execute_there_in<'a, H: Held>(
+    lines: &'a mut CoherentLines,
+    number: u32,
+    cpu: &mut Cpu,
+    plain: &Plain,
+    aside: &mut Done,
+) -> Handback<'a, bool>
+    requires holds { holdings_of lines.old ≡ H.held }
+    requires name { lines.ghost_name ≡ H.name }
+    requires number { number < lines.old.cpus }
+    requires prepared { IsPrepared (local_of cpu.old).attempt plain.now.ready.now.instr
+        (touched_by plain.now.ready.now.shape.touch plain.now.first plain.now.ready.now.shape.size) }
+    requires there { GoesThere (local_of cpu.old).attempt plain.now.ready.now.instr
+        (touched_by plain.now.ready.now.shape.touch plain.now.first plain.now.ready.now.shape.size) }
+    requires count { (local_of cpu.old).attempt.count + 1 < 2 ^ 32 }
+    ensures value { record { after = beside cpu.new result.lines.now.bytes; told = told_or result.value aside.new } ≡
+        executed plain.now.ready.now.instr
+        (touched_by plain.now.ready.now.shape.touch plain.now.first plain.now.ready.now.shape.size)
+        (beside cpu.old lines.old.bytes) }
+    ensures code { HasDoneRoom (told_or result.value aside.new) }
+    ensures held { holdings_of result.lines.now ≡ holdings_of lines.old }
+    ensures same_reference { result.lines.ghost_name ≡ lines.entry.ghost_name }
+{
+    let mut window: Window<'a, H> = Window::open(lines, number);
+    let simply = cpu.execute_there(plain, &mut window, aside);
+    window.close(simply)
 }
 
 /// Aborts the live attempt of a CPU.

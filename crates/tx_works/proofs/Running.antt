@@ -6,6 +6,7 @@ use Rattle.tx_progress.specs.Doing.{executed}
 use Rattle.tx_progress.specs.Progress.{is_live as is_attempt_live}
 use Rattle.tx_lines.specs.Parts.{local_of}
 use Rattle.tx_lines.specs.Plans.{IsPrepared}
+use Rattle.tx_lines.specs.Going.{GoesThere}
 use Rattle.tx_meaning.specs.State.{is_live}
 use Rattle.tx_keeping.specs.Kept.{Kept, beside}
 use Rattle.tx_keeping.specs.Turn.{k_done, k_executing, k_inside, k_outside, next_address}
@@ -28,6 +29,11 @@ module _ (old now : Works) (cpu : ℕ) (s other : Seat) (view : old ≡ now) (kn
       → IsPrepared (local_of s.cpu).attempt i need
   at-prepared i need may =
       subst (λ (s : Seat). IsPrepared (local_of s.cpu).attempt i need) (sym (seat-is old now cpu s no_seat seated)) may.prepared
+
+  pub at-there : (i : Instr) (need : List Range) → GoesThere ((kept_by no_seat now).locals cpu).attempt i need
+      → GoesThere (local_of s.cpu).attempt i need
+  at-there i need goes =
+      subst (λ (s : Seat). GoesThere (local_of s.cpu).attempt i need) (sym (seat-is old now cpu s no_seat seated)) goes
 
   pub at-few : (i : Instr) (need : List Range) → MayExecute cpu i need (kept_by no_seat now)
       → (local_of s.cpu).attempt.count < s.tally.turns

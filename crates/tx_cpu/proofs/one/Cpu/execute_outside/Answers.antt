@@ -1,8 +1,6 @@
 -- What an instruction outside transactions leaves and tells.
 use Rattle.std.proofs.Common.{◌≡◌, List, ℕ, ap, sym, subst, ◌∙◌}
 use Rattle.std.specs.Prelude.{nat_lt, false}
-use Rattle.z_instr.specs.Layout.{form_length}
-use Rattle.z_instr.specs.Table.{Entry}
 use Rattle.z_regs.specs.Cpu.{cpu_of}
 use Rattle.tx_progress.specs.Progress.{Progress}
 use Rattle.tx_progress.specs.Trial.{outcome_by}
@@ -11,7 +9,6 @@ use Rattle.tx_attempt.specs.Tracked.{progress}
 use Rattle.tx_cpu.specs.Parts.{Parts}
 use Rattle.tx_attempt.specs.Storages.{storage_of}
 use Rattle.tx_cpu.specs.contracts.one.Cpu.{the_view}
-use Rattle.tx_cpu.proofs.Completing.{outside-is}
 use Rattle.tx_progress.proofs.Parts.{not_live}
 use Rattle.tx_cpu.proofs.one.Cpu.execute_outside.Goals as goal
 
@@ -27,7 +24,6 @@ returns-clause-value g c =
     let live : nat_lt 0 c.self.inside.attempt.count ≡ false =
     ap (λ (q : Parts). nat_lt 0 q.attempt.count) c.self.view_is ∙ c.requires.rests in
     let rests = c.is_sound.ensures.rests (not_live _ live) in
-    let length = c.length_in-length.ensures ∙ ap (λ (e : Entry). form_length e.form) c.line.ensures.row in
     let need = c.args.need.now in
     let old : List ℕ = g.V.Bytes.bytes c.args.base.now in
     let next : List ℕ = g.V.Bytes.bytes c.perform_outside-ended.new.base in
@@ -38,7 +34,5 @@ returns-clause-value g c =
     (outcome_by (storage_of old) c.args.instr.now need q)) (sym (rests p.image))
     c.perform_outside-ended.ensures.left in
     rw (← c.self.view_is)
-    (outside-is p c.args.instr.now need
-    (outcome_by (storage_of old) c.args.instr.now need (progress p.attempt p.image))
-    c.perform_outside-ended.result cpu _ _ old next _ _ c.length_in-length.result live rests left length
-    c.end_outside.ensures c.wait_outside.ensures c.delay_after-turns.ensures c.told.ensures)
+    (c.leave_outside.ensures p.image (outcome_by (storage_of old) c.args.instr.now need (progress p.attempt p.image))
+    need old next left c.delay_after-turns.ensures)

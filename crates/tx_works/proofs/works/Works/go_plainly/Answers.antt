@@ -20,6 +20,14 @@ perform_plainly-requires-clause-prepared c rest =
 pub perform_plainly-requires-clause-rested : goal.perform_plainly-requires-clause-rested
 perform_plainly-requires-clause-rested c rest = (c.requires.turns rest no_limits).rested
 
+pub perform_plainly-requires-clause-bare : goal.perform_plainly-requires-clause-bare
+perform_plainly-requires-clause-bare c rest = (c.requires.quiet rest).prefix
+
+pub perform_plainly-requires-clause-placed : goal.perform_plainly-requires-clause-placed
+perform_plainly-requires-clause-placed c =
+    reached-placed c.args.plain.now.ready.now.shape c.args.plain.now.first (items c.args.program.now.guard)
+    c.requires.reached
+
 pub perform_plainly-requires-clause-room : goal.perform_plainly-requires-clause-room
 perform_plainly-requires-clause-room c = room-now c.args.self.now (c.requires.acts no_seat).room
 

@@ -1,8 +1,9 @@
 -- Inside or outside.
+use Rattle.std.proofs.Common.{sym, ap, ◌∙◌}
 use Rattle.tx_works.proofs.works.Works.perform_plainly.Goals as goal
 
-pub execute_inside_by_touch-requires-clause-may : goal.execute_inside_by_touch-requires-clause-may
-execute_inside_by_touch-requires-clause-may c rest =
+pub execute_plainly_inside-requires-clause-may : goal.execute_plainly_inside-requires-clause-may
+execute_plainly_inside-requires-clause-may c rest =
     record {
       prepared = c.requires.prepared rest;
       counts = c.requires.counts rest;
@@ -10,8 +11,8 @@ execute_inside_by_touch-requires-clause-may c rest =
       rested = c.requires.rested rest;
     }
 
-pub execute_plainly_outside-requires-clause-may : goal.execute_plainly_outside-requires-clause-may
-execute_plainly_outside-requires-clause-may c rest =
+pub execute_there-requires-clause-may : goal.execute_there-requires-clause-may
+execute_there-requires-clause-may c rest =
     record {
       prepared = c.requires.prepared rest;
       counts = c.requires.counts rest;
