@@ -24,11 +24,15 @@ ghost use Rattle.tx_cpu.specs.Going.{MayGo, GoesThere, IsSeenThere, told_or};
 ghost use Rattle.tx_cpu.specs.Plans.{IsPrepared, HasDoneRoom};
 
 use crate::one::Cpu;
-use crate::outside::{delay_after, end_outside, perform_outside, perform_there, told, wait_outside};
+use crate::outside::{
+    delay_after, end_outside, perform_outside, perform_there, told, wait_outside,
+};
 use crate::plain::{Plain, advance_there, operands_at};
-use tx_attempt::{Before, Ended, MOST_BYTES, cause_in, execute_seen, operand, perform, transaction_of};
-use tx_control::codes::{FIXED_POINT_DIVIDE, FIXED_POINT_OVERFLOW};
+use tx_attempt::{
+    Before, Ended, MOST_BYTES, cause_in, execute_seen, operand, perform, transaction_of,
+};
 use tx_control::Why;
+use tx_control::codes::{FIXED_POINT_DIVIDE, FIXED_POINT_OVERFLOW};
 use tx_program::Touch;
 use tx_progress::done::Done;
 use z_effect::exception;

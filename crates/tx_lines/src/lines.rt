@@ -18,7 +18,9 @@ ghost use Rattle.tx_lines.specs.Owned.{Owned, holders_in, with_lines};
 ghost use Rattle.tx_lines.specs.Spare.{is_unused, lowest_spare, granted};
 ghost use Rattle.tx_lines.specs.Next.{next_against, stands_against};
 
-use crate::windows::{abort_in, execute_in, execute_live_in, execute_there_in, store_block_in, take_in};
+use crate::windows::{
+    abort_in, execute_in, execute_live_in, execute_there_in, store_block_in, take_in,
+};
 use line_copies::{CoherentLines, Handback};
 use line_table::{MOST_HELD, Mode};
 use std::alloc::Global;
@@ -278,7 +280,13 @@ impl Lines {
         ensures cpus { self.new.cpus ≡ self.old.cpus }
         ensures held { holders_in self.new ≡ holders_in self.old }
     {
-        let Handback { value, .. } = execute_there_in::<Brand>(&mut self.lines, number, cpu, plain, aside);
+        let Handback { value, .. } = execute_there_in::<Brand>(
+            &mut self.lines,
+            number,
+            cpu,
+            plain,
+            aside,
+        );
         value
     }
 

@@ -19,7 +19,6 @@ use Rattle.z_instr.specs.Operands.{addressing, protection, operation}
 use Rattle.z_instr.specs.Roles.{begins}
 use Rattle.z_instr.specs.Table.{Entry, entry_at}
 use Rattle.z_instr.specs.declared.instr.Instr.{Instr}
-use Rattle.z_instr.specs.declared.operand.Demand.TheVariants.{Begin}
 use Rattle.z_instr.proofs.Pieces.{holds_byte}
 use Rattle.z_instr.proofs.SmallOperands.{sizes}
 use Rattle.z_touch.specs.Refusals.{range_of}

@@ -1,10 +1,9 @@
 -- Storage as it is, is what the CPU sees.
-use Rattle.std.proofs.Common.{◌≡◌, ◌<◌, Bool, true, false, List, ℕ, [], ◌∷◌, refl, sym, ap, subst, ◌∙◌, length, get_or}
+use Rattle.std.proofs.Common.{List, ℕ, [], refl, sym, subst, ◌∙◌, length}
 use Rattle.z_regs.specs.Cpu.{cpu_of}
-use Rattle.z_regs.specs.declared.ranges.Range.{Range}
 use Rattle.store_cache.specs.Entries.{stores_of}
 use Rattle.tx_progress.specs.Progress.{seen_through}
-use Rattle.tx_attempt.specs.Performed.{StoresFirst, StoresNone, no_range}
+use Rattle.tx_attempt.specs.Performed.{StoresFirst}
 use Rattle.tx_attempt.specs.Storages.{storage_of}
 use Rattle.tx_attempt.proofs.Bare.{apart-so, none-apart, none-after}
 use Rattle.tx_attempt.proofs.Fetching.{all-inside}

@@ -1,6 +1,6 @@
 -- What steps have made is made again, by the other CPU and on the other storage.
-use Rattle.std.proofs.Common.{◌≡◌, ℕ, Bool, true, false, Some, None, refl, sym, ap, subst, ◌∙◌}
-use Rattle.std.specs.Prelude.{is_some, if◌then◌else◌}
+use Rattle.std.proofs.Common.{◌≡◌, ℕ, true, false, sym, ap, subst, ◌∙◌}
+use Rattle.std.specs.Prelude.{is_some}
 use Rattle.std.specs.FinSet.{items}
 use Rattle.z_regs.specs.Prefix.{is_prefix}
 use Rattle.tx_progress.specs.Local.{Local}

@@ -1,5 +1,5 @@
 -- The attempt is sound with one instruction more that stores nothing.
-use Rattle.std.proofs.Common.{◌<◌, List, [], refl, sym, subst, ap, ◌∙◌, take}
+use Rattle.std.proofs.Common.{◌<◌, List, [], refl, sym, subst, ap, take}
 use Rattle.tx_progress.specs.Progress.{laying}
 use Rattle.tx_attempt.specs.Advancing.{MayAdvance}
 use Rattle.tx_attempt.specs.Performed.{StoresFirst, first_size}

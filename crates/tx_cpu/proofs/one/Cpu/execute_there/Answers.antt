@@ -1,5 +1,5 @@
 -- What it leaves and tells is what the instruction does.
-use Rattle.std.proofs.Common.{◌≡◌, ◌<◌, true, false, List, [], ℕ, Option, None, refl, sym, ap, subst, ◌∙◌}
+use Rattle.std.proofs.Common.{◌≡◌, true, false, List, [], ℕ, Option, refl, sym, ap, subst, ◌∙◌}
 use Rattle.std.specs.Prelude.{nat_lt, All}
 use Rattle.z_regs.specs.Absolute.{IsAccessible}
 use Rattle.z_regs.specs.Cpu.{cpu_of}

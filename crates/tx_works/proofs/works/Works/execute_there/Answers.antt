@@ -1,8 +1,7 @@
 -- What the instruction has told is made of it, inside a transaction or outside.
-use Rattle.std.proofs.Common.{◌≡◌, true, false, Bool, refl, sym, ap, ◌∙◌}
-use Rattle.tx_progress.specs.declared.done.Done.TheVariants as done
+use Rattle.std.proofs.Common.{refl, sym, ap, ◌∙◌}
 use Rattle.tx_lines.specs.Going.{told_or}
-use Rattle.tx_works.specs.Executing.{LeftBy, operand_by}
+use Rattle.tx_works.specs.Executing.{operand_by}
 use Rattle.tx_works.specs.Works.{kept_by}
 use Rattle.tx_works.proofs.works.Works.execute_there.Goals as goal
 

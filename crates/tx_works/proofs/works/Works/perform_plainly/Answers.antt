@@ -1,5 +1,4 @@
 -- Inside or outside.
-use Rattle.std.proofs.Common.{sym, ap, ◌∙◌}
 use Rattle.tx_works.proofs.works.Works.perform_plainly.Goals as goal
 
 pub execute_plainly_inside-requires-clause-may : goal.execute_plainly_inside-requires-clause-may

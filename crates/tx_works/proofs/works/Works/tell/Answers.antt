@@ -1,5 +1,5 @@
 -- Inside or outside.
-use Rattle.std.proofs.Common.{◌≡◌, Bool, sym, subst}
+use Rattle.std.proofs.Common.{subst}
 use Rattle.tx_works.specs.Executing.{LeftBy, IsLeft}
 use Rattle.tx_works.specs.Works.{kept_by}
 use Rattle.tx_works.proofs.works.Works.tell.Goals as goal
