@@ -12,7 +12,9 @@ ghost use Rattle.z_effect.specs.TransactionEffect.{delay_given};
 ghost use Rattle.z_regs.specs.declared.ranges.Range.{Range};
 ghost use Rattle.z_instr.specs.declared.instr.Instr.{Instr};
 ghost use Rattle.tx_progress.specs.Progress.{is_live};
-ghost use Rattle.tx_progress.specs.Doing.{executed, executed_where, inside, outside, done_outside};
+ghost use Rattle.tx_attempt.specs.declared.performing.Ended.TheVariants.{Completed};
+ghost use Rattle.tx_progress.specs.declared.done.Done.TheVariants.{Stepped};
+ghost use Rattle.tx_progress.specs.Doing.{executed, executed_where, inside, outside, done_outside, told_of};
 ghost use Rattle.tx_progress.specs.Trial.{outcome_by};
 ghost use Rattle.tx_serial.specs.Fate.{operands};
 ghost use Rattle.tx_program.specs.Shapes.{touched_by, is_placed};
@@ -41,19 +43,21 @@ use z_instr::instr::Instr;
 use z_instr::kind::Kind;
 use z_instr::lookup::{kind_in, line};
 use z_instr::roles::{begins, is_end};
-use z_regs::{Bytes, Touches};
+use z_regs::{Bytes, RunState, Touches};
 
-/// Whether an instruction tells that it is simply completed; else what it tells is put aside.
+/// Whether an instruction outside transactions that has ended so, and has left the CPU in this state, is simply completed.
 #[inline(always)]
-fn set_aside(told: Done, aside: &mut Done) -> bool
-    ensures { told_or result aside.new ≡ told }
+fn is_simple(ended: Ended, state: RunState) -> bool
+    ensures completed { result ≡ true → ended ≡ Completed }
+    ensures told { result ≡ true → told_of state 0 ≡ Stepped }
 {
-    match told {
-        Done::Stepped => true,
-        _ => {
-            *aside = told;
-            false
-        }
+    match ended {
+        Ended::Completed => match state {
+            RunState::Interrupted(_) => false,
+            RunState::Running => true,
+            RunState::Halted => true,
+        },
+        _ => false,
     }
 }
 
@@ -390,10 +394,10 @@ impl Cpu {
         self.sees_there(plain)
     }
 
-    /// A plain instruction inside a transaction has ended so on storage as it is, where the CPU has no prefix. Gives what is told
-    /// of it. Its operand is made where something is asked of it.
+    /// A plain instruction inside a transaction has ended so on storage as it is, where the CPU has no prefix. True where it
+    /// is simply completed; else `aside` has what it tells. Its operand is made where something is asked of it.
     #[inline(always)]
-    fn leave_inside(&mut self, plain: &Plain, ended: Ended) -> Done
+    fn leave_inside(&mut self, plain: &Plain, ended: Ended, aside: &mut Done) -> bool
         requires live { is_live (local_of self.old).attempt ≡ true }
         requires count { (local_of self.old).attempt.count + 1 < 2 ^ 32 }
         requires plain { is_transaction (kind_at plain.now.ready.now.instr.op.number) ≡ false }
@@ -406,20 +410,54 @@ impl Cpu {
         ensures { (c : registers.Cpu) (o : Outcome) (bytes : List ℕ) →
             let need = touched_by plain.now.ready.now.shape.touch plain.now.first plain.now.ready.now.shape.size in
             c.prefix ≡ None → IsKeptApart o (first_size need) c self.old.image [] ended
-            → record { after = beside self.new bytes; told = result } ≡ inside plain.now.ready.now.instr need
+            → record { after = beside self.new bytes; told = told_or result aside.new } ≡ inside plain.now.ready.now.instr need
             (beside (record self.old { image = c }) bytes) o }
     {
         match ended {
             Ended::Completed => {
                 advance_there(&mut self.attempt, plain.ready.shape, plain.first);
                 self.attempt.is_sound();
-                Done::Stepped
+                true
             }
             _ => {
                 let need = operands_at(plain.ready.shape, plain.first);
-                self.end_inside(&plain.ready.instr, &need, &[0; MOST_BYTES], None, ended)
+                *aside = self.end_inside(&plain.ready.instr, &need, &[0; MOST_BYTES], None, ended);
+                false
             }
         }
+    }
+
+    /// An instruction outside transactions that has ended so, and is not simply completed. `aside` has what it tells then.
+    #[cold]
+    #[inline(never)]
+    fn leave_aside(&mut self, instr: &Instr, ended: Ended, aside: &mut Done)
+        requires rests { is_live (local_of self.old).attempt ≡ false }
+        ensures { (c : registers.Cpu) (o : Outcome) (need : List Range) (before after : List ℕ)
+            → IsLeftOutside need c self.old.image before after ended o → 0 ≡ delay_given instr.now c
+            → record { after = beside self.new after; told = aside.new } ≡ done_outside instr.now
+            (beside (record self.old { image = c }) before) (outside instr.now need
+            (beside (record self.old { image = c }) before) o) }
+    {
+        *aside = self.leave_outside(instr, ended, 0);
+    }
+
+    /// An instruction outside transactions has ended so, behind which the program does not wait. True where it is simply
+    /// completed; else `aside` has what it tells.
+    #[inline(always)]
+    fn leave_simply(&mut self, instr: &Instr, ended: Ended, aside: &mut Done) -> bool
+        requires rests { is_live (local_of self.old).attempt ≡ false }
+        ensures { (c : registers.Cpu) (o : Outcome) (need : List Range) (before after : List ℕ)
+            → IsLeftOutside need c self.old.image before after ended o → 0 ≡ delay_given instr.now c
+            → record { after = beside self.new after; told = told_or result aside.new } ≡ done_outside instr.now
+            (beside (record self.old { image = c }) before) (outside instr.now need
+            (beside (record self.old { image = c }) before) o) }
+    {
+        self.attempt.is_sound();
+        if is_simple(ended, self.image.state) {
+            return true;
+        }
+        self.leave_aside(instr, ended, aside);
+        false
     }
 
     /// Executes a plain instruction on storage as it is, and tells what came of it as `execute` does: that it is simply completed,
@@ -445,11 +483,9 @@ impl Cpu {
         let need = operands_at(plain.ready.shape, plain.first);
         let ended = perform_there(kind_in(instr.op), instr, &need, &mut self.image, base);
         if self.attempt.is_live() {
-            let told = self.leave_inside(plain, ended);
-            return set_aside(told, aside);
+            return self.leave_inside(plain, ended, aside);
         }
-        let told = self.leave_outside(instr, ended, 0);
-        set_aside(told, aside)
+        self.leave_simply(instr, ended, aside)
     }
 
     /// Executes an instruction that `prepare` has found to go, with its operands, and tells what came of it.

@@ -51,17 +51,17 @@ perform_there-ended-requires-clause-accessible g c =
     (goes-by (the_view c.self.inside) c.args.self.now c.args.plain.now.ready.now.instr _ _ c.self.view_is
     c.operands_at-need.ensures c.is_sound.ensures.sound c.requires.prepared).accessible
 
-pub leave_inside-told-requires-clause-plain : goal.leave_inside-told-requires-clause-plain
-leave_inside-told-requires-clause-plain g c = c.requires.there.plain
+pub leave_inside-requires-clause-plain : goal.leave_inside-requires-clause-plain
+leave_inside-requires-clause-plain g c = c.requires.there.plain
 
-pub leave_inside-told-requires-clause-fetches : goal.leave_inside-told-requires-clause-fetches
-leave_inside-told-requires-clause-fetches g c =
+pub leave_inside-requires-clause-fetches : goal.leave_inside-requires-clause-fetches
+leave_inside-requires-clause-fetches g c =
     let live : nat_lt 0 c.args.self.now.attempt.count ≡ true =
     sym (ap (λ (p : Parts). nat_lt 0 p.attempt.count) c.self.view_is) ∙ sym c.is_live.ensures ∙ c.if-is_live.true in
     (c.requires.there.there live).fetches
 
-pub leave_inside-told-requires-clause-accessible : goal.leave_inside-told-requires-clause-accessible
-leave_inside-told-requires-clause-accessible g c =
+pub leave_inside-requires-clause-accessible : goal.leave_inside-requires-clause-accessible
+leave_inside-requires-clause-accessible g c =
     let shape = c.args.plain.now.ready.now.shape in
     let need = touched_by shape.touch c.args.plain.now.first shape.size in
     let goes = goes-by (the_view c.self.inside) c.args.self.now c.args.plain.now.ready.now.instr need need c.self.view_is
@@ -69,8 +69,8 @@ leave_inside-told-requires-clause-accessible g c =
     subst (λ (prefix : Option ℕ). All (IsAccessible prefix) need)
     (ap (λ (q : Parts). q.image.prefix) c.self.view_is ∙ c.requires.there.bare) goes.accessible
 
-pub leave_inside-told-requires-clause-goes_on : goal.leave_inside-told-requires-clause-goes_on
-leave_inside-told-requires-clause-goes_on g c =
+pub leave_inside-requires-clause-goes_on : goal.leave_inside-requires-clause-goes_on
+leave_inside-requires-clause-goes_on g c =
     let p = the_view c.self.inside in
     let i = c.args.plain.now.ready.now.instr in
     let shape = c.args.plain.now.ready.now.shape in
@@ -95,8 +95,8 @@ returns-then-is_live-clause-value g c =
     (touched_by shape.touch c.args.plain.now.first shape.size)) (sym c.self.view_is)
     (c.requires.there.there (sym (ap (λ (q : Parts). nat_lt 0 q.attempt.count) c.self.view_is) ∙ live))) in
     let need = touched_by shape.touch c.args.plain.now.first shape.size in
-    rw (c.set_aside.ensures, ← c.self.view_is, c.perform_there-ended.ensures.same there.fetches)
-    (c.leave_inside-told.ensures p.image (outcome_by (storage_of old) i need (progress p.attempt p.image)) _
+    rw (← c.self.view_is, c.perform_there-ended.ensures.same there.fetches)
+    (c.leave_inside.ensures p.image (outcome_by (storage_of old) i need (progress p.attempt p.image)) _
     (ap (λ (q : Parts). q.image.prefix) c.self.view_is ∙ c.requires.there.bare)
     (subst (λ (rs : List Range). IsKeptApart (outcome_by (storage_of old) i rs (progress p.attempt p.image))
     (first_size rs) p.image (cpu_of c.perform_there-ended.new.image) [] c.perform_there-ended.result)
@@ -123,8 +123,8 @@ returns-clause-value g c =
     (outcome_by (storage_of old) i made (progress p.attempt p.image)) =
     subst (λ (q : Progress). IsLeftOutside made p.image cpu old next c.perform_there-ended.result
     (outcome_by (storage_of old) i made q)) (sym (rests p.image)) c.perform_there-ended.ensures.outside in
-    rw (c.set_aside-2.ensures, ← c.self.view_is)
-    (c.leave_outside-told.ensures p.image (outcome_by (storage_of old) i made (progress p.attempt p.image)) made old next
+    rw (← c.self.view_is)
+    (c.leave_simply.ensures p.image (outcome_by (storage_of old) i made (progress p.attempt p.image)) made old next
     left (sym (asks-nothing i p.image c.requires.there.plain))
     ∙ sym (executed_is i made (beside p old) false false quiet (begins-none i c.requires.there.plain))
     ∙ ap (λ (need : List Range). executed i need (beside p old)) c.operands_at-need.ensures)
