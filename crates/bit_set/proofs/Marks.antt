@@ -192,6 +192,25 @@ next_none words from w s b end lt below_it lowest =
     (λ k le under. none_up_to words from w s b lt (omega (arith, lowest.within)) below_it lowest.first k le
     (omega (arith, over, under))))
 
+-- where no place up to another one is marked, the next one from there on is the next one
+pub found_behind : (marks : List Bool) (from first end : ℕ) (o : Option ℕ) → from ≤ first
+    → NoneMarked marks from first → IfSome o (λ at. IsNext marks first end at)
+    → IfSome o (λ at. IsNext marks from end at)
+found_behind marks from first end None le none found = tt
+found_behind marks from first end (Some at) le none found =
+    record {
+      from_on = omega (arith, le, found.from_on);
+      below = found.below;
+      marked = found.marked;
+      first = λ k ge lt. by_way (cases_lt k first) (λ low. none k ge low) (λ high. found.first k high lt);
+    }
+
+pub none_behind : (marks : List Bool) (from first end : ℕ) (o : Option ℕ) → NoneMarked marks from first
+    → IfNone o (NoneMarked marks first end) → IfNone o (NoneMarked marks from end)
+none_behind marks from first end (Some at) none more = tt
+none_behind marks from first end None none more = λ k ge lt.
+    by_way (cases_lt k first) (λ low. none k ge low) (λ high. more k high lt)
+
 -- a list of one element again and again has that element, or none, at each place, as an empty set has no member
 pub blank_at : {X : Type 0} (n k : ℕ) (blank : X) → get_or (replicate n blank) k blank ≡ blank
 blank_at n k blank =

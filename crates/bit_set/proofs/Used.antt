@@ -1,7 +1,7 @@
 -- The words in use, after each change of one word.
 use Rattle.std.proofs.Common.{◌≡◌, ℕ, ◌+◌, ◌*◌, ◌/◌, ◌%◌, ◌<◌, ◌≤◌, ◌^◌, false, min, max, List, length, get_or, set, sym, ap}
-use Rattle.std.proofs.Common.{◌∙◌, arith, Option, Some, None, IfSome, IfNone}
-use Rattle.std.proofs.lemmas.Bool.{cases_eq, cases_lt}
+use Rattle.std.proofs.Common.{◌∙◌, arith, Some, None, IfSome, IfNone, subst, cond, ltb}
+use Rattle.std.proofs.lemmas.Bool.{cases_eq, cases_lt, cond-true, cond-false, lt-ltb, le-ltb}
 use Rattle.std.proofs.lemmas.List.{length-set, get_or-set_same, get_or-set_other, get_or_past}
 use Rattle.std.proofs.lemmas.Nat.Bits.{bit_at-zero}
 use Rattle.std.proofs.lemmas.List.Elements.{All-set}
@@ -47,39 +47,50 @@ module _ (words : List ℕ) (word at low high : ℕ) where
           ∙ stays (ap (λ n. get_or words n 0) (sym e) ∙ zero))
           (λ ne. get_or-set_other words at k word 0 ne ∙ zero)
 
--- what is found among the words in use is found among all
-module _ (words : List ℕ) (low high from end first past : ℕ) (kept : IsKept words low high)
-    (near : (k : ℕ) → k < first → k < end → k / 64 < low) (far : (k : ℕ) → past ≤ k → k < end → high ≤ k / 64) where
+-- what is found among the words in use is found among all, from a word on
+module _ (words : List ℕ) (low high word past end : ℕ) (kept : IsKept words low high) (over : end ≤ 64 * past) where
   unmarked : (k : ℕ) → get_or words (k / 64) 0 ≡ 0 → get_or (bits_of words) k false ≡ false
   unmarked k zero =
       by_way (cases_lt k (64 * length words))
       (λ under. get_or-bits_of words k false under ∙ ap (λ w. bit w (k % 64)) zero
       ∙ bit_of_zero 0 (k % 64) (bit_at-zero (k % 64)))
-      (λ over. get_or_past (bits_of words) k false (omega (arith, over, length-bits_of words)))
+      (λ beyond. get_or_past (bits_of words) k false (omega (arith, beyond, length-bits_of words)))
 
-  none_from : (at : ℕ) → at ≤ end
-      → ((k : ℕ) → max from first ≤ k → k < at → get_or (bits_of words) k false ≡ false)
-      → (k : ℕ) → from ≤ k → k < at → get_or (bits_of words) k false ≡ false
-  none_from at within none k le lt =
-      by_way (cases_lt k first)
-      (λ low_one. unmarked k (kept.used.below (k / 64) (near k low_one (omega (arith, lt, within)))))
-      (λ ge. none k (omega (arith, le, ge)) lt)
+  none_from : (at : ℕ) → NoneMarked (bits_of words) (64 * max word low) at
+      → NoneMarked (bits_of words) (64 * word) at
+  none_from at none k le lt =
+      by_way (cases_lt k (64 * max word low))
+      (λ early. unmarked k (kept.used.below (k / 64) (omega (arith, le, early))))
+      (λ ge. none k ge lt)
 
-  pub found_in_all : (o : Option ℕ) → IfSome o (λ at. IsNext (bits_of words) (max from first) (min end past) at)
-      → IfSome o (λ at. IsNext (bits_of words) from end at)
-  found_in_all None found = tt
-  found_in_all (Some at) found =
-      record {
+  pub found_in_all : (at : ℕ) → IsNext (bits_of words) (64 * max word low) (64 * min past high) at
+      → IfSome (cond (ltb at end) (Some at) None) (λ n. IsNext (bits_of words) (64 * word) end n)
+  found_in_all at found =
+      by_way (cases_lt at end)
+      (λ lt. subst (λ o. IfSome o (λ n. IsNext (bits_of words) (64 * word) end n))
+      (sym (cond-true (ltb at end) (Some at) None (lt-ltb at end lt)))
+      (record {
         from_on = omega (arith, found.from_on);
-        below = omega (arith, found.below);
+        below = lt;
         marked = found.marked;
-        first = none_from at (omega (arith, found.below)) found.first;
-      }
+        first = none_from at found.first;
+      }))
+      (λ le. subst (λ o. IfSome o (λ n. IsNext (bits_of words) (64 * word) end n))
+      (sym (cond-false (ltb at end) (Some at) None (le-ltb at end le))) tt)
 
-  pub none_in_all : (o : Option ℕ) → IfNone o (NoneMarked (bits_of words) (max from first) (min end past))
-      → IfNone o (NoneMarked (bits_of words) from end)
-  none_in_all (Some at) none = tt
-  none_in_all None none =
-      none_from end (omega arith) (λ k le lt. by_way (cases_lt k past)
-      (λ under. none k le (omega (arith, lt, under)))
-      (λ over. unmarked k (kept.used.from_on (k / 64) (far k over lt))))
+  pub none_but_found : (at : ℕ) → IsNext (bits_of words) (64 * max word low) (64 * min past high) at
+      → IfNone (cond (ltb at end) (Some at) None) (NoneMarked (bits_of words) (64 * word) end)
+  none_but_found at found =
+      by_way (cases_lt at end)
+      (λ lt. subst (λ o. IfNone o (NoneMarked (bits_of words) (64 * word) end))
+      (sym (cond-true (ltb at end) (Some at) None (lt-ltb at end lt))) tt)
+      (λ le. subst (λ o. IfNone o (NoneMarked (bits_of words) (64 * word) end))
+      (sym (cond-false (ltb at end) (Some at) None (le-ltb at end le)))
+      (λ k from under. none_from at found.first k from (omega (arith, le, under))))
+
+  pub none_in_all : NoneMarked (bits_of words) (64 * max word low) (64 * min past high)
+      → NoneMarked (bits_of words) (64 * word) end
+  none_in_all none =
+      none_from end (λ k le lt. by_way (cases_lt k (64 * min past high))
+      (λ under. none k le under)
+      (λ beyond. unmarked k (kept.used.from_on (k / 64) (omega (arith, beyond, lt, over)))))

@@ -1,7 +1,7 @@
 //! The set, over its words.
 ghost use Rattle.std.specs.Prelude.{◌≡◌, ℕ, ◌*◌, ◌<◌, ◌≤◌, ◌↔◌, Bool, true, false, List, length, replicate};
 ghost use Rattle.std.specs.Prelude.{slice_set, slice_index_or, nat_lt, if◌then◌else◌, IsTrue, IfOk, IfSome};
-ghost use Rattle.std.specs.Prelude.{IfNone, ◌+◌, ◌/◌, ◌%◌, ◌||◌};
+ghost use Rattle.std.specs.Prelude.{IfNone, ◌+◌, ◌/◌, ◌%◌, ◌^◌, ◌||◌};
 ghost use Rattle.bit_set.specs.Bits.{bits_of, lies_in, IsNext, NoneMarked};
 ghost use Rattle.bit_set.specs.Used.{IsZeroOutside};
 
@@ -62,7 +62,24 @@ impl BitSet {
     }
 
     /// Adds the numbers from `from` on and below `end`.
+    #[inline(always)]
     pub fn insert_run(&mut self, from: usize, end: usize)
+        requires order { from ≤ end }
+        requires within { end ≤ length self.old }
+        ensures size { length self.new ≡ length self.old }
+        ensures marks { (k : ℕ) → slice_index_or self.new k false
+            ≡ (slice_index_or self.old k false || lies_in from end k) }
+    {
+        if from < end && from / 64 == (end - 1) / 64 {
+            self.insert_in_word(from, end);
+        } else {
+            self.insert_in_words(from, end);
+        }
+    }
+
+    /// Adds the numbers from `from` on and below `end`, word by word.
+    #[inline(never)]
+    fn insert_in_words(&mut self, from: usize, end: usize)
         requires order { from ≤ end }
         requires within { end ≤ length self.old }
         ensures size { length self.new ≡ length self.old }
@@ -78,7 +95,8 @@ impl BitSet {
     }
 
     /// Adds the numbers of one word from `from` on and below `end`.
-    fn insert_in_word(&mut self, from: usize, end: usize)
+    #[inline(always)]
+    pub fn insert_in_word(&mut self, from: usize, end: usize)
         requires some { from < end }
         requires word { end ≤ from / 64 * 64 + 64 }
         requires within { end ≤ length self.old }
@@ -151,20 +169,21 @@ impl BitSet {
         }
         match lowest_from(self.words[from / 64], (from % 64) as u32) {
             Some(bit) => below(from / 64 * 64 + bit as usize, end),
-            None => self.next_in_use(from, end),
+            None => self.next_from_word(from / 64 + 1, end),
         }
     }
 
-    /// The lowest number of the set from `from` on and below `end`. Only words in use are read.
+    /// The lowest number of the set in word `word` or behind it, and below `end`. Only words in use are read.
     #[inline(never)]
-    fn next_in_use(&self, from: usize, end: usize) -> Option<usize>
+    fn next_from_word(&self, word: usize, end: usize) -> Option<usize>
         requires { end ≤ length self.now }
-        ensures found { IfSome result (λ at. IsNext self.now from end at) }
-        ensures none { IfNone result (NoneMarked self.now from end) }
+        ensures found { IfSome result (λ at. IsNext self.now (64 * word) end at) }
+        ensures none { IfNone result (NoneMarked self.now (64 * word) end) }
     {
-        let first = self.low.saturating_mul(64);
-        let past = self.high.saturating_mul(64);
-        next_in(&self.words, from.max(first), end.min(past))
+        let first = word.max(self.low);
+        let past = end.div_ceil(64).min(self.high);
+        let at = next_in(&self.words, first, past)?;
+        below(at, end)
     }
 
     /// Whether all numbers from `from` on and below `end` are in the set.
@@ -217,22 +236,16 @@ fn zero(words: &mut [u64], low: usize, high: usize)
     }
 }
 
-/// The lowest bit of the words from `from` on and below `end` that is one.
-fn next_in(words: &[u64], from: usize, end: usize) -> Option<usize>
-    requires { end ≤ 64 * length words.now }
-    ensures found { IfSome result (λ at. IsNext (bits_of words.now) from end at) }
-    ensures none { IfNone result (NoneMarked (bits_of words.now) from end) }
+/// The lowest bit that is one in the words from word `first` on and before word `past`.
+fn next_in(words: &[u64], first: usize, past: usize) -> Option<usize>
+    requires words { past ≤ length words.now }
+    requires bits { 64 * past ≤ 2 ^ 64 }
+    ensures found { IfSome result (λ at. IsNext (bits_of words.now) (64 * first) (64 * past) at) }
+    ensures none { IfNone result (NoneMarked (bits_of words.now) (64 * first) (64 * past)) }
 {
-    if end <= from {
-        return None;
-    }
-    let first = from / 64;
-    if let Some(bit) = lowest_from(words[first], (from % 64) as u32) {
-        return below(first * 64 + bit as usize, end);
-    }
-    'words: for at in first + 1..end.div_ceil(64) {
+    'words: for at in first..past {
         if let Some(bit) = lowest_from(words[at], 0) {
-            return below(at * 64 + bit as usize, end);
+            return Some(at * 64 + bit as usize);
         }
     }
     None

@@ -83,11 +83,24 @@ sound index bytes marks values value_marks kept within below =
     }
 
 -- a block that is no entry's has room only where there is room for one more entry
-pub room_left : (overlay : Overlay) (block : ℕ) → has_block overlay block ≡ false
+room_left : (overlay : Overlay) (block : ℕ) → has_block overlay block ≡ false
     → has_room overlay block ≡ true → block_count overlay < block_limit
 room_left overlay block new room =
     ltb-true (block_count overlay) block_limit
     (sym (ap (λ b. b || ltb (block_count overlay) block_limit) new) ∙ room)
+
+-- a block that has room and is no entry's may become one's
+pub entry_left : (index : Slots) (bytes : List ℕ) (marks : List Bool) (values : List ℕ) (value_marks : List Bool)
+    (block : ℕ) → IsKept index bytes marks values value_marks
+    → has_room (items_of block_size index.keys bytes marks) block ≡ true → is_key index.keys block ≡ false
+    → count_below index.limit (is_key index.keys) < index.most
+entry_left index bytes marks values value_marks block kept room new =
+    omega (
+      arith,
+      room_left (items_of block_size index.keys bytes marks) block (kept.stored block ∙ new) room,
+      counted_blocks index bytes marks values value_marks kept,
+      kept.most,
+    )
 
 -- ---- no entries
 

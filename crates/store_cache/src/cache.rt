@@ -1,13 +1,14 @@
 //! The store cache.
 ghost use Rattle.std.specs.Prelude.{◌≡◌, ℕ, ◌+◌, ◌*◌, ◌/◌, ◌%◌, ◌<◌, ◌≤◌, true, is_some, None, Some, IfOk, IfSome, IfNone, length};
-ghost use Rattle.std.specs.Prelude.{false, if◌then◌else◌, ◌++◌, ◌∷◌, [], slice_index, take};
+ghost use Rattle.std.specs.Prelude.{false, if◌then◌else◌, ◌++◌, ◌∷◌, [], slice_index};
 ghost use Rattle.bit_set.specs.Counts.{count_below};
 ghost use Rattle.slot_index.specs.Slots.{slot_in, is_key};
-ghost use Rattle.store_cache.specs.Overlay.{with_one, with_bytes, bytes_through, has_block, block_count};
+ghost use Rattle.store_cache.specs.Overlay.{with_bytes, bytes_through, has_block, block_count};
 ghost use Rattle.store_cache.specs.Stores.{no_stores, with_store, with_ntstg, lasting_bytes, has_room};
 ghost use Rattle.store_cache.specs.Stores.{IsSound};
 ghost use Rattle.store_cache.specs.Entries.{stores_of};
 
+use crate::copying::{copy_front, copy_into};
 use crate::laying::{lay_bytes, lay_values};
 use bit_set::BitSet;
 use byteorder::{BigEndian, ByteOrder};
@@ -176,8 +177,13 @@ impl StoreCache {
     {
         let mut doubleword = [0u8; 8];
         BigEndian::write_u64(&mut doubleword, value);
-        self.store_bytes(address, &doubleword);
-        self.keep(address as usize / 8, value);
+        let address = address as usize;
+        let slot = slot_for(&mut self.index, address / BLOCK_SIZE);
+        let cell = slot * BLOCK_SIZE + address % BLOCK_SIZE;
+        copy_into(&mut self.bytes, cell, &doubleword);
+        self.marks.insert_in_word(cell, cell + 8);
+        self.values[cell / 8] = value;
+        self.value_marks.insert(cell / 8);
     }
 
     /// Lays all stores over storage, and forgets them.
@@ -214,20 +220,6 @@ impl StoreCache {
         self.value_marks.copy_from(&other.value_marks);
     }
 
-    /// Keeps a value as the last one of a doubleword whose block is stored.
-    fn keep(&mut self, doubleword: usize, value: u64)
-        requires { has_block (stores_of self.old).overlay (doubleword / DOUBLEWORDS) ≡ true }
-        ensures { stores_of self.new
-            ≡ record (stores_of self.old) {
-              lasting = with_one (stores_of self.old).lasting doubleword value;
-            } }
-    {
-        let slot = self.index.slot_of(doubleword / DOUBLEWORDS).unwrap();
-        let cell = slot * DOUBLEWORDS + doubleword % DOUBLEWORDS;
-        self.values[cell] = value;
-        self.value_marks.insert(cell);
-    }
-
     /// Forgets all stores.
     fn empty(&mut self)
         ensures { stores_of self.new ≡ no_stores }
@@ -236,29 +228,6 @@ impl StoreCache {
         self.value_marks.clear();
         self.index.clear();
     }
-}
-
-/// Copies so many items from the beginning of a list.
-fn copy_front<T: Copy + Drop>(into: &mut [T], from: &[T], count: usize)
-    requires into { count ≤ length into.old }
-    requires from { count ≤ length from.now }
-    ensures size { length into.new ≡ length into.old }
-    ensures front { take count into.new ≡ take count from.now }
-{
-    into[..count].copy_from_slice(&from[..count]);
-}
-
-/// Copies the bytes to their place among others.
-fn copy_into(others: &mut [u8], at: usize, bytes: &[u8])
-    requires { at + length bytes.now ≤ length others.old }
-    ensures size { length others.new ≡ length others.old }
-    ensures bytes { (k : ℕ) → k < length bytes.now
-        → slice_index others.new (at + k) ≡ slice_index bytes.now k }
-    ensures before { (k : ℕ) → k < at → slice_index others.new k ≡ slice_index others.old k }
-    ensures behind { (k : ℕ) → at + length bytes.now ≤ k
-        → slice_index others.new k ≡ slice_index others.old k }
-{
-    others[at..at + bytes.len()].copy_from_slice(bytes);
 }
 
 /// The entry of a block, a new one where it has none.

@@ -1,11 +1,13 @@
 //! Marked items of entries, laid over storage and unmarked.
 
 ghost use Rattle.std.specs.Prelude.{◌≡◌, ℕ, ◌+◌, ◌*◌, ◌%◌, ◌<◌, ◌≤◌, length, slice_index_or, true, false};
+ghost use Rattle.z_regs.specs.Written.{written};
 ghost use Rattle.store_cache.specs.Overlay.{bytes_through};
 ghost use Rattle.store_cache.specs.Stores.{lasting_bytes};
 ghost use Rattle.store_cache.specs.Entries.{items_of};
 
 use crate::cache::{BLOCK_SIZE, DOUBLEWORDS};
+use crate::copying::eight;
 use bit_set::BitSet;
 use slot_index::SlotIndex;
 use z_regs::{Bytes, STORAGE_SIZE};
@@ -24,8 +26,23 @@ pub fn lay_bytes<V: Bytes>(index: &SlotIndex, bytes: &[u8], marks: &BitSet, into
     while let Some(cell) = marks.next(from, end) {
         let address = index.key_at(cell / BLOCK_SIZE) * BLOCK_SIZE + cell % BLOCK_SIZE;
         let count = marks.run_from(cell);
-        into.put_all(address as u64, &bytes[cell..cell + count]);
+        lay_run(into, address, &bytes[cell..cell + count]);
         from = cell + count;
+    }
+}
+
+/// Stores bytes.
+#[inline(always)]
+fn lay_run<V: Bytes>(into: &mut V, address: usize, run: &[u8])
+    requires some { 1 ≤ length run.now }
+    requires few { length run.now ≤ 256 }
+    requires inside { address + length run.now ≤ length (V.bytes into.old) }
+    ensures { V.bytes into.new ≡ written (V.bytes into.old) address run.now }
+{
+    if run.len() == 8 {
+        into.put_all(address as u64, &eight(run));
+    } else {
+        into.put_all(address as u64, run);
     }
 }
 

@@ -5,6 +5,7 @@
 #![tactic(auto)]
 
 mod cache;
+mod copying;
 mod laws;
 mod laying;
 

@@ -38,7 +38,7 @@ ghost use Rattle.tx_attempt.specs.Plain.{IsPlain};
 ghost use Rattle.std.specs.Prelude.{IfSome, IfNone, None, false, Bool, List, ◌∷◌, ◌%◌};
 
 use crate::advancing::{Before, add_operands, change_nest, touch};
-use crate::gathering::{gather_first, gather_stores};
+use crate::gathering::{gather_doubleword, gather_first, gather_stores};
 use crate::refusal::{Refusal, breach};
 use std::alloc::Global;
 use std::marker::Model;
@@ -516,6 +516,34 @@ impl Attempt {
         );
         touch(&mut self.footprint, need, before.prefix);
         change_nest(&mut self.nest, instr, before.opens);
+        add_operands(&mut self.constraint, need);
+        self.count += 1;
+    }
+
+    /// One NTSTG more is completed in a live attempt, which has stored these bytes, of that value; the CPU had this prefix
+    /// before it.
+    #[inline(always)]
+    pub fn advance_lasting(
+        &mut self,
+        instr: &Instr,
+        need: &Touches,
+        stored: &[u8],
+        value: u64,
+        prefix: Option<u32>,
+    )
+        requires live { 0 < self.old.count }
+        requires count { self.old.count + 1 < 2 ^ 32 }
+        requires prefix_in { IsTrue (is_prefix prefix) }
+        requires lasts { lasts (entry_at instr.now.op.number) ≡ true }
+        requires doubleword { IsDoubleword need.now stored.now value }
+        requires accessible { All (IsAccessible prefix) need.now }
+        requires goes_on { MayAdvance self.old instr.now prefix need.now }
+        ensures value { (x c : Cpu) → x.prefix ≡ prefix → progress self.new c ≡ advanced instr.now need.now c
+            (operand_stores prefix need.now (take (first_size need.now) stored.now)) (progress self.old x) }
+        ensures live { 0 < self.new.count }
+    {
+        gather_doubleword(&mut self.stores, instr, need, stored, value, prefix);
+        touch(&mut self.footprint, need, prefix);
         add_operands(&mut self.constraint, need);
         self.count += 1;
     }

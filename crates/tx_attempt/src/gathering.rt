@@ -102,6 +102,31 @@ pub fn gather_stores(
     }
 }
 
+/// Gathers what NTSTG stores: the doubleword that is its only operand, of this value.
+#[inline(always)]
+pub fn gather_doubleword(
+    stores: &mut StoreCache,
+    instr: &Instr,
+    need: &Touches,
+    stored: &[u8],
+    value: u64,
+    prefix: Option<u32>,
+)
+    requires lasts { lasts (entry_at instr.now.op.number) ≡ true }
+    requires doubleword { IsDoubleword need.now stored.now value }
+    requires prefix_in { IsTrue (is_prefix prefix) }
+    requires accessible { All (IsAccessible prefix) need.now }
+    requires room { (r : Range) → slice_get need.now 0 ≡ Some r → r.store ≡ true
+        → HasRoomFor (stores_of stores.old).overlay prefix r.first r.length }
+    ensures overlay { (stores_of stores.new).overlay ≡ laying (stores_of stores.old).overlay
+        (operand_stores prefix need.now (take (first_size need.now) stored.now)) }
+    ensures lasting { lasting_bytes (stores_of stores.new).lasting ≡
+        laying (lasting_bytes (stores_of stores.old).lasting) (lasting_of instr.now
+        (operand_stores prefix need.now (take (first_size need.now) stored.now))) }
+{
+    gather_lasting(stores, value, need.at(0).first, prefix);
+}
+
 /// Gathers what an instruction that is not about transactions stores in its first operand.
 #[inline(always)]
 pub fn gather_first(stores: &mut StoreCache, need: &Touches, stored: &[u8], prefix: Option<u32>)

@@ -10,6 +10,9 @@ pub mod Goes
 pub mod Inside
 pub mod Preparing
 pub mod Programs
+pub mod Passing
 pub mod Plainly
+pub mod TwoBlocks
 pub mod There
+pub mod About
 mod Room

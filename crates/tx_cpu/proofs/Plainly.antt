@@ -1,9 +1,10 @@
 -- An instruction goes whose operand lies where a plain one may touch it, and which the attempt admits.
 use Rattle.std.proofs.Common.{◌≡◌, ℕ, ◌+◌, ◌-◌, ◌*◌, ◌/◌, ◌%◌, ◌<◌, ◌≤◌, Bool, true, false, List, [], ◌∷◌}
-use Rattle.std.proofs.Common.{Some, None, Ok, refl, sym, ap, subst, ◌∙◌, arith, length}
+use Rattle.std.proofs.Common.{None, Ok, refl, sym, ap, subst, ◌∙◌, arith, length}
 use Rattle.std.specs.Prelude.{◌&&◌, ◌||◌, not, cond, map, All, nat_eq, nat_lt, nat_le}
 use Rattle.std.specs.List.{list_any, list_all}
-use Rattle.std.proofs.lemmas.Bool.{true≢false, and_parts, not-true}
+use Rattle.std.proofs.lemmas.Bool.{true≢false, and_parts, not-true, cases_Bool}
+use borrow.Enum.Arm.{by_way}
 use Rattle.std.proofs.lemmas.Bool.Decides.{nat_tests}
 use Rattle.std.proofs.lemmas.List.Elements.{All-head}
 use Rattle.z_regs.specs.Cpu.{Cpu}
@@ -23,24 +24,20 @@ use Rattle.z_instr.specs.Operands.{Span, span, IsSmall, bytes_of, boundary, firs
 use Rattle.z_instr.specs.Operands.{registers_between, where_wrong, specification, addressing, protection}
 use Rattle.z_instr.specs.Operands.{operation, unspecified_in, unspecified, is_inside, is_stored_into, tested_spans}
 use Rattle.z_instr.specs.Operands.{is_refused_service, inaccessible_in, inaccessible}
-use Rattle.z_instr.specs.Access.{accessible_pages, text_pages, unfetched}
+use Rattle.z_instr.specs.Access.{accessible_pages, text_pages}
 use Rattle.z_instr.specs.Reading.{modulo}
 use Rattle.z_instr.specs.Roles.{begins, sets_access_register}
 use Rattle.z_instr.specs.Table.{Entry, entry_at}
 use Rattle.z_instr.proofs.SmallOperands.{sizes}
 use Rattle.z_touch.specs.Refusals.{range_of}
-use Rattle.z_touch.proofs.SmallRanges.{inside_without, any-text_pages}
+use Rattle.z_touch.proofs.SmallRanges.{inside_without}
 use Rattle.tx_constraint.specs.Kept.{next_operand_breach}
 use Rattle.tx_control.specs.Nesting.{effective_a}
 use Rattle.tx_control.specs.declared.begins.Begin.{Begin}
-use Rattle.tx_control.specs.declared.causes.Why.TheVariants.{Depth, Restricted}
 use Rattle.tx_footprint.specs.Touched.{Sets, touching, fit_of}
-use Rattle.tx_journal.specs.Image as image
-use Rattle.tx_serial.specs.Fate.{Goes, first_refusal, excepted, aborts_where, operands, fetch_refusal}
-use Rattle.tx_serial.specs.Fate.{instruction_at, is_restricted, overflow_in, overflow_of}
+use Rattle.tx_serial.specs.Fate.{Goes, operands, is_restricted, overflow_in, overflow_of}
 use Rattle.tx_progress.specs.Progress.{Progress, resting}
-use Rattle.tx_progress.specs.Trial.{at_hand, fate_by_progress, text_refusal_by, place_refusal_by}
-use Rattle.tx_progress.specs.Trial.{overflow_refusal_by, constraint_refusal}
+use Rattle.tx_progress.specs.Trial.{fate_by_progress, text_refusal_by, constraint_refusal}
 use Rattle.tx_cpu.specs.Admits.{Admits}
 use Rattle.tx_program.specs.declared.ready.Ready.{Ready}
 use Rattle.tx_program.specs.declared.ready.Shape.{Shape}
@@ -53,8 +50,8 @@ use Rattle.tx_program.specs.Shapes.{shape_in, boundary_size, shape_by, is_other,
 use Rattle.tx_program.proofs.Placed.{nothing-touched}
 use Rattle.tx_program.specs.Shapes.{is_reached, is_admitted, is_bare_begin, is_nothing, no_shape}
 use Rattle.tx_cpu.proofs.Goes.{read-touches}
-use Rattle.tx_cpu.proofs.Programs.{plain_length, plain_reading}
-use Rattle.tx_cpu.proofs.Tests.{heads, tails, planned-read, tried-goes}
+use Rattle.tx_cpu.proofs.Programs.{plain_reading}
+use Rattle.tx_cpu.proofs.Passing.{open-page, ArePassed, tests-pass, passing-goes}
 use Rattle.z_regs.proofs.MovedBytes.{ranges_stay}
 use Rattle.std.proofs.Math.Bool.{and-false}
 
@@ -167,14 +164,6 @@ inside-line first n store small l = (inside_without (span first n store) small).
 one-page : (first n : ℕ) → 0 < n → first % 256 + n ≤ 256 → (first + n - 1) / 4096 + 1 - first / 4096 ≡ 1
 one-page first n some h = omega (arith, some, h)
 
-open-page : (text : List ℕ) (page : ℕ) → list_any (nat_eq page) text ≡ false
-    → list_any (nat_eq page) (text_pages None text) ≡ false
-open-page text page h =
-    let same : page * 4096 / 4096 ≡ page = omega arith in
-    any-text_pages None text page
-    ∙ ap (λ p. nat_lt page 256 && list_any (nat_eq p) text) same
-    ∙ ap (λ b. nat_lt page 256 && b) h ∙ and-false (nat_lt page 256)
-
 apart-line : (text : List ℕ) (first n : ℕ) → IsSmall (span first n true) → InLine first n
     → list_any (nat_eq (first / 4096)) text ≡ false
     → is_stored_into (text_pages None text) (span first n true) ≡ false
@@ -182,10 +171,6 @@ apart-line text first n small l h =
     ap (λ m. list_any (λ p. list_any (nat_eq p) (text_pages None text)) (from_up (first / 4096) m))
     (one-page first n small.some l.line)
     ∙ ap (λ b. b || false) (open-page text (first / 4096) h)
-
-record ArePassed (text : List ℕ) (ss : List Span) : Type 0 where
-  inside : list_all (is_inside (accessible_pages None)) ss ≡ true
-  apart : list_any (is_stored_into (text_pages None text)) ss ≡ false
 
 fetch-passed : (text : List ℕ) (first n : ℕ) → IsSmall (span first n false) → is_in_line first n ≡ true
     → ArePassed text (span first n false ∷ [])
@@ -241,14 +226,6 @@ open-where : (b : Bool) (s : Shape) (first : ℕ) (text : List ℕ)
     → is_open s.touch first s.size text ≡ true
 open-where true s first text h = h
 open-where false s first text h = absurd (true≢false (sym h))
-
-tests-pass : (text : List ℕ) (ss : List Span) → ArePassed text ss
-    → where_wrong (not (list_all (is_inside (accessible_pages None)) ss)) addressing
-    (where_wrong (list_any (is_stored_into (text_pages None text)) ss) protection
-    (where_wrong false operation None)) ≡ None
-tests-pass text ss p =
-    λ k. where_wrong (not (p.inside k)) addressing
-    (where_wrong (p.apart k) protection (where_wrong false operation None))
 
 -- so does what is tested of a begin that names no block: its operands
 tested-begin : (o : Operands) (i : Instr) (general : List ℕ) (code depth : ℕ) → nat_eq i.b 0 ≡ true
@@ -324,23 +301,6 @@ module _ (text bytes : List ℕ) (q : Progress) (r : Ready) (bare : q.cpu.prefix
   known-row : is_other (shape_by row.demand row.operands r.instr).touch ≡ false
   known-row = ap (λ (s : Shape). is_other s.touch) (sym shaped) ∙ known
 
-  plain-bytes : IsPlain q.overlay c.prefix c.address c.address
-  plain-bytes = record {
-    ends = ready.ends;
-    there = λ k lt. ap (λ p. absolute_of p (c.address + k)) bare;
-    bare = lets.bare;
-  }
-
-  fetches : fetch_refusal text (at_hand (storage_of bytes) q) ≡ None
-  fetches =
-      ap (unfetched (accessible_pages c.prefix) (text_pages c.prefix text) c.address)
-      (sym (plain_length q bytes c.address plain-bytes))
-      ∙ ap (λ p. unfetched (accessible_pages p) (text_pages p text) c.address (image.length_at bytes c.address)) bare
-      ∙ ready.fetches known
-
-  reads : instruction_at (at_hand (storage_of bytes) q) ≡ Some r.instr
-  reads = sym (plain_reading q bytes c.address ready.size plain-bytes) ∙ ready.read
-
   touches : need ≡ operands r.instr c
   touches =
       ap (λ (s : Shape). touched_by s.touch (first_address r.instr c.general) s.size) shaped
@@ -351,46 +311,18 @@ module _ (text bytes : List ℕ) (q : Progress) (r : Ready) (bare : q.cpu.prefix
       well-specified row.demand row.operands r.instr c.general (length q.nest) known-row
       (subst (λ (s : Shape). nat_eq (first_address r.instr c.general % bytes_of s.boundary) 0 ≡ true) shaped parts.0)
 
-  no-heads : None ≡ first_refusal (heads (storage_of bytes) q r.instr)
-  no-heads =
-      let passed : first_refusal (heads (storage_of bytes) q r.instr) ≡ None =
-      λ k. first_refusal (lets.text k ∷ aborts_where (lets.allowed k) Restricted
-      ∷ excepted r.instr (specified k) ∷ aborts_where (lets.shallow k) Depth ∷ []) in
-      sym passed
-
-  there : inaccessible r.instr c.general c.condition (length q.nest) (accessible_pages c.prefix)
-      (text_pages c.prefix text) ≡ None
-  there =
-      ap (λ p. inaccessible r.instr c.general c.condition (length q.nest) (accessible_pages p) (text_pages p text))
-      bare
-      ∙ reached row r.instr c.general c.condition (length q.nest) text
+  usable : inaccessible r.instr c.general c.condition (length q.nest) (accessible_pages None) (text_pages None text)
+      ≡ None
+  usable =
+      reached row r.instr c.general c.condition (length q.nest) text
       (sizes row.operands r.instr c.general c.condition)
       (subst (λ (s : Shape). is_open s.touch (first_address r.instr c.general) s.size text ≡ true) shaped parts.1)
 
-  place : place_refusal_by q r.instr ≡ None
-  place =
-      ap (λ (rs : List Range). constraint_refusal (λ kept. next_operand_breach kept r.instr rs) r.instr q.constraint)
-      (sym touches) ∙ lets.place
-
-  room : overflow_refusal_by q r.instr ≡ None
-  room =
-      ap (λ (rs : List Range). overflow_in q.nest (touching q.footprint (absolute_ranges c.prefix rs))) (sym touches)
-      ∙ lets.fits
-
-  no-tails : None ≡ first_refusal (tails text (storage_of bytes) q r.instr)
-  no-tails =
-      let passed : first_refusal (tails text (storage_of bytes) q r.instr) ≡ None =
-      λ k. first_refusal (excepted r.instr (there k) ∷ place k ∷ room k ∷ []) in
-      sym passed
-
   pub plain-goes : fate_by_progress text (storage_of bytes) q ≡ Goes r.instr need
-  plain-goes =
-      sym (planned-read text (storage_of bytes) q r.instr (Goes r.instr need) fetches reads
-      (tried-goes q r.instr (heads (storage_of bytes) q r.instr) (tails text (storage_of bytes) q r.instr) need
-      no-heads no-tails touches))
+  plain-goes = passing-goes text bytes q r need bare ready lets (ready.fetches known) touches specified usable
 
 -- so it does by the first address that was found
-pub goes-at : (text bytes : List ℕ) (q : Progress) (r : Ready) (first : ℕ) → q.cpu.prefix ≡ None
+goes-at : (text bytes : List ℕ) (q : Progress) (r : Ready) (first : ℕ) → q.cpu.prefix ≡ None
     → IsReady bytes text q.cpu.address r → first ≡ first_address r.instr q.cpu.general
     → is_reached r.shape first text ≡ true → Admits q r.instr (touched_by r.shape.touch first r.shape.size)
     → fate_by_progress text (storage_of bytes) q ≡ Goes r.instr (touched_by r.shape.touch first r.shape.size)
@@ -399,6 +331,85 @@ goes-at text bytes q r first bare ready at h lets =
     (sym at)
     (plain-goes text bytes q r bare ready (ap (λ a. is_reached r.shape a text) (sym at) ∙ h)
     (subst (λ a. Admits q r.instr (touched_by r.shape.touch a r.shape.size)) at lets))
+
+-- ---- where there is no operand
+
+-- each address is on the boundary of a byte
+on-byte : (a : ℕ) → (nat_eq (a % 1) 0 && true) ≡ true
+on-byte a =
+    let whole : a % 1 ≡ 0 = omega arith in
+    ap (λ n. nat_eq n 0 && true) whole
+
+absent-reached : (o : Operands) (i : Instr) (a : ℕ) (text : List ℕ) → is_nothing (shape_in o Byte i).touch ≡ true
+    → is_reached (shape_in o Byte i) a text ≡ true
+absent-reached Absent i a text h = on-byte a
+absent-reached (Fetched size) i a text h = absurd (true≢false (sym h))
+absent-reached (Stored size) i a text h = absurd (true≢false (sym h))
+absent-reached (FetchedMany size) i a text h = absurd (true≢false (sym h))
+absent-reached (StoredMany size) i a text h = absurd (true≢false (sym h))
+absent-reached FetchedSelected i a text h = absurd (true≢false (sym h))
+absent-reached StoredSelected i a text h = absurd (true≢false (sym h))
+absent-reached StoredAndFetched i a text h = absurd (true≢false (sym h))
+absent-reached BothFetched i a text h = absurd (true≢false (sym h))
+
+bounded-reached : (o : Operands) (i : Instr) (a : ℕ) (text : List ℕ)
+    → is_nothing (shape_in o (boundary_size o) i).touch ≡ true
+    → is_reached (shape_in o (boundary_size o) i) a text ≡ true
+bounded-reached Absent i a text h = on-byte a
+bounded-reached (Fetched size) i a text h = absurd (true≢false (sym h))
+bounded-reached (Stored size) i a text h = absurd (true≢false (sym h))
+bounded-reached (FetchedMany size) i a text h = absurd (true≢false (sym h))
+bounded-reached (StoredMany size) i a text h = absurd (true≢false (sym h))
+bounded-reached FetchedSelected i a text h = absurd (true≢false (sym h))
+bounded-reached StoredSelected i a text h = absurd (true≢false (sym h))
+bounded-reached StoredAndFetched i a text h = absurd (true≢false (sym h))
+bounded-reached BothFetched i a text h = absurd (true≢false (sym h))
+
+where-reached : (b : Bool) (o : Operands) (i : Instr) (a : ℕ) (text : List ℕ)
+    → is_nothing (cond b (shape_in o Byte i) no_shape).touch ≡ true
+    → is_reached (cond b (shape_in o Byte i) no_shape) a text ≡ true
+where-reached true o i a text h = absent-reached o i a text h
+where-reached false o i a text h = absurd (true≢false (sym h))
+
+-- so it is reached at each address
+nothing-reached : (d : Demand) (o : Operands) (i : Instr) (a : ℕ) (text : List ℕ)
+    → is_nothing (shape_by d o i).touch ≡ true → is_reached (shape_by d o i) a text ≡ true
+nothing-reached demand.Nothing o i a text h = absent-reached o i a text h
+nothing-reached demand.Boundary o i a text h = bounded-reached o i a text h
+nothing-reached demand.EvenPair o i a text h = absurd (true≢false (sym h))
+nothing-reached demand.AbortCode o i a text h = absurd (true≢false (sym h))
+nothing-reached demand.Begin o i a text h = where-reached (is_bare_begin i) o i a text h
+nothing-reached demand.BeginConstrained o i a text h = where-reached (nat_eq i.b 0) o i a text h
+nothing-reached demand.ServiceZero o i a text h = absurd (true≢false (sym h))
+
+known-nothing : (t : Touch) → is_nothing t ≡ true → is_other t ≡ false
+known-nothing touch.Nothing h = refl
+known-nothing touch.Fetch h = refl
+known-nothing touch.Store h = refl
+known-nothing touch.Other h = sym h
+
+-- and goes by whatever address there is
+pub goes-by : (text bytes : List ℕ) (q : Progress) (r : Ready) (first : ℕ) → q.cpu.prefix ≡ None
+    → IsReady bytes text q.cpu.address r
+    → (is_nothing r.shape.touch ≡ false → first ≡ first_address r.instr q.cpu.general)
+    → is_reached r.shape first text ≡ true → Admits q r.instr (touched_by r.shape.touch first r.shape.size)
+    → fate_by_progress text (storage_of bytes) q ≡ Goes r.instr (touched_by r.shape.touch first r.shape.size)
+goes-by text bytes q r first bare ready at h lets =
+    by_way (cases_Bool (is_nothing r.shape.touch))
+    (λ none.
+    let there : ℕ = first_address r.instr q.cpu.general in
+    let e = entry_at r.instr.op.number in
+    let shape : r.shape ≡ shape_by e.demand e.operands r.instr = ready.shape (known-nothing r.shape.touch none) in
+    let same : touched_by r.shape.touch there r.shape.size ≡ touched_by r.shape.touch first r.shape.size =
+    nothing-touched r.shape.touch there r.shape.size none ∙ sym (nothing-touched r.shape.touch first r.shape.size none)
+    in
+    let reached : is_reached r.shape there text ≡ true =
+    ap (λ (s : Shape). is_reached s there text) shape
+    ∙ nothing-reached e.demand e.operands r.instr there text
+    (sym (ap (λ (s : Shape). is_nothing s.touch) shape) ∙ none) in
+    goes-at text bytes q r there bare ready refl reached (subst (Admits q r.instr) (sym same) lets)
+    ∙ ap (Goes r.instr) same)
+    (λ some. goes-at text bytes q r first bare ready (at some) h lets)
 
 -- ---- attempts that admit it
 
@@ -464,12 +475,6 @@ attempt-admits q i need none bare allowed text place fits = record {
 }
 
 -- ---- an instruction without an operand
-
-known-nothing : (t : Touch) → is_nothing t ≡ true → is_other t ≡ false
-known-nothing touch.Nothing h = refl
-known-nothing touch.Fetch h = refl
-known-nothing touch.Store h = refl
-known-nothing touch.Other h = sym h
 
 no-operands : (storage text : List ℕ) (place : ℕ) (r : Ready) (c : Cpu) → IsReady storage text place r
     → is_nothing r.shape.touch ≡ true → operands r.instr c ≡ []

@@ -23,7 +23,16 @@ seen-plain o prefix first place k bytes plain lt =
     sym (ap (λ a. seen_through o (storage_of bytes) a) (plain.there k lt)
     ∙ ap (λ (b : Option ℕ). unwrap_or b (get_or bytes (place + k) 0)) (plain.bare k lt))
 
-length_few : (b : ℕ) → length_by b ≤ 6
+-- an instruction has two to six bytes
+pub length_some : (b : ℕ) → 0 < length_by b
+length_some b = some (nat_lt b 64) (nat_lt b 192)
+  where
+    some : (x y : Bool) → 0 < (if x then 2 else if y then 4 else 6)
+    some true y = omega arith
+    some false true = omega arith
+    some false false = omega arith
+
+pub length_few : (b : ℕ) → length_by b ≤ 6
 length_few b = few (nat_lt b 64) (nat_lt b 192)
   where
     few : (x y : Bool) → (if x then 2 else if y then 4 else 6) ≤ 6

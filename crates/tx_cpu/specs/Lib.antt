@@ -3,6 +3,7 @@ pub mod Parts
 pub mod Admits
 pub mod Plans
 pub mod Quiet
+pub mod Pairs
 pub mod Blocks
 pub mod Going
 -- what callers name of crates below

@@ -1,6 +1,7 @@
 //! The CPU executes an instruction.
 ghost use Rattle.z_instr.specs.Roles.{begins as is_begun, is_end as is_ended, block_named};
 ghost use Rattle.z_instr.specs.Table.{entry_at, kind_at};
+ghost use Rattle.z_instr.specs.declared.kind.Transaction.TheVariants.{End, StoreLasting};
 ghost use Rattle.tx_attempt.specs.Performed.{no_range, first_size, is_transaction, StoresNone, IsKeptApart, IsLeftOutside};
 ghost use Rattle.tx_attempt.specs.Advancing.{MayStep};
 ghost use Rattle.std.specs.Prelude.{get_or, ℕ, List, [], Some, ◌+◌, ◌≤◌, ◌^◌, ◌&&◌, nat_eq};
@@ -37,10 +38,10 @@ use tx_control::Why;
 use tx_control::codes::{FIXED_POINT_DIVIDE, FIXED_POINT_OVERFLOW};
 use tx_program::Touch;
 use tx_progress::done::Done;
-use z_effect::exception;
+use z_effect::{exception, register};
 use z_instr::format::length_in;
 use z_instr::instr::Instr;
-use z_instr::kind::Kind;
+use z_instr::kind::{Kind, Transaction};
 use z_instr::lookup::{kind_in, line};
 use z_instr::roles::{begins, is_end};
 use z_regs::{Bytes, RunState, Touches};
@@ -194,6 +195,84 @@ impl Cpu {
         }
     }
 
+    /// Executes NTSTG inside a transaction: nothing is asked of begins.
+    #[inline(never)]
+    fn execute_lasting<V: Bytes>(&mut self, instr: &Instr, need: &Touches, base: &mut V) -> Done
+        requires kind { kind_at instr.now.op.number ≡ Kind.Transaction StoreLasting }
+        requires live { is_live (local_of self.old).attempt ≡ true }
+        requires goes { MayGo self.old.attempt self.old.image instr.now need.now }
+        requires count { (local_of self.old).attempt.count + 1 < 2 ^ 32 }
+        requires size { length (V.bytes base.old) ≡ storage_size }
+        ensures value { record { after = beside self.new (V.bytes base.new); told = result } ≡
+            inside instr.now need.now (beside self.old (V.bytes base.old))
+            (outcome_by (storage_of (V.bytes base.old)) instr.now need.now (local_of self.old).attempt) }
+        ensures size { length (V.bytes base.new) ≡ storage_size }
+    {
+        self.attempt.is_sound();
+        let prefix = self.image.prefix;
+        let source = register(&self.image, instr.r1);
+        let mut stored = [0; 8];
+        let kind = Kind::Transaction(Transaction::StoreLasting);
+        let image = &mut self.image;
+        perform(&self.attempt, &kind, instr, need, image, &mut stored, base);
+        self.attempt
+            .advance_lasting(instr, need, &stored, source, prefix);
+        self.attempt.is_sound();
+        Done::Stepped
+    }
+
+    /// Executes a TEND that ends the last begin that is open: the attempt is committed.
+    #[inline(never)]
+    fn execute_last<V: Bytes>(&mut self, instr: &Instr, need: &Touches, base: &mut V) -> Done
+        requires kind { kind_at instr.now.op.number ≡ Kind.Transaction End }
+        requires last { length self.old.attempt.nest ≡ 1 }
+        requires live { is_live (local_of self.old).attempt ≡ true }
+        requires goes { MayGo self.old.attempt self.old.image instr.now need.now }
+        requires count { (local_of self.old).attempt.count + 1 < 2 ^ 32 }
+        requires size { length (V.bytes base.old) ≡ storage_size }
+        ensures value { record { after = beside self.new (V.bytes base.new); told = result } ≡
+            inside instr.now need.now (beside self.old (V.bytes base.old))
+            (outcome_by (storage_of (V.bytes base.old)) instr.now need.now (local_of self.old).attempt) }
+        ensures size { length (V.bytes base.new) ≡ storage_size }
+    {
+        let kind = Kind::Transaction(Transaction::End);
+        let image = &mut self.image;
+        perform(&self.attempt, &kind, instr, need, image, &mut [0; 0], base);
+        let count = self.attempt.count() + 1;
+        self.attempt.commit(base);
+        Done::Committed(count)
+    }
+
+    /// Executes an instruction about transactions inside one. NTSTG, and a TEND that commits, have ways of their own.
+    #[inline(always)]
+    fn execute_about<V: Bytes>(
+        &mut self,
+        transaction: Transaction,
+        kind: &Kind,
+        instr: &Instr,
+        need: &Touches,
+        base: &mut V,
+    ) -> Done
+        requires transaction { kind_at instr.now.op.number ≡ Kind.Transaction transaction }
+        requires kind { kind.now ≡ kind_at instr.now.op.number }
+        requires live { is_live (local_of self.old).attempt ≡ true }
+        requires goes { MayGo self.old.attempt self.old.image instr.now need.now }
+        requires count { (local_of self.old).attempt.count + 1 < 2 ^ 32 }
+        requires size { length (V.bytes base.old) ≡ storage_size }
+        ensures value { record { after = beside self.new (V.bytes base.new); told = result } ≡
+            inside instr.now need.now (beside self.old (V.bytes base.old))
+            (outcome_by (storage_of (V.bytes base.old)) instr.now need.now (local_of self.old).attempt) }
+        ensures size { length (V.bytes base.new) ≡ storage_size }
+    {
+        match transaction {
+            Transaction::StoreLasting => self.execute_lasting(instr, need, base),
+            Transaction::End if self.attempt.nest().depth() == 1 => {
+                self.execute_last(instr, need, base)
+            }
+            _ => self.execute_nested(kind, instr, need, &mut [0; 8], base),
+        }
+    }
+
     /// An instruction inside a transaction that is not about transactions has ended so, with the bytes of its first operand: the
     /// attempt has it, unless it is suppressed. Gives what is told of it. The CPU had this prefix before it.
     #[inline(never)]
@@ -330,11 +409,8 @@ impl Cpu {
         ensures size { length (V.bytes base.new) ≡ storage_size }
     {
         let kind = kind_in(instr.op);
-        if transaction_of(kind).is_some() {
-            if operand(need, 0).length <= 8 {
-                return self.execute_nested(kind, instr, need, &mut [0; 8], base);
-            }
-            return self.execute_nested(kind, instr, need, &mut [0; MOST_BYTES], base);
+        if let Some(transaction) = transaction_of(kind) {
+            return self.execute_about(transaction, kind, instr, need, base);
         }
         let mut aside = Done::Stepped;
         if self.execute_sized(kind, instr, need, base, &mut aside) {

@@ -7,6 +7,7 @@ mod interruption;
 pub mod laws;
 mod one;
 mod outside;
+mod paired;
 mod pending;
 mod plain;
 mod plan;

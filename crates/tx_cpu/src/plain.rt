@@ -7,7 +7,7 @@ ghost use Rattle.z_regs.specs.Cpu.{Cpu, cpu_of};
 ghost use Rattle.z_regs.specs.Prefix.{storage_size};
 ghost use Rattle.z_regs.specs.declared.ranges.Range.{Range};
 ghost use Rattle.z_instr.specs.declared.instr.Instr.{Instr};
-ghost use Rattle.z_instr.specs.Operands.{bytes_of};
+ghost use Rattle.z_instr.specs.Operands.{bytes_of, first_address as address_by};
 ghost use Rattle.z_instr.specs.Table.{entry_at, kind_at};
 ghost use Rattle.tx_constraint.specs.Kept.{next_text_breach, next_operand_breach};
 ghost use Rattle.tx_footprint.specs.Touched.{sets_of, touching, fit_of};
@@ -113,6 +113,30 @@ fn is_reached(shape: Shape, first: u64, guard: &Guard) -> bool
     ensures { result ≡ lies_reached shape first (items guard.now) }
 {
     is_on(first, shape.boundary) && is_open(shape.touch, first, shape.size, guard)
+}
+
+/// Whether an instruction has no operand, and demands nothing of which more would have to be known.
+fn has_no_operand(ready: &Ready) -> bool
+    ensures { result ≡ is_nothing ready.now.shape.touch }
+{
+    matches!(ready.shape.touch, Touch::Nothing)
+}
+
+/// The address of an operand that may be touched. Where there is no operand none is computed, and it is 0.
+#[inline(always)]
+fn reached(ready: &Ready, image: &CpuImage, guard: &Guard) -> Option<u64>
+    ensures reached { IfSome result (λ first. lies_reached ready.now.shape first (items guard.now) ≡ true) }
+    ensures first { IfSome result (λ first. is_nothing ready.now.shape.touch ≡ false
+        → first ≡ address_by ready.now.instr image.now.general) }
+{
+    if has_no_operand(ready) {
+        return Some(0);
+    }
+    let first = first_address(&ready.instr, &image.general);
+    if !is_reached(ready.shape, first, guard) {
+        return None;
+    }
+    Some(first)
 }
 
 /// Whether the constraints of an attempt, where it has any, admit an instruction at an address, with its operand.
@@ -242,21 +266,11 @@ pub fn plain_next<'a>(
     ensures reached { IfSome result (λ p. lies_reached p.ready.now.shape p.first (items program.now.guard) ≡ true) }
 {
     let ready = program.known(image.address)?;
-    let first = first_address(&ready.instr, &image.general);
-    if !is_reached(ready.shape, first, program.guard()) {
-        return None;
-    }
+    let first = reached(ready, image, program.guard())?;
     if !admits(attempt, image, ready, first) {
         return None;
     }
     Some(Plain { ready, first })
-}
-
-/// Whether an instruction has no operand, and demands nothing of which more would have to be known.
-fn has_no_operand(ready: &Ready) -> bool
-    ensures { result ≡ is_nothing ready.now.shape.touch }
-{
-    matches!(ready.shape.touch, Touch::Nothing)
 }
 
 /// Whether the attempt sees the bytes of the next instruction of its CPU as they are in storage.

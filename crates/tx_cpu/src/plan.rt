@@ -18,6 +18,7 @@ ghost use Rattle.tx_attempt.specs.Refused.{refusal_of, found};
 ghost use Rattle.std.specs.Prelude.{◌&&◌, nat_le, false};
 ghost use Rattle.z_instr.specs.Roles.{begins as is_begun};
 
+use crate::paired::pair_next;
 use tx_attempt::{Attempt, Refusal, cause_in};
 use tx_control::codes::OPERATION;
 use tx_control::{Exception, MOST_LEVELS, Nest, Why};
@@ -149,6 +150,7 @@ fn permitted(
 }
 
 /// What comes of an instruction that is fetched and read.
+#[inline(always)]
 fn tried(attempt: &Attempt, image: &CpuImage, instr: &Instr, guard: &Guard) -> Plan
     ensures { (storage : Storage) → let q = progress attempt.now (cpu_of image.now) in
         fate_of result ≡ tried_by q instr.now (first_refusal (tests_by (items guard.now) storage q instr.now)) }
@@ -202,6 +204,8 @@ fn next_instruction(attempt: &Attempt, image: &CpuImage, program: &Program) -> (
 }
 
 /// What comes of the next instruction, which has not been read before.
+#[cold]
+#[inline(never)]
 fn next_unread(attempt: &Attempt, image: &CpuImage, program: &Program) -> Plan
     ensures { fate_of result ≡ fate_by_progress (items program.now.guard) (storage_of program.now.storage)
         (progress attempt.now (cpu_of image.now)) }
@@ -218,9 +222,9 @@ fn next_unread(attempt: &Attempt, image: &CpuImage, program: &Program) -> Plan
     }
 }
 
-/// What comes of the next instruction, whose bytes are those that the attempt sees over the storage of the
-/// program.
-pub fn next_plan(attempt: &Attempt, image: &CpuImage, program: &Program) -> Plan
+/// What comes of the next instruction, by all tests.
+#[inline(never)]
+fn next_tested(attempt: &Attempt, image: &CpuImage, program: &Program) -> Plan
     ensures { fate_of result ≡ fate_by_progress (items program.now.guard) (storage_of program.now.storage)
         (progress attempt.now (cpu_of image.now)) }
 {
@@ -231,4 +235,19 @@ pub fn next_plan(attempt: &Attempt, image: &CpuImage, program: &Program) -> Plan
         }
     }
     next_unread(attempt, image, program)
+}
+
+/// What comes of the next instruction, whose bytes are those that the attempt sees over the storage of the
+/// program.
+pub fn next_plan(attempt: &Attempt, image: &CpuImage, program: &Program) -> Plan
+    ensures { fate_of result ≡ fate_by_progress (items program.now.guard) (storage_of program.now.storage)
+        (progress attempt.now (cpu_of image.now)) }
+{
+    if let Some(pair) = pair_next(attempt, image, program) {
+        return Plan::Go {
+            instr: *pair.instr,
+            need: pair.ranges(),
+        };
+    }
+    next_tested(attempt, image, program)
 }

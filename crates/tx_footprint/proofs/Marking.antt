@@ -62,14 +62,14 @@ marked_more marks kind ranges i r place e =
 
 -- ---- spans, place by place
 
-lies_next : (first at k : ℕ) → k ≢ at → lies_in first (at + 1) k ≡ lies_in first at k
+pub lies_next : (first at k : ℕ) → k ≢ at → lies_in first (at + 1) k ≡ lies_in first at k
 lies_next first at k ne =
     by_way (cases_lt k at)
     (λ low. ap (λ b. leb first k && b) (lt-ltb k (at + 1) (omega (arith, low)) ∙ sym (lt-ltb k at low)))
     (λ high. ap (λ b. leb first k && b) (le-ltb k (at + 1) (omega (arith, high, ne))
     ∙ sym (le-ltb k at high)))
 
-lies_last : (first at : ℕ) → first ≤ at → lies_in first (at + 1) at ≡ true
+pub lies_last : (first at : ℕ) → first ≤ at → lies_in first (at + 1) at ≡ true
 lies_last first at le =
     and_from (leb first at) (ltb at (at + 1)) (le-leb first at le) (lt-ltb at (at + 1) (omega arith))
 

@@ -1,12 +1,15 @@
 //! The footprint, over sets of lines and blocks.
-ghost use Rattle.std.specs.Prelude.{◌≡◌, ℕ, ◌<◌, ◌≤◌, ◌↔◌, All, IsTrue, IfOk, IfSome, IfNone, Ok, Err, [], ◌∷◌};
+ghost use Rattle.std.specs.Prelude.{◌≡◌, ℕ, ◌+◌, ◌-◌, ◌/◌, ◌<◌, ◌≤◌, ◌↔◌, All, IsTrue, IfOk, IfSome, IfNone, Ok, Err, [], ◌∷◌};
 ghost use Rattle.bit_set.specs.Bits.{IsNext, NoneMarked};
 ghost use Rattle.tx_footprint.specs.Places.{IsInStorage};
 ghost use Rattle.tx_footprint.specs.Touched.{Touched, untouched, touching, line_count, block_count, fit_of};
 ghost use Rattle.tx_footprint.specs.Touched.{sets_of};
 
 pub use crate::places::BLOCKS;
-use crate::places::{Kind, added, mark, mark_new, mark_span, mark_span_new, most_places, span_of};
+use crate::places::{
+    BLOCK_SIZE, Kind, LINE_SIZE, added, insert_new, is_in_block, mark, mark_new, mark_span,
+    mark_span_new, most_places, span_of,
+};
 use bit_set::BitSet;
 use line_table::{LINES, MOST_HELD};
 use std::alloc::Global;
@@ -121,8 +124,29 @@ impl Footprint {
         mark(&mut self.stored, touches, Kind::StoredLine);
     }
 
-    /// One range, by absolute addresses, is touched too.
-    pub fn add_one(&mut self, range: Range)
+    /// A range that lies in one block is touched too: one line, and one block where it is stored.
+    #[inline(always)]
+    fn add_in_block(&mut self, range: Range)
+        requires some { 0 < range.length }
+        requires block { (range.first + range.length - 1) / 128 ≡ range.first / 128 }
+        requires in_storage { IsInStorage range }
+        requires fits { fit_of (touching (sets_of self.old) (range ∷ [])) ≡ Ok tt }
+        ensures { sets_of self.new ≡ touching (sets_of self.old) (range ∷ []) }
+    {
+        let line = (range.first / LINE_SIZE) as usize;
+        self.line_count += u32::from(insert_new(&mut self.touched, line));
+        if range.store {
+            self.stored.insert(line);
+            let block = (range.first / BLOCK_SIZE) as usize;
+            self.block_count += u32::from(insert_new(&mut self.blocks, block));
+        } else {
+            self.fetched.insert(line);
+        }
+    }
+
+    /// A range is touched too, wherever it lies.
+    #[inline(never)]
+    fn add_spans(&mut self, range: Range)
         requires in_storage { IsInStorage range }
         requires fits { fit_of (touching (sets_of self.old) (range ∷ [])) ≡ Ok tt }
         ensures { sets_of self.new ≡ touching (sets_of self.old) (range ∷ []) }
@@ -131,6 +155,18 @@ impl Footprint {
         self.block_count += mark_span_new(&mut self.blocks, span_of(range, Kind::StoredBlock));
         mark_span(&mut self.fetched, span_of(range, Kind::FetchedLine));
         mark_span(&mut self.stored, span_of(range, Kind::StoredLine));
+    }
+
+    /// One range, by absolute addresses, is touched too.
+    pub fn add_one(&mut self, range: Range)
+        requires in_storage { IsInStorage range }
+        requires fits { fit_of (touching (sets_of self.old) (range ∷ [])) ≡ Ok tt }
+        ensures { sets_of self.new ≡ touching (sets_of self.old) (range ∷ []) }
+    {
+        if is_in_block(range) {
+            return self.add_in_block(range);
+        }
+        self.add_spans(range);
     }
 
     /// Whether both have fetched and stored the same lines and stored the same blocks.

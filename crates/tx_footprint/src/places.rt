@@ -1,6 +1,6 @@
 //! Places of storage that ranges of absolute addresses touch: lines and blocks, counted and marked in sets.
 
-ghost use Rattle.std.specs.Prelude.{◌≡◌, ℕ, ◌+◌, ◌<◌, ◌≤◌, ◌||◌, All, List, length, take, slice_index_or};
+ghost use Rattle.std.specs.Prelude.{◌≡◌, ℕ, ◌+◌, ◌-◌, ◌/◌, ◌<◌, ◌≤◌, ◌||◌, All, List, length, take, slice_index_or};
 ghost use Rattle.std.specs.Prelude.{◌^◌, slice_set, true, false, not};
 ghost use Rattle.bit_set.specs.Counts.{count_below};
 ghost use Rattle.tx_footprint.specs.Places.{IsInStorage, size_of, places_of, records, covers, touched_by};
@@ -90,6 +90,20 @@ pub fn span_of(range: Range, kind: Kind) -> Span
         first: (range.first / size(kind)) as usize,
         end: (last / size(kind)) as usize + 1,
     }
+}
+
+/// Whether a range has bytes, all in one block.
+#[inline(always)]
+pub fn is_in_block(range: Range) -> bool
+    requires { IsInStorage range }
+    ensures some { result ≡ true → 0 < range.length }
+    ensures block { result ≡ true → (range.first + range.length - 1) / 128 ≡ range.first / 128 }
+{
+    if range.length == 0 {
+        return false;
+    }
+    let last = range.first + u64::from(range.length) - 1;
+    last / BLOCK_SIZE == range.first / BLOCK_SIZE
 }
 
 /// A bound on how many places of any one kind the ranges touch, by their lengths alone.
@@ -190,7 +204,8 @@ pub fn mark(set: &mut BitSet, touches: &Touches, kind: Kind)
 }
 
 /// Adds a number to the set, and tells whether it was not there before.
-fn insert_new(set: &mut BitSet, place: usize) -> bool
+#[inline(always)]
+pub fn insert_new(set: &mut BitSet, place: usize) -> bool
     requires { place < length set.old }
     ensures marks { set.new ≡ slice_set set.old place true }
     ensures new { result ≡ not (slice_index_or set.old place false) }

@@ -17,6 +17,7 @@ pub mod Lined
 pub mod Wanted
 pub mod Turns
 pub mod Plainly
+pub mod Held
 -- what callers name of crates below
 pub use Rattle.tx_lines.proofs.Doublewords
 pub use Rattle.tx_keeping.proofs.Events

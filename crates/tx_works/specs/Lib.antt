@@ -8,6 +8,7 @@ pub mod InTurn
 pub mod Executing
 pub mod Wanted
 pub mod Plainly
+pub mod Held
 -- what callers name of crates below
 pub use Rattle.tx_lines.specs.Owned
 pub use Rattle.tx_lines.specs.Lent as LinesLent

@@ -1,5 +1,5 @@
 //! How a CPU gets the lines that a turn needs.
-ghost use Rattle.std.specs.Prelude.{◌≡◌, ℕ, ◌+◌, ◌<◌, ◌≤◌, true, false, [], All, List, length, map, is_some};
+ghost use Rattle.std.specs.Prelude.{◌≡◌, ℕ, ◌+◌, ◌/◌, ◌%◌, ◌<◌, ◌≤◌, true, false, [], All, List, length, map, is_some};
 ghost use Rattle.std.specs.Prelude.{IfSome, IfNone, Option, None, ◌==◌, ◌∷◌, if◌then◌else◌};
 ghost use Rattle.std.specs.List.{list_any};
 ghost use Rattle.z_regs.specs.Prefix.{storage_size};
@@ -18,6 +18,7 @@ ghost use Rattle.tx_keeping.specs.Asking.{k_granting, k_get_line, k_get_lines};
 ghost use Rattle.tx_works.specs.Executing.{operand_by};
 ghost use Rattle.tx_works.specs.Works.{Seat, IsSameSize, kept_by, seats_of};
 ghost use Rattle.tx_works.specs.Ready.{MayAsk, MayHold, HasTurn, owed};
+ghost use Rattle.tx_works.specs.Held.{AreThere, IsHeld};
 ghost use Rattle.tx_works.specs.Asks.{IsReady, IsFew, AskLeaves, asked_by, rejected_in, is_cpu_starved};
 
 use crate::asking::Refused;
@@ -26,7 +27,7 @@ use line_table::Mode;
 use tx_lines::{Shape, Touch};
 use tx_meaning::Need;
 use tx_needs::{MOST_NEEDS, lines_needed, need_for};
-use z_regs::Touches;
+use z_regs::{Range, Touches};
 
 /// The bytes of a line.
 const LINE_SIZE: u64 = 256;
@@ -38,6 +39,24 @@ fn mode_for(store: bool) -> Mode
     if store { Mode::Exclusive } else { Mode::Shared }
 }
 
+/// What a range needs that is not empty, and that lies in one line.
+fn need_in_line(range: Range) -> Option<Need>
+    requires { range.first + range.length ≤ storage_size }
+    ensures needs { IfSome result (λ need. needs_of (range ∷ []) ≡ need ∷ []) }
+    ensures within { IfSome result (λ need. range.first % 256 + range.length ≤ 256) }
+    ensures line { IfSome result (λ need. need.line ≡ range.first / 256) }
+    ensures mode { IfSome result (λ need. need.mode ≡ (if range.store then Exclusive else Shared)) }
+    ensures in_storage { IfSome result (λ need. need.line < storage_lines) }
+{
+    let length = u64::from(range.length);
+    if length == 0 || range.first % LINE_SIZE + length > LINE_SIZE {
+        return None;
+    }
+    let line = (range.first / LINE_SIZE) as u32;
+    let mode = mode_for(range.store);
+    Some(Need { line, mode })
+}
+
 /// All that ranges need, where there is one range, and it lies in a line.
 fn only_need(ranges: &Touches) -> Option<Need>
     requires { All (λ r. r.first + r.length ≤ storage_size) ranges.now }
@@ -47,14 +66,7 @@ fn only_need(ranges: &Touches) -> Option<Need>
     if ranges.count() != 1 {
         return None;
     }
-    let range = ranges.at(0);
-    let length = u64::from(range.length);
-    if length == 0 || range.first % LINE_SIZE + length > LINE_SIZE {
-        return None;
-    }
-    let line = (range.first / LINE_SIZE) as u32;
-    let mode = mode_for(range.store);
-    Some(Need { line, mode })
+    need_in_line(ranges.at(0))
 }
 
 /// What an operand that lies in one line needs, where it stands where its address says; nothing where it has no bytes.
@@ -91,6 +103,30 @@ impl Works {
         ensures { result ≡ is_there need.mode (holders_in self.now.lines cpu need.line) }
     {
         self.lines.is_there(cpu, need)
+    }
+
+    /// Whether the CPU is seen to hold the lines of a range as the range needs them: where it lies in one line.
+    fn holds_range(&self, cpu: u32, range: Range) -> bool
+        requires cpu { cpu < length self.now.slots }
+        requires in_storage { range.first + range.length ≤ storage_size }
+        ensures { result ≡ true → IsHeld (holders_in self.now.lines cpu) range }
+    {
+        match need_in_line(range) {
+            Some(need) => self.is_there(cpu, need),
+            None => false,
+        }
+    }
+
+    /// Whether the CPU is seen to hold all lines that ranges need, as it needs them: where these are two, each in one line.
+    fn holds_both(&self, cpu: u32, ranges: &Touches) -> bool
+        requires cpu { cpu < length self.now.slots }
+        requires in_storage { All (λ r. r.first + r.length ≤ storage_size) ranges.now }
+        ensures { result ≡ true → AreThere (holders_in self.now.lines cpu) (needs_of ranges.now) }
+    {
+        if ranges.count() != 2 {
+            return false;
+        }
+        self.holds_range(cpu, ranges.at(0)) && self.holds_range(cpu, ranges.at(1))
     }
 
     /// The CPU gets a line that nobody stands against. Where it holds as many as it may, it gives up one
@@ -232,7 +268,7 @@ impl Works {
     /// The CPU gets the lines that ranges by absolute addresses need, in rising order, each looked for among all of
     /// the ranges.
     #[inline(never)]
-    fn get_several(&mut self, cpu: u32, ranges: &Touches) -> Option<Refused>
+    fn get_in_order(&mut self, cpu: u32, ranges: &Touches) -> Option<Refused>
         requires cpu { cpu < length self.old.slots }
         requires small { All (λ r. r.length ≤ 256) ranges.now }
         requires in_storage { All (λ r. r.first + r.length ≤ storage_size) ranges.now }
@@ -251,6 +287,32 @@ impl Works {
     {
         let lines = lines_needed(ranges);
         self.get_each(cpu, ranges, lines.as_slice())
+    }
+
+    /// The CPU gets the lines that ranges by absolute addresses need, in rising order. Nobody is asked where all lines of
+    /// two ranges are seen to be there.
+    #[inline(never)]
+    fn get_several(&mut self, cpu: u32, ranges: &Touches) -> Option<Refused>
+        requires cpu { cpu < length self.old.slots }
+        requires small { All (λ r. r.length ≤ 256) ranges.now }
+        requires in_storage { All (λ r. r.first + r.length ≤ storage_size) ranges.now }
+        requires holds { (rest : Seat) → MayHold cpu (needs_of ranges.now) (kept_by rest self.old) }
+        requires ready { (rest : Seat) → IsReady 128 cpu self.old (kept_by rest self.old) }
+        ensures kept { (rest : Seat) (m : Setting) → cpus_of m ≡ length self.old.slots
+            → asked_by rest self.new (rejected_in result)
+            ≡ k_get_lines m cpu (needs_of ranges.now) (kept_by rest self.old) }
+        ensures size { IsSameSize self.old self.new }
+        ensures leaves { (rest : Seat)
+            → AskLeaves (length self.old.slots) 128 cpu (kept_by rest self.old) (kept_by rest self.new) }
+        ensures refused { (rest : Seat) → is_some result ≡ true
+            → is_head (kept_by rest self.new).state cpu ≡ false }
+        ensures starved { (rest : Seat) → IfSome result
+            (λ r. r.starved ≡ is_cpu_starved (kept_by rest self.new) cpu) }
+    {
+        if self.holds_both(cpu, ranges) {
+            return None;
+        }
+        self.get_in_order(cpu, ranges)
     }
 
     /// The CPU gets the lines that ranges by absolute addresses need, in rising order, until one of its

@@ -44,10 +44,10 @@ loop-cell-preserved g c =
     c.run_from-count.ensures.run room found (omega arith) (omega (arith, c.run_from-count.ensures.word)) in
     let piece : take (cell + count - cell) (drop cell c.args.bytes.now) ≡ stored =
     ap (λ n. take n (drop cell c.args.bytes.now)) (omega arith) in
-    let laid : g.V.Bytes.bytes c.put_all.new.self ≡ bytes_through
+    let laid : g.V.Bytes.bytes c.lay_run.new.into ≡ bytes_through
     (items_of block_size keys c.args.bytes.now (take (cell + count) c.args.marks.now)) base
     =
-    c.put_all.ensures
+    c.lay_run.ensures
     ∙ ap (written (g.V.Bytes.bytes c.loop-cell.into) address) piece
     ∙ ap (λ (now : List ℕ). written now address stored) c.loop-cell.invariant.laid
     ∙ sym (bytes_through-with_bytes before base address stored (omega (arith, size)))

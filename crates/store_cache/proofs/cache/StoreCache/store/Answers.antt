@@ -5,29 +5,17 @@ use Rattle.store_cache.specs.Sizes.{block_size, block_doublewords}
 use Rattle.store_cache.specs.Overlay.{Overlay, with_one}
 use Rattle.store_cache.specs.Stores.{Stores, with_store, has_room}
 use Rattle.store_cache.specs.Entries.{items_of, stores_of, IsKept}
-use Rattle.store_cache.proofs.Kept.{shown, stores_of-is, stores_of-now, counted_blocks}
-use Rattle.store_cache.proofs.Kept.{room_left, entered, byte_shown, byte_kept}
+use Rattle.store_cache.proofs.Kept.{shown, stores_of-is, stores_of-now, entry_left}
+use Rattle.store_cache.proofs.Kept.{entered, byte_shown, byte_kept}
 use Rattle.store_cache.proofs.cache.StoreCache.store.Goals as goal
 
 pub slot_for-slot-requires-clause-room : goal.slot_for-slot-requires-clause-room
-slot_for-slot-requires-clause-room c new =
-    let now : stores_of c.args.self.now ≡ shown c.self.inside.index.keys c.self.inside.bytes.items
-    c.self.inside.marks c.self.inside.values.items c.self.inside.value_marks =
-    stores_of-now c.args.self.now c.self.inside.index.keys c.self.inside.bytes.items c.self.inside.marks
-    c.self.inside.values.items c.self.inside.value_marks c.self.view_is in
-    let overlay : Overlay = items_of block_size c.self.inside.index.keys c.self.inside.bytes.items
-    c.self.inside.marks in
-    let room : has_room overlay (c.args.address / block_size) ≡ true = ap (λ (s : Stores). has_room s.overlay
-    (c.args.address / block_size)) (sym now) ∙ c.requires.room in
-    let left = room_left overlay (c.args.address / block_size)
-    (c.self.invariant.stored (c.args.address / block_size) ∙ new) room in
-    omega (
-      arith,
-      left,
-      counted_blocks c.self.inside.index c.self.inside.bytes.items c.self.inside.marks
-          c.self.inside.values.items c.self.inside.value_marks c.self.invariant,
-      c.self.invariant.most,
-    )
+slot_for-slot-requires-clause-room c =
+    entry_left c.self.inside.index c.self.inside.bytes.items c.self.inside.marks c.self.inside.values.items
+    c.self.inside.value_marks (c.args.address / block_size) c.self.invariant
+    (ap (λ (s : Stores). has_room s.overlay (c.args.address / block_size))
+    (sym (stores_of-now c.args.self.now c.self.inside.index.keys c.self.inside.bytes.items c.self.inside.marks
+    c.self.inside.values.items c.self.inside.value_marks c.self.view_is)) ∙ c.requires.room)
 
 pub invariant_of-self : goal.invariant_of-self
 invariant_of-self c =

@@ -1,34 +1,22 @@
 -- The bytes and their marks are a run in the entry of their block.
-use Rattle.std.proofs.Common.{◌≡◌, ◌+◌, ◌*◌, ◌/◌, ◌%◌, true, List, ℕ, length, get_or, refl, sym, ap, subst, ◌∙◌, arith}
+use Rattle.std.proofs.Common.{◌≡◌, ◌+◌, ◌*◌, ◌/◌, ◌%◌, List, ℕ, length, get_or, refl, sym, ap, subst, ◌∙◌}
 use Rattle.std.proofs.lemmas.List.{with_items_is}
 use Rattle.store_cache.specs.Sizes.{block_size}
-use Rattle.store_cache.specs.Overlay.{Overlay, with_bytes}
+use Rattle.store_cache.specs.Overlay.{with_bytes}
 use Rattle.store_cache.specs.Stores.{Stores, has_room}
-use Rattle.store_cache.specs.Entries.{items_of, stores_of, IsKept}
-use Rattle.store_cache.proofs.Kept.{Entered, shown, stores_of-is, stores_of-now, counted_blocks, room_left, entered}
+use Rattle.store_cache.specs.Entries.{stores_of, IsKept}
+use Rattle.store_cache.proofs.Kept.{Entered, shown, stores_of-is, stores_of-now, entry_left, entered}
 use Rattle.store_cache.proofs.Runs.{IsRun, run_seen, run_kept}
 use Rattle.store_cache.proofs.cache.StoreCache.store_bytes.Goals as goal
 use Rattle.store_cache.proofs.cache.StoreCache.store_bytes.Goals.{After-insert_run}
 
 pub slot_for-slot-requires-clause-room : goal.slot_for-slot-requires-clause-room
-slot_for-slot-requires-clause-room c new =
-    let now : stores_of c.args.self.now ≡ shown c.self.inside.index.keys c.self.inside.bytes.items
-    c.self.inside.marks c.self.inside.values.items c.self.inside.value_marks =
-    stores_of-now c.args.self.now c.self.inside.index.keys c.self.inside.bytes.items c.self.inside.marks
-    c.self.inside.values.items c.self.inside.value_marks c.self.view_is in
-    let overlay : Overlay = items_of block_size c.self.inside.index.keys c.self.inside.bytes.items
-    c.self.inside.marks in
-    let room : has_room overlay (c.args.address / block_size) ≡ true = ap (λ (s : Stores). has_room s.overlay
-    (c.args.address / block_size)) (sym now) ∙ c.requires.room in
-    let left = room_left overlay (c.args.address / block_size)
-    (c.self.invariant.stored (c.args.address / block_size) ∙ new) room in
-    omega (
-      arith,
-      left,
-      counted_blocks c.self.inside.index c.self.inside.bytes.items c.self.inside.marks
-          c.self.inside.values.items c.self.inside.value_marks c.self.invariant,
-      c.self.invariant.most,
-    )
+slot_for-slot-requires-clause-room c =
+    entry_left c.self.inside.index c.self.inside.bytes.items c.self.inside.marks c.self.inside.values.items
+    c.self.inside.value_marks (c.args.address / block_size) c.self.invariant
+    (ap (λ (s : Stores). has_room s.overlay (c.args.address / block_size))
+    (sym (stores_of-now c.args.self.now c.self.inside.index.keys c.self.inside.bytes.items c.self.inside.marks
+    c.self.inside.values.items c.self.inside.value_marks c.self.view_is)) ∙ c.requires.room)
 
 -- the block has an entry
 in_entry : (c : After-insert_run) → Entered c.self.inside.index c.slot_for-slot.new.index c.self.inside.bytes.items

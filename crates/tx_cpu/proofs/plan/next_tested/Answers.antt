@@ -4,7 +4,7 @@ use Rattle.z_regs.specs.Cpu.{cpu_of}
 use Rattle.z_instr.specs.Layout.{length_by}
 use Rattle.tx_attempt.specs.Tracked.{progress}
 use Rattle.tx_cpu.proofs.Programs.{plain_length, plain_reading}
-use Rattle.tx_cpu.proofs.plan.next_plan.Goals as goal
+use Rattle.tx_cpu.proofs.plan.next_tested.Goals as goal
 
 pub fetched-requires-clause-length : goal.fetched-requires-clause-length
 fetched-requires-clause-length c =

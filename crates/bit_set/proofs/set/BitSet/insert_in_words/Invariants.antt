@@ -2,7 +2,7 @@
 use Rattle.std.proofs.Common.{◌≡◌, ℕ, ◌≤◌, ◌-◌, false, length, get_or}
 use Rattle.std.specs.Prelude.{◌||◌}
 use Rattle.bit_set.specs.Bits.{lies_in}
-use Rattle.bit_set.proofs.set.BitSet.insert_run.Given as goal
+use Rattle.bit_set.proofs.set.BitSet.insert_in_words.Given as goal
 
 abbrev pub invariant-loop-at : goal.invariant-loop-at
 invariant-loop-at l =

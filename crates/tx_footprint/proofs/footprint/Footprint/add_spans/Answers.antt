@@ -1,12 +1,12 @@
 -- One range more is touched.
-use Rattle.std.proofs.Common.{[], ◌∷◌, ap, ◌∙◌, arith}
+use Rattle.std.proofs.Common.{[], ◌∷◌, arith}
 use Rattle.line_table.specs.Sizes.{storage_lines}
 use Rattle.tx_footprint.specs.declared.places.Kind.TheVariants.{Line, FetchedLine, StoredLine, StoredBlock}
 use Rattle.tx_footprint.specs.Sizes.{storage_blocks}
-use Rattle.tx_footprint.specs.Touched.{Sets, Touched, touching, sets_of}
+use Rattle.tx_footprint.specs.Touched.{Sets, touching, sets_of}
 use Rattle.tx_footprint.proofs.Limits.{lines_marked, blocks_marked, fits_from, added_kept}
-use Rattle.tx_footprint.proofs.Ones.{one_added, counted_in}
-use Rattle.tx_footprint.proofs.footprint.Footprint.add_one.Goals as goal
+use Rattle.tx_footprint.proofs.Ones.{one_added, counted_in, seen_with}
+use Rattle.tx_footprint.proofs.footprint.Footprint.add_spans.Goals as goal
 
 pub overflow_add-self : goal.overflow_add-self
 overflow_add-self c =
@@ -77,9 +77,4 @@ returns c =
     one_added StoredBlock c.args.range c.span_of-2.result.first c.span_of-2.result.end c.self.inside.blocks
     c.mark_span_new-2.new.set c.mark_span_new-2.ensures.size c.mark_span_new-2.ensures.marks
     c.span_of-2.ensures.places in
-    (λ i. record {
-      fetched = λ k. fetched.marks k i;
-      stored = λ k. stored.marks k i;
-      blocks = λ k. blocks.marks k i;
-    })
-    ∙ ap (λ (v : Touched). touching (sets_of v) (c.args.range ∷ [])) c.self.view_is
+    seen_with (c.args.range ∷ []) fetched stored blocks c.self.view_is
