@@ -23,7 +23,8 @@ use z_instr::op::Op;
 use z_regs::{Range, Touches, place_of};
 
 /// Gathers bytes that are stored from a real address on, block by block.
-pub fn gather(stores: &mut StoreCache, bytes: &[u8], first: u64, prefix: Option<u32>)
+#[inline(never)]
+fn gather_pieces(stores: &mut StoreCache, bytes: &[u8], first: u64, prefix: Option<u32>)
     requires prefix_in { IsTrue (is_prefix prefix) }
     requires end { first + length bytes.now ≤ storage_size }
     requires room { HasRoomFor (stores_of stores.old).overlay prefix first (length bytes.now) }
@@ -36,6 +37,21 @@ pub fn gather(stores: &mut StoreCache, bytes: &[u8], first: u64, prefix: Option<
         stores.store_bytes(place_of(prefix, from), &bytes[done..done + count]);
         done += count;
     }
+}
+
+/// Gathers bytes that are stored from a real address on, at once where they lie in one block.
+#[inline(always)]
+pub fn gather(stores: &mut StoreCache, bytes: &[u8], first: u64, prefix: Option<u32>)
+    requires prefix_in { IsTrue (is_prefix prefix) }
+    requires end { first + length bytes.now ≤ storage_size }
+    requires room { HasRoomFor (stores_of stores.old).overlay prefix first (length bytes.now) }
+    ensures { stores_of stores.new ≡ with_gathered prefix first bytes.now (stores_of stores.old) }
+{
+    let count = bytes.len();
+    if count == 0 || count > BLOCK_SIZE - first as usize % BLOCK_SIZE {
+        return gather_pieces(stores, bytes, first, prefix);
+    }
+    stores.store_bytes(place_of(prefix, first), bytes);
 }
 
 /// Gathers a doubleword that NTSTG stores at a real address.

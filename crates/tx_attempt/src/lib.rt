@@ -13,6 +13,7 @@ mod storing;
 
 pub use advancing::Before;
 pub use attempt::Attempt;
+pub use keeping::{keep_register, stores_register};
 pub use lending::operand;
 pub use performing::{Ended, MOST_BYTES, execute_plain, execute_seen, perform, transaction_of};
 pub use refusal::{Refusal, cause_in};

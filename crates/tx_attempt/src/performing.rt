@@ -89,9 +89,9 @@ pub fn execute_plain<V: Bytes>(
     ensures size { length (V.bytes base.new) ≡ storage_size }
 {
     match kind {
-        Kind::Storage(kind) => end_of(z_storage::execute_kind(*kind, instr, image, base)),
-        Kind::General(kind) => end_of(z_general::execute_kind(*kind, instr, image, base)),
-        Kind::Branch(kind) => end_of(z_branch::execute_kind(*kind, instr, image, base)),
+        Kind::Storage(kind) => end_of(z_storage::execute_kind(kind, instr, image, base)),
+        Kind::General(kind) => end_of(z_general::execute_kind(kind, instr, image, base)),
+        Kind::Branch(kind) => end_of(z_branch::execute_kind(kind, instr, image, base)),
         Kind::Transaction(_) => unreachable!(),
     }
 }

@@ -1,7 +1,9 @@
 //! The CPU executes an instruction.
 ghost use Rattle.z_instr.specs.Roles.{begins as is_begun, is_end as is_ended, block_named};
 ghost use Rattle.z_instr.specs.Table.{entry_at, kind_at};
+ghost use Rattle.z_instr.specs.declared.kind.Storage.TheVariants.{Store};
 ghost use Rattle.z_instr.specs.declared.kind.Transaction.TheVariants.{End, StoreLasting};
+ghost use Rattle.z_instr.specs.declared.operand.Size.TheVariants.{Doubleword};
 ghost use Rattle.tx_attempt.specs.Performed.{no_range, first_size, is_transaction, StoresNone, IsKeptApart, IsLeftOutside};
 ghost use Rattle.tx_attempt.specs.Advancing.{MayStep};
 ghost use Rattle.std.specs.Prelude.{get_or, ℕ, List, [], Some, ◌+◌, ◌≤◌, ◌^◌, ◌&&◌, nat_eq};
@@ -14,7 +16,7 @@ ghost use Rattle.z_regs.specs.declared.ranges.Range.{Range};
 ghost use Rattle.z_instr.specs.declared.instr.Instr.{Instr};
 ghost use Rattle.tx_progress.specs.Progress.{is_live};
 ghost use Rattle.tx_attempt.specs.declared.performing.Ended.TheVariants.{Completed};
-ghost use Rattle.tx_progress.specs.declared.done.Done.TheVariants.{Stepped};
+ghost use Rattle.tx_progress.specs.declared.done.Done.TheVariants.{Stepped, Committed};
 ghost use Rattle.tx_progress.specs.Doing.{executed, executed_where, inside, outside, done_outside, told_of};
 ghost use Rattle.tx_progress.specs.Trial.{outcome_by};
 ghost use Rattle.tx_serial.specs.Fate.{operands};
@@ -30,9 +32,10 @@ use crate::one::Cpu;
 use crate::outside::{
     delay_after, end_outside, perform_outside, perform_there, told, wait_outside,
 };
-use crate::plain::{Plain, advance_there, operands_at};
+use crate::plain::{Plain, add_operand, advance_there, operands_at};
 use tx_attempt::{
-    Before, Ended, MOST_BYTES, cause_in, execute_seen, operand, perform, transaction_of,
+    Before, Ended, MOST_BYTES, cause_in, execute_seen, keep_register, operand, perform,
+    stores_register, transaction_of,
 };
 use tx_control::Why;
 use tx_control::codes::{FIXED_POINT_DIVIDE, FIXED_POINT_OVERFLOW};
@@ -116,10 +119,11 @@ impl Cpu {
         ensures size { length (V.bytes base.new) ≡ storage_size }
     {
         self.attempt.is_sound();
+        let kind = kind_in(instr.op);
         self.saved = self.image;
         perform(
             &self.attempt,
-            kind_in(instr.op),
+            kind,
             instr,
             need,
             &mut self.image,
@@ -195,15 +199,15 @@ impl Cpu {
         }
     }
 
-    /// Executes NTSTG inside a transaction: nothing is asked of begins.
+    /// Executes NTSTG inside a transaction, which is always completed: nothing is asked of begins.
     #[inline(never)]
-    fn execute_lasting<V: Bytes>(&mut self, instr: &Instr, need: &Touches, base: &mut V) -> Done
+    fn execute_lasting<V: Bytes>(&mut self, instr: &Instr, need: &Touches, base: &mut V)
         requires kind { kind_at instr.now.op.number ≡ Kind.Transaction StoreLasting }
         requires live { is_live (local_of self.old).attempt ≡ true }
         requires goes { MayGo self.old.attempt self.old.image instr.now need.now }
         requires count { (local_of self.old).attempt.count + 1 < 2 ^ 32 }
         requires size { length (V.bytes base.old) ≡ storage_size }
-        ensures value { record { after = beside self.new (V.bytes base.new); told = result } ≡
+        ensures value { record { after = beside self.new (V.bytes base.new); told = Stepped } ≡
             inside instr.now need.now (beside self.old (V.bytes base.old))
             (outcome_by (storage_of (V.bytes base.old)) instr.now need.now (local_of self.old).attempt) }
         ensures size { length (V.bytes base.new) ≡ storage_size }
@@ -218,19 +222,19 @@ impl Cpu {
         self.attempt
             .advance_lasting(instr, need, &stored, source, prefix);
         self.attempt.is_sound();
-        Done::Stepped
     }
 
-    /// Executes a TEND that ends the last begin that is open: the attempt is committed.
+    /// Executes a TEND that ends the last begin that is open: the attempt is committed. Gives how
+    /// many instructions it had completed, with this one.
     #[inline(never)]
-    fn execute_last<V: Bytes>(&mut self, instr: &Instr, need: &Touches, base: &mut V) -> Done
+    fn execute_last<V: Bytes>(&mut self, instr: &Instr, need: &Touches, base: &mut V) -> u32
         requires kind { kind_at instr.now.op.number ≡ Kind.Transaction End }
         requires last { length self.old.attempt.nest ≡ 1 }
         requires live { is_live (local_of self.old).attempt ≡ true }
         requires goes { MayGo self.old.attempt self.old.image instr.now need.now }
         requires count { (local_of self.old).attempt.count + 1 < 2 ^ 32 }
         requires size { length (V.bytes base.old) ≡ storage_size }
-        ensures value { record { after = beside self.new (V.bytes base.new); told = result } ≡
+        ensures value { record { after = beside self.new (V.bytes base.new); told = Committed result } ≡
             inside instr.now need.now (beside self.old (V.bytes base.old))
             (outcome_by (storage_of (V.bytes base.old)) instr.now need.now (local_of self.old).attempt) }
         ensures size { length (V.bytes base.new) ≡ storage_size }
@@ -240,10 +244,11 @@ impl Cpu {
         perform(&self.attempt, &kind, instr, need, image, &mut [0; 0], base);
         let count = self.attempt.count() + 1;
         self.attempt.commit(base);
-        Done::Committed(count)
+        count
     }
 
-    /// Executes an instruction about transactions inside one. NTSTG, and a TEND that commits, have ways of their own.
+    /// Executes an instruction about transactions inside one, and says whether it is simply completed; else `aside` has what came
+    /// of it. NTSTG, and a TEND that commits, have ways of their own.
     #[inline(always)]
     fn execute_about<V: Bytes>(
         &mut self,
@@ -252,24 +257,32 @@ impl Cpu {
         instr: &Instr,
         need: &Touches,
         base: &mut V,
-    ) -> Done
+        aside: &mut Done,
+    ) -> bool
         requires transaction { kind_at instr.now.op.number ≡ Kind.Transaction transaction }
         requires kind { kind.now ≡ kind_at instr.now.op.number }
         requires live { is_live (local_of self.old).attempt ≡ true }
         requires goes { MayGo self.old.attempt self.old.image instr.now need.now }
         requires count { (local_of self.old).attempt.count + 1 < 2 ^ 32 }
         requires size { length (V.bytes base.old) ≡ storage_size }
-        ensures value { record { after = beside self.new (V.bytes base.new); told = result } ≡
+        ensures value { record { after = beside self.new (V.bytes base.new); told = told_or result aside.new } ≡
             inside instr.now need.now (beside self.old (V.bytes base.old))
             (outcome_by (storage_of (V.bytes base.old)) instr.now need.now (local_of self.old).attempt) }
         ensures size { length (V.bytes base.new) ≡ storage_size }
     {
         match transaction {
-            Transaction::StoreLasting => self.execute_lasting(instr, need, base),
-            Transaction::End if self.attempt.nest().depth() == 1 => {
-                self.execute_last(instr, need, base)
+            Transaction::StoreLasting => {
+                self.execute_lasting(instr, need, base);
+                true
             }
-            _ => self.execute_nested(kind, instr, need, &mut [0; 8], base),
+            Transaction::End if self.attempt.nest().depth() == 1 => {
+                *aside = Done::Committed(self.execute_last(instr, need, base));
+                false
+            }
+            _ => {
+                *aside = self.execute_nested(kind, instr, need, &mut [0; 8], base);
+                false
+            }
         }
     }
 
@@ -396,9 +409,54 @@ impl Cpu {
         self.execute_with(kind, instr, need, &mut [0; MOST_BYTES], base, aside)
     }
 
-    /// Executes an instruction inside a transaction.
+    /// Executes STG inside a transaction, which is always completed: its register is kept apart, whatever storage has.
+    #[inline(never)]
+    fn execute_store(&mut self, instr: &Instr, need: &Touches)
+        requires kind { kind_at instr.now.op.number ≡ Kind.Storage (Store Doubleword) }
+        requires live { is_live (local_of self.old).attempt ≡ true }
+        requires goes { MayGo self.old.attempt self.old.image instr.now need.now }
+        requires count { (local_of self.old).attempt.count + 1 < 2 ^ 32 }
+        ensures { (bytes : List ℕ) → record { after = beside self.new bytes; told = Stepped } ≡
+            inside instr.now need.now (beside self.old bytes)
+            (outcome_by (storage_of bytes) instr.now need.now (local_of self.old).attempt) }
+    {
+        self.attempt.is_sound();
+        let prefix = self.image.prefix;
+        let mut stored = [0; 8];
+        keep_register(instr, &mut self.image, &mut stored);
+        self.attempt.advance_plainly(need, &stored, prefix);
+        self.attempt.is_sound();
+    }
+
+    /// Executes an instruction inside a transaction, and says whether it is simply completed; else `aside` has what came of it.
     #[inline(always)]
-    fn execute_inside<V: Bytes>(&mut self, instr: &Instr, need: &Touches, base: &mut V) -> Done
+    fn execute_inside<V: Bytes>(
+        &mut self,
+        kind: &Kind,
+        instr: &Instr,
+        need: &Touches,
+        base: &mut V,
+        aside: &mut Done,
+    ) -> bool
+        requires kind { kind.now ≡ kind_at instr.now.op.number }
+        requires live { is_live (local_of self.old).attempt ≡ true }
+        requires goes { MayGo self.old.attempt self.old.image instr.now need.now }
+        requires count { (local_of self.old).attempt.count + 1 < 2 ^ 32 }
+        requires size { length (V.bytes base.old) ≡ storage_size }
+        ensures value { record { after = beside self.new (V.bytes base.new); told = told_or result aside.new } ≡
+            inside instr.now need.now (beside self.old (V.bytes base.old))
+            (outcome_by (storage_of (V.bytes base.old)) instr.now need.now (local_of self.old).attempt) }
+        ensures size { length (V.bytes base.new) ≡ storage_size }
+    {
+        if let Some(transaction) = transaction_of(kind) {
+            return self.execute_about(transaction, kind, instr, need, base, aside);
+        }
+        self.execute_sized(kind, instr, need, base, aside)
+    }
+
+    /// Executes an instruction inside a transaction, and tells what came of it.
+    #[inline(always)]
+    fn execute_told<V: Bytes>(&mut self, instr: &Instr, need: &Touches, base: &mut V) -> Done
         requires live { is_live (local_of self.old).attempt ≡ true }
         requires goes { MayGo self.old.attempt self.old.image instr.now need.now }
         requires count { (local_of self.old).attempt.count + 1 < 2 ^ 32 }
@@ -408,12 +466,8 @@ impl Cpu {
             (outcome_by (storage_of (V.bytes base.old)) instr.now need.now (local_of self.old).attempt) }
         ensures size { length (V.bytes base.new) ≡ storage_size }
     {
-        let kind = kind_in(instr.op);
-        if let Some(transaction) = transaction_of(kind) {
-            return self.execute_about(transaction, kind, instr, need, base);
-        }
         let mut aside = Done::Stepped;
-        if self.execute_sized(kind, instr, need, base, &mut aside) {
+        if self.execute_inside(kind_in(instr.op), instr, need, base, &mut aside) {
             return Done::Stepped;
         }
         aside
@@ -421,7 +475,7 @@ impl Cpu {
 
     /// Executes an instruction as `execute` does, where an attempt is known to be live.
     #[inline(always)]
-    pub fn execute_live<V: Bytes>(&mut self, instr: &Instr, need: &Touches, base: &mut V) -> Done
+    fn execute_live<V: Bytes>(&mut self, instr: &Instr, need: &Touches, base: &mut V) -> Done
         requires live { is_live (local_of self.old).attempt ≡ true }
         requires prepared { IsPrepared (local_of self.old).attempt instr.now need.now }
         requires count { (local_of self.old).attempt.count + 1 < 2 ^ 32 }
@@ -432,7 +486,40 @@ impl Cpu {
         ensures size { length (V.bytes base.new) ≡ storage_size }
     {
         self.attempt.is_sound();
-        self.execute_inside(instr, need, base)
+        self.execute_told(instr, need, base)
+    }
+
+    /// Executes a plain instruction inside a transaction, and tells what came of it as `execute` does: that it is simply completed,
+    /// by true, and else what `aside` has then. STG has a way of its own.
+    #[inline(always)]
+    pub fn execute_plainly<V: Bytes>(
+        &mut self,
+        plain: &Plain,
+        base: &mut V,
+        aside: &mut Done,
+    ) -> bool
+        requires live { is_live (local_of self.old).attempt ≡ true }
+        requires prepared { IsPrepared (local_of self.old).attempt plain.now.ready.now.instr
+            (touched_by plain.now.ready.now.shape.touch plain.now.first plain.now.ready.now.shape.size) }
+        requires count { (local_of self.old).attempt.count + 1 < 2 ^ 32 }
+        requires size { length (V.bytes base.old) ≡ storage_size }
+        ensures value { record { after = beside self.new (V.bytes base.new); told = told_or result aside.new } ≡
+            executed plain.now.ready.now.instr
+            (touched_by plain.now.ready.now.shape.touch plain.now.first plain.now.ready.now.shape.size)
+            (beside self.old (V.bytes base.old)) }
+        ensures code { HasDoneRoom (told_or result aside.new) }
+        ensures size { length (V.bytes base.new) ≡ storage_size }
+    {
+        self.attempt.is_sound();
+        let instr = &plain.ready.instr;
+        let kind = kind_in(instr.op);
+        let mut need = Touches::none();
+        add_operand(&mut need, plain.ready.shape, plain.first);
+        if stores_register(kind) {
+            self.execute_store(instr, &need);
+            return true;
+        }
+        self.execute_inside(kind, instr, &need, base, aside)
     }
 
     /// Whether an attempt, where one is live, sees the operand of a plain instruction as it is in storage, and nothing is stored

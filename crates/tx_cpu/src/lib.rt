@@ -13,7 +13,8 @@ mod plain;
 mod plan;
 
 pub use one::Cpu;
-pub use plain::{Plain, operands_at};
+pub use paired::Pair;
+pub use plain::{Plain, add_operand, operands_at};
 pub use plan::Plan;
 pub use tx_program::{Program, Ready, Shape, Touch};
 pub use tx_progress::done::Done;

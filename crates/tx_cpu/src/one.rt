@@ -11,6 +11,7 @@ ghost use Rattle.tx_progress.specs.Local.{settled, aborted, block_stored, interr
 ghost use Rattle.tx_progress.specs.Doing.{stopped};
 ghost use Rattle.tx_progress.specs.Trial.{fate_by_progress};
 ghost use Rattle.tx_serial.specs.Fate.{Goes};
+ghost use Rattle.tx_cpu.specs.Pairs.{pair_ranges};
 ghost use Rattle.tx_cpu.specs.Quiet.{IsQuiet};
 ghost use Rattle.tx_program.specs.Shapes.{touched_by, is_reached};
 ghost use Rattle.std.specs.Prelude.{IfSome, None, ◌/◌};
@@ -25,6 +26,7 @@ ghost use Rattle.tx_attempt.specs.Same.{AreSameAttempts};
 ghost use Rattle.tx_constraint.specs.Kept.{Kept};
 
 use crate::interruption::{leave, load, store, waiting_after, waiting_with};
+use crate::paired::{Pair, pair_next};
 use crate::pending::{Block, pending_after};
 use crate::plain::{Plain, plain_next, touches_nothing};
 use crate::plan::{Plan, next_plan};
@@ -159,6 +161,17 @@ impl Cpu {
             return None;
         }
         plain_next(&self.attempt, &self.image, program)
+    }
+
+    /// The next instruction, where it has two blocks of bytes in storage, as MVC, NC and CLC have, the CPU is outside
+    /// transactions and has no prefix, and it is seen at once that the instruction goes: it has been read before, its own bytes
+    /// lie in one text page, and the blocks where they may be touched. None also of some that go.
+    #[inline(always)]
+    pub fn pair<'a>(&self, program: &'a Program) -> Option<Pair<'a>>
+        ensures { IfSome result (λ p. fate_by_progress (items program.now.guard) (storage_of program.now.storage)
+            (local_of self.now).attempt ≡ Goes p.instr.now (pair_ranges p.store p.first p.second p.size)) }
+    {
+        pair_next(&self.attempt, &self.image, program)
     }
 
     /// Whether the next instruction is known to have no operand, so that it touches nothing, whatever comes of it: the CPU

@@ -1,5 +1,5 @@
 //! The next instruction outside transactions where it has two blocks of bytes in storage, and nothing unusual is the case.
-ghost use Rattle.std.specs.Prelude.{◌≡◌, ◌<◌, ◌≤◌, ◌+◌, ◌-◌, ◌/◌, IfSome, true, false, nat_eq, None, ℕ};
+ghost use Rattle.std.specs.Prelude.{◌≡◌, ◌<◌, ◌≤◌, ◌+◌, ◌-◌, ◌/◌, IfSome, true, false, nat_eq, None, [], ℕ};
 ghost use Rattle.std.specs.List.{list_any};
 ghost use Rattle.std.specs.FinSet.{items};
 ghost use Rattle.z_regs.specs.Cpu.{cpu_of};
@@ -48,12 +48,12 @@ pub struct Pair<'a> {
 }
 
 impl<'a> Pair<'a> {
-    /// Both blocks.
+    /// Adds both blocks to a list that is empty.
     #[inline(always)]
-    pub fn ranges(&self) -> Touches
-        ensures { result ≡ pair_ranges self.now.store self.now.first self.now.second self.now.size }
+    pub fn add_ranges(&self, need: &mut Touches)
+        requires { need.old ≡ [] }
+        ensures { need.new ≡ pair_ranges self.now.store self.now.first self.now.second self.now.size }
     {
-        let mut need = Touches::none();
         need.add(Range {
             first: self.first,
             length: self.size,
@@ -64,7 +64,6 @@ impl<'a> Pair<'a> {
             length: self.size,
             store: false,
         });
-        need
     }
 }
 

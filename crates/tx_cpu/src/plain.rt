@@ -1,5 +1,5 @@
 //! The next instruction where nothing unusual is the case.
-ghost use Rattle.std.specs.Prelude.{◌≡◌, ◌<◌, ◌≤◌, ◌+◌, ◌^◌, ◌/◌, ◌%◌, IfSome, true, false, nat_eq, not, None, Ok, All, List, [], ℕ};
+ghost use Rattle.std.specs.Prelude.{◌≡◌, ◌<◌, ◌≤◌, ◌+◌, ◌^◌, ◌/◌, ◌%◌, IfSome, true, false, nat_eq, not, None, Ok, All, List, [], ◌∷◌, ℕ};
 ghost use Rattle.std.specs.List.{list_any};
 ghost use Rattle.std.specs.FinSet.{items};
 ghost use Rattle.z_regs.specs.Absolute.{IsAccessible};
@@ -43,24 +43,42 @@ pub struct Plain<'a> {
     pub first: u64,
 }
 
+/// Whether an operand that is touched so is stored; None where there is none.
+#[inline(always)]
+fn stores_by(touch: Touch) -> Option<bool>
+    ensures some { (first size : ℕ) → IfSome result (λ store. touched_by touch first size
+        ≡ record { first = first; length = size; store = store } ∷ []) }
+    ensures none { (first size : ℕ) → result ≡ None → touched_by touch first size ≡ [] }
+{
+    match touch {
+        Touch::Nothing | Touch::Other => None,
+        Touch::Fetch => Some(false),
+        Touch::Store => Some(true),
+    }
+}
+
+/// Adds the operand of an instruction of that shape, where it has one, to a list that is empty: so no list is handed on by
+/// value.
+#[inline(always)]
+pub fn add_operand(need: &mut Touches, shape: Shape, first: u64)
+    requires { need.old ≡ [] }
+    ensures { need.new ≡ touched_by shape.touch first shape.size }
+{
+    if let Some(store) = stores_by(shape.touch) {
+        need.add(Range {
+            first,
+            length: shape.size,
+            store,
+        });
+    }
+}
+
 /// The operands of an instruction of that shape.
 pub fn operands_at(shape: Shape, first: u64) -> Touches
     ensures { result ≡ touched_by shape.touch first shape.size }
 {
     let mut need = Touches::none();
-    match shape.touch {
-        Touch::Nothing | Touch::Other => {}
-        Touch::Fetch => need.add(Range {
-            first,
-            length: shape.size,
-            store: false,
-        }),
-        Touch::Store => need.add(Range {
-            first,
-            length: shape.size,
-            store: true,
-        }),
-    }
+    add_operand(&mut need, shape, first);
     need
 }
 

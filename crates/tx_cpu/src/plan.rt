@@ -244,9 +244,11 @@ pub fn next_plan(attempt: &Attempt, image: &CpuImage, program: &Program) -> Plan
         (progress attempt.now (cpu_of image.now)) }
 {
     if let Some(pair) = pair_next(attempt, image, program) {
+        let mut need = Touches::none();
+        pair.add_ranges(&mut need);
         return Plan::Go {
             instr: *pair.instr,
-            need: pair.ranges(),
+            need,
         };
     }
     next_tested(attempt, image, program)

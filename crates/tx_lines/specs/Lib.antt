@@ -15,6 +15,7 @@ pub use Rattle.tx_run.specs.Turns
 pub use Rattle.tx_run.specs.Parts
 pub use Rattle.tx_run.specs.Plans
 pub use Rattle.tx_run.specs.Going
+pub use Rattle.tx_run.specs.Pairs
 pub use Rattle.tx_run.specs.Quiet
 pub use Rattle.tx_run.specs.Same
 pub use Rattle.tx_run.specs.Storages

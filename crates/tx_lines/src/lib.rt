@@ -9,7 +9,7 @@ mod windows;
 
 pub use lines::Lines;
 pub use tx_run::{
-    Cpu, Done, Plain, Plan, Program, Reason, Room, Run, RunStep, Shape, Touch,
+    Cpu, Done, Pair, Plain, Plan, Program, Reason, Room, Run, RunStep, Shape, Touch, add_operand,
     lent_turns_are_turns, operands_at,
 };
 pub use z_regs::NoMemory;

@@ -19,7 +19,7 @@ ghost use Rattle.tx_lines.specs.Spare.{is_unused, lowest_spare, granted};
 ghost use Rattle.tx_lines.specs.Next.{next_against, stands_against};
 
 use crate::windows::{
-    abort_in, execute_in, execute_live_in, execute_there_in, store_block_in, take_in,
+    abort_in, execute_in, execute_plainly_in, execute_there_in, store_block_in, take_in,
 };
 use line_copies::{CoherentLines, Handback};
 use line_table::{MOST_HELD, Mode};
@@ -226,31 +226,35 @@ impl Lines {
         value
     }
 
-    /// Executes an instruction as `execute` does, where an attempt of the CPU is known to be live.
+    /// Executes a plain instruction as `execute` does, where an attempt of the CPU is known to be live. True where it is simply
+    /// completed; else `aside` has what it tells.
     #[inline(always)]
-    pub fn execute_live(
+    pub fn execute_plainly(
         &mut self,
         number: u32,
         cpu: &mut Cpu,
-        instr: &Instr,
-        need: &Touches,
-    ) -> Done
+        plain: &Plain,
+        aside: &mut Done,
+    ) -> bool
         requires number { number < self.old.cpus }
         requires live { is_live (local_of cpu.old).attempt ≡ true }
-        requires prepared { IsPrepared (local_of cpu.old).attempt instr.now need.now }
+        requires prepared { IsPrepared (local_of cpu.old).attempt plain.now.ready.now.instr
+            (touched_by plain.now.ready.now.shape.touch plain.now.first plain.now.ready.now.shape.size) }
         requires count { (local_of cpu.old).attempt.count + 1 < 2 ^ 32 }
-        ensures value { record { after = with_lines cpu.new self.new; told = result } ≡
-            executed instr.now need.now (with_lines cpu.old self.old) }
-        ensures code { HasDoneRoom result }
+        ensures value { record { after = with_lines cpu.new self.new; told = told_or result aside.new } ≡
+            executed plain.now.ready.now.instr
+            (touched_by plain.now.ready.now.shape.touch plain.now.first plain.now.ready.now.shape.size)
+            (with_lines cpu.old self.old) }
+        ensures code { HasDoneRoom (told_or result aside.new) }
         ensures cpus { self.new.cpus ≡ self.old.cpus }
         ensures held { holders_in self.new ≡ holders_in self.old }
     {
-        let Handback { value, .. } = execute_live_in::<Brand>(
+        let Handback { value, .. } = execute_plainly_in::<Brand>(
             &mut self.lines,
             number,
             cpu,
-            instr,
-            need,
+            plain,
+            aside,
         );
         value
     }

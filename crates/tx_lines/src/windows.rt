@@ -47,30 +47,33 @@ pub(crate) fn execute_in<'a, H: Held>(
     window.close(done)
 }
 
-/// Executes an instruction that a CPU in a transaction has found to go.
+/// Executes a plain instruction that a CPU in a transaction has found to go. What it does not simply complete is put aside.
 #[inline(always)]
-pub(crate) fn execute_live_in<'a, H: Held>(
+pub(crate) fn execute_plainly_in<'a, H: Held>(
     lines: &'a mut CoherentLines,
     number: u32,
     cpu: &mut Cpu,
-    instr: &Instr,
-    need: &Touches,
-) -> Handback<'a, Done>
+    plain: &Plain,
+    aside: &mut Done,
+) -> Handback<'a, bool>
     requires holds { holdings_of lines.old ≡ H.held }
     requires name { lines.ghost_name ≡ H.name }
     requires number { number < lines.old.cpus }
     requires live { is_live (local_of cpu.old).attempt ≡ true }
-    requires prepared { IsPrepared (local_of cpu.old).attempt instr.now need.now }
+    requires prepared { IsPrepared (local_of cpu.old).attempt plain.now.ready.now.instr
+        (touched_by plain.now.ready.now.shape.touch plain.now.first plain.now.ready.now.shape.size) }
     requires count { (local_of cpu.old).attempt.count + 1 < 2 ^ 32 }
-    ensures value { record { after = beside cpu.new result.lines.now.bytes; told = result.value } ≡
-        executed instr.now need.now (beside cpu.old lines.old.bytes) }
-    ensures code { HasDoneRoom result.value }
+    ensures value { record { after = beside cpu.new result.lines.now.bytes; told = told_or result.value aside.new } ≡
+        executed plain.now.ready.now.instr
+        (touched_by plain.now.ready.now.shape.touch plain.now.first plain.now.ready.now.shape.size)
+        (beside cpu.old lines.old.bytes) }
+    ensures code { HasDoneRoom (told_or result.value aside.new) }
     ensures held { holdings_of result.lines.now ≡ holdings_of lines.old }
     ensures same_reference { result.lines.ghost_name ≡ lines.entry.ghost_name }
 {
     let mut window: Window<'a, H> = Window::open(lines, number);
-    let done = cpu.execute_live(instr, need, &mut window);
-    window.close(done)
+    let simply = cpu.execute_plainly(plain, &mut window, aside);
+    window.close(simply)
 }
 
 /// Executes a plain instruction that a CPU without a prefix has found to go, on storage as it is. What it does not simply

@@ -100,9 +100,9 @@ pub fn execute(instr: &Instr, image: &mut CpuImage, seen: &mut Storage, depth: u
     ensures size { length seen.new ≡ storage_size }
 {
     match kind_of(instr.op) {
-        Kind::General(kind) => ended_by(z_general::execute_kind(kind, instr, image, seen)),
-        Kind::Storage(kind) => ended_by(z_storage::execute_kind(kind, instr, image, seen)),
-        Kind::Branch(kind) => ended_by(z_branch::execute_kind(kind, instr, image, seen)),
+        Kind::General(kind) => ended_by(z_general::execute_kind(&kind, instr, image, seen)),
+        Kind::Storage(kind) => ended_by(z_storage::execute_kind(&kind, instr, image, seen)),
+        Kind::Branch(kind) => ended_by(z_branch::execute_kind(&kind, instr, image, seen)),
         Kind::Transaction(kind) => execute_transaction(kind, instr, image, seen, depth),
     }
 }

@@ -11,6 +11,7 @@ pub use Rattle.tx_marks.specs.Turns
 pub use Rattle.tx_cpu.specs.Parts
 pub use Rattle.tx_cpu.specs.Plans
 pub use Rattle.tx_cpu.specs.Going
+pub use Rattle.tx_cpu.specs.Pairs
 pub use Rattle.tx_cpu.specs.Shapes
 pub use Rattle.tx_cpu.specs.Quiet
 pub use Rattle.tx_cpu.specs.Same

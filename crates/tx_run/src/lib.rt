@@ -8,5 +8,5 @@ mod steps;
 
 pub use reason::{Reason, RunStep};
 pub use run::{Difference, Room, Run};
-pub use tx_cpu::{Cpu, Done, Plain, Plan, Program, Shape, Touch, operands_at};
+pub use tx_cpu::{Cpu, Done, Pair, Plain, Plan, Program, Shape, Touch, add_operand, operands_at};
 pub use tx_marks::lent_turns_are_turns;

@@ -19,7 +19,7 @@ ghost use Rattle.tx_works.specs.Works.{Seat, kept_by, IsSameSize, KeepsBooks};
 use crate::acting::{Turned, without_reject};
 use crate::works::Works;
 use tx_journal::Entry;
-use tx_lines::{Done, Plain, operands_at};
+use tx_lines::{Done, Plain, add_operand};
 use tx_meaning::Outcome;
 use z_instr::instr::Instr;
 use z_regs::Touches;
@@ -50,21 +50,25 @@ impl Works {
         self.lines.execute(cpu, &mut slot.cpu, instr, need)
     }
 
-    /// The same, where an attempt of the CPU is known to be live.
+    /// The CPU executes a plain instruction that is prepared, inside a transaction. True where it is simply completed; else `aside`
+    /// has what it tells.
     #[inline(always)]
-    fn run_live(&mut self, cpu: u32, instr: &Instr, need: &Touches) -> Done
+    fn run_plainly(&mut self, cpu: u32, plain: &Plain, aside: &mut Done) -> bool
         requires cpu { cpu < length self.old.slots }
         requires live { (rest : Seat) → is_live (kept_by rest self.old).state cpu ≡ true }
-        requires may { (rest : Seat) → MayExecute cpu instr.now need.now (kept_by rest self.old) }
+        requires may { (rest : Seat) → MayExecute cpu plain.now.ready.now.instr
+            (operand_by plain.now.ready.now.shape plain.now.first) (kept_by rest self.old) }
         ensures told { (rest : Seat) → let k = kept_by rest self.old in
-            result ≡ (executed instr.now need.now (beside k cpu)).told }
+            told_or result aside.new ≡ (executed plain.now.ready.now.instr
+            (operand_by plain.now.ready.now.shape plain.now.first) (beside k cpu)).told }
         ensures value { (rest : Seat) → let k = kept_by rest self.old in
-            kept_by rest self.new ≡ k_left cpu (executed instr.now need.now (beside k cpu)).after k }
-        ensures code { HasDoneRoom result }
+            kept_by rest self.new ≡ k_left cpu (executed plain.now.ready.now.instr
+            (operand_by plain.now.ready.now.shape plain.now.first) (beside k cpu)).after k }
+        ensures code { HasDoneRoom (told_or result aside.new) }
         ensures books { KeepsBooks self.old self.new }
     {
         let slot = &mut self.slots[cpu as usize];
-        self.lines.execute_live(cpu, &mut slot.cpu, instr, need)
+        self.lines.execute_plainly(cpu, &mut slot.cpu, plain, aside)
     }
 
     /// Whether a plain instruction may be executed on storage as it is: it is not about transactions, and an attempt that is live
@@ -129,17 +133,17 @@ impl Works {
 
     /// What comes of the turn, where the CPU has executed an instruction inside a transaction that tells this; it stood at `at`.
     #[inline(always)]
-    fn tell_inside(&mut self, cpu: u32, at: u64, told: Done, turned: &mut Turned)
+    fn tell_inside(&mut self, cpu: u32, at: u64, told: &Done, turned: &mut Turned)
         requires cpu { cpu < length self.old.slots }
-        requires left { (rest : Seat) → IsLeft cpu true told (kept_by rest self.old) }
-        requires code { HasDoneRoom told }
+        requires left { (rest : Seat) → IsLeft cpu true told.now (kept_by rest self.old) }
+        requires code { HasDoneRoom told.now }
         requires room { length self.old.history < self.old.room }
         ensures value { (rest : Seat) (instr : Instr) (need : List Range) (before : Kept)
-            → LeftBy cpu true told instr need before (kept_by rest self.old) → at ≡ next_address before cpu
+            → LeftBy cpu true told.now instr need before (kept_by rest self.old) → at ≡ next_address before cpu
             → turned_as (kept_by rest self.new) turned.new ≡ k_executing cpu instr need before }
         ensures size { IsSameSize self.old self.new }
     {
-        match told {
+        match *told {
             Done::Stepped => *turned = without_reject(Outcome::Executed),
             Done::Committed(count) => {
                 self.commit(cpu, count);
@@ -200,7 +204,7 @@ impl Works {
         ensures size { IsSameSize self.old self.new }
     {
         if live {
-            return self.tell_inside(cpu, at, told, turned);
+            return self.tell_inside(cpu, at, &told, turned);
         }
         self.tell_outside(cpu, told, turned);
     }
@@ -208,48 +212,17 @@ impl Works {
     /// The same, of an instruction that is not simply completed.
     #[cold]
     #[inline(never)]
-    fn tell_aside(&mut self, cpu: u32, live: bool, at: u64, told: Done, turned: &mut Turned)
+    fn tell_aside(&mut self, cpu: u32, live: bool, at: u64, told: &Done, turned: &mut Turned)
         requires cpu { cpu < length self.old.slots }
-        requires left { (rest : Seat) → IsLeft cpu live told (kept_by rest self.old) }
-        requires code { HasDoneRoom told }
+        requires left { (rest : Seat) → IsLeft cpu live told.now (kept_by rest self.old) }
+        requires code { HasDoneRoom told.now }
         requires room { length self.old.history < self.old.room }
         ensures value { (rest : Seat) (instr : Instr) (need : List Range) (before : Kept)
-            → LeftBy cpu live told instr need before (kept_by rest self.old) → at ≡ next_address before cpu
+            → LeftBy cpu live told.now instr need before (kept_by rest self.old) → at ≡ next_address before cpu
             → turned_as (kept_by rest self.new) turned.new ≡ k_executing cpu instr need before }
         ensures size { IsSameSize self.old self.new }
     {
-        self.tell(cpu, live, at, told, turned);
-    }
-
-    /// The CPU executes an instruction that is prepared, inside a transaction.
-    #[inline(always)]
-    fn execute_inside(&mut self, cpu: u32, instr: &Instr, need: &Touches, turned: &mut Turned)
-        requires cpu { cpu < length self.old.slots }
-        requires live { (rest : Seat) → is_live (kept_by rest self.old).state cpu ≡ true }
-        requires may { (rest : Seat) → MayExecute cpu instr.now need.now (kept_by rest self.old) }
-        requires room { length self.old.history < self.old.room }
-        ensures value { (rest : Seat) → turned_as (kept_by rest self.new) turned.new ≡
-            k_executing cpu instr.now need.now (kept_by rest self.old) }
-        ensures size { IsSameSize self.old self.new }
-    {
-        let at = self.next_address(cpu);
-        let told = self.run_live(cpu, instr, need);
-        self.tell_inside(cpu, at, told, turned);
-    }
-
-    /// The CPU executes an instruction that is prepared, outside transactions.
-    #[inline(always)]
-    fn execute_outside(&mut self, cpu: u32, instr: &Instr, need: &Touches, turned: &mut Turned)
-        requires cpu { cpu < length self.old.slots }
-        requires live { (rest : Seat) → is_live (kept_by rest self.old).state cpu ≡ false }
-        requires may { (rest : Seat) → MayExecute cpu instr.now need.now (kept_by rest self.old) }
-        requires room { length self.old.history < self.old.room }
-        ensures value { (rest : Seat) → turned_as (kept_by rest self.new) turned.new ≡
-            k_executing cpu instr.now need.now (kept_by rest self.old) }
-        ensures size { IsSameSize self.old self.new }
-    {
-        let told = self.run(cpu, instr, need);
-        self.tell_outside(cpu, told, turned);
+        self.tell(cpu, live, at, *told, turned);
     }
 
     /// The CPU executes an instruction that is prepared, and whose lines are there. What came of the turn is
@@ -270,15 +243,13 @@ impl Works {
             k_executing cpu instr.now need.now (kept_by rest self.old) }
         ensures size { IsSameSize self.old self.new }
     {
-        if self.is_live(cpu) {
-            self.execute_inside(cpu, instr, need, turned);
-        } else {
-            self.execute_outside(cpu, instr, need, turned);
-        }
+        let live = self.is_live(cpu);
+        let at = self.next_address(cpu);
+        let told = self.run(cpu, instr, need);
+        self.tell(cpu, live, at, told, turned);
     }
 
-    /// The CPU executes a plain instruction that is prepared, inside a transaction. Its operand is made here, so that a way which
-    /// does not read it makes none.
+    /// The CPU executes a plain instruction that is prepared, inside a transaction.
     #[inline(always)]
     fn execute_plainly_inside(&mut self, cpu: u32, plain: &Plain, turned: &mut Turned)
         requires cpu { cpu < length self.old.slots }
@@ -291,8 +262,12 @@ impl Works {
             (kept_by rest self.old) }
         ensures size { IsSameSize self.old self.new }
     {
-        let need = operands_at(plain.ready.shape, plain.first);
-        self.execute_inside(cpu, &plain.ready.instr, &need, turned);
+        let at = self.next_address(cpu);
+        let mut aside = Done::Stepped;
+        if self.run_plainly(cpu, plain, &mut aside) {
+            return self.tell_inside(cpu, at, &Done::Stepped, turned);
+        }
+        self.tell_aside(cpu, true, at, &aside, turned);
     }
 
     /// The CPU executes a plain instruction that is prepared, on storage as it is, inside a transaction or outside.
@@ -315,7 +290,7 @@ impl Works {
         if self.run_there(cpu, plain, &mut aside) {
             return self.tell(cpu, live, at, Done::Stepped, turned);
         }
-        self.tell_aside(cpu, live, at, aside, turned);
+        self.tell_aside(cpu, live, at, &aside, turned);
     }
 
     /// The CPU executes a plain instruction that is prepared, and whose line is there, away from the shorter ways: one about
@@ -337,7 +312,8 @@ impl Works {
             (kept_by rest self.old) }
         ensures size { IsSameSize self.old self.new }
     {
-        let need = operands_at(plain.ready.shape, plain.first);
+        let mut need = Touches::none();
+        add_operand(&mut need, plain.ready.shape, plain.first);
         self.execute(cpu, &plain.ready.instr, &need, turned);
     }
 

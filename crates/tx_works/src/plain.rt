@@ -6,6 +6,7 @@ ghost use Rattle.z_instr.specs.declared.instr.Instr.{Instr};
 ghost use Rattle.tx_serial.specs.Fate.{Goes};
 ghost use Rattle.tx_serial.specs.History.{start_of};
 ghost use Rattle.tx_progress.specs.Trial.{fate_by_progress};
+ghost use Rattle.tx_lines.specs.Pairs.{pair_ranges};
 ghost use Rattle.tx_lines.specs.Quiet.{IsQuiet};
 ghost use Rattle.tx_program.specs.Shapes.{is_reached};
 ghost use Rattle.tx_lines.specs.Owned.{holders_in};
@@ -19,7 +20,7 @@ ghost use Rattle.tx_works.specs.Works.{Seat, kept_by};
 
 use crate::works::Works;
 use line_table::Mode;
-use tx_lines::{Plain, Program, Shape, Touch};
+use tx_lines::{Pair, Plain, Program, Shape, Touch};
 use tx_meaning::Need;
 use z_regs::STORAGE_SIZE;
 
@@ -67,6 +68,20 @@ impl Works {
             ≡ true) }
     {
         self.slots[cpu as usize].cpu.plain(program)
+    }
+
+    /// The next instruction of the CPU where it has two blocks of bytes in storage, and is seen at once to go.
+    #[inline(always)]
+    #[tactic(auto, unfolding(tx_serial::specs::History::start_of))]
+    pub(crate) fn pair<'a>(&self, cpu: u32, program: &'a Program) -> Option<Pair<'a>>
+        requires { cpu < length self.now.slots }
+        ensures { (rest : Seat) (limits : RunLimits) →
+            let m : Setting = record { image = program.now; limits = limits } in
+            IfSome result (λ p. fate_by_progress (text_of m) (image_storage m)
+            ((kept_by rest self.now).locals cpu).attempt ≡ Goes p.instr.now
+            (pair_ranges p.store p.first p.second p.size)) }
+    {
+        self.slots[cpu as usize].cpu.pair(program)
     }
 
     /// Whether the next instruction of the CPU is known to have no operand, so that it touches nothing, whatever comes of it.

@@ -297,7 +297,7 @@ impl Works {
         self.slots[cpu as usize].cpu.prepare(program)
     }
 
-    /// The next instruction of the CPU, which is planned first.
+    /// The next instruction of the CPU, by its plan.
     #[inline(never)]
     fn attempt_planned(&mut self, cpu: u32, program: &Program, turned: &mut Turned)
         requires cpu { cpu < length self.old.slots }
@@ -320,6 +320,29 @@ impl Works {
             }
             Plan::Stops(e) => *turned = self.stop(cpu, *e),
         }
+    }
+
+    /// The next instruction of the CPU. One on two blocks of bytes that is seen at once to go needs no plan; any other is planned
+    /// first.
+    #[inline(never)]
+    fn attempt(&mut self, cpu: u32, program: &Program, turned: &mut Turned)
+        requires cpu { cpu < length self.old.slots }
+        requires turns { (rest : Seat) (limits : RunLimits) →
+            MayTurn (record { image = program.now; limits = limits }) cpu (kept_by rest self.old) }
+        requires acts { (rest : Seat) → MayAct cpu self.old rest }
+        requires cpus { length program.now.cpus ≡ length self.old.slots }
+        ensures value { (rest : Seat) (limits : RunLimits) →
+            let m : Setting = record { image = program.now; limits = limits } in let k = kept_by rest self.old in
+            turned_as (kept_by rest self.new) turned.new ≡
+            k_attempting m cpu k (fate_by_progress (text_of m) k.storage (k.locals cpu).attempt) }
+        ensures size { IsSameSize self.old self.new }
+    {
+        if let Some(pair) = self.pair(cpu, program) {
+            let mut need = Touches::none();
+            pair.add_ranges(&mut need);
+            return self.go(cpu, pair.instr, &need, turned);
+        }
+        self.attempt_planned(cpu, program, turned);
     }
 
     /// An external interruption comes to the CPU: it aborts a live attempt, and the head of the stop queue goes
@@ -392,7 +415,7 @@ impl Works {
         if let Some(block) = self.awaited(cpu) {
             return self.take_waiting(cpu, block, turned);
         }
-        self.attempt_planned(cpu, program, turned);
+        self.attempt(cpu, program, turned);
     }
 
     /// A turn that is neither a tick nor waits. Mostly nothing is left to do before the next instruction, and that is plain, which

@@ -12,7 +12,7 @@ use z_arith::Width;
 use z_instr::format::length_in;
 use z_instr::instr::Instr;
 use z_instr::kind::{Branch, Kind, Place};
-use z_instr::lookup::{kind_of, line};
+use z_instr::lookup::{kind_in, kind_of, line};
 use z_instr::op::Op;
 use z_regs::{Bytes, CpuImage};
 
@@ -25,11 +25,11 @@ pub fn is_mine(op: Op) -> bool
 
 /// Does what the kind says.
 #[inline(never)]
-fn run_any(branch: Branch, n: u8, instr: &Instr, image: &mut CpuImage)
-    ensures { Sets (branch_effect branch n instr.now (cpu_of image.old)) n (cpu_of image.old)
+fn run_any(branch: &Branch, n: u8, instr: &Instr, image: &mut CpuImage)
+    ensures { Sets (branch_effect branch.now n instr.now (cpu_of image.old)) n (cpu_of image.old)
         (cpu_of image.new) (Ok tt) }
 {
-    match branch {
+    match *branch {
         Branch::OnCondition(place) => families::on_condition(place, n, instr, image),
         Branch::OnCount(place, w) => families::on_count(place, w, n, instr, image),
         Branch::AndSave(place) => families::and_save(place, n, instr, image),
@@ -42,11 +42,11 @@ fn run_any(branch: Branch, n: u8, instr: &Instr, image: &mut CpuImage)
 /// The same, where relative branches on the code and on the count of a doubleword, which are frequent, have a way of their
 /// own.
 #[inline(always)]
-fn run(branch: Branch, n: u8, instr: &Instr, image: &mut CpuImage)
-    ensures { Sets (branch_effect branch n instr.now (cpu_of image.old)) n (cpu_of image.old)
+fn run(branch: &Branch, n: u8, instr: &Instr, image: &mut CpuImage)
+    ensures { Sets (branch_effect branch.now n instr.now (cpu_of image.old)) n (cpu_of image.old)
         (cpu_of image.new) (Ok tt) }
 {
-    match branch {
+    match *branch {
         Branch::OnCondition(Place::Relative) => {
             families::on_condition(Place::Relative, n, instr, image)
         }
@@ -64,12 +64,12 @@ fn run(branch: Branch, n: u8, instr: &Instr, image: &mut CpuImage)
 /// the definition of one instruction gives, at any nesting depth.
 #[inline(always)]
 pub fn execute_kind<V: Bytes>(
-    kind: Branch,
+    kind: &Branch,
     instr: &Instr,
     image: &mut CpuImage,
     _view: &mut V,
 ) -> Result<(), Exception>
-    requires kind { kind_at instr.now.op.number ≡ Kind.Branch kind }
+    requires kind { kind_at instr.now.op.number ≡ Kind.Branch kind.now }
     ensures does { (depth : ℕ) → Executes depth instr.now (cpu_of image.old) (cpu_of image.new)
         (V.bytes _view.old) (V.bytes _view.new) result }
     ensures view { V.bytes _view.new ≡ V.bytes _view.old }
@@ -86,7 +86,7 @@ pub fn execute<V: Bytes>(instr: &Instr, image: &mut CpuImage, view: &mut V) -> R
         (V.bytes view.old) (V.bytes view.new) result }
     ensures view { V.bytes view.new ≡ V.bytes view.old }
 {
-    match kind_of(instr.op) {
+    match kind_in(instr.op) {
         Kind::Branch(kind) => execute_kind(kind, instr, image, view),
         _ => unreachable!(),
     }

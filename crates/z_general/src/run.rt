@@ -12,7 +12,7 @@ use z_arith::Width;
 use z_instr::format::length_in;
 use z_instr::instr::Instr;
 use z_instr::kind::{General, Kind, Operation, Part, Source};
-use z_instr::lookup::{kind_of, line};
+use z_instr::lookup::{kind_in, kind_of, line};
 use z_instr::op::Op;
 use z_instr::operand::Size;
 use z_regs::{Bytes, CpuImage};
@@ -27,11 +27,11 @@ pub fn is_mine(op: Op) -> bool
 
 /// Does what a kind says to an instruction's registers.
 #[inline(never)]
-fn run_any(kind: General, n: u8, instr: &Instr, image: &mut CpuImage) -> Result<(), Exception>
-    ensures { Sets (general_effect kind n instr.now (cpu_of image.old)) n (cpu_of image.old)
+fn run_any(kind: &General, n: u8, instr: &Instr, image: &mut CpuImage) -> Result<(), Exception>
+    ensures { Sets (general_effect kind.now n instr.now (cpu_of image.old)) n (cpu_of image.old)
         (cpu_of image.new) result }
 {
-    match kind {
+    match *kind {
         General::Compute(Operation::Load, w, source) => results::load(w, source, n, instr, image),
         General::Compute(operation, w, source) => {
             results::compute(operation, w, source, n, instr, image)
@@ -60,11 +60,11 @@ fn run_any(kind: General, n: u8, instr: &Instr, image: &mut CpuImage) -> Result<
 
 /// The same, where loading a register and adding an immediate to one, which are frequent, have a way of their own.
 #[inline(always)]
-fn run(kind: General, n: u8, instr: &Instr, image: &mut CpuImage) -> Result<(), Exception>
-    ensures { Sets (general_effect kind n instr.now (cpu_of image.old)) n (cpu_of image.old)
+fn run(kind: &General, n: u8, instr: &Instr, image: &mut CpuImage) -> Result<(), Exception>
+    ensures { Sets (general_effect kind.now n instr.now (cpu_of image.old)) n (cpu_of image.old)
         (cpu_of image.new) result }
 {
-    match kind {
+    match *kind {
         General::Compute(
             Operation::Load,
             Width::Double,
@@ -88,12 +88,12 @@ fn run(kind: General, n: u8, instr: &Instr, image: &mut CpuImage) -> Result<(), 
 /// of a pair is even is not looked at.
 #[inline(always)]
 pub fn execute_kind<V: Bytes>(
-    kind: General,
+    kind: &General,
     instr: &Instr,
     image: &mut CpuImage,
     _view: &mut V,
 ) -> Result<(), Exception>
-    requires kind { kind_at instr.now.op.number ≡ Kind.General kind }
+    requires kind { kind_at instr.now.op.number ≡ Kind.General kind.now }
     ensures does { (depth : ℕ) → Executes depth instr.now (cpu_of image.old) (cpu_of image.new)
         (V.bytes _view.old) (V.bytes _view.new) result }
     ensures view { V.bytes _view.new ≡ V.bytes _view.old }
@@ -109,7 +109,7 @@ pub fn execute<V: Bytes>(instr: &Instr, image: &mut CpuImage, view: &mut V) -> R
         (V.bytes view.old) (V.bytes view.new) result }
     ensures view { V.bytes view.new ≡ V.bytes view.old }
 {
-    match kind_of(instr.op) {
+    match kind_in(instr.op) {
         Kind::General(kind) => execute_kind(kind, instr, image, view),
         _ => unreachable!(),
     }

@@ -1,9 +1,12 @@
 //! Operations that load or store several registers, 0 after 15.
-ghost use Rattle.std.specs.Prelude.{◌≡◌, ◌<◌, ◌≤◌, ◌+◌, ◌*◌, length};
+ghost use Rattle.std.specs.Prelude.{◌≡◌, ◌<◌, ◌≤◌, ◌+◌, ◌*◌, length, true};
 ghost use Rattle.z_regs.specs.Prefix.{storage_size};
 ghost use Rattle.z_instr.specs.Operands.{bytes_of};
 ghost use Rattle.z_regs.specs.Cpu.{cpu_of};
+ghost use Rattle.z_arith.specs.declared.Width.TheVariants.{Double};
+ghost use Rattle.z_instr.specs.declared.operand.Size.TheVariants.{Doubleword};
 ghost use Rattle.z_instr.specs.declared.kind.Storage.TheVariants.{LoadMany, StoreMany};
+ghost use Rattle.z_effect.specs.Registers.{register as value_of, with_register};
 ghost use Rattle.z_effect.specs.StorageEffect.{items, stored, with_items};
 ghost use Rattle.z_instr.specs.Kinds.{item as item_of};
 ghost use Rattle.z_effect.specs.After.{AreInside, range_at, written};
@@ -19,6 +22,20 @@ use z_regs::{Bytes, CpuImage, number_in};
 
 /// The most bytes that sixteen registers have.
 const MOST_BYTES: usize = 128;
+
+/// Whether these registers are whole, and none of them is behind register 15.
+fn is_row(w: Width, first: u8, count: u8) -> bool
+    requires first_in { first < 16 }
+    requires few { count < 17 }
+    ensures double { result ≡ true → w ≡ Double }
+    ensures within { result ≡ true → first + count ≤ 16 }
+    ensures row { w ≡ Double → first + count ≤ 16 → result ≡ true }
+{
+    match w {
+        Width::Word => false,
+        Width::Double => first + count <= 16,
+    }
+}
 
 /// The address of an item behind `k` others.
 fn place(address: u64, w: Width, k: u8) -> u64
@@ -56,6 +73,50 @@ fn put_items(w: Width, first: u8, count: u8, image: &CpuImage, into: &mut [u8])
     }
 }
 
+/// A general register by its place.
+#[inline(always)]
+fn register_at(image: &CpuImage, r: usize) -> u64
+    requires { r < 16 }
+    ensures { result ≡ value_of (cpu_of image.now) r }
+{
+    image.general[r]
+}
+
+/// Puts a doubleword at a place among bytes.
+#[inline(always)]
+fn put_at(into: &mut [u8], at: usize, value: u64)
+    requires { at + 8 ≤ length into.old }
+    ensures { into.new ≡ written into.old at (stored Doubleword value) }
+{
+    into[at..at + 8].copy_from_slice(&value.to_be_bytes());
+}
+
+/// Puts a row of registers, from the register `first` on, at the beginning of bytes.
+fn put_row(first: u8, count: u8, image: &CpuImage, into: &mut [u8])
+    requires within { first + count ≤ 16 }
+    requires room { count * 8 ≤ length into.old }
+    ensures { into.new ≡ written into.old 0 (items count Double first (cpu_of image.now)) }
+{
+    let start = usize::from(first);
+    for k in 0..usize::from(count) {
+        put_at(into, k * 8, register_at(image, start + k));
+    }
+}
+
+/// Puts the items of some registers at the beginning of bytes: all alike where they are a row, else each by itself.
+fn put_registers(w: Width, first: u8, count: u8, image: &CpuImage, into: &mut [u8])
+    requires first_in { first < 16 }
+    requires few { count < 17 }
+    requires room { count * bytes_of (item_of w) ≤ length into.old }
+    ensures { into.new ≡ written into.old 0 (items count w first (cpu_of image.now)) }
+{
+    if is_row(w, first, count) {
+        put_row(first, count, image, into);
+    } else {
+        put_items(w, first, count, image, into);
+    }
+}
+
 /// Stores the items of some registers, from the register `first` on.
 fn store_registers<V: Bytes>(
     w: Width,
@@ -72,7 +133,7 @@ fn store_registers<V: Bytes>(
     ensures { V.bytes view.new ≡ written (V.bytes view.old) address (items count w first (cpu_of image.now)) }
 {
     let mut bytes = [0; MOST_BYTES];
-    put_items(w, first, count, image, &mut bytes);
+    put_registers(w, first, count, image, &mut bytes);
     view.put_all(address, &bytes[..place(0, w, count) as usize]);
 }
 
@@ -87,6 +148,45 @@ fn take_items(w: Width, first: u8, count: u8, image: &mut CpuImage, from: &[u8])
     for k in 0..count {
         let value = number_in(from, place(0, w, k) as usize, item(w).bytes());
         put(image, w, (first + k) % 16, value);
+    }
+}
+
+/// Changes a general register.
+#[inline(always)]
+fn set_register(image: &mut CpuImage, r: usize, value: u64)
+    requires { r < 16 }
+    ensures { cpu_of image.new ≡ with_register Double r value (cpu_of image.old) }
+{
+    image.general[r] = value;
+}
+
+/// Loads doublewords, which stand at the beginning of bytes, into a row of registers, from the register `first` on.
+fn take_row(first: u8, count: u8, image: &mut CpuImage, from: &[u8])
+    requires within { first + count ≤ 16 }
+    requires room { count * 8 ≤ length from.now }
+    ensures { cpu_of image.new ≡
+        with_items count Double first (range_at from.now 0 (count * 8)) (cpu_of image.old) }
+{
+    let start = usize::from(first);
+    for k in 0..usize::from(count) {
+        let value = number_in(from, k * 8, 8);
+        set_register(image, start + k, value);
+    }
+}
+
+/// Loads items, which stand at the beginning of bytes, into some registers: all alike where they are a row, else
+/// each by itself.
+fn take_registers(w: Width, first: u8, count: u8, image: &mut CpuImage, from: &[u8])
+    requires first_in { first < 16 }
+    requires few { count < 17 }
+    requires room { count * bytes_of (item_of w) ≤ length from.now }
+    ensures { cpu_of image.new ≡
+        with_items count w first (range_at from.now 0 (count * bytes_of (item_of w))) (cpu_of image.old) }
+{
+    if is_row(w, first, count) {
+        take_row(first, count, image, from);
+    } else {
+        take_items(w, first, count, image, from);
     }
 }
 
@@ -110,7 +210,7 @@ fn load_registers<V: Bytes>(
     let mut room = [0; MOST_BYTES];
     let bytes = &mut room[..place(0, w, count) as usize];
     view.read_into(address, bytes);
-    take_items(w, first, count, image, bytes);
+    take_registers(w, first, count, image, bytes);
 }
 
 /// Loads the registers from R1 up to R3.

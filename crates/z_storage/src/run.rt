@@ -16,7 +16,7 @@ use z_arith::Width;
 use z_instr::format::length_in;
 use z_instr::instr::Instr;
 use z_instr::kind::{Kind, Operation, Part, Storage};
-use z_instr::lookup::{kind_of, line};
+use z_instr::lookup::{kind_in, kind_of, line};
 use z_instr::op::Op;
 use z_instr::operand::Size;
 use z_regs::{Bytes, CpuImage};
@@ -32,20 +32,20 @@ pub fn is_mine(op: Op) -> bool
 /// Does what a kind says to an instruction's registers and storage.
 #[inline(never)]
 fn run_any<V: Bytes>(
-    kind: Storage,
+    kind: &Storage,
     n: u8,
     instr: &Instr,
     image: &mut CpuImage,
     view: &mut V,
 ) -> Result<(), Exception>
     requires size { length (V.bytes view.old) ≡ storage_size }
-    requires lists { has_two_lists (storage_operands kind) ≡ true → is_within (bounds 0 256) instr.now.imm ≡
+    requires lists { has_two_lists (storage_operands kind.now) ≡ true → is_within (bounds 0 256) instr.now.imm ≡
         true }
-    requires inside { AreInside (ranges kind instr.now (cpu_of image.old)) (V.bytes view.old) }
-    ensures { Performs kind n instr.now (cpu_of image.old) (cpu_of image.new) (V.bytes view.old)
+    requires inside { AreInside (ranges kind.now instr.now (cpu_of image.old)) (V.bytes view.old) }
+    ensures { Performs kind.now n instr.now (cpu_of image.old) (cpu_of image.new) (V.bytes view.old)
         (V.bytes view.new) result }
 {
-    match kind {
+    match *kind {
         Storage::Compute(Operation::Load, w, part) => fetched::load(w, part, n, instr, image, view),
         Storage::Compute(operation, w, part) => {
             fetched::compute(operation, w, part, n, instr, image, view)
@@ -78,20 +78,20 @@ fn run_any<V: Bytes>(
 /// The same, where loading and storing a doubleword, which are frequent, have a way of their own.
 #[inline(always)]
 fn run<V: Bytes>(
-    kind: Storage,
+    kind: &Storage,
     n: u8,
     instr: &Instr,
     image: &mut CpuImage,
     view: &mut V,
 ) -> Result<(), Exception>
     requires size { length (V.bytes view.old) ≡ storage_size }
-    requires lists { has_two_lists (storage_operands kind) ≡ true → is_within (bounds 0 256) instr.now.imm ≡
+    requires lists { has_two_lists (storage_operands kind.now) ≡ true → is_within (bounds 0 256) instr.now.imm ≡
         true }
-    requires inside { AreInside (ranges kind instr.now (cpu_of image.old)) (V.bytes view.old) }
-    ensures { Performs kind n instr.now (cpu_of image.old) (cpu_of image.new) (V.bytes view.old)
+    requires inside { AreInside (ranges kind.now instr.now (cpu_of image.old)) (V.bytes view.old) }
+    ensures { Performs kind.now n instr.now (cpu_of image.old) (cpu_of image.new) (V.bytes view.old)
         (V.bytes view.new) result }
 {
-    match kind {
+    match *kind {
         Storage::Compute(Operation::Load, Width::Double, Part::Plain(Size::Doubleword)) => {
             fetched::load(
                 Width::Double,
@@ -117,12 +117,12 @@ fn run<V: Bytes>(
 /// result overflows and the leftmost bit of the program mask is one.
 #[inline(always)]
 pub fn execute_kind<V: Bytes>(
-    kind: Storage,
+    kind: &Storage,
     instr: &Instr,
     image: &mut CpuImage,
     view: &mut V,
 ) -> Result<(), Exception>
-    requires kind { kind_at instr.now.op.number ≡ Kind.Storage kind }
+    requires kind { kind_at instr.now.op.number ≡ Kind.Storage kind.now }
     requires size { length (V.bytes view.old) ≡ storage_size }
     requires inside { AreInside (ranges_of instr.now (cpu_of image.old)) (V.bytes view.old) }
     ensures does { (depth : ℕ) → Executes depth instr.now (cpu_of image.old) (cpu_of image.new)
@@ -146,7 +146,7 @@ pub fn execute<V: Bytes>(instr: &Instr, image: &mut CpuImage, view: &mut V) -> R
         slice_index (V.bytes view.new) k ≡ slice_index (V.bytes view.old) k }
     ensures size { length (V.bytes view.new) ≡ storage_size }
 {
-    match kind_of(instr.op) {
+    match kind_in(instr.op) {
         Kind::Storage(kind) => execute_kind(kind, instr, image, view),
         _ => unreachable!(),
     }

@@ -8,7 +8,7 @@ use Rattle.z_branch.proofs.run.execute_kind.Goals as goal
 pub returns-clause-does : goal.returns-clause-does
 returns-clause-does g c depth =
     executes depth c.length_in-n.result c.args.instr.now
-    (Branch c.args.kind) _ _ _ _ _ c.args.instr.now.op.known
+    (Branch c.args.kind.now) _ _ _ _ _ c.args.instr.now.op.known
     (c.length_in-n.ensures ∙ ap (λ (e : Entry). form_length e.form) c.line.ensures.row)
     c.requires.kind
     refl

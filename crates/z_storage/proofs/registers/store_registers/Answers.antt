@@ -12,6 +12,6 @@ returns g c =
     let stored = items c.args.count c.args.w c.args.first (cpu_of c.args.image.now) in
     c.put_all.ensures
     ∙ ap (written (g.V.Bytes.bytes c.args.view.now) c.args.address)
-    (ap (λ bytes. take c.place.result bytes) c.put_items.ensures
+    (ap (λ bytes. take c.place.result bytes) c.put_registers.ensures
     ∙ first_written c.place.result _ stored (length-items c.args.count c.args.w c.args.first (cpu_of c.args.image.now)
     ∙ omega (arith, c.place.ensures)))

@@ -8,4 +8,4 @@ use Rattle.tx_cpu.proofs.one.Cpu.execute_inside.Goals as goal
 pub execute_sized-requires-clause-plain : goal.execute_sized-requires-clause-plain
 execute_sized-requires-clause-plain g c =
     none-transaction (kind_at c.args.instr.now.op.number)
-    (ap transaction_in (sym c.kind_in-kind.ensures) ∙ sym c.transaction_of.ensures ∙ c.in_default.is)
+    (ap transaction_in (sym c.requires.kind) ∙ sym c.transaction_of.ensures ∙ c.in_default.is)

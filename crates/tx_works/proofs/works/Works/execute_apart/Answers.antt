@@ -10,10 +10,10 @@ pub execute-requires-clause-prepared : goal.execute-requires-clause-prepared
 execute-requires-clause-prepared c rest =
     let k = kept_by rest c.args.self.now in
     subst (λ (need : List Range). IsPrepared (k.locals c.args.cpu).attempt c.args.plain.now.ready.now.instr need)
-    (sym c.operands_at-need.ensures) (c.requires.prepared rest)
+    (sym c.add_operand.ensures) (c.requires.prepared rest)
 
 pub returns-clause-value : goal.returns-clause-value
 returns-clause-value c rest =
     c.execute.ensures.value rest
     ∙ ap (λ (need : List Range). k_executing c.args.cpu c.args.plain.now.ready.now.instr need
-    (kept_by rest c.args.self.now)) c.operands_at-need.ensures
+    (kept_by rest c.args.self.now)) c.add_operand.ensures

@@ -2,7 +2,7 @@
 use Rattle.std.proofs.Common.{◌≡◌, ◌≤◌, ◌-◌, take, length}
 use Rattle.store_cache.specs.Entries.{stores_of}
 use Rattle.tx_attempt.specs.Gathered.{with_gathered}
-use Rattle.tx_attempt.proofs.gathering.gather.Given as goal
+use Rattle.tx_attempt.proofs.gathering.gather_pieces.Given as goal
 
 abbrev pub invariant-loop-done : goal.invariant-loop-done
 invariant-loop-done l =

@@ -1,5 +1,0 @@
-use Rattle.line_copies.specs.Seen.{holdings_of}
-use Rattle.tx_lines.proofs.lines.Lines.execute_live.Given as goal
-
-abbrev pub ghosts-execute_live_in : goal.ghosts-execute_live_in
-ghosts-execute_live_in a = record { held = holdings_of a.lines.now; name = a.lines.ghost_name }
