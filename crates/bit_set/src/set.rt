@@ -225,8 +225,22 @@ impl BitSet {
     }
 }
 
-/// Makes all words zero, of which those from `low` on and below `high` may be others.
+/// Makes all words zero, of which those from `low` on and below `high` may be others; most often that is one.
 fn zero(words: &mut [u64], low: usize, high: usize)
+    requires end { high ≤ length words.old }
+    requires used { IsZeroOutside words.old low high }
+    ensures { words.new ≡ replicate (length words.old) 0 }
+{
+    match high.saturating_sub(low) {
+        0 => {}
+        1 => words[low] = 0,
+        _ => zero_each(words, low, high),
+    }
+}
+
+/// Makes all words zero, of which those from `low` on and below `high` may be others, one by one.
+#[inline(never)]
+fn zero_each(words: &mut [u64], low: usize, high: usize)
     requires end { high ≤ length words.old }
     requires used { IsZeroOutside words.old low high }
     ensures { words.new ≡ replicate (length words.old) 0 }

@@ -1,7 +1,7 @@
 -- No word outside those that are left is anything but zero.
 use Rattle.std.proofs.Common.{◌≡◌, length}
 use Rattle.bit_set.specs.Used.{IsZeroOutside}
-use Rattle.bit_set.proofs.set.zero.Given as goal
+use Rattle.bit_set.proofs.set.zero_each.Given as goal
 
 abbrev pub invariant-loop-at : goal.invariant-loop-at
 invariant-loop-at l =
